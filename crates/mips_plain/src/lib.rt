@@ -1,0 +1,7 @@
+//! The MIPS integer profile without delay slots: registers, instructions, memory, and the plain
+//! machine that runs one instruction after another and knows nothing of tasks or marks.
+#![tactic(auto)]
+
+pub mod instruction;
+pub mod number;
+pub mod outcome;
