@@ -1,0 +1,8 @@
+//! Annotated programs: the instructions with their marks, and the tasks with their descriptors
+//! (Sohi, Breach, Vijaykumar, "Multiscalar Processors", ISCA 1995, section 2.2).
+#![tactic(auto)]
+
+pub mod descriptor;
+pub mod name;
+pub mod places;
+pub mod program;
