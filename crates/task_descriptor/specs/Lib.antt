@@ -1,3 +1,4 @@
 pub mod Names
 pub mod NameFacts
 pub mod Listing
+pub mod WellFormed

@@ -2,7 +2,8 @@
 -- limits and the marks that fit an instruction are own choices).
 use Rattle.std.specs.Prelude.{◌≡◌, ℕ, Bool, true, false, not, ◌&&◌, ◌||◌, ◌==◌, nat_lt, nat_le, if◌then◌else◌, Option, Some, None, List, [], ◌∷◌, map, length, position}
 use Rattle.std.specs.List.{list_any}
-use Rattle.mips_plain.specs.Words.{has}
+use Rattle.std.specs.Str.{bytes_eq}
+use Rattle.mips_plain.specs.Words.{has, index_of}
 use Rattle.mips_plain.specs.Instruction.{dests}
 use Rattle.mips_plain.specs.PlainMachine.{Input}
 use Rattle.mips_plain.specs.declared.instruction.Op.{Op}
@@ -11,6 +12,7 @@ use Rattle.task_descriptor.specs.declared.descriptor.Stop.{Stop}
 use Rattle.task_descriptor.specs.declared.descriptor.Stop.TheVariants.{None as Never, Always, Taken, NotTaken}
 use Rattle.task_descriptor.specs.declared.descriptor.Marked.{Marked}
 use Rattle.task_descriptor.specs.declared.descriptor.Descriptor.{Descriptor}
+use Rattle.task_descriptor.specs.declared.program.Parts.{Parts}
 use Rattle.task_descriptor.specs.declared.program.BuildFault.{BuildFault}
 use Rattle.task_descriptor.specs.declared.program.BuildFault.TheVariants.{TooMany, NoTask, BadEntry, DuplicateEntry, BadMask, BadMark, BadStart}
 
@@ -23,9 +25,27 @@ pub record Listing : Type 0 where
   pub tasks : List Descriptor
   pub start : ℕ
 
+-- what parts are, as lists
+abbrev pub listing_of : Parts → Listing
+listing_of parts = record {
+      code = parts.code.items;
+      bytes = parts.bytes.items;
+      fixed = parts.fixed.items;
+      tasks = parts.tasks.items;
+      start = parts.start; }
+
 -- what the plain machine takes of it: no mark, and no task
 abbrev pub input : Listing → Input
 input p = record { code = map (λ m. m.op) p.code; bytes = p.bytes; fixed = p.fixed; start = p.start }
+
+-- an index that is that of an instruction
+abbrev pub if_instruction : List Marked → Option ℕ → Option ℕ
+if_instruction code None = None
+if_instruction code (Some index) = if nat_lt index (length code) then Some index else None
+
+-- the index of the instruction at an address, if one is there
+abbrev pub instruction_at : Listing → ℕ → Option ℕ
+instruction_at p at = if_instruction p.code (index_of at)
 
 -- the registers, 0 to 33
 abbrev pub registers : List ℕ
@@ -46,16 +66,9 @@ has_no_task (t ∷ ts) = false
 abbrev pub has_bad_entry : Listing → Bool
 has_bad_entry p = list_any (λ t. nat_le (length p.code) t.entry) p.tasks
 
--- two names are one
-abbrev pub same_name : (xs ys : List ℕ) → Bool
-same_name [] [] = true
-same_name [] (y ∷ ys) = false
-same_name (x ∷ xs) [] = false
-same_name (x ∷ xs) (y ∷ ys) = x == y && same_name xs ys
-
 -- two tasks have one entry or one name
 abbrev pub collide : (t u : Descriptor) → Bool
-collide t u = t.entry == u.entry || same_name t.name u.name
+collide t u = t.entry == u.entry || bytes_eq t.name u.name
 
 abbrev pub has_duplicate : List Descriptor → Bool
 has_duplicate [] = false

@@ -13,6 +13,9 @@ pub const MOST_TARGETS: usize = 16;
 /// The most bytes of data, and of read-only data, that a program gives.
 pub const MOST_BYTES: usize = 65_536;
 
+/// Where code begins (own choice).
+pub const CODE_START: u32 = 0x0040_0000;
+
 /// What a program is made of, not yet looked at.
 #[derive(Debug, Drop)]
 pub struct Parts {
@@ -67,4 +70,104 @@ impl Model for Program {
 
     ghost invariant = { λ p. IsWellFormed (record {
         code = p.code.items; bytes = p.bytes.items; fixed = p.fixed.items; tasks = p.tasks.items; start = p.start }) };
+}
+
+impl Program {
+    ghost use Rattle.std.specs.Prelude.{◌≡◌, ◌+◌, ◌*◌, ◌<◌, Some, MatchResult, map, position, ◌==◌, option_copied, slice_get};
+    ghost use Rattle.mips_plain.specs.Words.{address};
+    ghost use Rattle.task_descriptor.specs.Listing.{Listing, IsWellFormed, build_fault, listing_of, instruction_at};
+
+    /// The instructions, index 0 first; at most 4,096.
+    pub fn code(&self) -> &[Marked]
+        ensures value { result.now ≡ self.now.code }
+        ensures well_formed { IsWellFormed self.now }
+    {
+        &self.code
+    }
+
+    /// The bytes that data memory begins with; at most 65,536.
+    pub fn bytes(&self) -> &[u8]
+        ensures value { result.now ≡ self.now.bytes }
+        ensures well_formed { IsWellFormed self.now }
+    {
+        &self.bytes
+    }
+
+    /// The bytes that read-only data begins with; at most 65,536.
+    pub fn fixed(&self) -> &[u8]
+        ensures value { result.now ≡ self.now.fixed }
+        ensures well_formed { IsWellFormed self.now }
+    {
+        &self.fixed
+    }
+
+    /// The tasks, task 0 first; at most 1,024.
+    pub fn tasks(&self) -> &[Descriptor]
+        ensures value { result.now ≡ self.now.tasks }
+        ensures well_formed { IsWellFormed self.now }
+    {
+        &self.tasks
+    }
+
+    /// The index of the first instruction, which is a task's entry.
+    pub fn start(&self) -> Place
+        ensures value { result ≡ self.now.start }
+        ensures well_formed { IsWellFormed self.now }
+    {
+        self.start
+    }
+
+    /// The parts again.
+    pub fn parts(self) -> Parts
+        ensures { listing_of result ≡ self }
+    {
+        let Program { code, bytes, fixed, tasks, start } = self;
+        Parts { code, bytes, fixed, tasks, start }
+    }
+
+    #[tactic(auto, unfolding(mips_plain::specs::Words::address))]
+    /// The address of an instruction of this index, 0x00400000 + 4 * index (own choice).
+    pub fn address(&self, place: Place) -> u32
+        ensures { result ≡ address place }
+    {
+        CODE_START + 4 * place.get()
+    }
+
+    /// The index of the instruction at an address; `None` where no instruction is there.
+    pub fn index(&self, address: u32) -> Option<u32>
+        ensures { result ≡ instruction_at self.now address }
+    {
+        let index = index_of(address)?;
+        if (index as usize) < self.code.len() { Some(index) } else { None }
+    }
+
+    /// The number of the task that begins at this index; `None` where none does.
+    pub fn task_at(&self, index: u32) -> Option<u32>
+        ensures { result ≡ position (λ t. t.entry == index) self.now.tasks }
+    {
+        match position_of(&self.tasks, index) {
+            Some(task) => Some(task as u32),
+            None => None,
+        }
+    }
+}
+
+ghost use Rattle.std.specs.Prelude.{◌≡◌, ◌==◌, ◌<◌, length, position, IfSome};
+ghost use Rattle.mips_plain.specs.Words.{index_of as index_of_address};
+
+#[tactic(auto, unfolding(mips_plain::specs::Words::index_of))]
+fn index_of(address: u32) -> Option<u32>
+    ensures { result ≡ index_of_address address }
+{
+    if address >= CODE_START && (address - CODE_START) % 4 == 0 {
+        Some((address - CODE_START) / 4)
+    } else {
+        None
+    }
+}
+
+fn position_of(tasks: &[Descriptor], index: u32) -> Option<usize>
+    ensures { result ≡ position (λ t. t.entry == index) tasks.now }
+{
+    tasks.iter().position(|task| task.entry.get() == index)
 }
