@@ -2,6 +2,8 @@
 //! machine that runs one instruction after another and knows nothing of tasks or marks.
 #![tactic(auto)]
 
+pub mod arithmetic;
 pub mod instruction;
 pub mod number;
 pub mod outcome;
+pub mod parts;

@@ -29,15 +29,29 @@ impl Model for Reg {
 impl Reg {
     ghost use Rattle.std.specs.Prelude.{◌≡◌, ◌<◌, ◌↔◌, IsSome, IfSome};
 
+    /// Register 31, where `jal` puts its link (MIPS manual).
+    pub const LINK: Reg = Reg { index: 31 };
+
+    /// HI, for the high half of a product (MIPS manual; own number).
+    pub const HI: Reg = Reg { index: 32 };
+
+    /// LO, for the low half of a product (MIPS manual; own number).
+    pub const LO: Reg = Reg { index: 33 };
+
     /// The register of this number; `None` above 33.
     pub fn new(index: u8) -> Option<Reg>
         ensures some { IsSome result ↔ (index < 34) }
         ensures value { IfSome result (λ register. register ≡ index) }
     {
-        if index < 34 { Some(Reg { index }) } else { None }
+        if index < 34 {
+            Some(Reg { index })
+        } else {
+            None
+        }
     }
 
     /// The register's number, 0..=33.
+    #[inline]
     pub fn get(self) -> u8
         ensures value { result ≡ self }
         ensures range { result < 34 }
@@ -72,10 +86,15 @@ impl Gpr {
         ensures some { IsSome result ↔ (index < 32) }
         ensures value { IfSome result (λ register. register ≡ index) }
     {
-        if index < 32 { Some(Gpr { index }) } else { None }
+        if index < 32 {
+            Some(Gpr { index })
+        } else {
+            None
+        }
     }
 
     /// The register's number, 0..=31.
+    #[inline]
     pub fn get(self) -> u8
         ensures value { result ≡ self }
         ensures range { result < 32 }
@@ -85,6 +104,10 @@ impl Gpr {
 }
 
 impl From<Gpr> for Reg {
+    ghost use Rattle.std.specs.Prelude.{◌≡◌};
+
+    ghost from_gives = { λ g r. r ≡ g };
+
     fn from(register: Gpr) -> Reg {
         Reg {
             index: register.get(),
@@ -119,10 +142,15 @@ impl Place {
         ensures some { IsSome result ↔ (index ≤ 4096) }
         ensures value { IfSome result (λ place. place ≡ index) }
     {
-        if index <= 4096 { Some(Place { index }) } else { None }
+        if index <= 4096 {
+            Some(Place { index })
+        } else {
+            None
+        }
     }
 
     /// The index, 0..=4096.
+    #[inline]
     pub fn get(self) -> u32
         ensures value { result ≡ self }
         ensures range { result ≤ 4096 }
@@ -157,10 +185,15 @@ impl Amount {
         ensures some { IsSome result ↔ (bits < 32) }
         ensures value { IfSome result (λ amount. amount ≡ bits) }
     {
-        if bits < 32 { Some(Amount { bits }) } else { None }
+        if bits < 32 {
+            Some(Amount { bits })
+        } else {
+            None
+        }
     }
 
     /// The number of bits, 0..=31.
+    #[inline]
     pub fn get(self) -> u8
         ensures value { result ≡ self }
         ensures range { result < 32 }
@@ -185,4 +218,102 @@ impl Model for RegSet {
     ghost invariant = { λ s. s.bits < 2 ^ 34 };
 
     ghost inverse = { λ n. record { bits = n } };
+}
+
+impl RegSet {
+    ghost use Rattle.std.specs.Prelude.{◌≡◌, ℕ, ◌<◌, ◌↔◌, ◌^◌, true, false, not, ◌&&◌, ◌||◌, ◌==◌, IsTrue, IsSome, IfSome};
+    ghost use Rattle.mips_plain.specs.Words.{has};
+
+    /// The set without a member.
+    #[inline]
+    pub fn empty() -> RegSet
+        ensures bits { result ≡ 0 }
+        ensures members { (r : ℕ) → has result r ≡ false }
+    {
+        RegSet { bits: 0 }
+    }
+
+    /// The set with this register beside its members.
+    #[inline]
+    pub fn insert(self, register: Reg) -> RegSet
+        ensures members { (r : ℕ) → has result r ≡ (has self r || register == r) }
+    {
+        RegSet {
+            bits: self.bits | 1 << register.get(),
+        }
+    }
+
+    /// Whether the register is a member.
+    #[inline]
+    pub fn has(self, register: Reg) -> bool
+        ensures member { result ≡ has self register }
+    {
+        self.bits >> register.get() & 1 == 1
+    }
+
+    /// The members of either set.
+    #[inline]
+    pub fn union(self, other: RegSet) -> RegSet
+        ensures members { (r : ℕ) → has result r ≡ (has self r || has other r) }
+    {
+        RegSet {
+            bits: self.bits | other.bits,
+        }
+    }
+
+    /// The members that the other set doesn't have.
+    #[inline]
+    pub fn minus(self, other: RegSet) -> RegSet
+        ensures members { (r : ℕ) → has result r ≡ (has self r && not (has other r)) }
+    {
+        RegSet {
+            bits: self.bits & !other.bits,
+        }
+    }
+
+    /// Whether each member is one of the other set.
+    #[inline]
+    pub fn is_subset(self, other: RegSet) -> bool
+        ensures members { IsTrue result ↔ ((r : ℕ) → has self r ≡ true → has other r ≡ true) }
+    {
+        self.bits & other.bits == self.bits
+    }
+
+    /// Whether there is no member.
+    #[inline]
+    pub fn is_empty(self) -> bool
+        ensures members { IsTrue result ↔ ((r : ℕ) → has self r ≡ false) }
+        ensures bits { IsTrue result ↔ (self ≡ 0) }
+    {
+        self.bits == 0
+    }
+
+    /// The set as a number: bit r is 1 where register r is a member; below 2^34.
+    #[inline]
+    pub fn bits(self) -> u64
+        ensures value { result ≡ self }
+        ensures range { result < 2 ^ 34 }
+    {
+        self.bits
+    }
+
+    /// The set of these bits; `None` with a bit above 33.
+    pub fn from_bits(bits: u64) -> Option<RegSet>
+        ensures some { IsSome result ↔ (bits < 2 ^ 34) }
+        ensures value { IfSome result (λ set. set ≡ bits) }
+    {
+        if bits >> REGISTERS == 0 {
+            Some(RegSet { bits })
+        } else {
+            None
+        }
+    }
+
+    /// Two sets with the same members are one set. The call does nothing: its contract is the law.
+    pub fn same(self, other: RegSet)
+        requires members { (r : ℕ) → r < 34 → has self r ≡ has other r }
+        ensures same { self ≡ other }
+    {
+        let _ = (self.bits, other.bits);
+    }
 }
