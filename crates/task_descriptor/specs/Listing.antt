@@ -1,6 +1,6 @@
 -- What a well-formed annotated program is (Sohi, Breach, Vijaykumar, ISCA 1995, section 2.2; the
 -- limits and the marks that fit an instruction are own choices).
-use Rattle.std.specs.Prelude.{◌≡◌, ℕ, Bool, true, false, not, ◌&&◌, ◌||◌, ◌==◌, nat_lt, nat_le, if◌then◌else◌, Option, Some, None, List, [], ◌∷◌, map, length, position}
+use Rattle.std.specs.Prelude.{◌≡◌, ℕ, zero, suc, ◌++◌, Bool, true, false, not, ◌&&◌, ◌||◌, ◌==◌, nat_lt, nat_le, if◌then◌else◌, Option, Some, None, List, [], ◌∷◌, map, length, position}
 use Rattle.std.specs.List.{list_any}
 use Rattle.std.specs.Str.{bytes_eq}
 use Rattle.mips_plain.specs.Words.{has, index_of}
@@ -28,11 +28,12 @@ pub record Listing : Type 0 where
 -- what parts are, as lists
 abbrev pub listing_of : Parts → Listing
 listing_of parts = record {
-      code = parts.code.items;
-      bytes = parts.bytes.items;
-      fixed = parts.fixed.items;
-      tasks = parts.tasks.items;
-      start = parts.start; }
+  code = parts.code.items;
+  bytes = parts.bytes.items;
+  fixed = parts.fixed.items;
+  tasks = parts.tasks.items;
+  start = parts.start;
+}
 
 -- what the plain machine takes of it: no mark, and no task
 abbrev pub input : Listing → Input
@@ -47,11 +48,14 @@ if_instruction code (Some index) = if nat_lt index (length code) then Some index
 abbrev pub instruction_at : Listing → ℕ → Option ℕ
 instruction_at p at = if_instruction p.code (index_of at)
 
+-- the numbers below n, rising
+abbrev pub numbers_below : ℕ → List ℕ
+numbers_below zero = []
+numbers_below (suc n) = numbers_below n ++ n ∷ []
+
 -- the registers, 0 to 33
 abbrev pub registers : List ℕ
-registers =
-    0 ∷ 1 ∷ 2 ∷ 3 ∷ 4 ∷ 5 ∷ 6 ∷ 7 ∷ 8 ∷ 9 ∷ 10 ∷ 11 ∷ 12 ∷ 13 ∷ 14 ∷ 15 ∷ 16 ∷ 17 ∷ 18 ∷ 19 ∷ 20 ∷ 21 ∷ 22
-    ∷ 23 ∷ 24 ∷ 25 ∷ 26 ∷ 27 ∷ 28 ∷ 29 ∷ 30 ∷ 31 ∷ 32 ∷ 33 ∷ []
+registers = numbers_below 34
 
 -- one of the limits is passed: 4,096 instructions, 1,024 tasks, 16 targets of a task, 65,536 bytes
 abbrev pub is_too_many : Listing → Bool

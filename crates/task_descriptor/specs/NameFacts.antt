@@ -30,4 +30,5 @@ fields_of bytes copied zeros named is_copy are_zeros =
     subst (λ (xs : List ℕ). NameFields (xs ++ drop (length bytes) zeros) (length bytes)) (sym is_copy) (record {
       name = ap is_name (take-append_seam bytes (drop (length bytes) zeros)) ∙ named;
       within = omega (arith, length-append bytes (drop (length bytes) zeros));
-      zeros = drop-append_seam bytes (drop (length bytes) zeros) ∙ ap (drop (length bytes)) are_zeros ∙ drop-replicate (length bytes) 32 0; })
+      zeros = drop-append_seam bytes (drop (length bytes) zeros) ∙ ap (drop (length bytes)) are_zeros ∙ drop-replicate (length bytes) 32 0;
+    })

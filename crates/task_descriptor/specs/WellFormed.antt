@@ -44,7 +44,8 @@ passes p h =
       distinct = twice.0;
       masks = mask.0;
       marks = last.0;
-      starts = last.1; }
+      starts = last.1;
+    }
 
 -- where no element passes a test, none at an index does
 none_at : {X : Type 0} (test : X → Bool) (xs : List X) (i : ℕ) (x : X) → list_any test xs ≡ false
@@ -78,7 +79,8 @@ limits p h =
       bytes = ltb-false 65536 (length p.bytes) tests.1;
       fixed = ltb-false 65536 (length p.fixed) tests.2;
       tasks = ltb-false 1024 (length p.tasks) tests.3;
-      targets = λ t d at. ltb-false 16 (length d.targets) (none_at (λ u. nat_lt 16 (length u.targets)) p.tasks t d tests.4 at); }
+      targets = λ t d at. ltb-false 16 (length d.targets) (none_at (λ u. nat_lt 16 (length u.targets)) p.tasks t d tests.4 at);
+    }
 
 -- a task's entry is an instruction
 pub entry_below : (p : Listing) → IsWellFormed p → (t : ℕ) (d : Descriptor) → slice_get p.tasks t ≡ Some d → d.entry < length p.code

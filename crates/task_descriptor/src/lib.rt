@@ -4,6 +4,7 @@
 
 mod check;
 pub mod descriptor;
+mod marks;
 pub mod name;
 pub mod places;
 pub mod program;

@@ -1,5 +1,6 @@
 //! Whole programs.
 
+use crate::check::fault_of;
 use crate::descriptor::{Descriptor, Marked};
 use mips_plain::number::Place;
 use std::marker::Model;
@@ -66,16 +67,42 @@ impl Model for Program {
     ghost Value = { Listing };
 
     ghost view = { λ p. record {
-        code = p.code.items; bytes = p.bytes.items; fixed = p.fixed.items; tasks = p.tasks.items; start = p.start } };
+      code = p.code.items;
+      bytes = p.bytes.items;
+      fixed = p.fixed.items;
+      tasks = p.tasks.items;
+      start = p.start;
+    } };
 
     ghost invariant = { λ p. IsWellFormed (record {
-        code = p.code.items; bytes = p.bytes.items; fixed = p.fixed.items; tasks = p.tasks.items; start = p.start }) };
+      code = p.code.items;
+      bytes = p.bytes.items;
+      fixed = p.fixed.items;
+      tasks = p.tasks.items;
+      start = p.start;
+    }) };
 }
 
 impl Program {
     ghost use Rattle.std.specs.Prelude.{◌≡◌, ◌+◌, ◌*◌, ◌<◌, Some, MatchResult, map, position, ◌==◌, option_copied, slice_get};
     ghost use Rattle.mips_plain.specs.Words.{address};
     ghost use Rattle.task_descriptor.specs.Listing.{Listing, IsWellFormed, build_fault, listing_of, instruction_at};
+
+    /// The program that the parts make. A refusal gives the parts back with the first fault that
+    /// holds of them.
+    pub fn build(parts: Parts) -> Result<Program, (Parts, BuildFault)>
+        ensures built { MatchResult result
+            (λ program. (program ≡ listing_of parts) × (build_fault (listing_of parts) ≡ None))
+            (λ refused. (refused.0 ≡ parts) × (build_fault (listing_of parts) ≡ Some refused.1)) }
+    {
+        match fault_of(&parts) {
+            Some(fault) => Err((parts, fault)),
+            None => {
+                let Parts { code, bytes, fixed, tasks, start } = parts;
+                Ok(Program { code, bytes, fixed, tasks, start })
+            }
+        }
+    }
 
     /// The instructions, index 0 first; at most 4,096.
     pub fn code(&self) -> &[Marked]
@@ -121,8 +148,20 @@ impl Program {
     pub fn parts(self) -> Parts
         ensures { listing_of result ≡ self }
     {
-        let Program { code, bytes, fixed, tasks, start } = self;
-        Parts { code, bytes, fixed, tasks, start }
+        let Program {
+            code,
+            bytes,
+            fixed,
+            tasks,
+            start,
+        } = self;
+        Parts {
+            code,
+            bytes,
+            fixed,
+            tasks,
+            start,
+        }
     }
 
     #[tactic(auto, unfolding(mips_plain::specs::Words::address))]
@@ -138,7 +177,11 @@ impl Program {
         ensures { result ≡ instruction_at self.now address }
     {
         let index = index_of(address)?;
-        if (index as usize) < self.code.len() { Some(index) } else { None }
+        if (index as usize) < self.code.len() {
+            Some(index)
+        } else {
+            None
+        }
     }
 
     /// The number of the task that begins at this index; `None` where none does.
