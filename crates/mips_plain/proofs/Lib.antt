@@ -1,2 +1,4 @@
 pub mod SetLemmas
 pub mod ProductLemmas
+pub mod RegionLemmas
+pub mod ByteLemmas

@@ -4,6 +4,7 @@
 
 pub mod arithmetic;
 pub mod instruction;
+pub mod memory;
 pub mod number;
 pub mod outcome;
 pub mod parts;
