@@ -1,1 +1,2 @@
 pub mod RegisterTests
+pub mod NameText

@@ -26,8 +26,9 @@ none_below test zero r h within = absurd (omega arith)
 none_below test (suc n) r h within =
     let parts = both_false (list_any test (numbers_below n)) (test n) (sym (list_any-append test (numbers_below n) (n ∷ [])) ∙ h) in
     elim (last_or_before r n within) [
-      inl same ↦ ap test same ∙ parts.1
-    | inr less ↦ none_below test n r parts.0 less ]
+      | inl same ↦ ap test same ∙ parts.1
+      | inr less ↦ none_below test n r parts.0 less
+    ]
 
 pub all_below : (test : ℕ → Bool) (n : ℕ) → ((r : ℕ) → r < n → test r ≡ false) → list_any test (numbers_below n) ≡ false
 all_below test zero h = refl
@@ -45,12 +46,14 @@ not_zero set apart = ap not (false_from_ne_true (nat_eq set 0) (λ same. apart (
 some_member : (set : ℕ) → set < 2 ^ 34 → (set ≡ 0 → ⊥) → list_any (has set) (numbers_below 34) ≡ true
 some_member set small apart =
     elim (cases_Bool (list_any (has set) (numbers_below 34))) [
-      inl found ↦ found
-    | inr none ↦ absurd (apart (same_from_bits_below 34 set 0 small (omega arith) (λ r less. zero_bit set r (none_below (has set) 34 r none less)))) ]
+      | inl found ↦ found
+      | inr none ↦ absurd (apart (same_from_bits_below 34 set 0 small (omega arith) (λ r less. zero_bit set r (none_below (has set) 34 r none less))))
+    ]
 
 -- a set is not the number 0 exactly where it has a register
 pub member_below : (set : ℕ) → set < 2 ^ 34 → not (nat_eq set 0) ≡ list_any (has set) (numbers_below 34)
 member_below set small =
     elim (cases_eq set 0) [
-      inl none ↦ subst (λ (n : ℕ). not (nat_eq n 0) ≡ list_any (has n) (numbers_below 34)) (sym none) refl
-    | inr apart ↦ not_zero set apart ∙ sym (some_member set small apart) ]
+      | inl none ↦ subst (λ (n : ℕ). not (nat_eq n 0) ≡ list_any (has n) (numbers_below 34)) (sym none) refl
+      | inr apart ↦ not_zero set apart ∙ sym (some_member set small apart)
+    ]

@@ -8,3 +8,5 @@ mod marks;
 pub mod name;
 pub mod places;
 pub mod program;
+#[cfg(test)]
+mod tests;

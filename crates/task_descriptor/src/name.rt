@@ -60,6 +60,16 @@ impl Name {
     {
         &self.padded[..self.len]
     }
+
+    /// The name as text: its bytes are ASCII.
+    pub fn as_str(&self) -> &str
+        ensures text { result.now ≡ self.now }
+    {
+        match str::from_utf8(self.bytes()) {
+            Ok(text) => text,
+            Err(_) => unreachable!(),
+        }
+    }
 }
 
 ghost use Rattle.std.specs.Prelude.{◌≡◌};

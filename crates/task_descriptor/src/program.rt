@@ -98,8 +98,20 @@ impl Program {
         match fault_of(&parts) {
             Some(fault) => Err((parts, fault)),
             None => {
-                let Parts { code, bytes, fixed, tasks, start } = parts;
-                Ok(Program { code, bytes, fixed, tasks, start })
+                let Parts {
+                    code,
+                    bytes,
+                    fixed,
+                    tasks,
+                    start,
+                } = parts;
+                Ok(Program {
+                    code,
+                    bytes,
+                    fixed,
+                    tasks,
+                    start,
+                })
             }
         }
     }

@@ -1,0 +1,4 @@
+pub mod EdgeLemmas
+pub mod WellFormed
+pub mod Searches
+pub mod Listed

@@ -1,0 +1,5 @@
+pub mod Edges
+pub mod Soundness
+pub mod Neighbours
+pub mod Members
+pub mod Examples
