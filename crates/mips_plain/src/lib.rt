@@ -8,3 +8,5 @@ pub mod memory;
 pub mod number;
 pub mod outcome;
 pub mod parts;
+pub mod plain;
+pub(crate) mod processor;

@@ -1,5 +1,23 @@
 //! How a run stands, what a trap says, and what an instruction read.
 
+use std::alloc::{AllocError, AllocFailed};
+
+/// Want of memory: a growth of the output was refused.
+#[derive(Clone, Copy, Debug, PartialEq, Eq)]
+pub struct OutOfMemory;
+
+impl From<AllocError> for OutOfMemory {
+    fn from(_error: AllocError) -> OutOfMemory {
+        OutOfMemory
+    }
+}
+
+impl<T: Drop> From<AllocFailed<T>> for OutOfMemory {
+    fn from(_error: AllocFailed<T>) -> OutOfMemory {
+        OutOfMemory
+    }
+}
+
 /// Why an instruction can't be carried out (own numbering; the first that holds is the one).
 #[derive(Clone, Copy, Debug, PartialEq, Eq)]
 pub enum Trap {

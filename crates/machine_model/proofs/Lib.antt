@@ -1,0 +1,13 @@
+pub mod Instructions
+pub mod PlainRuns
+pub mod Invariant
+pub mod UnitExec
+pub mod Events
+pub mod Headline
+pub mod Programs
+pub mod Replays
+pub mod Answering
+pub mod HeadEvents
+pub mod Growth
+pub mod Bursts
+pub mod SentRegisters

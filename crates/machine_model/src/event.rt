@@ -1,0 +1,99 @@
+//! The events of the machine, and what is said of a run.
+
+use mips_plain::number::Reg;
+use mips_plain::outcome::Trap;
+
+/// One atomic step of the machine. A position k counts from the head of the queue, which is 0; a
+/// task is its number among the program's tasks.
+#[derive(Clone, Copy, Debug, PartialEq, Eq)]
+pub enum Event {
+    /// A free unit takes this task, behind the tail.
+    Assign(u32),
+    /// The unit at position k executes one instruction.
+    Exec(u32),
+    /// The unit at position k takes this register from the unit before it.
+    Transfer(u32, Reg),
+    /// The stopped unit at position k sends this register of its create mask.
+    Drain(u32, Reg),
+    /// The unit at position k has stopped elsewhere than the next unit begins: all behind it go.
+    Squash(u32),
+    /// The head hands its registers and reads over, and goes.
+    Retire,
+    /// The head has stopped at an address that is not listed: the run ends.
+    Fault,
+    /// The unit at position k and all behind it go.
+    Drop(u32),
+}
+
+/// What stays of a retired task: its number, the address at which it stopped, and how many
+/// instructions it executed.
+#[derive(Clone, Copy, Debug, PartialEq, Eq)]
+pub struct Commit {
+    /// The number of the task.
+    pub task: u32,
+    /// The address behind its exit.
+    pub exit: u32,
+    /// How many instructions it executed.
+    pub count: u32,
+}
+
+/// Where a unit stands.
+#[derive(Clone, Copy, Debug, PartialEq, Eq)]
+pub enum Spot {
+    /// Before the instruction at this index.
+    Inside(u32),
+    /// Behind an exit of its task, at this address.
+    Stopped(u32),
+}
+
+/// How a run of the machine stands.
+#[derive(Clone, Copy, Debug, PartialEq, Eq)]
+pub enum Standing {
+    /// It goes on.
+    Running,
+    /// The head came to a `halt`.
+    Halted,
+    /// The head met a trap.
+    Trapped(Trap),
+    /// The head stopped at this address, which its task does not list.
+    Unlisted(u32),
+}
+
+/// Why an event is refused. The first that holds, in this order, is the answer.
+#[derive(Clone, Copy, Debug, PartialEq, Eq)]
+pub enum Refused {
+    /// 1: the run has ended.
+    Ended,
+    /// 2: no unit is free.
+    NoUnit,
+    /// 3: there is no such task, no unit at that position, or the register is not of the task.
+    NoSuch,
+    /// 4: the task may not follow there.
+    NotATarget,
+    /// 5: the unit has stopped.
+    Stopped,
+    /// 6: this register has no value yet; it is the least such register.
+    Waiting(Reg),
+    /// 7: the instruction waits until the unit is the head.
+    NotHead,
+    /// 8: the unit has not stopped.
+    NotStopped,
+    /// 9: the register has arrived, or has been sent.
+    AlreadyThere,
+    /// 10: the register is not there to be taken or sent.
+    NotYet(Reg),
+    /// 11: the next unit begins where this one stopped.
+    NoMismatch,
+    /// 12: this register of the create mask is not sent yet; it is the least such register.
+    Unfinished(Reg),
+    /// 13: the next unit begins elsewhere.
+    Mismatch,
+    /// 14: the exit is not listed.
+    NotListed,
+    /// 15: the exit is listed.
+    IsListed,
+    /// 16: the history has its 1,000,000 events.
+    Full,
+    /// 17: a growth was refused.
+    OutOfMemory,
+}

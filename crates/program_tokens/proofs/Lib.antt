@@ -1,0 +1,4 @@
+mod Capped
+mod Cuts
+mod Positions
+pub mod Steps

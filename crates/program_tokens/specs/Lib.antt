@@ -1,0 +1,6 @@
+pub mod Lines
+pub mod Numbers
+pub mod Registers
+pub mod Grammar
+pub mod Faults
+pub mod Examples

@@ -1,0 +1,11 @@
+//! The lines of a program text and the tokens of a line: the first two stages of the assembler.
+#![tactic(auto)]
+
+mod kind;
+pub mod line;
+mod number;
+mod register;
+#[cfg(test)]
+mod tests;
+pub mod token;
+mod word;

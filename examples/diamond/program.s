@@ -1,0 +1,21 @@
+# Two ways from A to D, one through B and one through C.
+#
+# A always goes to C. With B predicted, D may have been given to a unit and may
+# have run behind B before A finds out; both are squashed then.
+
+.task A create=$8 targets=B,C
+.task B create=- targets=D
+.task C create=- targets=D
+.task D create=$9 targets=-
+
+A:
+        addiu $8, $0, 1   !f
+        bne   $8, $0, C   !s
+B:
+        j     D           !s
+C:
+        nop               !s
+D:
+        addiu $9, $0, 7   !f
+        out   $9
+        halt
