@@ -2,7 +2,11 @@
 
 use crate::check::fault_of;
 use crate::descriptor::{Descriptor, Marked};
+use mips_plain::instruction::Op;
 use mips_plain::number::Place;
+use mips_plain::outcome::OutOfMemory;
+use mips_plain::plain::Plain;
+use std::alloc::{AllocError, Global};
 use std::marker::Model;
 
 /// The most tasks that a program has.
@@ -84,9 +88,10 @@ impl Model for Program {
 }
 
 impl Program {
-    ghost use Rattle.std.specs.Prelude.{◌≡◌, ◌+◌, ◌*◌, ◌<◌, Some, MatchResult, map, position, ◌==◌, option_copied, slice_get};
+    ghost use Rattle.std.specs.Prelude.{◌≡◌, ◌+◌, ◌*◌, ◌<◌, Some, IfOk, MatchResult, map, position, ◌==◌, option_copied, slice_get};
     ghost use Rattle.mips_plain.specs.Words.{address};
-    ghost use Rattle.task_descriptor.specs.Listing.{Listing, IsWellFormed, build_fault, listing_of, instruction_at};
+    ghost use Rattle.mips_plain.specs.PlainView.{IsAfter};
+    ghost use Rattle.task_descriptor.specs.Listing.{Listing, IsWellFormed, build_fault, listing_of, instruction_at, input};
 
     /// The program that the parts make. A refusal gives the parts back with the first fault that
     /// holds of them.
@@ -156,6 +161,18 @@ impl Program {
         self.start
     }
 
+    /// The plain machine at the program's start: it takes the instructions without their marks, and no
+    /// task. Want of memory leaves nothing behind.
+    pub fn plain(&self, alloc: Global) -> Result<Plain, OutOfMemory>
+        ensures { IfOk result (λ machine. IsAfter (input self.now) 0 machine) }
+    {
+        let code = unmarked(alloc, &self.code)?;
+        match Plain::new(alloc, code, &self.bytes, &self.fixed, self.start) {
+            Ok(machine) => Ok(machine),
+            Err(_) => Err(OutOfMemory),
+        }
+    }
+
     /// The parts again.
     pub fn parts(self) -> Parts
         ensures { listing_of result ≡ self }
@@ -207,8 +224,18 @@ impl Program {
     }
 }
 
-ghost use Rattle.std.specs.Prelude.{◌≡◌, ◌==◌, ◌<◌, length, position, IfSome};
+ghost use Rattle.std.specs.Prelude.{◌≡◌, ◌==◌, ◌<◌, length, position, map, IfSome, IfOk};
 ghost use Rattle.mips_plain.specs.Words.{index_of as index_of_address};
+
+fn unmarked(alloc: Global, code: &[Marked]) -> Result<Vec<Op>, AllocError>
+    ensures { IfOk result (λ ops. ops.items ≡ map (λ m. m.op) code.now) }
+{
+    let mut ops = Vec::with_capacity(alloc, code.len())?;
+    for marked in code {
+        ops.push(marked.op)?;
+    }
+    Ok(ops)
+}
 
 #[tactic(auto, unfolding(mips_plain::specs::Words::index_of))]
 fn index_of(address: u32) -> Option<u32>

@@ -1,0 +1,4 @@
+pub mod Commas
+pub mod Members
+pub mod DataLines
+pub mod Parts

@@ -1,0 +1,120 @@
+//! Pieces of a line: registers, places, numbers, with commas between them.
+
+ghost use Rattle.std.specs.Prelude.{◌≡◌, ℕ, ◌++◌, ◌∷◌, ◌<◌, [], ◌==◌, false, not, OnOk, IfOk, string_bytes, map, find, option_copied};
+ghost use Rattle.mips_plain.specs.Words.{has};
+ghost use Rattle.std.specs.Fmt.{digit_glyph};
+ghost use Rattle.canonical_text.specs.CanonicalText.{comma_unless as comma_text, no_pieces, commas, listed, members, register_text, place_named, place_text, hexadecimal};
+
+use mips_plain::number::{Place, Reg, RegSet};
+use std::alloc::AllocError;
+use task_descriptor::descriptor::Descriptor;
+
+/// The task that begins at a place.
+pub(crate) fn task_at(tasks: &[Descriptor], index: u32) -> Option<&Descriptor>
+    ensures { option_copied result ≡ find (λ t. t.entry == index) tasks.now }
+{
+    tasks.iter().find(|task| task.entry.get() == index)
+}
+
+pub(crate) fn write_place(
+    text: &mut String,
+    tasks: &[Descriptor],
+    place: Place,
+) -> Result<(), AllocError>
+    ensures { OnOk result (string_bytes text.new ≡ string_bytes text.old ++ place_text tasks.now place) }
+{
+    let index = place.get();
+    match task_at(tasks, index) {
+        Some(task) => text.push_str(task.name.as_str()),
+        None => write!(text, "@{index}"),
+    }
+}
+
+/// The members of a set, rising; answers whether there is one.
+pub(crate) fn write_registers(text: &mut String, set: RegSet) -> Result<bool, AllocError>
+    ensures written { OnOk result (string_bytes text.new ≡ string_bytes text.old ++ commas (map register_text (members set))) }
+    ensures some { IfOk result (λ some. some ≡ not (no_pieces (map register_text (members set)))) }
+{
+    let mut is_first = true;
+    for number in 0..34u8 {
+        if has_number(set, number) {
+            write_register(text, is_first, number)?;
+            is_first = false;
+        }
+    }
+    Ok(!is_first)
+}
+
+fn write_register(text: &mut String, is_first: bool, number: u8) -> Result<(), AllocError>
+    ensures { OnOk result (string_bytes text.new ≡ string_bytes text.old ++ (comma_text is_first ++ register_text number)) }
+{
+    let comma = comma_unless(is_first);
+    write!(text, "{comma}${number}")
+}
+
+fn comma_unless(is_first: bool) -> &'static str
+    ensures { result.now ≡ comma_text is_first }
+{
+    if is_first { "" } else { "," }
+}
+
+fn has_number(set: RegSet, number: u8) -> bool
+    requires { number < 34 }
+    ensures { result ≡ has set number }
+{
+    Reg::new(number).is_some_and(|register| set.has(register))
+}
+
+pub(crate) fn write_places(
+    text: &mut String,
+    tasks: &[Descriptor],
+    places: &[Place],
+) -> Result<(), AllocError>
+    ensures { OnOk result (string_bytes text.new ≡ string_bytes text.old ++ commas (map (place_text tasks.now) places.now)) }
+{
+    for (index, place) in places.iter().enumerate() {
+        write_next_place(text, index == 0, tasks, *place)?;
+    }
+    Ok(())
+}
+
+fn write_next_place(
+    text: &mut String,
+    is_first: bool,
+    tasks: &[Descriptor],
+    place: Place,
+) -> Result<(), AllocError>
+    ensures { OnOk result (string_bytes text.new ≡ string_bytes text.old ++ (comma_text is_first ++ place_text tasks.now place)) }
+{
+    text.push_str(comma_unless(is_first))?;
+    write_place(text, tasks, place)
+}
+
+/// A hexadecimal digit.
+fn glyph(digit: u8) -> char
+    requires { digit < 16 }
+    ensures value { result ≡ digit_glyph false digit }
+    ensures ascii { result < 128 }
+{
+    char::from(if digit < 10 {
+        b'0' + digit
+    } else {
+        b'a' + (digit - 10)
+    })
+}
+
+/// So many hexadecimal digits of a number, the last ones.
+#[tactic(auto, unfolding(crate::specs::CanonicalText::hexadecimal))]
+pub(crate) fn write_hexadecimal(
+    text: &mut String,
+    count: u32,
+    number: u32,
+) -> Result<(), AllocError>
+    ensures { OnOk result (string_bytes text.new ≡ string_bytes text.old ++ hexadecimal count number) }
+{
+    if count == 0 {
+        return Ok(());
+    }
+    write_hexadecimal(text, count - 1, number / 16)?;
+    text.push(glyph((number % 16) as u8))
+}

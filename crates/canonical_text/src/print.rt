@@ -1,0 +1,180 @@
+//! Writing the canonical text of a program.
+
+ghost use Rattle.std.specs.Prelude.{◌≡◌, ℕ, ◌++◌, ◌∷◌, ◌+◌, ◌==◌, [], OnOk, IfOk, string_bytes, find, codes, map, length, ◌<◌, ◌≤◌, ◌*◌, slice_index, option_copied};
+ghost use Rattle.std.specs.List.{flat_map};
+ghost use Rattle.canonical_text.specs.CanonicalText.{line, listed, members, register_text, place_text, task_line, label_line, code_line, code_lines, word_line, byte_line, data_lines, section, start_line, canonical_text};
+
+use crate::instructions::write_marked;
+use crate::pieces::{task_at, write_hexadecimal, write_places, write_registers};
+use mips_plain::number::{Place, RegSet};
+use std::alloc::{AllocError, Global};
+use task_descriptor::descriptor::{Descriptor, Marked};
+use task_descriptor::program::Program;
+
+fn write_task(text: &mut String, tasks: &[Descriptor], task: &Descriptor) -> Result<(), AllocError>
+    ensures { OnOk result (string_bytes text.new ≡ string_bytes text.old ++ task_line tasks.now task.now) }
+{
+    let name = task.name.as_str();
+    write!(text, ".task {name} create=")?;
+    write_create(text, task.create)?;
+    text.push_str(" targets=")?;
+    write_targets(text, tasks, task.targets.as_slice())?;
+    text.push('\n')?;
+    Ok(())
+}
+
+fn write_create(text: &mut String, create: RegSet) -> Result<(), AllocError>
+    ensures { OnOk result (string_bytes text.new ≡ string_bytes text.old ++ listed (map register_text (members create))) }
+{
+    if !write_registers(text, create)? {
+        text.push_str("-")?;
+    }
+    Ok(())
+}
+
+fn write_targets(
+    text: &mut String,
+    tasks: &[Descriptor],
+    targets: &[Place],
+) -> Result<(), AllocError>
+    ensures { OnOk result (string_bytes text.new ≡ string_bytes text.old ++ listed (map (place_text tasks.now) targets.now)) }
+{
+    if targets.is_empty() {
+        return text.push('-');
+    }
+    write_places(text, tasks, targets)
+}
+
+fn write_tasks(text: &mut String, tasks: &[Descriptor]) -> Result<(), AllocError>
+    ensures { OnOk result (string_bytes text.new ≡ string_bytes text.old ++ flat_map (task_line tasks.now) tasks.now) }
+{
+    for task in tasks {
+        write_task(text, tasks, task)?;
+    }
+    Ok(())
+}
+
+fn write_label(text: &mut String, task: Option<&Descriptor>) -> Result<(), AllocError>
+    ensures { OnOk result (string_bytes text.new ≡ string_bytes text.old ++ label_line (option_copied task.entry)) }
+{
+    match task {
+        Some(task) => {
+            let name = task.name.as_str();
+            writeln!(text, "{name}:")
+        }
+        None => Ok(()),
+    }
+}
+
+fn write_instruction(
+    text: &mut String,
+    tasks: &[Descriptor],
+    index: u32,
+    marked: &Marked,
+) -> Result<(), AllocError>
+    ensures { OnOk result (string_bytes text.new ≡ string_bytes text.old ++ code_line tasks.now index marked.now) }
+{
+    write_label(text, task_at(tasks, index))?;
+    write_marked(text, tasks, marked)?;
+    text.push('\n')
+}
+
+fn write_code(text: &mut String, tasks: &[Descriptor], code: &[Marked]) -> Result<(), AllocError>
+    requires { length code.now ≤ 4096 }
+    ensures { OnOk result (string_bytes text.new ≡ string_bytes text.old ++ code_lines tasks.now 0 code.now) }
+{
+    for (index, marked) in code.iter().enumerate() {
+        write_instruction(text, tasks, index as u32, marked)?;
+    }
+    Ok(())
+}
+
+fn write_word(text: &mut String, word: u32) -> Result<(), AllocError>
+    ensures { OnOk result (string_bytes text.new ≡ string_bytes text.old ++ word_line word) }
+{
+    text.push_str(".word 0x")?;
+    write_hexadecimal(text, 8, word)?;
+    text.push('\n')
+}
+
+fn write_byte(text: &mut String, byte: u8) -> Result<(), AllocError>
+    ensures { OnOk result (string_bytes text.new ≡ string_bytes text.old ++ byte_line byte) }
+{
+    text.push_str(".byte 0x")?;
+    write_hexadecimal(text, 2, u32::from(byte))?;
+    text.push('\n')
+}
+
+/// The four bytes of a slice as a word, the lowest first.
+fn word_at(bytes: &[u8], at: usize) -> u32
+    requires { at + 3 < length bytes.now }
+    ensures { result ≡ slice_index bytes.now at + 256 * (slice_index bytes.now (at + 1) + 256 * (slice_index bytes.now (at + 2) + 256 * slice_index bytes.now (at + 3))) }
+{
+    u32::from_le_bytes([bytes[at], bytes[at + 1], bytes[at + 2], bytes[at + 3]])
+}
+
+fn write_bytes(text: &mut String, bytes: &[u8]) -> Result<(), AllocError>
+    ensures { OnOk result (string_bytes text.new ≡ string_bytes text.old ++ flat_map byte_line bytes.now) }
+{
+    for byte in bytes {
+        write_byte(text, *byte)?;
+    }
+    Ok(())
+}
+
+fn write_data(text: &mut String, bytes: &[u8]) -> Result<(), AllocError>
+    ensures { OnOk result (string_bytes text.new ≡ string_bytes text.old ++ data_lines bytes.now) }
+{
+    let mut at = 0;
+    while bytes.len() - at >= 4 {
+        write_word(text, word_at(bytes, at))?;
+        at += 4;
+    }
+    let (_, rest) = bytes.split_at(at);
+    write_bytes(text, rest)?;
+    Ok(())
+}
+
+fn write_section(text: &mut String, name: &str, bytes: &[u8]) -> Result<(), AllocError>
+    ensures { OnOk result (string_bytes text.new ≡ string_bytes text.old ++ section name.now bytes.now) }
+{
+    if bytes.is_empty() {
+        return Ok(());
+    }
+    writeln!(text, "{name}")?;
+    write_data(text, bytes)
+}
+
+fn write_start(text: &mut String, task: Option<&Descriptor>) -> Result<(), AllocError>
+    ensures { OnOk result (string_bytes text.new ≡ string_bytes text.old ++ start_line (option_copied task.entry)) }
+{
+    match task {
+        Some(task) => {
+            let name = task.name.as_str();
+            writeln!(text, ".start {name}")
+        }
+        None => Ok(()),
+    }
+}
+
+/// The canonical text of a program (own choice): `.start`, the tasks in order, the instructions, one a
+/// line, each task's label alone on the line before, then the bytes of data and of read-only data.
+pub fn print(alloc: Global, program: &Program) -> Result<Vec<u8>, AllocError>
+    ensures { IfOk result (λ text. text.items ≡ canonical_text program.now) }
+{
+    let mut text = String::new(alloc);
+    write_program(&mut text, program)?;
+    Ok(text.into_bytes())
+}
+
+fn write_program(text: &mut String, program: &Program) -> Result<(), AllocError>
+    ensures { OnOk result (string_bytes text.new ≡ string_bytes text.old ++ canonical_text program.now) }
+{
+    let tasks = program.tasks();
+    write_start(text, task_at(tasks, program.start().get()))?;
+    write_tasks(text, tasks)?;
+    write_code(text, tasks, program.code())?;
+    write_section(text, ".data", program.bytes())?;
+    write_section(text, ".rodata", program.fixed())?;
+    Ok(())
+}
