@@ -10,3 +10,5 @@ pub mod outcome;
 pub mod parts;
 pub mod plain;
 pub(crate) mod processor;
+#[cfg(test)]
+mod tests;

@@ -4,3 +4,5 @@
 
 pub mod edges;
 pub mod members;
+#[cfg(test)]
+mod tests;

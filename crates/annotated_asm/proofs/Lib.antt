@@ -1,0 +1,4 @@
+pub mod Fronts
+pub mod SetBits
+pub mod ItemSteps
+pub mod TableRows

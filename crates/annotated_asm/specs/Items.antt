@@ -1,0 +1,67 @@
+-- The items of a text: its labels and statements in order, each with its line, from 1 on, and the section
+-- of that line. Each line is judged by itself and its section; the first line with a fault is told.
+use Rattle.std.specs.Prelude.{ℕ, ◌+◌, List, [], ◌∷◌, ◌++◌, map, Result, Ok, Err}
+use Rattle.program_tokens.specs.Grammar.{line_tokens}
+use Rattle.program_tokens.specs.declared.token.Token.{Token}
+use Rattle.program_tokens.specs.declared.token.LineFault.{LineFault as TokenFault}
+use Rattle.program_tokens.specs.declared.token.LineFault.TheVariants as token_fault
+use Rattle.annotated_asm.specs.Steps.{◌>>=◌}
+use Rattle.annotated_asm.specs.Statements.{labels_of, after_labels, statement_of}
+use Rattle.annotated_asm.specs.declared.fault.LineFault.{LineFault}
+use Rattle.annotated_asm.specs.declared.fault.LineFault.TheVariants as line_fault
+use Rattle.annotated_asm.specs.declared.fault.AsmFault.{AsmFault}
+use Rattle.annotated_asm.specs.declared.fault.AsmFault.TheVariants as fault
+use Rattle.annotated_asm.specs.declared.statement.Section.{Section}
+use Rattle.annotated_asm.specs.declared.statement.Statement.{Statement}
+use Rattle.annotated_asm.specs.declared.statement.Statement.TheVariants as statement
+use Rattle.annotated_asm.specs.declared.statement.Item.{Item}
+
+-- a fault of a line as one of the text
+abbrev pub at_line : ℕ → LineFault → AsmFault
+at_line n line_fault.NotAscii = fault.NotAscii n
+at_line n line_fault.Token = fault.Token n
+at_line n line_fault.Mnemonic = fault.Mnemonic n
+at_line n line_fault.Operand = fault.Operand n
+at_line n line_fault.Number = fault.Number n
+at_line n line_fault.Mark = fault.Mark n
+
+abbrev pub on_line : {A : Type 0} → ℕ → Result A LineFault → Result A AsmFault
+on_line n (Ok x) = Ok x
+on_line n (Err f) = Err (at_line n f)
+
+abbrev pub tokens_on_line : ℕ → Result (List Token) TokenFault → Result (List Token) AsmFault
+tokens_on_line n (Ok tokens) = Ok tokens
+tokens_on_line n (Err token_fault.NotAscii) = Err (fault.NotAscii n)
+tokens_on_line n (Err token_fault.Token) = Err (fault.Token n)
+
+abbrev pub label_item : ℕ → Section → List ℕ → Item
+label_item n here name = record { line = n; section = here; statement = statement.Label name }
+
+-- a line that says nothing has no item for a statement
+abbrev pub statement_items : ℕ → Section → Statement → List Item
+statement_items n here statement.Empty = []
+statement_items n here s = record { line = n; section = here; statement = s } ∷ []
+
+-- the section of the lines behind a statement
+abbrev pub section_after : Section → Statement → Section
+section_after here (statement.Section next) = next
+section_after here _ = here
+
+-- the items of one line, and the section behind it
+unfoldable pub line_items : ℕ → Section → List ℕ → Result (List Item × Section) AsmFault
+line_items n here line = do
+  tokens ← tokens_on_line n (line_tokens line)
+  s ← on_line n (statement_of here (after_labels tokens))
+  Ok (map (label_item n here) (labels_of tokens) ++ statement_items n here s, section_after here s)
+
+-- the items of these lines, the first of which has this number and section
+unfoldable pub items_from : ℕ → Section → List (List ℕ) → Result (List Item) AsmFault
+items_from n here [] = Ok []
+items_from n here (line ∷ lines) = do
+  first ← line_items n here line
+  others ← items_from (n + 1) first.1 lines
+  Ok (first.0 ++ others)
+
+-- a line's items behind those of the lines before it
+abbrev pub with_items : List Item → Result (List Item × Section) AsmFault → Result (List Item × Section) AsmFault
+with_items front read = read >>= λ x. Ok (front ++ x.0, x.1)

@@ -1,0 +1,13 @@
+pub mod Steps
+pub mod Ranges
+pub mod Operands
+pub mod Mnemonics
+pub mod Rows
+pub mod Statements
+pub mod Items
+pub mod Tables
+pub mod Layout
+pub mod Resolve
+pub mod Expansions
+pub mod ProgramText
+pub mod Examples

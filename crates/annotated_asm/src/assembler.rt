@@ -1,0 +1,56 @@
+//! The assembler.
+
+ghost use Rattle.std.specs.Prelude.{◌≡◌, ◌⊎◌, Ok, Err, IfOk};
+ghost use Rattle.task_descriptor.specs.Listing.{Listing, listing_of};
+ghost use Rattle.annotated_asm.specs.Steps.{Answers};
+ghost use Rattle.annotated_asm.specs.ProgramText.{program_of, parse, Spells};
+
+use crate::fault::AsmFault;
+use crate::item::{MOST_TEXT, items_of};
+use crate::layout::{Layout, is_beyond, laid_out};
+use crate::resolve::{check_names, parts_of};
+use crate::statement::Item;
+use std::alloc::Global;
+use task_descriptor::program::{BuildFault, Program};
+
+/// The program of items whose layout is known.
+#[tactic(auto, unfolding(crate::specs::ProgramText::program_of))]
+fn program_of(alloc: Global, items: &[Item], layout: &Layout) -> Result<Program, AsmFault>
+    ensures { Answers (λ p. p) result (program_of items.now layout.now) }
+{
+    check_names(&layout.labels, items)?;
+    if is_beyond(layout.sizes) {
+        return Err(AsmFault::Build(BuildFault::TooMany));
+    }
+    let parts = parts_of(alloc, &layout.labels, items)?;
+    match Program::build(parts) {
+        Ok(program) => Ok(program),
+        Err((_, fault)) => Err(AsmFault::Build(fault)),
+    }
+}
+
+/// The program that a text spells, or its first fault.
+#[tactic(auto, unfolding(crate::specs::ProgramText::parse))]
+fn assembled(alloc: Global, text: &[u8]) -> Result<Program, AsmFault>
+    ensures { Answers (λ p. p) result (parse text.now) }
+{
+    if text.len() > MOST_TEXT {
+        return Err(AsmFault::TooLong);
+    }
+    let items = items_of(alloc, text)?;
+    let layout = laid_out(alloc, &items)?;
+    program_of(alloc, &items, &layout)
+}
+
+/// The program that a text spells, or the first fault of the text (see `AsmFault`). A refusal leaves
+/// nothing.
+pub fn assemble(alloc: Global, text: &[u8]) -> Result<Program, AsmFault>
+    // Which program or which fault it is, unless memory ran out.
+    ensures exact { Answers (λ p. p) result (parse text.now) }
+    // What is answered is spelled so.
+    ensures found { IfOk result (λ p. Spells text.now p) }
+    // What is spelled so is answered, unless memory ran out.
+    ensures only { (p : Listing) → Spells text.now p → Answers (λ q. q) result (Ok p) }
+{
+    assembled(alloc, text)
+}

@@ -1,0 +1,95 @@
+//! What is wrong with a program text.
+
+ghost use Rattle.std.specs.Prelude.{◌≡◌};
+ghost use Rattle.annotated_asm.specs.declared.fault.LineError.TheVariants.{OutOfMemory};
+ghost use Rattle.annotated_asm.specs.declared.fault.AsmFault.TheVariants.{OutOfMemory as NoMemory};
+
+use std::alloc::{AllocError, AllocFailed};
+use task_descriptor::program::BuildFault;
+
+/// What is wrong with one line, judged by itself and its section.
+#[derive(Clone, Copy, Debug, PartialEq, Eq)]
+pub enum LineFault {
+    /// 2: a byte that no text has.
+    NotAscii,
+    /// 3: bytes that are no token.
+    Token,
+    /// 4: the statement is none that the section has.
+    Mnemonic,
+    /// 5: the operands are not of the statement's number and kinds.
+    Operand,
+    /// 6: a number is out of its range.
+    Number,
+    /// 7: a mark is unknown, repeated, or on a directive.
+    Mark,
+}
+
+/// Why a line was not read.
+#[derive(Debug, Drop)]
+pub enum LineError {
+    /// It is wrong.
+    Fault(LineFault),
+    /// There was no memory for it.
+    OutOfMemory,
+}
+
+impl From<AllocError> for LineError {
+    ghost from_gives = { λ _ e. e ≡ OutOfMemory };
+
+    fn from(_e: AllocError) -> LineError {
+        LineError::OutOfMemory
+    }
+}
+
+impl<T: Drop> From<AllocFailed<T>> for LineError {
+    ghost from_gives = { λ _ e. e ≡ OutOfMemory };
+
+    fn from(_e: AllocFailed<T>) -> LineError {
+        LineError::OutOfMemory
+    }
+}
+
+/// What is wrong with a program text; lines are counted from 1. After 1 the first line with a fault of 2
+/// to 7 is told, by its lowest number; then the first line of 8, then of 9, then 10. Want of memory may
+/// be told at any point in place of a later fault.
+#[derive(Clone, Copy, Debug, PartialEq, Eq)]
+pub enum AsmFault {
+    /// 1: more than 4,194,304 bytes.
+    TooLong,
+    /// 2: the line has a byte that no text has.
+    NotAscii(u32),
+    /// 3: the line has bytes that are no token.
+    Token(u32),
+    /// 4: the line's statement is none that its section has.
+    Mnemonic(u32),
+    /// 5: the operands are not of the statement's number and kinds.
+    Operand(u32),
+    /// 6: a number is out of its range.
+    Number(u32),
+    /// 7: a mark is unknown, repeated, or on a directive.
+    Mark(u32),
+    /// 8: the line has a label, or a `.task` of one name, a second time, or a second `.start`.
+    Duplicate(u32),
+    /// 9: the line names what is no label of the wanted kind.
+    Unknown(u32),
+    /// 10: the parts make no program.
+    Build(BuildFault),
+    /// 11: there was no memory.
+    OutOfMemory,
+}
+
+impl From<AllocError> for AsmFault {
+    ghost from_gives = { λ _ e. e ≡ NoMemory };
+
+    fn from(_e: AllocError) -> AsmFault {
+        AsmFault::OutOfMemory
+    }
+}
+
+impl<T: Drop> From<AllocFailed<T>> for AsmFault {
+    ghost from_gives = { λ _ e. e ≡ NoMemory };
+
+    fn from(_e: AllocFailed<T>) -> AsmFault {
+        AsmFault::OutOfMemory
+    }
+}

@@ -1,0 +1,146 @@
+//! The items of a text: its labels and statements in order.
+
+ghost use Rattle.std.specs.Prelude.{◌≡◌, ◌≤◌, ◌++◌, List, map, length, Ok, OnOk, IfOk};
+ghost use Rattle.program_tokens.specs.Grammar.{line_tokens};
+ghost use Rattle.program_tokens.specs.Lines.{lines};
+ghost use Rattle.annotated_asm.specs.Steps.{Answers};
+ghost use Rattle.annotated_asm.specs.Statements.{labels_of, after_labels};
+ghost use Rattle.annotated_asm.specs.Items.{at_line, label_item, statement_items, section_after, tokens_on_line, line_items, items_from, with_items};
+
+use crate::fault::{AsmFault, LineError, LineFault};
+use crate::line::statement_of;
+use crate::statement::{Item, Section, Statement};
+use program_tokens::line::{first_line, read_tokens};
+use program_tokens::token::{Token, TokenFault};
+use std::alloc::{AllocError, Global};
+
+/// The longest text, in bytes.
+pub const MOST_TEXT: usize = 4_194_304;
+
+/// A fault of a line as one of the text.
+fn at_line(line: u32, fault: LineFault) -> AsmFault
+    ensures { result ≡ at_line line fault }
+{
+    match fault {
+        LineFault::NotAscii => AsmFault::NotAscii(line),
+        LineFault::Token => AsmFault::Token(line),
+        LineFault::Mnemonic => AsmFault::Mnemonic(line),
+        LineFault::Operand => AsmFault::Operand(line),
+        LineFault::Number => AsmFault::Number(line),
+        LineFault::Mark => AsmFault::Mark(line),
+    }
+}
+
+/// Puts the tokens of a line in place of those that are there.
+fn tokens_of(tokens: &mut Vec<Token>, line: u32, text: &[u8]) -> Result<(), AsmFault>
+    ensures { Answers (λ _. tokens.new.items) result (tokens_on_line line (line_tokens text.now)) }
+{
+    match read_tokens(tokens, text) {
+        Ok(()) => Ok(()),
+        Err(TokenFault::NotAscii) => Err(AsmFault::NotAscii(line)),
+        Err(TokenFault::Token) => Err(AsmFault::Token(line)),
+        Err(TokenFault::OutOfMemory) => Err(AsmFault::OutOfMemory),
+    }
+}
+
+/// Adds the labels at the front of a line, and answers the tokens behind them.
+fn add_labels<'a>(
+    items: &mut Vec<Item>,
+    line: u32,
+    section: Section,
+    tokens: &'a [Token],
+) -> Result<&'a [Token], AllocError>
+    ensures rest { IfOk result (λ rest. rest.now ≡ after_labels tokens.now) }
+    ensures added { OnOk result (items.new.items ≡ items.old.items ++ map (label_item line section) (labels_of tokens.now)) }
+{
+    let mut rest = tokens;
+    while let [Token::Name(name), Token::Colon, after @ ..] = rest {
+        items.push(Item {
+            line,
+            section,
+            statement: Statement::Label(*name),
+        })?;
+        rest = after;
+    }
+    Ok(rest)
+}
+
+/// The section of the lines behind a statement.
+fn section_after(section: Section, statement: &Statement) -> Section
+    ensures { result ≡ section_after section statement.now }
+{
+    match statement {
+        Statement::Section(next) => *next,
+        _ => section,
+    }
+}
+
+/// Adds a statement, unless it is empty.
+fn add_statement(
+    items: &mut Vec<Item>,
+    line: u32,
+    section: Section,
+    statement: Statement,
+) -> Result<(), AllocError>
+    ensures { OnOk result (items.new.items ≡ items.old.items ++ statement_items line section statement) }
+{
+    match statement {
+        Statement::Empty => Ok(()),
+        statement => {
+            items.push(Item {
+                line,
+                section,
+                statement,
+            })?;
+            Ok(())
+        }
+    }
+}
+
+/// Adds the items of a line, and answers the section behind it.
+#[tactic(auto, unfolding(crate::specs::Items::line_items))]
+fn add_line(
+    alloc: Global,
+    tokens: &mut Vec<Token>,
+    items: &mut Vec<Item>,
+    line: u32,
+    section: Section,
+    text: &[u8],
+) -> Result<Section, AsmFault>
+    ensures { Answers (λ next. (items.new.items, next)) result (with_items items.old.items (line_items line section text.now)) }
+{
+    tokens_of(tokens, line, text)?;
+    let rest = add_labels(items, line, section, tokens)?;
+    let statement = match statement_of(alloc, section, rest) {
+        Ok(statement) => statement,
+        Err(LineError::Fault(fault)) => return Err(at_line(line, fault)),
+        Err(LineError::OutOfMemory) => return Err(AsmFault::OutOfMemory),
+    };
+    let next = section_after(section, &statement);
+    add_statement(items, line, section, statement)?;
+    Ok(next)
+}
+
+/// The items of a text.
+#[tactic(auto, using(crate::proofs::Fronts::no_front, crate::proofs::ItemSteps::goes_on, crate::proofs::ItemSteps::ends), unfolding(crate::specs::Items::items_from))]
+pub fn items_of(alloc: Global, text: &[u8]) -> Result<Vec<Item>, AsmFault>
+    requires { length text.now ≤ 4194304 }
+    ensures { Answers (λ items. items.items) result (items_from 1 Section.Text (lines text.now)) }
+{
+    let mut items = Vec::new(alloc);
+    let mut tokens = Vec::new(alloc);
+    let mut section = Section::Text;
+    let mut line = 1;
+    let mut rest = text;
+    'lines: loop {
+        let (first, behind) = first_line(rest);
+        section = add_line(alloc, &mut tokens, &mut items, line, section, first)?;
+        match behind {
+            Some(more) => {
+                rest = more;
+                line += 1;
+            }
+            None => return Ok(items),
+        }
+    }
+}

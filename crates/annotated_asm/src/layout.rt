@@ -1,0 +1,143 @@
+//! Where labels stand, and what is defined twice.
+
+ghost use Rattle.std.specs.Prelude.{◌≡◌, List};
+ghost use Rattle.annotated_asm.specs.Steps.{Answers};
+ghost use Rattle.annotated_asm.specs.Layout.{instruction_count, grown, symbol_at, with_item, no_layout, laid, is_beyond};
+
+use crate::fault::AsmFault;
+use crate::statement::{Instruction, Item, Section, Statement};
+use crate::table::{Symbol, Table};
+use std::alloc::Global;
+
+/// How many instructions there are, and how many bytes of data and of read-only data.
+#[derive(Clone, Copy, Debug, PartialEq, Eq)]
+pub struct Sizes {
+    /// Instructions.
+    pub code: u64,
+    /// Bytes of data.
+    pub bytes: u64,
+    /// Bytes of read-only data.
+    pub fixed: u64,
+}
+
+/// What is known of the items so far.
+#[derive(Drop)]
+pub struct Layout {
+    /// How much there is.
+    pub sizes: Sizes,
+    /// The labels.
+    pub labels: Table,
+    /// The tasks, with where their statements stand.
+    pub tasks: Table,
+    /// Whether there was a `.start`.
+    pub started: bool,
+}
+
+fn instruction_count(instruction: &Instruction) -> u64
+    ensures { result ≡ instruction_count instruction.now }
+{
+    match instruction {
+        Instruction::Two(_, _) | Instruction::LoadAddress(_, _) => 2,
+        _ => 1,
+    }
+}
+
+/// The sizes with a section grown.
+fn grown(sizes: Sizes, section: Section, more: u64) -> Sizes
+    ensures { result ≡ grown sizes section more }
+{
+    match section {
+        Section::Text => Sizes {
+            code: sizes.code.saturating_add(more),
+            bytes: sizes.bytes,
+            fixed: sizes.fixed,
+        },
+        Section::Data => Sizes {
+            code: sizes.code,
+            bytes: sizes.bytes.saturating_add(more),
+            fixed: sizes.fixed,
+        },
+        Section::Rodata => Sizes {
+            code: sizes.code,
+            bytes: sizes.bytes,
+            fixed: sizes.fixed.saturating_add(more),
+        },
+    }
+}
+
+/// Where the next label of a section stands.
+fn symbol_at(sizes: Sizes, section: Section) -> Symbol
+    ensures { result ≡ symbol_at sizes section }
+{
+    let offset = match section {
+        Section::Text => sizes.code,
+        Section::Data => sizes.bytes,
+        Section::Rodata => sizes.fixed,
+    };
+    Symbol { section, offset }
+}
+
+/// Lays out one item more.
+fn with_item(alloc: Global, layout: &mut Layout, item: &Item) -> Result<(), AsmFault>
+    ensures { Answers (λ _. layout.new) result (with_item layout.old item.now) }
+{
+    let here = symbol_at(layout.sizes, item.section);
+    match &item.statement {
+        Statement::Label(name) => {
+            if layout.labels.get(name).is_some() {
+                return Err(AsmFault::Duplicate(item.line));
+            }
+            layout.labels.add(alloc, name, here)?;
+        }
+        Statement::Task(task) => {
+            if layout.tasks.get(&task.name).is_some() {
+                return Err(AsmFault::Duplicate(item.line));
+            }
+            layout.tasks.add(alloc, &task.name, here)?;
+        }
+        Statement::Start(_) => {
+            if layout.started {
+                return Err(AsmFault::Duplicate(item.line));
+            }
+            layout.started = true;
+        }
+        Statement::Empty | Statement::Section(_) => {}
+        Statement::Bytes(bytes) => {
+            layout.sizes = grown(layout.sizes, item.section, bytes.as_slice().len() as u64);
+        }
+        Statement::Space(size) => {
+            layout.sizes = grown(layout.sizes, item.section, u64::from(*size));
+        }
+        Statement::Code(instruction, _) => {
+            layout.sizes = grown(layout.sizes, item.section, instruction_count(instruction));
+        }
+    }
+    Ok(())
+}
+
+/// The layout of items.
+pub fn laid_out(alloc: Global, items: &[Item]) -> Result<Layout, AsmFault>
+    ensures { Answers (λ layout. layout) result (laid no_layout items.now) }
+{
+    let mut layout = Layout {
+        sizes: Sizes {
+            code: 0,
+            bytes: 0,
+            fixed: 0,
+        },
+        labels: Table::new(alloc),
+        tasks: Table::new(alloc),
+        started: false,
+    };
+    for item in items {
+        with_item(alloc, &mut layout, item)?;
+    }
+    Ok(layout)
+}
+
+/// Whether there are more instructions or bytes than a program may have.
+pub fn is_beyond(sizes: Sizes) -> bool
+    ensures { result ≡ is_beyond sizes }
+{
+    sizes.code > 4096 || sizes.bytes > 65_536 || sizes.fixed > 65_536
+}

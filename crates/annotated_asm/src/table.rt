@@ -1,0 +1,62 @@
+//! Names and where they stand.
+
+use crate::statement::Section;
+use indexmap::IndexMap;
+use std::alloc::{AllocError, Global};
+use std::marker::Model;
+use task_descriptor::name::Name;
+
+/// What a label stands for.
+#[derive(Clone, Copy, Debug, PartialEq, Eq)]
+pub struct Symbol {
+    /// The section of its line.
+    pub section: Section,
+    /// In code the index of the next instruction, else the offset of the next byte.
+    pub offset: u64,
+}
+
+/// Names, each with where it stands, in the order of the text.
+#[derive(Drop)]
+pub struct Table {
+    rows: IndexMap<Vec<u8>, Symbol>,
+}
+
+impl Model for Table {
+    ghost use Rattle.std.specs.Prelude.{List, ℕ, map};
+    ghost use Rattle.annotated_asm.specs.declared.table.Symbol.{Symbol};
+
+    ghost Value = { List (List ℕ × Symbol) };
+
+    ghost view = { λ t. map (λ e. (e.0.items, e.1)) t.rows.entries };
+}
+
+impl Table {
+    ghost use Rattle.std.specs.Prelude.{◌≡◌, ◌++◌, [], ◌∷◌, None, OnOk};
+    ghost use Rattle.annotated_asm.specs.Tables.{lookup};
+
+    /// No names.
+    pub fn new(alloc: Global) -> Table
+        ensures { result ≡ [] }
+    {
+        Table {
+            rows: IndexMap::new(alloc),
+        }
+    }
+
+    /// Where a name stands, if it does.
+    pub fn get(&self, name: &Name) -> Option<Symbol>
+        ensures { result ≡ lookup self.now name.now }
+    {
+        self.rows.get(name.bytes()).copied()
+    }
+
+    /// Adds a name that is not there.
+    pub fn add(&mut self, alloc: Global, name: &Name, symbol: Symbol) -> Result<(), AllocError>
+        requires { lookup self.old name.now ≡ None }
+        ensures { OnOk result (self.new ≡ self.old ++ (name.now, symbol) ∷ []) }
+    {
+        let key = Vec::from_slice(alloc, name.bytes())?;
+        self.rows.insert(key, symbol)?;
+        Ok(())
+    }
+}
