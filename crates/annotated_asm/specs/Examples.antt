@@ -1,5 +1,5 @@
 -- Worked examples, computed by the checker: what some texts spell, and the first faults of others.
-use Rattle.std.specs.Prelude.{◌≡◌, ℕ, pos, negsuc, true, false, List, [], ◌∷◌, ◌++◌, Result, Ok, Err, codes, refl}
+use Rattle.std.specs.Prelude.{◌≡◌, ℕ, pos, true, false, List, [], ◌∷◌, ◌++◌, Ok, Err, codes, refl}
 use Rattle.std.specs.List.{flat_map}
 use Rattle.mips_plain.specs.declared.instruction.Op.TheVariants.{Three, Imm, BranchTwo, Out, Halt}
 use Rattle.mips_plain.specs.declared.instruction.ThreeKind.TheVariants.{Addu}
@@ -7,7 +7,7 @@ use Rattle.mips_plain.specs.declared.instruction.ImmKind.TheVariants.{Addiu, Slt
 use Rattle.mips_plain.specs.declared.instruction.BranchTwoKind.TheVariants.{Bne}
 use Rattle.task_descriptor.specs.Listing.{Listing}
 use Rattle.task_descriptor.specs.declared.descriptor.Stop.TheVariants as stop
-use Rattle.task_descriptor.specs.declared.program.BuildFault.TheVariants.{NoTask, BadMark, TooMany}
+use Rattle.task_descriptor.specs.declared.program.BuildFault.TheVariants.{NoTask}
 use Rattle.program_tokens.specs.Numbers.{number_of, magnitude_of, number_in}
 use Rattle.program_tokens.specs.Registers.{register_of, register_named}
 use Rattle.program_tokens.specs.Grammar.{line_tokens, tokens_after, token_of, kind_of}
@@ -16,7 +16,6 @@ use Rattle.annotated_asm.specs.Rows.{three, imm, branch_two, jump, out, halt}
 use Rattle.annotated_asm.specs.Statements.{registers_of, registers_at, places_of, targets_of, task_of}
 use Rattle.annotated_asm.specs.Items.{line_items, items_from}
 use Rattle.annotated_asm.specs.ProgramText.{program_of, parse}
-use Rattle.annotated_asm.specs.declared.fault.AsmFault.{AsmFault}
 use Rattle.annotated_asm.specs.declared.fault.AsmFault.TheVariants as fault
 
 -- lines, each with its LF

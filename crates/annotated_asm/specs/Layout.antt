@@ -1,6 +1,5 @@
 -- Where labels stand, and what is defined twice.
-use Rattle.std.specs.Prelude.{ℕ, ◌+◌, ◌-◌, ◌^◌, min, Bool, true, false, List, [], ◌∷◌, ◌++◌, length, Option, Some, None, is_some, Result, Ok, Err, nat_lt, ◌||◌, if◌then◌else◌}
-use Rattle.std.specs.Str.{bytes_eq}
+use Rattle.std.specs.Prelude.{ℕ, ◌+◌, ◌-◌, ◌^◌, min, Bool, true, false, List, [], ◌∷◌, ◌++◌, length, is_some, Result, Ok, Err, nat_lt, ◌||◌}
 use Rattle.annotated_asm.specs.Steps.{◌>>=◌}
 use Rattle.annotated_asm.specs.declared.fault.AsmFault.{AsmFault}
 use Rattle.annotated_asm.specs.declared.fault.AsmFault.TheVariants as fault
@@ -9,12 +8,11 @@ use Rattle.annotated_asm.specs.declared.statement.Section.{Section}
 use Rattle.annotated_asm.specs.declared.statement.Section.TheVariants as section
 use Rattle.annotated_asm.specs.declared.statement.Instruction.{Instruction}
 use Rattle.annotated_asm.specs.declared.statement.Instruction.TheVariants as instruction
-use Rattle.annotated_asm.specs.declared.statement.Statement.{Statement}
 use Rattle.annotated_asm.specs.declared.statement.Statement.TheVariants as statement
 use Rattle.annotated_asm.specs.declared.statement.Item.{Item}
 use Rattle.annotated_asm.specs.declared.layout.Sizes.{Sizes}
 use Rattle.annotated_asm.specs.declared.layout.Layout.{Layout}
-use Rattle.annotated_asm.specs.Tables.{Names, lookup}
+use Rattle.annotated_asm.specs.Tables.{lookup}
 
 -- how many instructions of the machine an instruction of the text is
 abbrev pub instruction_count : Instruction → ℕ

@@ -11,7 +11,6 @@ use Rattle.annotated_asm.specs.Resolve.{known, parts, no_parts}
 use Rattle.annotated_asm.specs.declared.fault.AsmFault.{AsmFault}
 use Rattle.annotated_asm.specs.declared.fault.AsmFault.TheVariants as fault
 use Rattle.annotated_asm.specs.declared.statement.Section.TheVariants.{Text}
-use Rattle.annotated_asm.specs.declared.layout.Sizes.{Sizes}
 use Rattle.annotated_asm.specs.declared.statement.Item.{Item}
 use Rattle.annotated_asm.specs.declared.layout.Layout.{Layout}
 

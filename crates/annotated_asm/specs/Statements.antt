@@ -1,5 +1,5 @@
 -- The statement of a line: what its first token, the operands and the marks at its end say.
-use Rattle.std.specs.Prelude.{ℕ, zero, ◌-◌, ◌^◌, bit_or, List, [], ◌∷◌, ◌++◌, length, take, drop, reverse, take_while, codes, Bool, true, false, Option, Some, None, Result, Ok, Err, if◌then◌else◌}
+use Rattle.std.specs.Prelude.{ℕ, ◌-◌, ◌^◌, bit_or, List, [], ◌∷◌, ◌++◌, length, take, drop, reverse, take_while, codes, Bool, true, false, Option, Some, None, Result, Ok, Err, if◌then◌else◌}
 use Rattle.std.specs.Str.{bytes_eq}
 use Rattle.std.specs.Int.{w32, to_le_bytes}
 use Rattle.program_tokens.specs.declared.token.Number.{Number}
@@ -7,7 +7,6 @@ use Rattle.program_tokens.specs.declared.token.Token.{Token}
 use Rattle.program_tokens.specs.declared.token.Token.TheVariants as token
 use Rattle.program_tokens.specs.declared.token.Directive.{Directive}
 use Rattle.program_tokens.specs.declared.token.Directive.TheVariants as directive
-use Rattle.program_tokens.specs.declared.token.Mark.{Mark}
 use Rattle.program_tokens.specs.declared.token.Mark.TheVariants as mark
 use Rattle.task_descriptor.specs.declared.descriptor.Stop.{Stop}
 use Rattle.task_descriptor.specs.declared.descriptor.Stop.TheVariants as stop
@@ -25,7 +24,6 @@ use Rattle.annotated_asm.specs.declared.mnemonic.Mnemonic.TheVariants as mnemoni
 use Rattle.annotated_asm.specs.declared.statement.Section.{Section}
 use Rattle.annotated_asm.specs.declared.statement.Section.TheVariants as section
 use Rattle.annotated_asm.specs.declared.statement.Target.{Target}
-use Rattle.annotated_asm.specs.declared.statement.Task.{Task}
 use Rattle.annotated_asm.specs.declared.statement.Marks.{Marks}
 use Rattle.annotated_asm.specs.declared.statement.Instruction.{Instruction}
 use Rattle.annotated_asm.specs.declared.statement.Instruction.TheVariants as instruction

@@ -2,7 +2,7 @@
 -- step, and back, event by event.
 use Rattle.std.proofs.Common.{◌≡◌, ℕ, zero, suc, pred, ◌+◌, ◌<◌, ◌≤◌, ◌⊎◌, inl, inr, ◌↔◌, Bool, true, false, cond, not, ◌&&◌, ◌||◌, List, [], ◌∷◌, ◌++◌, length, drop, Option, Some, None, refl, sym, ap, ◌∙◌, subst, arith, take, unwrap_or, true≢false, eq-eqb, eqb-true, ltb-true, lt-ltb}
 use Rattle.std.specs.Prelude.{slice_get, slice_set, nat_eq, nat_lt, IsSome, is_some, is_none, Result, Ok, Err}
-use Rattle.std.specs.List.{find, range_with_len, last_or}
+use Rattle.std.specs.List.{find, filter, range_with_len, last_or}
 use Rattle.std.specs.Option.{option_or, option_and_then}
 use Rattle.std.proofs.lemmas.Bool.{and_cases, and_left, and_right, or_cases, or_left, or_right, not-true, not_from_false, cases_eq}
 use Rattle.std.proofs.lemmas.Option.{option_and_then_some}
@@ -70,35 +70,51 @@ nowhere : (b : Bool) (x : ℕ) (rest : Option ℕ) → b ≡ false → rest ≡ 
 nowhere true x rest e f = absurd (true≢false e)
 nowhere false x rest e f = f
 
-find_passes : (test : ℕ → Bool) (xs : List ℕ) (r : ℕ) → find test xs ≡ Some r → test r ≡ true
-find_passes test [] r e = absurd (cc)
-find_passes test (x ∷ xs) r e = elim (found_here (test x) x r (find test xs) e) [
-      inl g ↦ ap test (sym g.1) ∙ g.0
-    | inr g ↦ find_passes test xs r g ]
+either_list : (P : List ℕ → Type 0) (b : Bool) (x : ℕ) (xs : List ℕ) → (b ≡ true → P (x ∷ xs)) → (b ≡ false → P xs) → P (cond b (x ∷ xs) xs)
+either_list P true x xs first rest = first refl
+either_list P false x xs first rest = rest refl
 
-find_nothing : (test : ℕ → Bool) (n from r : ℕ) → find test (range_with_len from n) ≡ None → from ≤ r → r < from + n → test r ≡ false
-find_nothing test zero from r e low high = absurd (omega arith)
-find_nothing test (suc n) from r e low high =
-    let here = not_here (test from) from (find test (range_with_len (from + 1) n)) e in
-    elim (cases_eq from r) [
-      inl same ↦ ap test (sym same) ∙ here.0
-    | inr other ↦ find_nothing test n (from + 1) r here.1 (omega arith) (omega arith) ]
+module _ (set lacks : ℕ → Bool) where
+  find_passes : (xs : List ℕ) (r : ℕ) → find lacks (filter set xs) ≡ Some r → (set r ≡ true) × (lacks r ≡ true)
+  find_passes [] r e = absurd (cc)
+  find_passes (x ∷ xs) r e =
+      either_list (λ ys. find lacks ys ≡ Some r → (set r ≡ true) × (lacks r ≡ true)) (set x) x (filter set xs)
+      (λ member e'. elim (found_here (lacks x) x r (find lacks (filter set xs)) e') [
+          inl g ↦ (ap set (sym g.1) ∙ member, ap lacks (sym g.1) ∙ g.0)
+        | inr g ↦ find_passes xs r g ])
+      (λ other e'. find_passes xs r e') e
 
-find_none : (test : ℕ → Bool) (xs : List ℕ) → ((r : ℕ) → test r ≡ false) → find test xs ≡ None
-find_none test [] all = refl
-find_none test (x ∷ xs) all = nowhere (test x) x (find test xs) (all x) (find_none test xs all)
+  find_nothing : (n from r : ℕ) → find lacks (filter set (range_with_len from n)) ≡ None → from ≤ r → r < from + n → set r ≡ true → lacks r ≡ false
+  find_nothing zero from r e low high member = absurd (omega arith)
+  find_nothing (suc n) from r e low high member =
+      either_list (λ ys. find lacks ys ≡ None → lacks r ≡ false) (set from) from (filter set (range_with_len (from + 1) n))
+      (λ here e'.
+        let nothing = not_here (lacks from) from (find lacks (filter set (range_with_len (from + 1) n))) e' in
+        elim (cases_eq from r) [
+            inl same ↦ ap lacks (sym same) ∙ nothing.0
+          | inr other ↦ find_nothing n (from + 1) r nothing.1 (omega arith) (omega arith) member ])
+      (λ not_here e'. elim (cases_eq from r) [
+            inl same ↦ absurd (true≢false (sym member ∙ ap set (sym same) ∙ not_here))
+          | inr other ↦ find_nothing n (from + 1) r e' (omega arith) (omega arith) member ]) e
 
-pub least_passes : (test : ℕ → Bool) (r : ℕ) → least test ≡ Some r → test r ≡ true
-unfolding least
-least_passes test r e = find_passes test (range_with_len 0 34) r e
+  find_none : (xs : List ℕ) → ((r : ℕ) → set r ≡ true → lacks r ≡ false) → find lacks (filter set xs) ≡ None
+  find_none [] all = refl
+  find_none (x ∷ xs) all =
+      either_list (λ ys. find lacks ys ≡ None) (set x) x (filter set xs)
+      (λ member. nowhere (lacks x) x (find lacks (filter set xs)) (all x member) (find_none xs all))
+      (λ other. find_none xs all)
 
-pub least_nothing : (test : ℕ → Bool) → least test ≡ None → (r : ℕ) → r < 34 → test r ≡ false
-unfolding least
-least_nothing test e r below = find_nothing test 34 0 r e (omega arith) (omega arith)
+  pub least_passes : (r : ℕ) → least set lacks ≡ Some r → (set r ≡ true) × (lacks r ≡ true)
+  unfolding least
+  least_passes r e = find_passes (range_with_len 0 34) r e
 
-pub least_none : (test : ℕ → Bool) → ((r : ℕ) → test r ≡ false) → least test ≡ None
-unfolding least
-least_none test all = find_none test (range_with_len 0 34) all
+  pub least_nothing : least set lacks ≡ None → (r : ℕ) → r < 34 → set r ≡ true → lacks r ≡ false
+  unfolding least
+  least_nothing e r below member = find_nothing 34 0 r e (omega arith) (omega arith) member
+
+  pub least_none : ((r : ℕ) → set r ≡ true → lacks r ≡ false) → least set lacks ≡ None
+  unfolding least
+  least_none all = find_none (range_with_len 0 34) all
 
 -- Words that are looked up
 
@@ -106,7 +122,7 @@ some_is : (o : Option ℕ) → is_none o ≡ false → o ≡ Some (unwrap_or o 0
 some_is (Some w) e = refl
 some_is None e = absurd (cc)
 
-none_is : {A : Type 0} (o : Option A) → is_none o ≡ true → o ≡ None
+pub none_is : {A : Type 0} (o : Option A) → is_none o ≡ true → o ≡ None
 none_is None e = refl
 none_is (Some w) e = absurd (cc)
 
@@ -118,13 +134,9 @@ some_not_none : (o : Option ℕ) → is_some o ≡ true → is_none o ≡ false
 some_not_none (Some w) e = refl
 some_not_none None e = absurd (cc)
 
-both_is : (b c : Bool) → b && c ≡ false → b ≡ true → c ≡ false
-both_is true c e f = e
-both_is false c e f = absurd (true≢false (sym f))
-
-not_both : (b c : Bool) → (b ≡ true → c ≡ false) → b && c ≡ false
-not_both true c h = h refl
-not_both false c h = refl
+pub not_none : (o : Option ℕ) → is_none o ≡ false → is_some o ≡ true
+not_none (Some w) e = refl
+not_none None e = absurd (cc)
 
 -- what an instruction waits for is its operands' registers and what it releases
 
@@ -178,10 +190,10 @@ module _ (p : Listing) (range : IsInRange p) (units : ℕ) (s : State) where
       let two = some_passed (instruction_at p u.place) _ _ one.2 in
       let m : Marked = two.0 in
       let place = instruction_inside p u.place m two.1 in
-      let three = none_passed (least (λ r. waits m.op r && is_none (value u r))) _ _ two.2 in
+      let three = none_passed (least (waits m.op) (λ r. is_none (value u r))) _ _ two.2 in
       let four = unless_passed (nat_eq k 0 || may_run_ahead m.op (operand u (reg_a m.op))) _ _ three.1 in
       let has : (r : ℕ) → waits m.op r ≡ true → value u r ≡ Some (operand u r) = λ r w.
-        some_is (value u r) (both_is (waits m.op r) (is_none (value u r)) (least_nothing (λ x. waits m.op x && is_none (value u x)) three.0 r (range.waits_below place.0 m place.2 r w)) w) in
+        some_is (value u r) (least_nothing (waits m.op) (λ x. is_none (value u x)) three.0 r (range.waits_below place.0 m place.2 r w) w) in
       record {
         unit = u;
         is_unit = one.1;
@@ -262,7 +274,7 @@ module _ (p : Listing) (range : IsInRange p) (units : ℕ) (s : State) where
       let one = some_passed (slice_get s.queue 0) _ _ e in
       let u : Active = one.0 in
       let two = some_passed (exit_of u.place) _ _ one.2 in
-      let three = none_passed (least (λ r. creates p u.task r && is_none (u.sent r))) _ _ two.2 in
+      let three = none_passed (least (creates p u.task) (λ r. is_none (u.sent r))) _ _ two.2 in
       let four = unless_passed (next_begins p (drop 1 s.queue) two.0) _ _ three.1 in
       let five = unless_passed (is_listed p u.task two.0) _ _ four.1 in
       record {
@@ -272,7 +284,7 @@ module _ (p : Listing) (range : IsInRange p) (units : ℕ) (s : State) where
         exit = two.0;
         is_stopped = exit_stopped u.place two.0 two.1;
         is_listed = five.0;
-        all_sent = λ r created. ap is_some (some_is (u.sent r) (both_is (creates p u.task r) (is_none (u.sent r)) (least_nothing (λ x. creates p u.task x && is_none (u.sent x)) three.0 r (range.creates_below u.task r created)) created));
+        all_sent = λ r created. not_none (u.sent r) (least_nothing (creates p u.task) (λ x. is_none (u.sent x)) three.0 r (range.creates_below u.task r created) created);
         next_begins = four.0;
         is = ap (λ (o : Option Active). with_unit s o (λ v. retire_leaves p s v (drop 1 s.queue) (unwrap_or (exit_of v.place) 0))) one.1
           ∙ ap (λ (o : Option ℕ). retire_leaves p s u (drop 1 s.queue) (unwrap_or o 0)) two.1; }
@@ -319,14 +331,14 @@ module _ (p : Listing) (units : ℕ) (s s' : State) where
       d.is)
 
   -- no register that the instruction waits for lacks a value
-  nothing_waits : (u : Active) (m : Marked) (a b : ℕ) → value u (reg_a m.op) ≡ Some a → value u (reg_b m.op) ≡ Some b → ((r : ℕ) → released m.op r ≡ true → is_some (value u r) ≡ true) → (r : ℕ) → waits m.op r && is_none (value u r) ≡ false
-  nothing_waits u m a b has_a has_b has_released r =
-      not_both (waits m.op r) (is_none (value u r)) (λ w. some_not_none (value u r)
+  nothing_waits : (u : Active) (m : Marked) (a b : ℕ) → value u (reg_a m.op) ≡ Some a → value u (reg_b m.op) ≡ Some b → ((r : ℕ) → released m.op r ≡ true → is_some (value u r) ≡ true) → (r : ℕ) → waits m.op r ≡ true → is_none (value u r) ≡ false
+  nothing_waits u m a b has_a has_b has_released r w =
+      some_not_none (value u r)
         (elim (or_cases (is_source (source_a m.op) r || is_source (source_b m.op) r) (released m.op r) w) [
             inl source ↦ elim (or_cases (is_source (source_a m.op) r) (is_source (source_b m.op) r) source) [
                 inl first ↦ source_is u (source_a m.op) a has_a r first
               | inr second ↦ source_is u (source_b m.op) b has_b r second ]
-          | inr named ↦ has_released r named ]))
+          | inr named ↦ has_released r named ])
 
   ahead_or_head : (k : ℕ) (m : Marked) (a : ℕ) → (k ≡ 0) ⊎ (may_run_ahead m.op a ≡ true) → (nat_eq k 0 || may_run_ahead m.op a) ≡ true
   ahead_or_head k m a (inl zero_is) = or_left _ _ (eq-eqb k 0 zero_is)
@@ -341,8 +353,8 @@ module _ (p : Listing) (units : ℕ) (s s' : State) where
       let second : operand u (reg_b m.op) ≡ d.b = ap (λ (o : Option ℕ). unwrap_or o 0) d.has_b in (
         some_pass (slice_get s.queue k) _ _ u d.is_unit
           (some_pass (instruction_at p u.place) _ _ m there
-            (none_pass (least (λ r. waits m.op r && is_none (value u r))) _ _
-              (least_none (λ r. waits m.op r && is_none (value u r)) (nothing_waits u m d.a d.b d.has_a d.has_b d.has_released))
+            (none_pass (least (waits m.op) (λ r. is_none (value u r))) _ _
+              (least_none (waits m.op) (λ r. is_none (value u r)) (nothing_waits u m d.a d.b d.has_a d.has_b d.has_released))
               (unless_pass (nat_eq k 0 || may_run_ahead m.op (operand u (reg_a m.op))) _ _
                 (ap (λ (x : ℕ). nat_eq k 0 || may_run_ahead m.op x) first ∙ ahead_or_head k m d.a d.may) refl))),
         d.is
@@ -390,8 +402,8 @@ module _ (p : Listing) (units : ℕ) (s s' : State) where
       let rest : drop 1 s.queue ≡ d.rest = ap (λ (x : List Active). drop 1 x) d.is_queue in (
         some_pass (slice_get s.queue 0) _ _ d.head there
           (some_pass (exit_of d.head.place) _ _ d.exit (ap exit_of d.is_stopped)
-            (none_pass (least (λ r. creates p d.head.task r && is_none (d.head.sent r))) _ _
-              (least_none (λ r. creates p d.head.task r && is_none (d.head.sent r)) (λ r. not_both (creates p d.head.task r) (is_none (d.head.sent r)) (λ created. some_not_none (d.head.sent r) (d.all_sent r created))))
+            (none_pass (least (creates p d.head.task) (λ r. is_none (d.head.sent r))) _ _
+              (least_none (creates p d.head.task) (λ r. is_none (d.head.sent r)) (λ r created. some_not_none (d.head.sent r) (d.all_sent r created)))
               (unless_pass (next_begins p (drop 1 s.queue) d.exit) _ _ (ap (λ (x : List Active). next_begins p x d.exit) rest ∙ d.next_begins)
                 (unless_pass (is_listed p d.head.task d.exit) _ _ d.is_listed refl)))),
         d.is

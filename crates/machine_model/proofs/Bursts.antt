@@ -64,7 +64,7 @@ value_same false None None (Some v) a' has more = more v refl
 value_same false None None None a' (inl e) more = absurd (cc)
 value_same false None None None a' (inr e) more = absurd (cc)
 
-sent_same : (b : Bool) (s v v' : Option ℕ) → (b ≡ true → v' ≡ v) → cond b (option_or s v') s ≡ cond b (option_or s v) s
+sent_same : (b : Bool) (s v v' : Option ℕ) → (b ≡ true → v' ≡ v) → option_or s (cond b v' None) ≡ option_or s (cond b v None)
 sent_same true s v v' same = ap (option_or s) (same refl)
 sent_same false s v v' same = refl
 
@@ -102,7 +102,7 @@ module _ (p : Listing) (u u' : Active) (step : StepsAlone p u u') (arrived : Wor
 
   -- what is sent then, by what has arrived
   abbrev sent_by : (had : Words) → (ws : Words) → Words
-  sent_by had ws r = cond (sends step.at r) (option_or (u.sent r) (value (with_written (with_arrived u had) ws) r)) (u.sent r)
+  sent_by had ws r = option_or (u.sent r) (cond (sends step.at r) (value (with_written (with_arrived u had) ws) r) None)
 
   sent_is : sent_by arrived (words no_memory) ≡ sent_by u.arrived (words no_memory)
   sent_is = fun_ext (λ r. sent_same (sends step.at r) (u.sent r) (value (with_written u (words no_memory)) r) (value (with_written (with_arrived u arrived) (words no_memory)) r)

@@ -182,7 +182,7 @@ module _ (p : Listing) where
 
     -- Retire
 
-    handed_found : (b : Bool) (s : Option ℕ) (x y z : ℕ) → (b ≡ true → is_some s ≡ true) → (b ≡ true → (v : ℕ) → s ≡ Some v → y ≡ v) → (b ≡ false → y ≡ z) → x ≡ z → cond b (unwrap_or s x) x ≡ y
+    handed_found : (b : Bool) (s : Option ℕ) (x y z : ℕ) → (b ≡ true → is_some s ≡ true) → (b ≡ true → (v : ℕ) → s ≡ Some v → y ≡ v) → (b ≡ false → y ≡ z) → x ≡ z → unwrap_or (cond b s None) x ≡ y
     handed_found true (Some v) x y z all sent kept e = sym (sent refl v refl)
     handed_found true None x y z all sent kept e = absurd (let none = all refl in cc)
     handed_found false s x y z all sent kept e = e ∙ sym (kept refl)

@@ -31,7 +31,7 @@ use Rattle.machine_model.proofs.Invariant.{UnitRight, PlaceRight}
 use Rattle.machine_model.proofs.Events.{QueueRight, head_right, head_has}
 use Rattle.machine_model.proofs.Headline.{InvAt, Good, step_good, opening_good}
 use Rattle.machine_model.proofs.Programs.{within_limit, starts_at_entry, entry_inside}
-use Rattle.machine_model.proofs.Answering.{next_is_after, least_passes, least_nothing}
+use Rattle.machine_model.proofs.Answering.{next_is_after, least_passes, least_nothing, none_is, not_none}
 
 -- A task begins at the next address
 
@@ -180,30 +180,16 @@ module _ (p : Listing) (formed : IsWellFormed p) (sound : Sound p) where
               is_elsewhere = e;
               is = refl; }; })
 
-      sent_all : least (λ r. creates p u.task r && is_none (u.sent r)) ≡ None → (r : ℕ) → creates p u.task r ≡ true → is_some (u.sent r) ≡ true
-      sent_all none r created = there (creates p u.task r) (u.sent r) created (least_nothing (λ x. creates p u.task x && is_none (u.sent x)) none r (range.creates_below u.task r created))
-        where
-          there : (b : Bool) (o : Option ℕ) → b ≡ true → b && is_none o ≡ false → is_some o ≡ true
-          there b (Some w) e f = refl
-          there true None e f = absurd (true≢false f)
-          there false None e f = absurd (true≢false (sym e))
+      sent_all : least (creates p u.task) (λ r. is_none (u.sent r)) ≡ None → (r : ℕ) → creates p u.task r ≡ true → is_some (u.sent r) ≡ true
+      sent_all none r created = not_none (u.sent r) (least_nothing (creates p u.task) (λ x. is_none (u.sent x)) none r (range.creates_below u.task r created) created)
 
-      unsent_is : (r : ℕ) → creates p u.task r && is_none (u.sent r) ≡ true → (creates p u.task r ≡ true) × (u.sent r ≡ None)
-      unsent_is r e =
-          let parts = and_parts (creates p u.task r) (is_none (u.sent r)) e in
-          (parts.0, none (u.sent r) parts.1)
-        where
-          none : (o : Option ℕ) → is_none o ≡ true → o ≡ None
-          none None e = refl
-          none (Some w) e = absurd (true≢false (sym e))
-
-      stopped_allowed : (exit : ℕ) (listed begin : Bool) (unsent : Option ℕ) → u.place ≡ Stopped exit → is_listed p u.task exit ≡ listed → next_begins p us exit ≡ begin → least (λ r. creates p u.task r && is_none (u.sent r)) ≡ unsent → Allowed (cond (not listed) Fault (cond (not begin) (Squash 0) (drain_or_retire unsent)))
+      stopped_allowed : (exit : ℕ) (listed begin : Bool) (unsent : Option ℕ) → u.place ≡ Stopped exit → is_listed p u.task exit ≡ listed → next_begins p us exit ≡ begin → least (creates p u.task) (λ r. is_none (u.sent r)) ≡ unsent → Allowed (cond (not listed) Fault (cond (not begin) (Squash 0) (drain_or_retire unsent)))
       stopped_allowed exit false begin unsent stopped l b e = (_, record {
             runs = runs;
             does = record { head = u; is_head = is_head; exit = exit; is_stopped = stopped; is_unlisted = l; is = refl; }; })
       stopped_allowed exit true false unsent stopped l b e = squash_allowed exit us refl stopped b
       stopped_allowed exit true true (Some r) stopped l b e =
-          let unsent = unsent_is r (least_passes (λ x. creates p u.task x && is_none (u.sent x)) r e) in
+          let unsent = least_passes (creates p u.task) (λ x. is_none (u.sent x)) r e in
           (_, record {
             runs = runs;
             does = record {
@@ -212,7 +198,7 @@ module _ (p : Listing) (formed : IsWellFormed p) (sound : Sound p) where
               is_created = unsent.0;
               exit = exit;
               is_stopped = stopped;
-              is_unsent = unsent.1;
+              is_unsent = none_is (u.sent r) unsent.1;
               word = (plain_of p (count_c s + length u.log)).regs r;
               has_word = has_value r;
               is = refl; }; })
@@ -232,7 +218,7 @@ module _ (p : Listing) (formed : IsWellFormed p) (sound : Sound p) where
       head_allowed : (place : Spot) → u.place ≡ place → Allowed (event_of_head p u us place)
       head_allowed (Inside i) inside = exec_allowed i inside
       head_allowed (Stopped exit) stopped =
-          stopped_allowed exit (is_listed p u.task exit) (next_begins p us exit) (least (λ r. creates p u.task r && is_none (u.sent r))) stopped refl refl refl
+          stopped_allowed exit (is_listed p u.task exit) (next_begins p us exit) (least (creates p u.task) (λ r. is_none (u.sent r))) stopped refl refl refl
 
     queue_allowed : (queue : List Active) → s.queue ≡ queue → HasEvent (event_of_queue p s.next queue)
     queue_allowed [] empty = assign_allowed empty

@@ -23,10 +23,10 @@ use Rattle.machine_model.proofs.Instructions.{ahead_memory, ahead_output, ahead_
 use Rattle.machine_model.proofs.PlainRuns.{At, Leaves, step_leaves, Steps, Follows, Ends, follow_on, end_now, not_dest, may_write_first, sound_at, leads_inside, plain_zero}
 use Rattle.machine_model.proofs.Invariant.{PlaceRight, Last, Quiet, UnitRight, value_found, value_right}
 
-pub sent_found : (b : Bool) (s v : Option ℕ) (w : ℕ) → cond b (option_or s v) s ≡ Some w → (s ≡ Some w) ⊎ ((b ≡ true) × (v ≡ Some w))
-sent_found false s v w e = inl e
-sent_found true (Some x) v w e = inl e
+pub sent_found : (b : Bool) (s v : Option ℕ) (w : ℕ) → option_or s (cond b v None) ≡ Some w → (s ≡ Some w) ⊎ ((b ≡ true) × (v ≡ Some w))
+sent_found b (Some x) v w e = inl e
 sent_found true None v w e = inr (refl, e)
+sent_found false None v w e = absurd (cc)
 
 either_found : (o l : Option ℕ) (x w : ℕ) → ((v : ℕ) → l ≡ Some v → x ≡ v) → option_or o l ≡ Some w → unwrap_or o x ≡ w
 either_found (Some v) l x w local e = cc

@@ -1,7 +1,7 @@
 -- What the machine answers to an event: the first refusal whose condition holds; and replays as a
 -- function (own).
 use Rattle.std.specs.Prelude.{◌≡◌, ℕ, zero, suc, List, [], ◌∷◌, ◌++◌, Bool, true, false, not, ◌&&◌, ◌||◌, nat_eq, nat_lt, length, take, drop, pred, ◌<◌, if◌then◌else◌, slice_get, slice_set, is_some, is_none, Option, Some, None}
-use Rattle.std.specs.List.{find, range_with_len, last_or}
+use Rattle.std.specs.List.{find, filter, fold, range_with_len, last_or}
 use Rattle.std.specs.Option.{option_or, option_and_then, unwrap_or}
 use Rattle.std.specs.Prelude.{Result, Ok, Err}
 use Rattle.mips_plain.specs.Instruction.{reg_a, reg_b, waits}
@@ -31,9 +31,9 @@ pub record IsInRange (p : Listing) : Type 0 where
 abbrev pub most_events : ℕ
 most_events = 1000000
 
--- the least register that passes a test
-unfoldable pub least : (ℕ → Bool) → Option ℕ
-least test = find test (range_with_len 0 34)
+-- the least register of a set that lacks something
+unfoldable pub least : (set lacks : ℕ → Bool) → Option ℕ
+least set lacks = find lacks (filter set (range_with_len 0 34))
 
 -- a refusal where the test fails, or else what comes behind it
 abbrev pub unless : Bool → Refused → Option Refused → Option Refused
@@ -70,7 +70,7 @@ refusal p units s (Assign t) =
 refusal p units s (Exec k) =
     for_some (slice_get s.queue k) refused.NoSuch (λ u.
       for_some (instruction_at p u.place) refused.Stopped (λ m.
-        for_none (least (λ r. waits m.op r && is_none (value u r))) refused.Waiting (
+        for_none (least (waits m.op) (λ r. is_none (value u r))) refused.Waiting (
           unless (nat_eq k 0 || may_run_ahead m.op (operand u (reg_a m.op))) refused.NotHead None)))
 refusal p units s (Transfer zero r) = Some refused.NoSuch
 refusal p units s (Transfer (suc k) r) =
@@ -90,7 +90,7 @@ refusal p units s (Squash k) =
 refusal p units s Retire =
     for_some (slice_get s.queue 0) refused.NoSuch (λ u.
       for_some (exit_of u.place) refused.NotStopped (λ exit.
-        for_none (least (λ r. creates p u.task r && is_none (u.sent r))) refused.Unfinished (
+        for_none (least (creates p u.task) (λ r. is_none (u.sent r))) refused.Unfinished (
           unless (next_begins p (drop 1 s.queue) exit) refused.Mismatch (
             unless (is_listed p u.task exit) refused.NotListed None))))
 refusal p units s Fault =
@@ -159,3 +159,22 @@ replay_from p units s (e ∷ es) = option_and_then (λ mid. replay_from p units 
 
 abbrev pub replay : Listing → (units : ℕ) → List Event → Option State
 replay p units events = replay_from p units (opening p) events
+
+-- A script: each event is answered, and one that is refused changes nothing
+
+-- the answers so far, the state, and how many events were allowed
+pub record Played : Type 0 where
+  pub answers : List (Result (Unit {0}) Refused)
+  pub state : State
+  pub count : ℕ
+
+abbrev pub answered : Option Refused → (taken : State) → Played → Played
+answered None taken played = record { answers = played.answers ++ Ok tt ∷ []; state = taken; count = suc played.count }
+answered (Some refusal) taken played = record played { answers = played.answers ++ Err refusal ∷ [] }
+
+abbrev pub play_event : Listing → (units : ℕ) → Played → Event → Played
+play_event p units played e =
+    answered (first_refusal p units played.state played.count e) (after p played.state e) played
+
+abbrev pub play : Listing → (units : ℕ) → List Event → Played
+play p units events = fold (play_event p units) (record { answers = []; state = opening p; count = 0 }) events

@@ -28,7 +28,7 @@ event_of_head p u us (Inside index) = Exec 0
 event_of_head p u us (Stopped exit) =
     if not (is_listed p u.task exit) then Fault
     else if not (next_begins p us exit) then Squash 0
-    else drain_or_retire (least (λ r. creates p u.task r && is_none (u.sent r)))
+    else drain_or_retire (least (creates p u.task) (λ r. is_none (u.sent r)))
 
 abbrev pub event_of_queue : Listing → (next : ℕ) → List Active → Option Event
 event_of_queue p next [] = option_map Assign (task_beginning p next)

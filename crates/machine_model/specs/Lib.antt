@@ -6,3 +6,4 @@ pub mod Claims
 pub mod HeadEvent
 pub mod Burst
 pub mod Laws
+pub mod Examples

@@ -69,7 +69,7 @@ with_written u words = record u { local = λ r. option_or (words r) (u.local r) 
 
 -- a unit that has sent the registers of a set, too; what is sent stays as it was sent first
 abbrev pub with_sent : Active → (ℕ → Bool) → Active
-with_sent u set = record u { sent = λ r. if set r then option_or (u.sent r) (value u r) else u.sent r }
+with_sent u set = record u { sent = λ r. option_or (u.sent r) (if set r then value u r else None) }
 
 -- a unit stops over an exit edge, and else goes on at the next index
 abbrev pub place_after : (leaving : Bool) → Option ℕ → (next : ℕ) → Spot
@@ -77,11 +77,18 @@ place_after true index next = Stopped next
 place_after false (Some index) next = Inside index
 place_after false None next = Stopped next
 
+abbrev pub with_place : Active → Spot → Active
+with_place u place = record u { place = place }
+
+abbrev pub with_log : Active → List Read → Active
+with_log u log = record u { log = log }
+
 -- a halt or a trap leaves the place, and writes and sends nothing
 abbrev pub moved : Listing → Active → Marked → (index a b : ℕ) → (ℕ → ℕ) → Active
 moved p u m index a b memory =
-    record (with_sent (with_written u (written m.op a b (address index) (byte_of p.fixed) memory)) (sends m)) {
-      place = place_after (leaves m.stop (taken m.op a b)) (edge m.op index (taken m.op a b)) (turn m.op a b (address index)); }
+    with_place
+      (with_sent (with_written u (written m.op a b (address index) (byte_of p.fixed) memory)) (sends m))
+      (place_after (leaves m.stop (taken m.op a b)) (edge m.op index (taken m.op a b)) (turn m.op a b (address index)))
 
 abbrev pub executed : Outcome → Listing → Active → Marked → (index a b : ℕ) → (ℕ → ℕ) → Active
 executed Running p u m index a b memory = moved p u m index a b memory
@@ -90,8 +97,7 @@ executed _ p u m index a b memory = u
 -- the log grows by what was read in any case
 abbrev pub after_exec : Listing → Active → Marked → (index a b : ℕ) → (ℕ → ℕ) → Active
 after_exec p u m index a b memory =
-    record (executed (outcome_after m.op a) p u m index a b memory) {
-      log = u.log ++ record { pc = address index; a = a; b = b; } ∷ []; }
+    with_log (executed (outcome_after m.op a) p u m index a b memory) (u.log ++ record { pc = address index; a = a; b = b } ∷ [])
 
 abbrev pub stands : Outcome → Standing
 stands Running = standing.Running
@@ -166,7 +172,7 @@ next_begins p [] at = true
 next_begins p (u ∷ us) at = nat_eq (begins p u.task) at
 
 abbrev pub handed_over : Listing → Active → (ℕ → ℕ) → ℕ → ℕ
-handed_over p u regs r = if creates p u.task r then unwrap_or (u.sent r) (regs r) else regs r
+handed_over p u regs r = unwrap_or (if creates p u.task r then u.sent r else None) (regs r)
 
 -- the new head takes each register that has not arrived
 abbrev pub filled : (ℕ → ℕ) → List Active → List Active

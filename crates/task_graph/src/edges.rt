@@ -31,7 +31,8 @@ ghost use Rattle.std.specs.Prelude.{◌≡◌, ℕ, ◌<◌, ◌≤◌, ◌↔�
 ghost use Rattle.task_graph.specs.Edges.{Edge, edge, leaves, end_of, is_indirect};
 ghost use Rattle.task_graph.specs.Neighbours.{is_among, InOrder, Follows, FallsOff, ExitsIndirectly};
 
-/// The inner successors of the instruction at `i`: the instructions that an inner edge leads to.
+/// The inner successors of the instruction at `i`: the instructions that an inner edge leads to. The
+/// caller sees to it that `i` is an instruction. Takes no memory.
 pub fn next_inside(program: &Program, i: u32) -> Next
     requires { i < length program.now.code }
     ensures exact { (j : ℕ) → (is_among result j ≡ true) ↔ Follows program.now i j }
@@ -45,7 +46,8 @@ pub fn next_inside(program: &Program, i: u32) -> Next
     in_order(onward, branch)
 }
 
-/// The exits of the instruction at `i`.
+/// The exits of the instruction at `i`. The caller sees to it that `i` is an instruction. Takes no
+/// memory.
 pub fn exits_of(program: &Program, i: u32) -> Exits
     requires { i < length program.now.code }
     ensures direct { (j : ℕ) → (is_among result.direct j ≡ true) ↔ Edge program.now true i j }

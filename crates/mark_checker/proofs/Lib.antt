@@ -1,0 +1,4 @@
+pub mod Ahead
+pub mod Findings
+pub mod Acceptance
+pub mod PlaceLists

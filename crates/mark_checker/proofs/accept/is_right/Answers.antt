@@ -1,0 +1,24 @@
+use Rattle.std.proofs.Common.{◌≡◌, Some, None, sym, ◌∙◌, slice_get}
+use Rattle.mask_certificate.specs.Lists.{list_of}
+use Rattle.mark_checker.specs.Rules.{conditions}
+use Rattle.mark_checker.specs.Places.{told}
+use Rattle.mark_checker.proofs.Findings.{same_found}
+use Rattle.mark_checker.proofs.PlaceLists.{there, not_there, at_place}
+use Rattle.mark_checker.proofs.accept.is_right.Goals as goal
+
+pub returns-in-Some-clause-nothing : goal.returns-in-Some-clause-nothing
+returns-in-Some-clause-nothing c nothing =
+    let p = c.args.program.now in
+    let d = c.args.descriptor.now in
+    let es = list_of c.args.cert.now c.args.task in
+    let m = c.in-Some.marked.now in
+    let look = c.in-Some.ensures.lookup in
+    let here : slice_get p.code c.args.index ≡ Some m = there p.code c.code.result.now c.args.index m c.code.ensures.value look.3.0 look.3.1 in
+    c.is_clean.ensures.nothing c.args.task c.args.index
+    (same_found c.args.task c.args.index (told c.faults_at.result) (conditions p d es c.args.index m c.args.mask) c.faults_at.ensures
+    ∙ sym (at_place p d es c.args.task c.args.index c.args.mask m here) ∙ nothing)
+
+pub returns-in-None-clause-right : goal.returns-in-None-clause-right
+returns-in-None-clause-right c holds m is =
+    let gone : slice_get c.args.program.now.code c.args.index ≡ None = not_there c.args.program.now.code c.code.result.now c.args.index c.code.ensures.value c.in-None.ensures.lookup.3 in
+    absurd (cc)

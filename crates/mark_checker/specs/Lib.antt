@@ -1,0 +1,4 @@
+pub mod Numbers
+pub mod Rules
+pub mod Places
+pub mod Examples

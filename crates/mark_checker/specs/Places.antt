@@ -1,0 +1,132 @@
+-- What the code keeps of the rules' conditions, and what it means that a place is right.
+use Rattle.std.specs.Prelude.{◌≡◌, ℕ, ◌<◌, nat_eq, nat_lt, if◌then◌else◌, length, Bool, true, false, List, [], ◌∷◌, ◌++◌, slice_get, Option, Some, None}
+use Rattle.mips_plain.specs.Words.{has}
+use Rattle.task_descriptor.specs.Listing.{Listing}
+use Rattle.task_descriptor.specs.declared.descriptor.Marked.{Marked}
+use Rattle.task_descriptor.specs.declared.descriptor.Descriptor.{Descriptor}
+use Rattle.mask_certificate.specs.Lists.{mask_at, list_of}
+use Rattle.mark_checker.specs.declared.place.Faults.{Faults}
+use Rattle.mark_checker.specs.declared.finding.Rule.TheVariants.{EntryWithoutMask, NextWithoutMask, LacksDestination, LacksNext, ExceedsCreate, ForwardedInNext, ReleasedInNext, SentNotCreated, ExitNotListed, FallsOff, IndirectGoesOn, TargetNotEntry}
+use Rattle.mark_checker.specs.declared.finding.Finding.{Finding}
+use Rattle.mark_checker.specs.Rules.{Conditions, conditions, once, each, masked, places, all_rules}
+use Rattle.mips_plain.specs.Instruction.{dests}
+use Rattle.task_graph.specs.Edges.{Edge, Path, sends}
+use Rattle.task_graph.specs.Soundness.{Sound}
+
+-- the test of an index, if there is one
+abbrev pub holds_at : Option ℕ → (ℕ → Bool) → Bool
+holds_at None test = false
+holds_at (Some j) test = test j
+
+-- the conditions that the code's flags and sets stand for
+abbrev pub told : Faults → Conditions
+told f = record {
+      entry_without_mask = f.entry.without_mask;
+      next_without_mask = f.inside.next_without_mask;
+      lacks_destination = has f.inside.lacks_destination;
+      lacks_next = has f.inside.lacks_next;
+      exceeds_create = has f.entry.exceeds_create;
+      forwarded_in_next = has f.inside.forwarded_in_next;
+      released_in_next = has f.inside.released_in_next;
+      sent_not_created = has f.inside.sent_not_created;
+      exit_not_listed = f.inside.exit_not_listed;
+      falls_off = f.inside.falls_off;
+      indirect_goes_on = f.inside.indirect_goes_on;
+      target_not_entry = f.entry.target_not_entry; }
+
+-- two conditions agree, of each register
+pub record Same (c d : Conditions) : Type 0 where
+  pub entry_without_mask : c.entry_without_mask ≡ d.entry_without_mask
+  pub next_without_mask : c.next_without_mask ≡ d.next_without_mask
+  pub lacks_destination : (r : ℕ) → c.lacks_destination r ≡ d.lacks_destination r
+  pub lacks_next : (r : ℕ) → c.lacks_next r ≡ d.lacks_next r
+  pub exceeds_create : (r : ℕ) → c.exceeds_create r ≡ d.exceeds_create r
+  pub forwarded_in_next : (r : ℕ) → c.forwarded_in_next r ≡ d.forwarded_in_next r
+  pub released_in_next : (r : ℕ) → c.released_in_next r ≡ d.released_in_next r
+  pub sent_not_created : (r : ℕ) → c.sent_not_created r ≡ d.sent_not_created r
+  pub exit_not_listed : c.exit_not_listed ≡ d.exit_not_listed
+  pub falls_off : c.falls_off ≡ d.falls_off
+  pub indirect_goes_on : c.indirect_goes_on ≡ d.indirect_goes_on
+  pub target_not_entry : c.target_not_entry ≡ d.target_not_entry
+
+-- no condition holds, of any register
+pub record IsClean (c : Conditions) : Type 0 where
+  pub entry_without_mask : c.entry_without_mask ≡ false
+  pub next_without_mask : c.next_without_mask ≡ false
+  pub lacks_destination : (r : ℕ) → c.lacks_destination r ≡ false
+  pub lacks_next : (r : ℕ) → c.lacks_next r ≡ false
+  pub exceeds_create : (r : ℕ) → c.exceeds_create r ≡ false
+  pub forwarded_in_next : (r : ℕ) → c.forwarded_in_next r ≡ false
+  pub released_in_next : (r : ℕ) → c.released_in_next r ≡ false
+  pub sent_not_created : (r : ℕ) → c.sent_not_created r ≡ false
+  pub exit_not_listed : c.exit_not_listed ≡ false
+  pub falls_off : c.falls_off ≡ false
+  pub indirect_goes_on : c.indirect_goes_on ≡ false
+  pub target_not_entry : c.target_not_entry ≡ false
+
+-- a place of a task at which no rule finds anything
+abbrev pub IsRight : Listing → Descriptor → List (ℕ × ℕ) → ℕ × Option ℕ → Type 0
+IsRight p d es place = (m : Marked) → slice_get p.code place.0 ≡ Some m → IsClean (conditions p d es place.0 m place.1)
+
+abbrev pub AllRight : Listing → Descriptor → List (ℕ × ℕ) → List (ℕ × Option ℕ) → Type 0
+AllRight p d es [] = Unit {0}
+AllRight p d es (place ∷ rest) = IsRight p d es place × AllRight p d es rest
+
+-- What an accepted program and its certificate keep: no rule finds anything, each place of each task
+-- is right, and so the program's annotations are sound.
+pub record IsAccepted (p : Listing) (cert : List (List (ℕ × ℕ))) : Type 0 where
+  pub nothing_found : all_rules p cert ≡ []
+  pub right : (t : ℕ) (d : Descriptor) → slice_get p.tasks t ≡ Some d
+      → AllRight p d (list_of cert t) (places d.entry (list_of cert t))
+  pub sound : Sound p
+
+-- a program with its certificate
+pub record Checked : Type 0 where
+  pub program : Listing
+  pub cert : List (List (ℕ × ℕ))
+
+-- What an accepted program says of one place, the instruction m at i with its mask.
+pub record PlaceSays (p : Listing) (d : Descriptor) (es : List (ℕ × ℕ)) (i : ℕ) (m : Marked) (mask : ℕ) : Type 0 where
+  -- the mask has each destination of the instruction
+  pub destinations : (r : ℕ) → dests m.op r ≡ true → has mask r ≡ true
+
+  -- an inner edge leads to an instruction that has a mask, and the mask here has each register of it
+  pub next_inside : (j : ℕ) → Edge p false i j → j < length p.code
+  pub next_masked : (j : ℕ) → Edge p false i j → (k : ℕ) × (mask_at es j ≡ Some k)
+  pub next_within : (j k r : ℕ) → Edge p false i j → mask_at es j ≡ Some k → has k r ≡ true → has mask r ≡ true
+
+  -- what the instruction sends is in no inner successor's mask
+  pub sent : (j k r : ℕ) → Edge p false i j → mask_at es j ≡ Some k → sends m r ≡ true → has k r ≡ false
+
+  -- the mask lies in the create mask where the place is reached from the entry
+  pub created : Path p d.entry i → (r : ℕ) → has mask r ≡ true → has d.create r ≡ true
+
+-- whether the task's entry is behind, after the next index of its list: None where it is passed over
+abbrev pub begun_after : (begun : Bool) (index entry : ℕ) → Option Bool
+begun_after true index entry = Some true
+begun_after false index entry =
+    if nat_lt index entry then Some false else if nat_eq index entry then Some true else None
+
+-- the places that are left, once the entry is behind and before
+abbrev pub left_places : (begun : Bool) (entry : ℕ) → List (ℕ × ℕ) → List (ℕ × Option ℕ)
+left_places true entry es = masked es
+left_places false entry es = places entry es
+
+-- the findings of one place in two halves
+abbrev pub first_rules : (t i : ℕ) → Conditions → List Finding
+first_rules t i c =
+    once t i EntryWithoutMask c.entry_without_mask
+    ++ (once t i NextWithoutMask c.next_without_mask
+    ++ (each t i LacksDestination c.lacks_destination
+    ++ (each t i LacksNext c.lacks_next
+    ++ (each t i ExceedsCreate c.exceeds_create
+    ++ each t i ForwardedInNext c.forwarded_in_next))))
+
+abbrev pub last_rules : (t i : ℕ) → Conditions → List Finding
+last_rules t i c =
+    each t i ReleasedInNext c.released_in_next
+    ++ (each t i SentNotCreated c.sent_not_created
+    ++ (once t i ExitNotListed c.exit_not_listed
+    ++ (once t i FallsOff c.falls_off
+    ++ (once t i IndirectGoesOn c.indirect_goes_on
+    ++ once t i TargetNotEntry c.target_not_entry))))

@@ -1,0 +1,126 @@
+//! Programs that are accepted.
+
+use crate::place::{begun_after, faults_at, is_clean};
+use mask_certificate::certificate::Cert;
+use mips_plain::number::RegSet;
+use std::marker::Model;
+use task_descriptor::descriptor::Descriptor;
+use task_descriptor::program::Program;
+
+ghost use Rattle.std.specs.Prelude.{◌≡◌, ◌↔◌, ℕ, true, Some, None, [], slice_get};
+ghost use Rattle.std.specs.List.{flat_map};
+ghost use Rattle.task_descriptor.specs.Listing.{IsWellFormed};
+ghost use Rattle.mask_certificate.specs.Lists.{list_of};
+ghost use Rattle.mark_checker.specs.Rules.{rules_at, places, rules, all_rules};
+ghost use Rattle.mark_checker.specs.Places.{IsRight, AllRight, IsAccepted};
+
+/// Whether the rules find nothing. Then the program's annotations are sound, whoever made the
+/// certificate. Takes no memory.
+pub fn accepts(program: &Program, cert: &Cert) -> bool
+    ensures exact { (result ≡ true) ↔ (all_rules program.now cert.now ≡ []) }
+    ensures accepted { (result ≡ true) → IsAccepted program.now cert.now }
+{
+    for (task, descriptor) in program.tasks().iter().enumerate() {
+        if !is_task_right(program, cert, descriptor, task as u32) {
+            return false;
+        }
+    }
+    true
+}
+
+/// Whether the rules find nothing in one task.
+fn is_task_right(program: &Program, cert: &Cert, descriptor: &Descriptor, task: u32) -> bool
+    requires there { slice_get program.now.tasks task ≡ Some descriptor.now }
+    requires well_formed { IsWellFormed program.now }
+    ensures right { (result ≡ true) → AllRight program.now descriptor.now (list_of cert.now task) (places descriptor.now.entry (list_of cert.now task)) }
+    ensures nothing { rules program.now cert.now task ≡ [] → result ≡ true }
+{
+    let entry = descriptor.entry.get();
+    let entries = cert.list(task);
+    let mut begun = false;
+    for (index, mask) in entries {
+        let Some(now) = begun_after(begun, *index, entry) else {
+            return false;
+        };
+        begun = now;
+        if !is_right(program, cert, descriptor, task, *index, Some(*mask)) {
+            return false;
+        }
+    }
+    begun
+}
+
+/// Whether the rules find nothing at one place.
+fn is_right(
+    program: &Program,
+    cert: &Cert,
+    descriptor: &Descriptor,
+    task: u32,
+    index: u32,
+    mask: Option<RegSet>,
+) -> bool
+    ensures right { (result ≡ true) → IsRight program.now descriptor.now (list_of cert.now task) (index, mask) }
+    ensures nothing { rules_at program.now descriptor.now (list_of cert.now task) task (index, mask) ≡ [] → result ≡ true }
+{
+    match program.code().get(index as usize) {
+        Some(marked) => is_clean(&faults_at(program, cert, descriptor, marked, task, index, mask)),
+        None => true,
+    }
+}
+
+/// A program with a certificate against which the rules find nothing.
+#[derive(Debug, Drop)]
+pub struct Accepted {
+    program: Program,
+    cert: Cert,
+}
+
+impl Model for Accepted {
+    ghost use Rattle.mark_checker.specs.Places.{Checked, IsAccepted};
+
+    ghost Value = { Checked };
+
+    ghost view = { λ a. record { program = a.program; cert = a.cert } };
+
+    ghost invariant = { λ a. IsAccepted a.program a.cert };
+}
+
+impl Accepted {
+    ghost use Rattle.std.specs.Prelude.{◌≡◌, ◌≢◌, [], MatchResult};
+    ghost use Rattle.task_graph.specs.Soundness.{Sound};
+    ghost use Rattle.mark_checker.specs.Rules.{all_rules};
+    ghost use Rattle.mark_checker.specs.Places.{Checked, IsAccepted};
+
+    /// The two as accepted, exactly where the rules find nothing; else both are handed back. Takes no
+    /// memory.
+    ///
+    /// # Errors
+    ///
+    /// The program and the certificate, unchanged, where the rules find something.
+    pub fn new(program: Program, cert: Cert) -> Result<Accepted, (Program, Cert)>
+        ensures {
+            MatchResult result
+            (λ accepted. (all_rules program cert ≡ []) × (accepted.program ≡ program) × (accepted.cert ≡ cert))
+            (λ refused. (all_rules program cert ≢ []) × (refused.0 ≡ program) × (refused.1 ≡ cert))
+        }
+    {
+        if accepts(&program, &cert) { Ok(Accepted { program, cert }) } else { Err((program, cert)) }
+    }
+
+    /// The program. Its annotations are sound.
+    pub fn program(&self) -> &Program
+        ensures value { result.now ≡ self.now.program }
+        ensures accepted { IsAccepted self.now.program self.now.cert }
+        ensures sound { Sound self.now.program }
+    {
+        &self.program
+    }
+
+    /// The certificate.
+    pub fn cert(&self) -> &Cert
+        ensures value { result.now ≡ self.now.cert }
+        ensures accepted { IsAccepted self.now.program self.now.cert }
+    {
+        &self.cert
+    }
+}

@@ -1,0 +1,140 @@
+//! The findings of a task and of a program.
+
+use crate::append::append_faults;
+use crate::finding::{Finding, Findings, Verdict};
+use crate::place::{begun_after, faults_at, is_clean};
+use mask_certificate::certificate::Cert;
+use mips_plain::number::RegSet;
+use std::alloc::{AllocError, Global};
+use task_descriptor::descriptor::Descriptor;
+use task_descriptor::program::Program;
+
+ghost use Rattle.std.specs.Prelude.{◌≡◌, ◌∷◌, ◌++◌, ℕ, List, Some, None, IfOk, OnOk, slice_get, length};
+ghost use Rattle.std.specs.List.{flat_map, range_with_len};
+ghost use Rattle.mask_certificate.specs.Lists.{list_of};
+ghost use Rattle.mark_checker.specs.Rules.{rules_at, places, rules, all_rules};
+ghost use Rattle.mark_checker.specs.Places.{left_places};
+
+/// The findings of one task, in order of index, rule and register; none for a task number that is not
+/// there.
+///
+/// # Errors
+///
+/// `AllocError` where memory was refused.
+pub fn check_task(alloc: Global, program: &Program, cert: &Cert, task: u32) -> Result<Vec<Finding>, AllocError>
+    ensures { IfOk result (λ v. v.items ≡ rules program.now cert.now task) }
+{
+    let mut list = Vec::new(alloc);
+    append_task(program, cert, task, &mut list)?;
+    Ok(list)
+}
+
+/// The findings of all tasks, one task after another.
+///
+/// # Errors
+///
+/// `AllocError` where memory was refused.
+pub fn verdict(alloc: Global, program: &Program, cert: &Cert) -> Result<Verdict, AllocError>
+    ensures { IfOk result (λ v. v.findings ≡ all_rules program.now cert.now) }
+{
+    let mut list = Vec::new(alloc);
+    for task in 0..program.tasks().len() {
+        append_task(program, cert, task as u32, &mut list)?;
+    }
+    Ok(Verdict {
+        findings: Findings::new(list),
+    })
+}
+
+/// Appends the findings of one task.
+fn append_task(program: &Program, cert: &Cert, task: u32, list: &mut Vec<Finding>) -> Result<(), AllocError>
+    ensures { OnOk result (list.new.items ≡ list.old.items ++ rules program.now cert.now task) }
+{
+    match program.tasks().get(task as usize) {
+        Some(descriptor) => append_places(program, cert, descriptor, task, list),
+        None => Ok(()),
+    }
+}
+
+/// Appends the findings of the places of one task.
+fn append_places(
+    program: &Program,
+    cert: &Cert,
+    descriptor: &Descriptor,
+    task: u32,
+    list: &mut Vec<Finding>,
+) -> Result<(), AllocError>
+    ensures {
+        OnOk result
+        (list.new.items
+        ≡ list.old.items
+        ++ flat_map (rules_at program.now descriptor.now (list_of cert.now task) task) (places descriptor.now.entry (list_of cert.now task)))
+    }
+{
+    let mut begun = false;
+    let entries = cert.list(task);
+    for (index, mask) in entries {
+        begun = append_next(program, cert, descriptor, task, begun, (*index, *mask), list)?;
+    }
+    if begun {
+        return Ok(());
+    }
+    append_place(program, cert, descriptor, task, (descriptor.entry.get(), None), list)
+}
+
+/// Appends the findings of the next entry of the task's list, and before them those of the task's entry
+/// where it is passed over. Answers whether the task's entry is behind.
+fn append_next(
+    program: &Program,
+    cert: &Cert,
+    descriptor: &Descriptor,
+    task: u32,
+    begun: bool,
+    next: (u32, RegSet),
+    list: &mut Vec<Finding>,
+) -> Result<bool, AllocError>
+    ensures {
+        IfOk result
+        (λ now. (rest : List (ℕ × ℕ))
+            → list.new.items ++ flat_map (rules_at program.now descriptor.now (list_of cert.now task) task) (left_places now descriptor.now.entry rest)
+            ≡ list.old.items ++ flat_map (rules_at program.now descriptor.now (list_of cert.now task) task) (left_places begun descriptor.now.entry (next ∷ rest)))
+    }
+{
+    let (index, mask) = next;
+    let entry = descriptor.entry.get();
+    match begun_after(begun, index, entry) {
+        Some(now) => {
+            append_place(program, cert, descriptor, task, (index, Some(mask)), list)?;
+            Ok(now)
+        }
+        None => {
+            append_place(program, cert, descriptor, task, (entry, None), list)?;
+            append_place(program, cert, descriptor, task, (index, Some(mask)), list)?;
+            Ok(true)
+        }
+    }
+}
+
+/// Appends the findings of one place.
+fn append_place(
+    program: &Program,
+    cert: &Cert,
+    descriptor: &Descriptor,
+    task: u32,
+    place: (u32, Option<RegSet>),
+    list: &mut Vec<Finding>,
+) -> Result<(), AllocError>
+    ensures { OnOk result (list.new.items ≡ list.old.items ++ rules_at program.now descriptor.now (list_of cert.now task) task place) }
+{
+    let (index, mask) = place;
+    match program.code().get(index as usize) {
+        Some(marked) => {
+            let faults = faults_at(program, cert, descriptor, marked, task, index, mask);
+            if is_clean(&faults) {
+                return Ok(());
+            }
+            append_faults(task, index, &faults, list)
+        }
+        None => Ok(()),
+    }
+}

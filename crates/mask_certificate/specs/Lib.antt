@@ -1,0 +1,4 @@
+pub mod Lists
+pub mod CertificateText
+pub mod CertificateReading
+pub mod Examples

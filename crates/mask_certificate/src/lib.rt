@@ -1,0 +1,12 @@
+//! Certificates: for each task of a program, the registers that may still be written at each of its
+//! instructions, and the text that spells them (own choice; the masks refine the create mask of
+//! Sohi, Breach, Vijaykumar, "Multiscalar Processors", ISCA 1995, section 2.2).
+#![tactic(auto)]
+
+pub mod certificate;
+pub mod fault;
+pub mod reading;
+pub mod writing;
+
+#[cfg(test)]
+mod tests;

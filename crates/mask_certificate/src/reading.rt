@@ -1,0 +1,251 @@
+//! Reading the text of a certificate.
+
+ghost use Rattle.std.specs.Prelude.{◌≡◌, ◌+◌, ◌^◌, ◌<◌, ◌≤◌, List, [], ◌∷◌, length, drop, map, Some, None, Ok, Err, MatchOption, MatchResult, IfSome, IfOk, SomeIff, IsTrue, OnOk, OnSome, ◌==◌, ◌⊎◌, vec_len};
+ghost use Rattle.std.specs.List.{slice_split, position};
+ghost use Rattle.std.specs.Option.{option_copied};
+ghost use Rattle.mask_certificate.specs.declared.fault.Spelling.{Spelling};
+ghost use Rattle.mask_certificate.specs.Lists.{entries_of};
+ghost use Rattle.mask_certificate.specs.CertificateReading.{index_in, mask_in, entry_in, name_in, judged, lines_in, entries_in, behind_task_line, at_end, lists_at, spelling_of, mask_digit, Gives, cert_parse, names_of, names_in, is_newline, entry_line};
+
+use crate::certificate::Cert;
+use crate::fault::{CertFault, Spelling};
+use mips_plain::number::RegSet;
+use std::alloc::{AllocError, Global};
+use task_descriptor::descriptor::Descriptor;
+use task_descriptor::name::Name;
+use task_descriptor::program::Program;
+
+/// How many bytes the first line has, with its LF.
+const FIRST_LINE: usize = 7;
+
+fn place_of(wanted: u8, bytes: &[u8]) -> Option<usize>
+    ensures { result ≡ position (λ byte. byte == wanted) bytes.now }
+{
+    bytes.iter().position(|byte| *byte == wanted)
+}
+
+fn index_of(digits: &[u8]) -> Option<u32>
+    ensures { result ≡ index_in digits.now }
+{
+    if digits.is_empty() || digits.len() > 5 || (digits[0] == b'0' && digits.len() > 1) {
+        return None;
+    }
+    let mut index = 0;
+    for digit in digits {
+        if !digit.is_ascii_digit() {
+            return None;
+        }
+        index = index * 10 + u32::from(*digit - b'0');
+    }
+    Some(index)
+}
+
+/// The value of each byte as a digit of a mask; `NO_DIGIT` where it is none. A table, since the digits
+/// of a mask are hard to foretell for a branch.
+const MASK_DIGITS: [u8; 256] = [
+    16, 16, 16, 16, 16, 16, 16, 16, 16, 16, 16, 16, 16, 16, 16, 16,
+    16, 16, 16, 16, 16, 16, 16, 16, 16, 16, 16, 16, 16, 16, 16, 16,
+    16, 16, 16, 16, 16, 16, 16, 16, 16, 16, 16, 16, 16, 16, 16, 16,
+    0, 1, 2, 3, 4, 5, 6, 7, 8, 9, 16, 16, 16, 16, 16, 16,
+    16, 16, 16, 16, 16, 16, 16, 16, 16, 16, 16, 16, 16, 16, 16, 16,
+    16, 16, 16, 16, 16, 16, 16, 16, 16, 16, 16, 16, 16, 16, 16, 16,
+    16, 10, 11, 12, 13, 14, 15, 16, 16, 16, 16, 16, 16, 16, 16, 16,
+    16, 16, 16, 16, 16, 16, 16, 16, 16, 16, 16, 16, 16, 16, 16, 16,
+    16, 16, 16, 16, 16, 16, 16, 16, 16, 16, 16, 16, 16, 16, 16, 16,
+    16, 16, 16, 16, 16, 16, 16, 16, 16, 16, 16, 16, 16, 16, 16, 16,
+    16, 16, 16, 16, 16, 16, 16, 16, 16, 16, 16, 16, 16, 16, 16, 16,
+    16, 16, 16, 16, 16, 16, 16, 16, 16, 16, 16, 16, 16, 16, 16, 16,
+    16, 16, 16, 16, 16, 16, 16, 16, 16, 16, 16, 16, 16, 16, 16, 16,
+    16, 16, 16, 16, 16, 16, 16, 16, 16, 16, 16, 16, 16, 16, 16, 16,
+    16, 16, 16, 16, 16, 16, 16, 16, 16, 16, 16, 16, 16, 16, 16, 16,
+    16, 16, 16, 16, 16, 16, 16, 16, 16, 16, 16, 16, 16, 16, 16, 16,
+];
+
+const NO_DIGIT: u8 = 16;
+
+fn mask_digit_of(byte: u8) -> u8
+    ensures { result ≡ mask_digit byte }
+{
+    MASK_DIGITS[byte as usize]
+}
+
+fn mask_of(spelling: Spelling, digits: &[u8]) -> Option<RegSet>
+    ensures { result ≡ mask_in spelling digits.now }
+{
+    if digits.len() != spelling.mask_digits() {
+        return None;
+    }
+    let mut mask = 0;
+    for byte in digits {
+        let digit = mask_digit_of(*byte);
+        if digit == NO_DIGIT {
+            return None;
+        }
+        mask = mask * 16 + u64::from(digit);
+    }
+    RegSet::from_bits(mask)
+}
+
+fn entry_of(spelling: Spelling, line: &[u8]) -> Option<(u32, RegSet)>
+    ensures { result ≡ entry_in spelling line.now }
+{
+    let space = place_of(b' ', line)?;
+    let index = index_of(&line[..space])?;
+    let mask = mask_of(spelling, &line[space + 1..])?;
+    Some((index, mask))
+}
+
+fn name_of(line: &[u8]) -> Option<&[u8]>
+    ensures { option_copied result ≡ name_in line.now }
+{
+    if !line.starts_with(b"task ") {
+        return None;
+    }
+    let name = &line[5..];
+    if Name::new(name).is_some() { Some(name) } else { None }
+}
+
+/// The first line of a text, without its LF, and what follows; `None` where there is no LF.
+fn next_line(text: &[u8]) -> Option<(&[u8], &[u8])>
+    ensures parts {
+        MatchOption result
+            (slice_split is_newline text.now ≡ text.now ∷ [])
+            (λ found. slice_split is_newline text.now ≡ found.0.now ∷ slice_split is_newline found.1.now)
+    }
+    ensures shorter { IfSome result (λ found. length found.1.now < length text.now) }
+{
+    let end = place_of(b'\n', text)?;
+    Some((&text[..end], &text[end + 1..]))
+}
+
+/// The entry of the first line, and what follows that line; `None` where that line is no entry.
+fn next_entry(spelling: Spelling, text: &[u8]) -> Option<((u32, RegSet), &[u8])>
+    ensures found {
+        MatchOption result
+            (entries_in (lines_in spelling text.now) ≡ [])
+            (λ found. lines_in spelling text.now ≡ entry_line found.0 ∷ lines_in spelling found.1.now)
+    }
+    ensures shorter { IfSome result (λ found. length found.1.now < length text.now) }
+{
+    let (line, rest) = next_line(text)?;
+    let entry = entry_of(spelling, line)?;
+    Some((entry, rest))
+}
+
+/// The entries of the lines in front of the first that is none, and the text from that line on.
+fn list_of(
+    alloc: Global,
+    spelling: Spelling,
+    text: &[u8],
+) -> Result<(Vec<(u32, RegSet)>, &[u8]), AllocError>
+    ensures entries { IfOk result (λ found. found.0.items ≡ entries_in (lines_in spelling text.now)) }
+    ensures rest { IfOk result (λ found. lines_in spelling found.1.now ≡ drop (length found.0.items) (lines_in spelling text.now)) }
+    ensures shorter { IfOk result (λ found. length found.0.items + length found.1.now ≤ length text.now) }
+{
+    let mut list = Vec::new(alloc);
+    let mut rest = text;
+    while let Some((entry, after)) = next_entry(spelling, rest) {
+        list.push(entry)?;
+        rest = after;
+    }
+    Ok((list, rest))
+}
+
+/// The text behind the `task` line of this name, which has to be the first line, line `line`.
+fn behind<'a>(text: &'a [u8], line: usize, name: &Name) -> Result<&'a [u8], CertFault>
+    ensures lines {
+        (spelling : Spelling) → MatchResult result
+            (λ rest. behind_task_line line name.now (lines_in spelling text.now) ≡ Ok (lines_in spelling rest.now))
+            (λ fault. behind_task_line line name.now (lines_in spelling text.now) ≡ Err fault)
+    }
+    ensures shorter { IfOk result (λ rest. length rest.now < length text.now) }
+{
+    if text.is_empty() {
+        return Err(CertFault::MissingTask);
+    }
+    let Some((first, rest)) = next_line(text) else {
+        return Err(CertFault::Line(line));
+    };
+    let Some(found) = name_of(first) else {
+        return Err(CertFault::Line(line));
+    };
+    if found != name.bytes() {
+        return Err(CertFault::TaskName(line));
+    }
+    Ok(rest)
+}
+
+/// Whether nothing is left from this line on.
+fn check_end(text: &[u8], line: usize) -> Result<(), CertFault>
+    ensures {
+        (spelling : Spelling) → MatchResult result
+            (λ _. at_end line (lines_in spelling text.now) ≡ Ok [])
+            (λ fault. at_end line (lines_in spelling text.now) ≡ Err fault)
+    }
+{
+    if text.is_empty() {
+        return Ok(());
+    }
+    let Some((first, _)) = next_line(text) else {
+        return Err(CertFault::Line(line));
+    };
+    match name_of(first) {
+        Some(_) => Err(CertFault::TaskName(line)),
+        None => Err(CertFault::Line(line)),
+    }
+}
+
+/// The lists that the lines from line 2 on spell for these tasks.
+fn lists_of(
+    alloc: Global,
+    spelling: Spelling,
+    text: &[u8],
+    tasks: &[Descriptor],
+) -> Result<Vec<Vec<(u32, RegSet)>>, CertFault>
+    requires { length text.now + 2 < 2 ^ 64 }
+    ensures lists { Gives (λ lists. entries_of lists.items) result (lists_at 2 (names_in tasks.now) (lines_in spelling text.now)) }
+    ensures count { IfOk result (λ lists. vec_len lists ≡ length tasks.now) }
+{
+    let mut lists = Vec::with_capacity(alloc, tasks.len())?;
+    let mut rest = text;
+    let mut line = 2;
+    for task in tasks {
+        let body = behind(rest, line, &task.name)?;
+        let (list, after) = list_of(alloc, spelling, body)?;
+        line += 1 + list.len();
+        rest = after;
+        lists.push(list)?;
+    }
+    check_end(rest, line)?;
+    Ok(lists)
+}
+
+/// The spelling that the first line names.
+fn spelling_in(text: &[u8]) -> Option<Spelling>
+    ensures value { result ≡ spelling_of text.now }
+    ensures long { OnSome result (7 ≤ length text.now) }
+{
+    if text.starts_with(b"cert 2\n") {
+        Some(Spelling::Wide)
+    } else if text.starts_with(b"cert 1\n") {
+        Some(Spelling::Narrow)
+    } else {
+        None
+    }
+}
+
+/// The certificate that a text spells for the tasks of a program, one list for each, in `cert 1` or in
+/// `cert 2`. Else the first fault: `Header`; then the first line with `Line` or `TaskName`; then
+/// `MissingTask`; then `Shape`. `OutOfMemory` may come at any point.
+pub fn read(alloc: Global, text: &[u8], program: &Program) -> Result<Cert, CertFault>
+    ensures { (result ≡ Err CertFault.OutOfMemory) ⊎ (result ≡ cert_parse text.now (names_of program.now)) }
+{
+    let Some(spelling) = spelling_in(text) else {
+        return Err(CertFault::Header);
+    };
+    let lists = lists_of(alloc, spelling, &text[FIRST_LINE..], program.tasks())?;
+    match Cert::build(lists) {
+        Ok(cert) => Ok(cert),
+        Err(_) => Err(CertFault::Shape),
+    }
+}
