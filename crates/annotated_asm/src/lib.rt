@@ -3,17 +3,19 @@
 #![tactic(auto)]
 
 pub mod assembler;
-pub mod directive;
+mod directive;
 pub mod fault;
-pub mod item;
-pub mod layout;
-pub mod line;
-pub mod list;
-pub mod marks;
-pub mod mnemonic;
-pub mod operand;
-pub mod range;
-pub mod resolve;
-pub mod row;
-pub mod statement;
-pub mod table;
+mod item;
+mod layout;
+mod line;
+mod list;
+mod marks;
+mod mnemonic;
+mod operand;
+mod range;
+mod resolve;
+mod row;
+mod statement;
+mod table;
+#[cfg(test)]
+mod tests;

@@ -57,8 +57,7 @@ after_cut p xs y ys clean at =
 
 digit_test : (c : ℕ) → digit_value c < 10 → (is_ascii_digit c ≡ true) × (is_space c ≡ false) × (is_newline c ≡ false)
 digit_test c small =
-    let within = digit_from_value c small in
-    (
+    let within = digit_from_value c small in (
       and_from (leb 48 c) (leb c 57) (le-leb 48 c within.0) (le-leb c 57 within.1),
       ne_eqb c 32 (λ e. omega (arith, within.0)),
       ne_eqb c 10 (λ e. omega (arith, within.0)),
@@ -73,7 +72,7 @@ digits_pass (c ∷ cs) h =
 
 no_zero_first : (n : ℕ) → n < 2 ^ 64 → (eqb (get_or (decimal n) 0 0) 48 && ltb 1 (length (decimal n))) ≡ false
 no_zero_first zero small = and_right _ _ (le-ltb 1 (length (decimal zero)) (omega (arith, ap length (decimal_digit 0 (lit< tt)))))
-no_zero_first (suc n) small = 
+no_zero_first (suc n) small =
     let some : 0 < suc n = omega arith in
     let first : 48 < get_or (decimal (suc n)) 0 0 = first_decimal (suc n) some small in
     and_left _ _ (ne_eqb (get_or (decimal (suc n)) 0 0) 48 (λ (e : get_or (decimal (suc n)) 0 0 ≡ 48). omega arith))
@@ -84,18 +83,17 @@ index_read n few =
     let numeral = decimal_is_IsNumeral n small in
     let pass = digits_pass (decimal n) numeral.0.1 in
     let right : is_index (decimal n) ≡ true =
-        and_from _ _ (le-leb 1 (length (decimal n)) (decimal_nonempty n small))
-        (and_from _ _ (le-leb (length (decimal n)) 5 (length-decimal-le 5 n (lit< tt) (omega arith) small)) (and_from _ _ (not_from_false _ (no_zero_first n small)) pass.0)) in
+    and_from _ _ (le-leb 1 (length (decimal n)) (decimal_nonempty n small))
+    (and_from _ _ (le-leb (length (decimal n)) 5 (length-decimal-le 5 n (lit< tt) (omega arith) small)) (and_from _ _ (not_from_false _ (no_zero_first n small)) pass.0)) in
     (cond-true (is_index (decimal n)) (Some (digits_value 10 (decimal n))) None right ∙ ap (λ (m : ℕ). Some m) numeral.1, pass.1, pass.2)
 
 -- ---- hexadecimal digits
 
 digit_right : (d : ℕ) → d < 16 → (is_mask_digit (digit_char d) ≡ true) × (is_newline (digit_char d) ≡ false)
-digit_right d small =
-    (
-      agree_below_at (λ d. is_mask_digit (digit_char d)) (λ _. true) 16 d refl small,
-      agree_below_at (λ d. is_newline (digit_char d)) (λ _. false) 16 d refl small,
-    )
+digit_right d small = (
+  agree_below_at (λ d. is_mask_digit (digit_char d)) (λ _. true) 16 d refl small,
+  agree_below_at (λ d. is_newline (digit_char d)) (λ _. false) 16 d refl small,
+)
 
 list_all-append : (p : ℕ → Bool) (xs ys : List ℕ) → list_all p xs ≡ true → list_all p ys ≡ true → list_all p (xs ++ ys) ≡ true
 list_all-append p [] ys a b = b
@@ -138,7 +136,7 @@ mask_read n small =
     let hex = hexadecimal_read 16 n in
     let value = hex.value (omega arith) in
     let right : is_mask Wide (hexadecimal 16 n) ≡ true =
-        and_from _ _ (eq-eqb _ _ hex.long) (and_from _ _ hex.digits (lt-ltb _ _ (omega (arith, value)))) in
+    and_from _ _ (eq-eqb _ _ hex.long) (and_from _ _ hex.digits (lt-ltb _ _ (omega (arith, value)))) in
     cond-true (is_mask Wide (hexadecimal 16 n)) (Some (digits_value 16 (hexadecimal 16 n))) None right ∙ ap (λ (m : ℕ). Some m) value
 
 -- ---- lines
@@ -156,10 +154,10 @@ entry_judged entry fits =
     let index = index_read entry.0 (omega (arith, fits.0)) in
     let line = decimal entry.0 ++ 32 ∷ hexadecimal 16 entry.1 in
     let is : entry_in Wide line ≡ Some entry =
-        ap (λ (ds : List ℕ). both (index_in ds) (mask_in Wide (after_first is_space line))) (before_cut is_space (decimal entry.0) 32 (hexadecimal 16 entry.1) index.1 refl)
-        ∙ ap (λ (ds : List ℕ). both (index_in (decimal entry.0)) (mask_in Wide ds)) (after_cut is_space (decimal entry.0) 32 (hexadecimal 16 entry.1) index.1 refl)
-        ∙ ap (λ o. both o (mask_in Wide (hexadecimal 16 entry.1))) index.0
-        ∙ ap (both (Some entry.0)) (mask_read entry.1 fits.1) in
+    ap (λ (ds : List ℕ). both (index_in ds) (mask_in Wide (after_first is_space line))) (before_cut is_space (decimal entry.0) 32 (hexadecimal 16 entry.1) index.1 refl)
+    ∙ ap (λ (ds : List ℕ). both (index_in (decimal entry.0)) (mask_in Wide ds)) (after_cut is_space (decimal entry.0) 32 (hexadecimal 16 entry.1) index.1 refl)
+    ∙ ap (λ o. both o (mask_in Wide (hexadecimal 16 entry.1))) index.0
+    ∙ ap (both (Some entry.0)) (mask_read entry.1 fits.1) in
     ap (λ o. judged_by o (name_in line)) is
 
 entry_read : (entry : ℕ × ℕ) (more : List ℕ) → Fits entry → lines_in Wide (entry_text Wide entry ++ more) ≡ entry_line entry ∷ lines_in Wide more
@@ -167,9 +165,9 @@ entry_read entry more fits =
     let index = index_read entry.0 (omega (arith, fits.0)) in
     let line = decimal entry.0 ++ 32 ∷ hexadecimal 16 entry.1 in
     let joined : entry_text Wide entry ++ more ≡ line ++ 10 ∷ more =
-        append_assoc (decimal entry.0) (32 ∷ (hexadecimal 16 entry.1 ++ 10 ∷ [])) more
-        ∙ ap (λ (t : List ℕ). decimal entry.0 ++ 32 ∷ t) (append_assoc (hexadecimal 16 entry.1) (10 ∷ []) more)
-        ∙ sym (append_assoc (decimal entry.0) (32 ∷ hexadecimal 16 entry.1) (10 ∷ more)) in
+    append_assoc (decimal entry.0) (32 ∷ (hexadecimal 16 entry.1 ++ 10 ∷ [])) more
+    ∙ ap (λ (t : List ℕ). decimal entry.0 ++ 32 ∷ t) (append_assoc (hexadecimal 16 entry.1) (10 ∷ []) more)
+    ∙ sym (append_assoc (decimal entry.0) (32 ∷ hexadecimal 16 entry.1) (10 ∷ more)) in
     ap (lines_in Wide) joined
     ∙ line_read Wide line more (clean_append is_newline (decimal entry.0) (32 ∷ hexadecimal 16 entry.1) index.2 (refl, (hexadecimal_read 16 entry.1).clean))
     ∙ ap (λ j. j ∷ lines_in Wide more) (entry_judged entry fits)
@@ -228,9 +226,9 @@ tasks_read (name ∷ names) (list ∷ lists) are long fit =
     let body = flat_map (entry_text Wide) list in
     let lines = lines_in Wide text in
     let joined : task_text Wide name list ++ text ≡ codes "task " ++ (name ++ 10 ∷ (body ++ text)) =
-        ap (λ (t : List ℕ). codes "task " ++ t) (append_assoc name (10 ∷ body) text) in
+    ap (λ (t : List ℕ). codes "task " ++ t) (append_assoc name (10 ∷ body) text) in
     let read : lines_in Wide (task_text Wide name list ++ text) ≡ task_line name ∷ (map entry_line list ++ lines) =
-        ap (lines_in Wide) joined ∙ task_read name (body ++ text) are.0 ∙ ap (λ (ls : List Judged). task_line name ∷ ls) (entries_read list text fit.0) in
+    ap (lines_in Wide) joined ∙ task_read name (body ++ text) are.0 ∙ ap (λ (ls : List Judged). task_line name ∷ ls) (entries_read list text fit.0) in
     let front = entries_front list lines rest.no_entry in
     record {
       no_entry = ap entries_in read;
@@ -239,7 +237,7 @@ tasks_read (name ∷ names) (list ∷ lists) are long fit =
           let next = n + 1 + length (entries_in behind) in
           ap (lists_at n (name ∷ names)) read
           ∙ ap (λ b. cond {A = Result (List Judged) CertFault} b (Ok behind) (Err (TaskName n)) >>= λ rest. lists_at (n + 1 + length (entries_in rest)) names (drop (length (entries_in rest)) rest) >>= λ lists. Ok (entries_in rest ∷ lists))
-            ((bytes_eq-Decides name name).1 refl)
+          ((bytes_eq-Decides name name).1 refl)
           ∙ ap (λ (es : List (ℕ × ℕ)). lists_at next names (drop (length es) behind) >>= λ lists. Ok (entries_in behind ∷ lists)) front
           ∙ ap (λ (ls : List Judged). lists_at next names ls >>= λ lists. Ok (entries_in behind ∷ lists)) (entries_behind list lines)
           ∙ ap (λ (r : Result (List (List (ℕ × ℕ))) CertFault). r >>= λ lists. Ok (entries_in behind ∷ lists)) (rest.again next)

@@ -30,18 +30,27 @@ pub number_after_is : (test : ℕ → Bool) (radix n : ℕ) (ds : List ℕ) → 
 number_after_is test radix n [] = refl
 number_after_is test radix n (c ∷ cs) = tested (test c) (list_all test cs) _ _ (number_after_is test radix (n * radix + digit_value c) cs)
 
--- the end
-pub digit_all : (test : ℕ → Bool) (radix : ℕ) (ds : List ℕ) (n k : ℕ) → length ds ≤ k → number_after test radix n (drop k ds) ≡ Some n
-digit_all test radix ds n k le = at_drop_all (number_after test radix n) ds k le
+module _ (test : ℕ → Bool) (radix : ℕ) (ds : List ℕ) (n k : ℕ) where
+  -- one digit on
+  pub digit_more : k < length ds → test (get_or ds k 0) ≡ true → number_after test radix n (drop k ds) ≡ number_after test radix (n * radix + digit_value (get_or ds k 0)) (drop (k + 1) ds)
+  digit_more within passes = at_drop_more (number_after test radix n) ds k 0 within ∙ cond-true (test (get_or ds k 0)) _ _ passes
+
+  -- no digit
+  pub digit_none : k < length ds → test (get_or ds k 0) ≡ false → number_after test radix n (drop k ds) ≡ None
+  digit_none within fails = at_drop_more (number_after test radix n) ds k 0 within ∙ cond-false (test (get_or ds k 0)) _ _ fails
+
+  -- the end
+  pub digit_all : length ds ≤ k → number_after test radix n (drop k ds) ≡ Some n
+  digit_all le = at_drop_all (number_after test radix n) ds k le
 
 -- the index of digits that a loop went over
 pub index_done : (ds : List ℕ) (n : ℕ) → 0 < length ds → length ds ≤ 5 → (get_or ds 0 0 ≡ 48 → 1 < length ds → ⊥) → number_after is_ascii_digit 10 0 ds ≡ Some n → Some n ≡ index_in ds
 index_done ds n some few no_zero read =
     let number = cond_some (list_all is_ascii_digit ds) (digits_value 10 ds) n (sym (number_after_is is_ascii_digit 10 0 ds) ∙ read) in
     let zero_alone : (eqb (get_or ds 0 0) 48 && ltb 1 (length ds)) ≡ false =
-        ⊎_elim (λ more. and_left _ _ (ne_eqb _ _ (λ zero. no_zero zero more))) (λ one. and_right _ _ (le-ltb 1 (length ds) one)) (cases_lt 1 (length ds)) in
+    ⊎_elim (λ more. and_left _ _ (ne_eqb _ _ (λ zero. no_zero zero more))) (λ one. and_right _ _ (le-ltb 1 (length ds) one)) (cases_lt 1 (length ds)) in
     let right : is_index ds ≡ true =
-        and_from _ _ (le-leb 1 (length ds) some) (and_from _ _ (le-leb (length ds) 5 few) (and_from _ _ (not_from_false _ zero_alone) number.0)) in
+    and_from _ _ (le-leb 1 (length ds) some) (and_from _ _ (le-leb (length ds) 5 few) (and_from _ _ (not_from_false _ zero_alone) number.0)) in
     ap (λ (m : ℕ). Some m) (sym number.1) ∙ sym (cond-true (is_index ds) (Some (digits_value 10 ds)) None right)
 
 -- a byte that the table has is a digit
@@ -49,6 +58,11 @@ pub digit_small : (byte : ℕ) → byte < 256 → (mask_digit byte ≡ 16 → �
 digit_small byte small other =
     let most : mask_digit byte ≤ 16 = leb-true _ _ (agree_below_at (λ b. leb (mask_digit b) 16) (λ _. true) 256 byte refl small) in
     omega arith
+
+pub digit_is : (byte : ℕ) → (mask_digit byte ≡ 16 → ⊥) → (is_mask_digit byte ≡ true) × (mask_digit byte ≡ digit_value byte)
+digit_is byte other =
+    let passes : is_mask_digit byte ≡ true = true_from_ne_false (is_mask_digit byte) (λ fails. other (cond-false (is_mask_digit byte) (digit_value byte) 16 fails)) in
+    (passes, cond-true (is_mask_digit byte) (digit_value byte) 16 passes)
 
 -- fewer than 16 digits leave room for one more
 pub mask_fits : (mask k digit : ℕ) → mask < 16 ^ k → k < 16 → digit < 16 → mask * 16 + digit < 2 ^ 64
@@ -62,7 +76,7 @@ pub mask_done : (spelling : Spelling) (ds : List ℕ) (n : ℕ) → length ds �
 mask_done spelling ds n long read =
     let number = cond_some (list_all is_mask_digit ds) (digits_value 16 ds) n (sym (number_after_is is_mask_digit 16 0 ds) ∙ read) in
     let right : is_mask spelling ds ≡ ltb n (2 ^ 34) =
-        rw (eq-eqb _ _ long, number.0, number.1) refl in
+    rw (eq-eqb _ _ long, number.0, number.1) refl in
     ap (λ b. cond b (Some (digits_value 16 ds)) None) right ∙ ap (λ (m : ℕ). cond (ltb n (2 ^ 34)) (Some m) None) number.1
 
 -- what `RegSet::from_bits` says, as one equation

@@ -35,8 +35,8 @@ task_no_entry : (spelling : Spelling) (line : List ℕ) → starts_with nat_eq l
 task_no_entry spelling line e =
     let n = position_or_len is_space line in
     let first : 0 < length (take n line) → is_ascii_digit (get_or (take n line) 0 0) ≡ false = λ some.
-        let within : 0 < n = omega (arith, length-take n line) in
-        ap is_ascii_digit (get_or-take n line 0 0 within ∙ begins_with_t line e) in
+    let within : 0 < n = omega (arith, length-take n line) in
+    ap is_ascii_digit (get_or-take n line 0 0 within ∙ begins_with_t line e) in
     ap (λ b. both (cond b (Some (digits_value 10 (before_first is_space line))) None) (mask_in spelling (after_first is_space line))) (no_index (before_first is_space line) first)
 
 pub judged_named : (spelling : Spelling) (line name : List ℕ) → Some name ≡ name_in line → judged spelling line ≡ task_line name

@@ -80,6 +80,9 @@ module _ (entries : List (ℕ × ℕ)) (rises : Rises entries) (index : ℕ) whe
   pairs_rise : AllPairs (λ x y. x < y) (indices entries)
   pairs_rise = AllPairs-from_increasing (indices entries) rises.rising
 
+  index_at : ℕ → ℕ
+  index_at k = (get_or entries k (0, 0)).0
+
   indices_rise : (i j : ℕ) → i < j → j < length entries → (get_or entries i (0, 0)).0 < (get_or entries j (0, 0)).0
   indices_rise i j lt within =
       let at : (k : ℕ) → k < length entries → get_or (indices entries) k 0 ≡ (get_or entries k (0, 0)).0 = λ k in'. get_or-map (λ (e : ℕ × ℕ). e.0) entries k (0, 0) 0 in' in
@@ -111,10 +114,10 @@ pub fault_more : (task place least : ℕ) (list : List (ℕ × ℕ)) (entry : �
 fault_more task place least list entry whole within is low high so_far =
     let rest = drop (place + 1) list in
     let here : fault_in task place least (drop place list) ≡ fault_in task (place + 1) (entry.0 + 1) rest =
-        at_drop_more (fault_in task place least) list place entry within
-        ∙ ap (λ (e : ℕ × ℕ). fault_in task place least (e ∷ rest)) (sym is)
-        ∙ cond-false (ltb entry.0 least) _ _ (le-ltb entry.0 least low)
-        ∙ cond-false (leb 4096 entry.0) _ _ (lt-leb 4096 entry.0 high) in
+    at_drop_more (fault_in task place least) list place entry within
+    ∙ ap (λ (e : ℕ × ℕ). fault_in task place least (e ∷ rest)) (sym is)
+    ∙ cond-false (ltb entry.0 least) _ _ (le-ltb entry.0 least low)
+    ∙ cond-false (leb 4096 entry.0) _ _ (lt-leb 4096 entry.0 high) in
     sym here ∙ so_far
 
 pub masks_more : (list : List (ℕ × ℕ)) (place : ℕ) (entry : ℕ × ℕ) → place < length list → entry ≡ get_or list place entry → entry.1 < 2 ^ 34 → All (λ e. e.1 < 2 ^ 34) (take place list)

@@ -37,7 +37,7 @@ impl Model for Cert {
 }
 
 impl Cert {
-    ghost use Rattle.std.specs.Prelude.{◌≡◌, ◌<◌, ◌^◌, ◌↔◌, None, Some, IsTrue, vec_len, MatchResult};
+    ghost use Rattle.std.specs.Prelude.{◌≡◌, ◌<◌, ◌^◌, None, Some, vec_len, MatchResult};
     ghost use Rattle.mask_certificate.specs.Lists.{entries_of, first_fault, list_of, mask_at, Rises, IsCertificate};
 
     /// The certificate of these lists, the list at place t being that of task t. Lists that are none
@@ -48,11 +48,9 @@ impl Cert {
         lists: Vec<Vec<(u32, RegSet)>>,
     ) -> Result<Cert, (Vec<Vec<(u32, RegSet)>>, ListFault)>
         requires { vec_len lists < 2 ^ 32 }
-        ensures {
-            MatchResult result
-                (λ cert. (first_fault 0 (entries_of lists.items) ≡ None) × (cert ≡ entries_of lists.items))
-                (λ refused. (first_fault 0 (entries_of lists.items) ≡ Some refused.1) × (refused.0 ≡ lists))
-        }
+        ensures { MatchResult result
+            (λ cert. (first_fault 0 (entries_of lists.items) ≡ None) × (cert ≡ entries_of lists.items))
+            (λ refused. (first_fault 0 (entries_of lists.items) ≡ Some refused.1) × (refused.0 ≡ lists)) }
     {
         match first_fault_in(&lists) {
             None => Ok(Cert { lists }),
@@ -82,16 +80,9 @@ impl Cert {
             Err(_) => None,
         }
     }
-
-    /// Whether two certificates have the same lists.
-    pub fn is_same(&self, other: &Cert) -> bool
-        ensures { IsTrue result ↔ (self.now ≡ other.now) }
-    {
-        same_lists(&self.lists, &other.lists)
-    }
 }
 
-ghost use Rattle.std.specs.Prelude.{◌≡◌, ◌<◌, ◌^◌, ◌↔◌, length, IsTrue, IfNone};
+ghost use Rattle.std.specs.Prelude.{◌≡◌, ◌<◌, ◌^◌, length, IfNone};
 ghost use Rattle.std.specs.List.{All};
 ghost use Rattle.mask_certificate.specs.Lists.{entries_of, first_fault, fault_in};
 
@@ -130,24 +121,4 @@ fn fault_of(task: u32, list: &[(u32, RegSet)]) -> Option<ListFault>
         least = entry.0 + 1;
     }
     None
-}
-
-fn same_lists(lists: &[Vec<(u32, RegSet)>], others: &[Vec<(u32, RegSet)>]) -> bool
-    ensures { IsTrue result ↔ (entries_of lists.now ≡ entries_of others.now) }
-{
-    if lists.len() != others.len() {
-        return false;
-    }
-    for task in 0..lists.len() {
-        if !same_entries(&lists[task], &others[task]) {
-            return false;
-        }
-    }
-    true
-}
-
-fn same_entries(list: &[(u32, RegSet)], other: &[(u32, RegSet)]) -> bool
-    ensures { IsTrue result ↔ (list.now ≡ other.now) }
-{
-    list == other
 }

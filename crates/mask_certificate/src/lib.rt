@@ -6,7 +6,6 @@
 pub mod certificate;
 pub mod fault;
 pub mod reading;
-pub mod writing;
-
 #[cfg(test)]
 mod tests;
+pub mod writing;

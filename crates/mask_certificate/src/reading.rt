@@ -43,22 +43,17 @@ fn index_of(digits: &[u8]) -> Option<u32>
 /// The value of each byte as a digit of a mask; `NO_DIGIT` where it is none. A table, since the digits
 /// of a mask are hard to foretell for a branch.
 const MASK_DIGITS: [u8; 256] = [
-    16, 16, 16, 16, 16, 16, 16, 16, 16, 16, 16, 16, 16, 16, 16, 16,
-    16, 16, 16, 16, 16, 16, 16, 16, 16, 16, 16, 16, 16, 16, 16, 16,
-    16, 16, 16, 16, 16, 16, 16, 16, 16, 16, 16, 16, 16, 16, 16, 16,
-    0, 1, 2, 3, 4, 5, 6, 7, 8, 9, 16, 16, 16, 16, 16, 16,
-    16, 16, 16, 16, 16, 16, 16, 16, 16, 16, 16, 16, 16, 16, 16, 16,
-    16, 16, 16, 16, 16, 16, 16, 16, 16, 16, 16, 16, 16, 16, 16, 16,
-    16, 10, 11, 12, 13, 14, 15, 16, 16, 16, 16, 16, 16, 16, 16, 16,
-    16, 16, 16, 16, 16, 16, 16, 16, 16, 16, 16, 16, 16, 16, 16, 16,
-    16, 16, 16, 16, 16, 16, 16, 16, 16, 16, 16, 16, 16, 16, 16, 16,
-    16, 16, 16, 16, 16, 16, 16, 16, 16, 16, 16, 16, 16, 16, 16, 16,
-    16, 16, 16, 16, 16, 16, 16, 16, 16, 16, 16, 16, 16, 16, 16, 16,
-    16, 16, 16, 16, 16, 16, 16, 16, 16, 16, 16, 16, 16, 16, 16, 16,
-    16, 16, 16, 16, 16, 16, 16, 16, 16, 16, 16, 16, 16, 16, 16, 16,
-    16, 16, 16, 16, 16, 16, 16, 16, 16, 16, 16, 16, 16, 16, 16, 16,
-    16, 16, 16, 16, 16, 16, 16, 16, 16, 16, 16, 16, 16, 16, 16, 16,
-    16, 16, 16, 16, 16, 16, 16, 16, 16, 16, 16, 16, 16, 16, 16, 16,
+    16, 16, 16, 16, 16, 16, 16, 16, 16, 16, 16, 16, 16, 16, 16, 16, 16, 16, 16, 16, 16, 16, 16, 16,
+    16, 16, 16, 16, 16, 16, 16, 16, 16, 16, 16, 16, 16, 16, 16, 16, 16, 16, 16, 16, 16, 16, 16, 16,
+    0, 1, 2, 3, 4, 5, 6, 7, 8, 9, 16, 16, 16, 16, 16, 16, 16, 16, 16, 16, 16, 16, 16, 16, 16, 16,
+    16, 16, 16, 16, 16, 16, 16, 16, 16, 16, 16, 16, 16, 16, 16, 16, 16, 16, 16, 16, 16, 16, 16, 10,
+    11, 12, 13, 14, 15, 16, 16, 16, 16, 16, 16, 16, 16, 16, 16, 16, 16, 16, 16, 16, 16, 16, 16, 16,
+    16, 16, 16, 16, 16, 16, 16, 16, 16, 16, 16, 16, 16, 16, 16, 16, 16, 16, 16, 16, 16, 16, 16, 16,
+    16, 16, 16, 16, 16, 16, 16, 16, 16, 16, 16, 16, 16, 16, 16, 16, 16, 16, 16, 16, 16, 16, 16, 16,
+    16, 16, 16, 16, 16, 16, 16, 16, 16, 16, 16, 16, 16, 16, 16, 16, 16, 16, 16, 16, 16, 16, 16, 16,
+    16, 16, 16, 16, 16, 16, 16, 16, 16, 16, 16, 16, 16, 16, 16, 16, 16, 16, 16, 16, 16, 16, 16, 16,
+    16, 16, 16, 16, 16, 16, 16, 16, 16, 16, 16, 16, 16, 16, 16, 16, 16, 16, 16, 16, 16, 16, 16, 16,
+    16, 16, 16, 16, 16, 16, 16, 16, 16, 16, 16, 16, 16, 16,
 ];
 
 const NO_DIGIT: u8 = 16;
@@ -102,16 +97,18 @@ fn name_of(line: &[u8]) -> Option<&[u8]>
         return None;
     }
     let name = &line[5..];
-    if Name::new(name).is_some() { Some(name) } else { None }
+    if Name::new(name).is_some() {
+        Some(name)
+    } else {
+        None
+    }
 }
 
 /// The first line of a text, without its LF, and what follows; `None` where there is no LF.
 fn next_line(text: &[u8]) -> Option<(&[u8], &[u8])>
-    ensures parts {
-        MatchOption result
-            (slice_split is_newline text.now ≡ text.now ∷ [])
-            (λ found. slice_split is_newline text.now ≡ found.0.now ∷ slice_split is_newline found.1.now)
-    }
+    ensures parts { MatchOption result
+        (slice_split is_newline text.now ≡ text.now ∷ [])
+        (λ found. slice_split is_newline text.now ≡ found.0.now ∷ slice_split is_newline found.1.now) }
     ensures shorter { IfSome result (λ found. length found.1.now < length text.now) }
 {
     let end = place_of(b'\n', text)?;
@@ -120,11 +117,9 @@ fn next_line(text: &[u8]) -> Option<(&[u8], &[u8])>
 
 /// The entry of the first line, and what follows that line; `None` where that line is no entry.
 fn next_entry(spelling: Spelling, text: &[u8]) -> Option<((u32, RegSet), &[u8])>
-    ensures found {
-        MatchOption result
-            (entries_in (lines_in spelling text.now) ≡ [])
-            (λ found. lines_in spelling text.now ≡ entry_line found.0 ∷ lines_in spelling found.1.now)
-    }
+    ensures found { MatchOption result
+        (entries_in (lines_in spelling text.now) ≡ [])
+        (λ found. lines_in spelling text.now ≡ entry_line found.0 ∷ lines_in spelling found.1.now) }
     ensures shorter { IfSome result (λ found. length found.1.now < length text.now) }
 {
     let (line, rest) = next_line(text)?;
@@ -153,11 +148,9 @@ fn list_of(
 
 /// The text behind the `task` line of this name, which has to be the first line, line `line`.
 fn behind<'a>(text: &'a [u8], line: usize, name: &Name) -> Result<&'a [u8], CertFault>
-    ensures lines {
-        (spelling : Spelling) → MatchResult result
-            (λ rest. behind_task_line line name.now (lines_in spelling text.now) ≡ Ok (lines_in spelling rest.now))
-            (λ fault. behind_task_line line name.now (lines_in spelling text.now) ≡ Err fault)
-    }
+    ensures lines { (spelling : Spelling) → MatchResult result
+        (λ rest. behind_task_line line name.now (lines_in spelling text.now) ≡ Ok (lines_in spelling rest.now))
+        (λ fault. behind_task_line line name.now (lines_in spelling text.now) ≡ Err fault) }
     ensures shorter { IfOk result (λ rest. length rest.now < length text.now) }
 {
     if text.is_empty() {
@@ -177,11 +170,9 @@ fn behind<'a>(text: &'a [u8], line: usize, name: &Name) -> Result<&'a [u8], Cert
 
 /// Whether nothing is left from this line on.
 fn check_end(text: &[u8], line: usize) -> Result<(), CertFault>
-    ensures {
-        (spelling : Spelling) → MatchResult result
-            (λ _. at_end line (lines_in spelling text.now) ≡ Ok [])
-            (λ fault. at_end line (lines_in spelling text.now) ≡ Err fault)
-    }
+    ensures { (spelling : Spelling) → MatchResult result
+        (λ _. at_end line (lines_in spelling text.now) ≡ Ok [])
+        (λ fault. at_end line (lines_in spelling text.now) ≡ Err fault) }
 {
     if text.is_empty() {
         return Ok(());

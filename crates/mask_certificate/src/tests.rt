@@ -14,9 +14,11 @@ use task_descriptor::name::Name;
 use task_descriptor::places::Places;
 use task_descriptor::program::{Parts, Program};
 
-const WIDE: &[u8] = b"cert 2\ntask A\n0 0000000000000700\n1 0000000000000600\n2 0000000000000400\n3 0000000000000000\ntask B\n4 0000000000000000\n5 0000000000000000\n";
+const WIDE: &[u8] =
+    b"cert 2\ntask A\n0 0000000000000700\n1 0000000000000600\n2 0000000000000400\n3 0000000000000000\ntask B\n4 0000000000000000\n5 0000000000000000\n";
 
-const NARROW: &[u8] = b"cert 1\ntask A\n0 00000700\n1 00000600\n2 00000400\n3 00000000\ntask B\n4 00000000\n5 00000000\n";
+const NARROW: &[u8] =
+    b"cert 1\ntask A\n0 00000700\n1 00000600\n2 00000400\n3 00000000\ntask B\n4 00000000\n5 00000000\n";
 
 fn place(index: u32) -> Result<Place, Fail> {
     Ok(Place::new(index).ok_or("place")?)
@@ -105,10 +107,7 @@ fn bad_texts_are_refused(rt: HostRuntime) -> Result<(), Fail> {
         ),
         (b"cert 2\ntask A\n0 00000700\n", CertFault::Line(3)),
         (b"cert 3\ntask A\n", CertFault::Header),
-        (
-            b"cert 1\ntask A\n0 00000700\n1 600\n",
-            CertFault::Line(4),
-        ),
+        (b"cert 1\ntask A\n0 00000700\n1 600\n", CertFault::Line(4)),
         (b"cert 1\ntask C\n", CertFault::TaskName(2)),
         (
             b"cert 2\ntask A\n0 0000000400000100\ntask B\n",
@@ -127,7 +126,10 @@ fn lists_are_built(rt: HostRuntime) -> Result<(), Fail> {
     let lists = vec![in alloc; vec![in alloc; (0, mask(1)?), (4095, mask(2)?)]?]?;
     let cert = Cert::build(lists).ok().ok_or("refused")?;
     assert_eq!(rt; cert.mask(0, 4095), Some(mask(2)?));
-    let lists = vec![in alloc; Vec::new(alloc), vec![in alloc; (3, mask(1)?), (3, mask(1)?)]?]?;
+    let lists = vec![in alloc;
+        Vec::new(alloc),
+        vec![in alloc; (3, mask(1)?), (3, mask(1)?)]?,
+    ]?;
     let Err((lists, fault)) = Cert::build(lists) else {
         return Err(Fail::from("built"));
     };

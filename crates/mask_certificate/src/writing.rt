@@ -28,7 +28,11 @@ fn digit_text(digit: u8) -> u8
     requires { digit < 16 }
     ensures { result ≡ digit_char digit }
 {
-    if digit < 10 { b'0' + digit } else { b'a' + (digit - 10) }
+    if digit < 10 {
+        b'0' + digit
+    } else {
+        b'a' + (digit - 10)
+    }
 }
 
 fn push_hexadecimal(text: &mut Vec<u8>, digits: usize, number: u64) -> Result<(), AllocError>
@@ -81,5 +85,4 @@ pub fn write(alloc: Global, cert: &Cert, program: &Program) -> Result<Vec<u8>, A
 /// that certificate.
 pub fn written_is_read()
     ensures { (cert : List (List (ℕ × ℕ))) (names : List (List ℕ)) → IsCertificate cert → AreNames names → length cert ≡ length names → cert_parse (cert_text cert names) names ≡ Ok cert }
-{
-}
+{}

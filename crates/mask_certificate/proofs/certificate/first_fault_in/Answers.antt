@@ -19,14 +19,14 @@ loop-list-preserved c =
     let right : fault_in task 0 0 list.items ≡ None = ap (fault_in task 0 0) (sym c.deref.ensures.value) ∙ sym c.fault_of-fault.ensures.first ∙ is_none_of c.fault_of-fault.result passed in
     let rest = entries_of (drop (i + 1) lists) in
     let here : first_fault task (entries_of (drop i lists)) ≡ first_fault (task + 1) rest =
-        at_drop_more (λ ls. first_fault task (entries_of ls)) lists i list c.loop-list-test.true
-        ∙ ap (λ l. first_fault task (l.items ∷ rest)) (sym c.list-item.is)
-        ∙ ap (λ o. option_or o (first_fault (task + 1) rest)) right in
+    at_drop_more (λ ls. first_fault task (entries_of ls)) lists i list c.loop-list-test.true
+    ∙ ap (λ l. first_fault task (l.items ∷ rest)) (sym c.list-item.is)
+    ∙ ap (λ o. option_or o (first_fault (task + 1) rest)) right in
     let front = entries_of (take i lists) in
     let Masked = All (λ (entry : ℕ × ℕ). entry.1 < 2 ^ 34) in
     let more : All Masked (front ++ list.items ∷ []) = All-push Masked front list.items c.loop-list.invariant.masks masks in
     let longer : front ++ list.items ∷ [] ≡ entries_of (take (i + 1) lists) =
-        ap (λ l. front ++ l.items ∷ []) c.list-item.is ∙ sym (map_more _ lists i list c.loop-list-test.true) in
+    ap (λ l. front ++ l.items ∷ []) c.list-item.is ∙ sym (map_more _ lists i list c.loop-list-test.true) in
     record {
       counted = omega (arith, c.loop-list.invariant.counted);
       left = sym here ∙ c.loop-list.invariant.left;

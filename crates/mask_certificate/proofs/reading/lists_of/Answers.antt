@@ -19,16 +19,16 @@ loop-task-preserved c =
     let next = c.loop-task.line + (1 + c.len.result) in
     let whole = lists_at 2 (names_in tasks) (lines_in c.args.spelling c.args.text.now) in
     let names : names_in (drop i tasks) ≡ task.name ∷ names_in (drop (i + 1) tasks) =
-        at_drop_more names_in tasks i task c.loop-task-test.true ∙ ap (λ t. names_in (t ∷ drop (i + 1) tasks)) (sym c.task-item.is) in
+    at_drop_more names_in tasks i task c.loop-task-test.true ∙ ap (λ t. names_in (t ∷ drop (i + 1) tasks)) (sym c.task-item.is) in
     let so_far : with_front (entries_of front) (lists_at c.loop-task.line (task.name ∷ names_in (drop (i + 1) tasks)) lines) ≡ whole =
-        ap (λ (ns : List (List ℕ)). with_front (entries_of front) (lists_at c.loop-task.line ns lines)) (sym names) ∙ c.loop-task.invariant.lists in
+    ap (λ (ns : List (List ℕ)). with_front (entries_of front) (lists_at c.loop-task.line ns lines)) (sym names) ∙ c.loop-task.invariant.lists in
     let long : c.len.result ≡ length list.items = omega arith in
     record {
       lists =
           ap (λ items. with_front (entries_of items) (lists_at next (names_in (drop (i + 1) tasks)) after)) c.in_ok-push.ensures.items
           ∙ ap (λ (lists : List (List (ℕ × ℕ))). with_front lists (lists_at next (names_in (drop (i + 1) tasks)) after)) (map_push _ front list)
           ∙ goes_on (entries_of front) c.loop-task.line task.name (names_in (drop (i + 1) tasks)) lines whole so_far
-              body after list.items next (c.in_ok-body.ensures.lines c.args.spelling) c.in_ok-list.ensures.entries c.in_ok-list.ensures.rest (omega (arith, long));
+          body after list.items next (c.in_ok-body.ensures.lines c.args.spelling) c.in_ok-list.ensures.entries c.in_ok-list.ensures.rest (omega (arith, long));
       numbered = omega (arith, long, c.in_ok-list.ensures.shorter, c.in_ok-body.ensures.shorter);
       counted = omega (arith, c.in_ok-push.ensures.len);
     }

@@ -1,0 +1,2 @@
+mod PlainRuns
+mod Predictions

@@ -1,0 +1,10 @@
+-- The numbers so far are those of the pieces so far.
+use Rattle.std.proofs.Common.{◌≡◌, ◌≤◌, Some, map, take, vec_len, All}
+use Rattle.verdict_report.specs.Words.{answer_of, all_there}
+use Rattle.verdict_report.proofs.command_line.read_pieces.Given as goal
+
+abbrev pub invariant-loop-piece : goal.invariant-loop-piece
+invariant-loop-piece l =
+    (all_there (map (λ p. answer_of p.now) (take l.piece-index l.pieces)) ≡ Some l.numbers.items)
+    × All (λ n. n ≤ 15) l.numbers.items
+    × (vec_len l.numbers ≡ l.piece-index)

@@ -1,0 +1,24 @@
+-- Which files a job has (own choice).
+use Rattle.std.specs.Prelude.{◌≡◌, Bool, true, false, []}
+use Rattle.std.specs.String.{string_bytes}
+use Rattle.verdict_report.specs.declared.jobs.Job.{Job}
+use Rattle.verdict_report.specs.declared.jobs.Job.TheVariants.{Seq, Print, Annotate, Check, Replay, Run}
+use Rattle.verdict_report.specs.declared.jobs.Paths.{Paths}
+
+-- the job has a certificate beside its program
+abbrev pub has_certificate : Job → Bool
+has_certificate (Check workers) = true
+has_certificate (Replay units) = true
+has_certificate (Run units budget predict) = true
+has_certificate _ = false
+
+-- the job has an event script
+abbrev pub has_script : Job → Bool
+has_script (Replay units) = true
+has_script _ = false
+
+-- a file that the job does not have has no name
+abbrev pub HasFilesOf : Job → Paths → Type 0
+HasFilesOf job paths =
+    (has_certificate job ≡ false → string_bytes paths.certificate ≡ [])
+    × (has_script job ≡ false → string_bytes paths.script ≡ [])

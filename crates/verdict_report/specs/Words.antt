@@ -1,0 +1,44 @@
+-- What the values of `--predict` and `--emit` stand for (own choice).
+use Rattle.std.specs.Prelude.{ℕ, ◌+◌, ◌-◌, ◌*◌, ◌==◌, ◌&&◌, nat_le, if◌then◌else◌, Bool, true, false, List, [], ◌∷◌, length, map, Option, Some, None, codes}
+use Rattle.std.specs.Char.{is_ascii_digit}
+use Rattle.std.specs.Option.{option_map}
+use Rattle.std.specs.List.{slice_split}
+use Rattle.std.specs.Str.{bytes_eq}
+use Rattle.verdict_report.specs.declared.jobs.Emit.{Emit}
+use Rattle.verdict_report.specs.declared.jobs.Emit.TheVariants.{Text, Cert, Keep}
+use Rattle.verdict_report.specs.declared.jobs.Prediction.{Prediction}
+use Rattle.verdict_report.specs.declared.jobs.Prediction.TheVariants.{First, Last, List as Answers}
+
+-- a number 0..=15, written with one or two decimal digits
+abbrev pub answer_of : List ℕ → Option ℕ
+answer_of (d ∷ []) = if is_ascii_digit d then Some (d - 48) else None
+answer_of (d ∷ e ∷ []) =
+    let number = 10 * (d - 48) + (e - 48) in
+    if is_ascii_digit d && (is_ascii_digit e && nat_le number 15) then Some number else None
+answer_of _ = None
+
+-- the values, where each is there
+abbrev pub all_there : List (Option ℕ) → Option (List ℕ)
+all_there [] = Some []
+all_there (None ∷ more) = None
+all_there (Some x ∷ more) = option_map (λ xs. x ∷ xs) (all_there more)
+
+-- 1 to 64 such numbers with commas between them
+abbrev pub answers_of : List ℕ → Option (List ℕ)
+answers_of text =
+    let pieces = slice_split (λ b. b == 44) text in
+    if nat_le (length pieces) 64 then all_there (map answer_of pieces) else None
+
+-- the value of `--predict`: `first`, `last` or such numbers
+abbrev pub prediction_of : List ℕ → Option Prediction
+prediction_of text =
+    if bytes_eq text (codes "first") then Some First
+    else (if bytes_eq text (codes "last") then Some Last
+    else option_map (λ answers. Answers answers) (answers_of text))
+
+-- the value of `--emit`
+abbrev pub emit_of : List ℕ → Option Emit
+emit_of text =
+    if bytes_eq text (codes "text") then Some Text
+    else (if bytes_eq text (codes "cert") then Some Cert
+    else (if bytes_eq text (codes "keep") then Some Keep else None))

@@ -1,0 +1,408 @@
+//! From the words of a command line to a job.
+ghost use Rattle.std.specs.Prelude.{◌≡◌, ◌≤◌, ◌==◌, IfOk, IfSome, MatchOption, All, map, length, vec_len, [], true};
+ghost use Rattle.std.specs.String.{string_bytes};
+ghost use Rattle.std.specs.List.{slice_split};
+ghost use Rattle.verdict_report.specs.Words.{answer_of, answers_of, all_there, prediction_of, emit_of};
+ghost use Rattle.verdict_report.specs.Files.{HasFilesOf};
+ghost use Rattle.verdict_report.specs.declared.command_line.UsageFault.TheVariants.{OutOfMemory};
+ghost use Rattle.verdict_report.specs.JobTexts.{is_served};
+
+use crate::help;
+use crate::jobs::{Emit, Job, Paths, Prediction};
+use crate::ranges::{Answers, Budget, MOST_ANSWER, MOST_ANSWERS, Units, Workers};
+use clap::error::ErrorKind;
+use clap::{Arg, ArgAction, ArgMatches, Command, value_parser};
+use std::alloc::{AllocError, Global};
+use thiserror::Error;
+
+/// Why a command line gives no job.
+#[derive(Debug, Drop, Error)]
+pub enum UsageFault {
+    /// 1: the words are none of the program's, or ask for help. The fault is `clap`'s, with its text.
+    #[error("1 Words")]
+    Words(clap::Error),
+    /// 2: the value of `--predict` is neither `first`, `last` nor 1 to 64 numbers 0..=15.
+    #[error("2 Predict")]
+    Predict,
+    /// 3: the value of `--emit` is none of `text`, `cert` and `keep`.
+    #[error("3 Emit")]
+    Emit,
+    /// 4: memory ran out.
+    #[error("4 OutOfMemory")]
+    OutOfMemory,
+}
+
+impl From<AllocError> for UsageFault {
+    ghost from_gives = { λ _ e. e ≡ OutOfMemory };
+
+    fn from(_error: AllocError) -> UsageFault {
+        UsageFault::OutOfMemory
+    }
+}
+
+impl From<clap::Error> for UsageFault {
+    fn from(error: clap::Error) -> UsageFault {
+        match error.kind() {
+            ErrorKind::OutOfMemory => UsageFault::OutOfMemory,
+            _ => UsageFault::Words(error),
+        }
+    }
+}
+
+/// The job that a command line asks for, and the names of its files. The first word is the program's
+/// own name. What `clap` decides comes first, then the value of `--predict`, then that of `--emit`.
+/// (own choice)
+pub fn job_of(alloc: Global, words: &[String]) -> Result<(Job, Paths), UsageFault>
+    ensures files { IfOk result (λ r. HasFilesOf r.0 r.1) }
+    ensures served { IfOk result (λ r. is_served r.0 ≡ true) }
+{
+    let matches = command(alloc)?.try_get_matches_from(words)?;
+    if let Some((name, values)) = matches.subcommand() {
+        if let Some(job) = read_job(alloc, name, values)? {
+            return Ok(job);
+        }
+    }
+    Err(no_job(alloc))
+}
+
+// The fault of words that `clap` lets through and that are no job, of which there are none.
+fn no_job(alloc: Global) -> UsageFault {
+    match command(alloc) {
+        Ok(mut command) => match command.error(ErrorKind::MissingSubcommand, "no job") {
+            Ok(error) => UsageFault::Words(error),
+            Err(_) => UsageFault::OutOfMemory,
+        },
+        Err(_) => UsageFault::OutOfMemory,
+    }
+}
+
+// The whole command line. A subcommand is there once it stands here and in `read_job`.
+fn command<'a>(alloc: Global) -> Result<Command<'a>, AllocError> {
+    Command::new(alloc, "multiscalar")
+        .about(help::PROGRAM)
+        .long_about(help::PROGRAM_LONG)
+        .after_help(help::STATUS)
+        .subcommand_required(true)
+        .subcommand(seq(alloc)?)?
+        .subcommand(print(alloc)?)
+}
+
+// The job of a subcommand; `None` where there is none of that name.
+fn read_job(
+    alloc: Global,
+    name: &str,
+    values: &ArgMatches<'_>,
+) -> Result<Option<(Job, Paths)>, UsageFault>
+    ensures files { IfOk result (λ r. IfSome r (λ job. HasFilesOf job.0 job.1)) }
+    ensures served { IfOk result (λ r. IfSome r (λ job. is_served job.0 ≡ true)) }
+{
+    match name {
+        "seq" => read_seq(alloc, values),
+        "print" => read_print(alloc, values),
+        _ => Ok(None),
+    }
+}
+
+fn program<'a>(alloc: Global) -> Arg<'a> {
+    Arg::new(alloc, "program")
+        .value_name("PROGRAM")
+        .help("The program text")
+        .required(true)
+        .action(ArgAction::Set)
+}
+
+fn certificate<'a>(alloc: Global) -> Arg<'a> {
+    Arg::new(alloc, "certificate")
+        .value_name("CERT")
+        .help("The certificate of the program")
+        .required(true)
+        .action(ArgAction::Set)
+}
+
+fn script<'a>(alloc: Global) -> Arg<'a> {
+    Arg::new(alloc, "script")
+        .value_name("SCRIPT")
+        .help("The events, one on a line")
+        .required(true)
+        .action(ArgAction::Set)
+}
+
+fn budget<'a>(alloc: Global, text: &'a str) -> Arg<'a> {
+    Arg::new(alloc, "budget")
+        .long("budget")
+        .value_name("N")
+        .help(text)
+        .action(ArgAction::Set)
+        .value_parser(value_parser!(u32).range(1..=1_000_000))
+        .default_value("1000000")
+}
+
+fn units<'a>(alloc: Global) -> Arg<'a> {
+    Arg::new(alloc, "units")
+        .long("units")
+        .value_name("N")
+        .help("How many units the machine has, 1 to 16")
+        .action(ArgAction::Set)
+        .value_parser(value_parser!(u32).range(1..=16))
+        .default_value("4")
+}
+
+fn workers<'a>(alloc: Global) -> Arg<'a> {
+    Arg::new(alloc, "workers")
+        .long("workers")
+        .value_name("N")
+        .help("How many threads share the check, 1 to 16")
+        .action(ArgAction::Set)
+        .value_parser(value_parser!(u32).range(1..=16))
+        .default_value("1")
+}
+
+fn seq<'a>(alloc: Global) -> Result<Command<'a>, AllocError> {
+    Command::new(alloc, "seq")
+        .about(help::SEQ)
+        .long_about(help::SEQ_LONG)
+        .arg(program(alloc))?
+        .arg(budget(alloc, "The most instructions, 1 to 1000000"))
+}
+
+fn print<'a>(alloc: Global) -> Result<Command<'a>, AllocError> {
+    Command::new(alloc, "print")
+        .about(help::PRINT)
+        .long_about(help::PRINT_LONG)
+        .arg(program(alloc))
+}
+
+fn annotate<'a>(alloc: Global) -> Result<Command<'a>, AllocError> {
+    let emit = Arg::new(alloc, "emit")
+        .long("emit")
+        .value_name("WHAT")
+        .help(help::EMIT)
+        .action(ArgAction::Set)
+        .default_value("text");
+    Command::new(alloc, "annotate")
+        .about(help::ANNOTATE)
+        .long_about(help::ANNOTATE_LONG)
+        .arg(program(alloc))?
+        .arg(emit)
+}
+
+fn check<'a>(alloc: Global) -> Result<Command<'a>, AllocError> {
+    Command::new(alloc, "check")
+        .about(help::CHECK)
+        .long_about(help::CHECK_LONG)
+        .arg(program(alloc))?
+        .arg(certificate(alloc))?
+        .arg(workers(alloc))
+}
+
+fn replay<'a>(alloc: Global) -> Result<Command<'a>, AllocError> {
+    Command::new(alloc, "replay")
+        .about(help::REPLAY)
+        .long_about(help::REPLAY_LONG)
+        .arg(program(alloc))?
+        .arg(certificate(alloc))?
+        .arg(script(alloc))?
+        .arg(units(alloc))
+}
+
+fn run<'a>(alloc: Global) -> Result<Command<'a>, AllocError> {
+    let predict = Arg::new(alloc, "predict")
+        .long("predict")
+        .value_name("HOW")
+        .help(help::PREDICT)
+        .action(ArgAction::Set)
+        .default_value("first");
+    Command::new(alloc, "run")
+        .about(help::RUN)
+        .long_about(help::RUN_LONG)
+        .arg(program(alloc))?
+        .arg(certificate(alloc))?
+        .arg(units(alloc))?
+        .arg(budget(alloc, "The most events, 1 to 1000000"))?
+        .arg(predict)
+}
+
+// The program alone.
+fn program_path(alloc: Global, values: &ArgMatches<'_>) -> Result<Paths, AllocError>
+    ensures { IfOk result (λ p. (string_bytes p.certificate ≡ []) × (string_bytes p.script ≡ [])) }
+{
+    Ok(Paths {
+        program: path(alloc, values, "program")?,
+        certificate: String::new(alloc),
+        script: String::new(alloc),
+    })
+}
+
+// The program and its certificate.
+fn certified_paths(alloc: Global, values: &ArgMatches<'_>) -> Result<Paths, AllocError>
+    ensures { IfOk result (λ p. string_bytes p.script ≡ []) }
+{
+    Ok(Paths {
+        program: path(alloc, values, "program")?,
+        certificate: path(alloc, values, "certificate")?,
+        script: String::new(alloc),
+    })
+}
+
+fn path(alloc: Global, values: &ArgMatches<'_>, id: &str) -> Result<String, AllocError> {
+    String::from_str(alloc, values.get_str(id).unwrap_or(""))
+}
+
+fn read_budget(values: &ArgMatches<'_>) -> Option<Budget> {
+    values.get_one::<u32>("budget").and_then(Budget::new)
+}
+
+fn read_units(values: &ArgMatches<'_>) -> Option<Units> {
+    values.get_one::<u32>("units").and_then(Units::new)
+}
+
+fn read_workers(values: &ArgMatches<'_>) -> Option<Workers> {
+    values.get_one::<u32>("workers").and_then(Workers::new)
+}
+
+fn read_seq(alloc: Global, values: &ArgMatches<'_>) -> Result<Option<(Job, Paths)>, UsageFault>
+    ensures files { IfOk result (λ r. IfSome r (λ job. HasFilesOf job.0 job.1)) }
+    ensures served { IfOk result (λ r. IfSome r (λ job. is_served job.0 ≡ true)) }
+{
+    let Some(budget) = read_budget(values) else {
+        return Ok(None);
+    };
+    Ok(Some((Job::Seq { budget }, program_path(alloc, values)?)))
+}
+
+fn read_print(alloc: Global, values: &ArgMatches<'_>) -> Result<Option<(Job, Paths)>, UsageFault>
+    ensures files { IfOk result (λ r. IfSome r (λ job. HasFilesOf job.0 job.1)) }
+    ensures served { IfOk result (λ r. IfSome r (λ job. is_served job.0 ≡ true)) }
+{
+    Ok(Some((Job::Print, program_path(alloc, values)?)))
+}
+
+fn read_annotate(
+    alloc: Global,
+    values: &ArgMatches<'_>,
+) -> Result<Option<(Job, Paths)>, UsageFault>
+    ensures files { IfOk result (λ r. IfSome r (λ job. HasFilesOf job.0 job.1)) }
+{
+    let Some(text) = values.get_str("emit") else {
+        return Ok(None);
+    };
+    let emit = read_emit(text).ok_or(UsageFault::Emit)?;
+    Ok(Some((Job::Annotate { emit }, program_path(alloc, values)?)))
+}
+
+fn read_check(alloc: Global, values: &ArgMatches<'_>) -> Result<Option<(Job, Paths)>, UsageFault>
+    ensures files { IfOk result (λ r. IfSome r (λ job. HasFilesOf job.0 job.1)) }
+{
+    let Some(workers) = read_workers(values) else {
+        return Ok(None);
+    };
+    Ok(Some((Job::Check { workers }, certified_paths(alloc, values)?)))
+}
+
+fn read_replay(alloc: Global, values: &ArgMatches<'_>) -> Result<Option<(Job, Paths)>, UsageFault>
+    ensures files { IfOk result (λ r. IfSome r (λ job. HasFilesOf job.0 job.1)) }
+{
+    let Some(units) = read_units(values) else {
+        return Ok(None);
+    };
+    let paths = Paths {
+        program: path(alloc, values, "program")?,
+        certificate: path(alloc, values, "certificate")?,
+        script: path(alloc, values, "script")?,
+    };
+    Ok(Some((Job::Replay { units }, paths)))
+}
+
+fn read_run(alloc: Global, values: &ArgMatches<'_>) -> Result<Option<(Job, Paths)>, UsageFault>
+    ensures files { IfOk result (λ r. IfSome r (λ job. HasFilesOf job.0 job.1)) }
+{
+    let (Some(units), Some(budget)) = (read_units(values), read_budget(values)) else {
+        return Ok(None);
+    };
+    let Some(text) = values.get_str("predict") else {
+        return Ok(None);
+    };
+    let predict = read_prediction(alloc, text)?.ok_or(UsageFault::Predict)?;
+    let job = Job::Run {
+        units,
+        budget,
+        predict,
+    };
+    Ok(Some((job, certified_paths(alloc, values)?)))
+}
+
+// One number of a list of predictions.
+fn read_answer(piece: &str) -> Option<u32>
+    ensures value { result ≡ answer_of piece.now }
+    ensures range { IfSome result (λ number. number ≤ 15) }
+{
+    match piece.as_bytes() {
+        [only] if only.is_ascii_digit() => Some(u32::from(*only - b'0')),
+        [ten, one] if ten.is_ascii_digit() && one.is_ascii_digit() => {
+            let number = 10 * u32::from(*ten - b'0') + u32::from(*one - b'0');
+            (number <= MOST_ANSWER).then_some(number)
+        }
+        _ => None,
+    }
+}
+
+// All numbers of a list of predictions; `None` where a piece is none.
+fn read_pieces(alloc: Global, pieces: &[&str]) -> Result<Option<Vec<u32>>, AllocError>
+    ensures value { IfOk result (λ r. let numbers = all_there (map (λ p. answer_of p.now) pieces.now) in
+        MatchOption r (numbers ≡ None) (λ v. numbers ≡ Some v.items)) }
+    ensures range { IfOk result (λ r. IfSome r (λ v. All (λ n. n ≤ 15) v.items)) }
+    ensures number { IfOk result (λ r. IfSome r (λ v. vec_len v ≡ length pieces.now)) }
+{
+    let mut numbers = Vec::new(alloc);
+    for piece in pieces {
+        match read_answer(piece) {
+            Some(number) => numbers.push(number)?,
+            None => return Ok(None),
+        }
+    }
+    Ok(Some(numbers))
+}
+
+// What stands between the commas.
+fn pieces_of(alloc: Global, text: &str) -> Result<Vec<&str>, AllocError>
+    ensures { IfOk result (λ v. map (λ p. p.now) v.items ≡ slice_split (λ b. b == 44) text.now) }
+{
+    text.split(',').collect(alloc)
+}
+
+// A list of predictions.
+fn read_answers(alloc: Global, text: &str) -> Result<Option<Answers>, AllocError>
+    ensures { IfOk result (λ r. r ≡ answers_of text.now) }
+{
+    let pieces = pieces_of(alloc, text)?;
+    if pieces.len() > MOST_ANSWERS {
+        return Ok(None);
+    }
+    match read_pieces(alloc, pieces.as_slice())? {
+        Some(numbers) => Ok(Answers::new(numbers)),
+        None => Ok(None),
+    }
+}
+
+// The value of `--predict`.
+fn read_prediction(alloc: Global, text: &str) -> Result<Option<Prediction>, AllocError>
+    ensures { IfOk result (λ r. r ≡ prediction_of text.now) }
+{
+    match text {
+        "first" => Ok(Some(Prediction::First)),
+        "last" => Ok(Some(Prediction::Last)),
+        numbers => Ok(read_answers(alloc, numbers)?.map(Prediction::List)),
+    }
+}
+
+// The value of `--emit`.
+fn read_emit(text: &str) -> Option<Emit>
+    ensures { result ≡ emit_of text.now }
+{
+    match text {
+        "text" => Some(Emit::Text),
+        "cert" => Some(Emit::Cert),
+        "keep" => Some(Emit::Keep),
+        _ => None,
+    }
+}

@@ -1,0 +1,87 @@
+//! What the program is to do, and with which files.
+
+use crate::ranges::{Answers, Budget, Units, Workers};
+
+/// What `annotate` writes.
+#[derive(Clone, Copy, Debug, PartialEq, Eq)]
+pub enum Emit {
+    /// The proposed program.
+    Text,
+    /// The certificate of the proposed program.
+    Cert,
+    /// The certificate of the program as it stands.
+    Keep,
+}
+
+/// How `run` guesses the next task behind a running one (the paper, section 2.1, leaves it open).
+#[derive(Debug, Drop)]
+pub enum Prediction {
+    /// The first target.
+    First,
+    /// The last target.
+    Last,
+    /// These places among the targets, over and over.
+    List(Answers),
+}
+
+/// One job of the program.
+#[derive(Debug, Drop)]
+pub enum Job {
+    /// Runs the program on the plain machine, at most this many instructions.
+    Seq { budget: Budget },
+    /// Writes the canonical text of the program.
+    Print,
+    /// Proposes annotations, or certifies those that stand.
+    Annotate { emit: Emit },
+    /// Checks the program against its certificate.
+    Check { workers: Workers },
+    /// Applies the events of a script to a machine of this many units.
+    Replay { units: Units },
+    /// Runs the program in threads, one for each unit, up to this many events.
+    Run {
+        units: Units,
+        budget: Budget,
+        predict: Prediction,
+    },
+}
+
+impl Job {
+    ghost use Rattle.std.specs.Prelude.{◌≡◌};
+    ghost use Rattle.verdict_report.specs.Files.{has_certificate, has_script};
+
+    /// Whether the job has a certificate beside its program.
+    pub fn has_certificate(&self) -> bool
+        ensures { result ≡ has_certificate self.now }
+    {
+        matches!(self, Job::Check { .. } | Job::Replay { .. } | Job::Run { .. })
+    }
+
+    /// Whether the job has an event script.
+    pub fn has_script(&self) -> bool
+        ensures { result ≡ has_script self.now }
+    {
+        matches!(self, Job::Replay { .. })
+    }
+}
+
+/// The names of the job's files; a file that the job does not use is empty.
+#[derive(Debug, Drop)]
+pub struct Paths {
+    /// The program text.
+    pub program: String,
+    /// The certificate: of `check`, `replay` and `run`.
+    pub certificate: String,
+    /// The event script: of `replay`.
+    pub script: String,
+}
+
+/// The bytes of the job's files; a file that the job does not use is empty.
+#[derive(Debug, Drop)]
+pub struct Texts {
+    /// The program text.
+    pub program: Vec<u8>,
+    /// The certificate: of `check`, `replay` and `run`.
+    pub certificate: Vec<u8>,
+    /// The event script: of `replay`.
+    pub script: Vec<u8>,
+}

@@ -1,0 +1,46 @@
+//! One run of a job, as the program does it, but for its files.
+
+use std::alloc::{AllocError, Global};
+use std::process::Abort;
+use std::test::Fail;
+use verdict_report::command_line::job_of;
+use verdict_report::jobs::Texts;
+use verdict_report::serve::serve;
+
+/// What the words, split at blanks, write of a program text, and the status.
+pub fn answer(alloc: Global, line: &str, program: &[u8]) -> Result<(Vec<u8>, u8), Fail> {
+    let words = words_of(alloc, line)?;
+    let (job, _) = job_of(alloc, words.as_slice())?;
+    let texts = Texts {
+        program: program.to_vec(alloc)?,
+        certificate: Vec::new(alloc),
+        script: Vec::new(alloc),
+    };
+    let mut written = Vec::new(alloc);
+    let status = serve(alloc, &job, &texts, &mut written)?;
+    Ok((written, status))
+}
+
+// The words of a command line, with the program's own name first.
+fn words_of(alloc: Global, line: &str) -> Result<Vec<String>, AllocError> {
+    let mut words = vec![in alloc; String::from_str(alloc, "multiscalar")?]?;
+    for word in line.split(' ') {
+        words.push(String::from_str(alloc, word)?)?;
+    }
+    Ok(words)
+}
+
+/// Asserts what the words write of a program text, and the status.
+pub fn expect(
+    rt: &impl Abort,
+    alloc: Global,
+    line: &str,
+    program: &[u8],
+    expected: &[u8],
+    status: u8,
+) -> Result<(), Fail> {
+    let (written, answered) = answer(alloc, line, program)?;
+    assert!(rt; written.as_slice() == expected, "{line}");
+    assert_eq!(rt; answered, status, "{line}");
+    Ok(())
+}

@@ -1,0 +1,79 @@
+//! The program texts that several tests share.
+
+/// Adds 1 to $8 and $8 to $9 until $8 is 4, one task for each round, and puts out $9; in canonical
+/// text.
+pub const COUNT: &str = ".start A
+.task A create=$8,$9,$10 targets=A,B
+.task B create=- targets=-
+A:
+addiu $8,$8,1 !f
+addu $9,$9,$8 !f
+slti $10,$8,4
+bne $10,$0,A !s
+B:
+out $9
+halt
+";
+
+/// `COUNT` without its `halt`.
+pub const COUNT_WITHOUT_HALT: &str = ".start A
+.task A create=$8,$9,$10 targets=A,B
+.task B create=- targets=-
+A:
+addiu $8,$8,1 !f
+addu $9,$9,$8 !f
+slti $10,$8,4
+bne $10,$0,A !s
+B:
+out $9
+";
+
+/// `COUNT` with other names of the registers, hexadecimal, labels on the instructions' lines, and
+/// CR LF.
+pub const COUNT_OTHERWISE: &str = ".start A\r
+.task A create=$t0,$t1,$t2 targets=A,B\r
+.task B create=- targets=-\r
+A: addiu $t0,$t0,0x1 !f\r
+addu $t1,$t1,$t0 !f\r
+slti $t2,$t0,0x4\r
+bne $t2,$zero,A !s\r
+B: out $t1\r
+halt\r
+";
+
+/// Jumps to an address that is no task's entry.
+pub const UNLISTED_JUMP: &str = ".task A create=$31 targets=-
+A: la $31,D
+jr $31 !s
+halt
+D: out $31
+halt
+";
+
+/// The square of -2, unsigned: both halves.
+pub const PRODUCT: &str = ".task A create=$8,$hi,$lo targets=B
+.task B create=$9 targets=-
+A: addiu $8,$0,-2 !f
+multu $8,$8 !f !s
+B: mfhi $9
+out $9
+mflo $9 !f
+out $9
+halt
+";
+
+/// A load of read-only data on a path that is not taken.
+pub const READ_ONLY: &str = ".task A create=$8 targets=B,C
+.task B create=$9,$10 targets=C
+.task C create=- targets=-
+.rodata
+K: .word 7
+.text
+A: addiu $8,$0,1 !f
+bne $8,$0,C !s
+B: la $9,K
+lw $9,0($9) !f
+lw $10,1($9) !f !s
+C: out $8
+halt
+";
