@@ -80,8 +80,9 @@ module _ (set lacks : ℕ → Bool) where
   find_passes (x ∷ xs) r e =
       either_list (λ ys. find lacks ys ≡ Some r → (set r ≡ true) × (lacks r ≡ true)) (set x) x (filter set xs)
       (λ member e'. elim (found_here (lacks x) x r (find lacks (filter set xs)) e') [
-          inl g ↦ (ap set (sym g.1) ∙ member, ap lacks (sym g.1) ∙ g.0)
-        | inr g ↦ find_passes xs r g ])
+        | inl g ↦ (ap set (sym g.1) ∙ member, ap lacks (sym g.1) ∙ g.0)
+        | inr g ↦ find_passes xs r g
+      ])
       (λ other e'. find_passes xs r e') e
 
   find_nothing : (n from r : ℕ) → find lacks (filter set (range_with_len from n)) ≡ None → from ≤ r → r < from + n → set r ≡ true → lacks r ≡ false
@@ -89,13 +90,15 @@ module _ (set lacks : ℕ → Bool) where
   find_nothing (suc n) from r e low high member =
       either_list (λ ys. find lacks ys ≡ None → lacks r ≡ false) (set from) from (filter set (range_with_len (from + 1) n))
       (λ here e'.
-        let nothing = not_here (lacks from) from (find lacks (filter set (range_with_len (from + 1) n))) e' in
-        elim (cases_eq from r) [
-            inl same ↦ ap lacks (sym same) ∙ nothing.0
-          | inr other ↦ find_nothing n (from + 1) r nothing.1 (omega arith) (omega arith) member ])
+      let nothing = not_here (lacks from) from (find lacks (filter set (range_with_len (from + 1) n))) e' in
+      elim (cases_eq from r) [
+        | inl same ↦ ap lacks (sym same) ∙ nothing.0
+        | inr other ↦ find_nothing n (from + 1) r nothing.1 (omega arith) (omega arith) member
+      ])
       (λ not_here e'. elim (cases_eq from r) [
-            inl same ↦ absurd (true≢false (sym member ∙ ap set (sym same) ∙ not_here))
-          | inr other ↦ find_nothing n (from + 1) r e' (omega arith) (omega arith) member ]) e
+        | inl same ↦ absurd (true≢false (sym member ∙ ap set (sym same) ∙ not_here))
+        | inr other ↦ find_nothing n (from + 1) r e' (omega arith) (omega arith) member
+      ]) e
 
   find_none : (xs : List ℕ) → ((r : ℕ) → set r ≡ true → lacks r ≡ false) → find lacks (filter set xs) ≡ None
   find_none [] all = refl
@@ -181,7 +184,8 @@ module _ (p : Listing) (range : IsInRange p) (units : ℕ) (s : State) where
         is_task = ltb-true t (length p.tasks) two.0;
         is_free = ltb-true (length s.queue) units one.0;
         may_follow = three.0;
-        is = refl; }
+        is = refl;
+      }
 
   exec_may : (k : ℕ) → refusal p units s (Exec k) ≡ None → Execs p s k (after p s (Exec k))
   exec_may k e =
@@ -193,7 +197,7 @@ module _ (p : Listing) (range : IsInRange p) (units : ℕ) (s : State) where
       let three = none_passed (least (waits m.op) (λ r. is_none (value u r))) _ _ two.2 in
       let four = unless_passed (nat_eq k 0 || may_run_ahead m.op (operand u (reg_a m.op))) _ _ three.1 in
       let has : (r : ℕ) → waits m.op r ≡ true → value u r ≡ Some (operand u r) = λ r w.
-        some_is (value u r) (least_nothing (waits m.op) (λ x. is_none (value u x)) three.0 r (range.waits_below place.0 m place.2 r w) w) in
+      some_is (value u r) (least_nothing (waits m.op) (λ x. is_none (value u x)) three.0 r (range.waits_below place.0 m place.2 r w) w) in
       record {
         unit = u;
         is_unit = one.1;
@@ -207,11 +211,13 @@ module _ (p : Listing) (range : IsInRange p) (units : ℕ) (s : State) where
         has_b = source_waits u (source_b m.op) (λ r w. has r (or_left _ _ (or_right _ _ w)));
         has_released = λ r w. ap is_some (has r (or_right _ _ w));
         may = elim (or_cases (nat_eq k 0) (may_run_ahead m.op (operand u (reg_a m.op))) four.0) [
-              inl z ↦ inl (eqb-true k 0 z)
-            | inr g ↦ inr g ];
+          | inl z ↦ inl (eqb-true k 0 z)
+          | inr g ↦ inr g
+        ];
         is = ap (λ (o : Option Active). with_unit s o (λ v. exec_after p s k v (instruction_at p v.place))) one.1
-          ∙ ap (exec_after p s k u) two.1
-          ∙ ap (λ (x : Spot). exec_leaves p s k u m (index_of_place x) (operand u (reg_a m.op)) (operand u (reg_b m.op))) place.1; }
+            ∙ ap (exec_after p s k u) two.1
+            ∙ ap (λ (x : Spot). exec_leaves p s k u m (index_of_place x) (operand u (reg_a m.op)) (operand u (reg_b m.op))) place.1;
+      }
 
   transfer_may : (k r : ℕ) → refusal p units s (Transfer k r) ≡ None → Transfers p s k r (after p s (Transfer k r))
   transfer_may zero r e = absurd (cc)
@@ -232,7 +238,8 @@ module _ (p : Listing) (range : IsInRange p) (units : ℕ) (s : State) where
         is_missing = none_is (u.arrived r) two.0;
         word = word;
         has_word = passes;
-        is = ap (λ (o : Option Active). with_unit s o (λ v. with_queue s (slice_set s.queue (suc k) (record v { arrived = put r word v.arrived })))) one.1; })
+        is = ap (λ (o : Option Active). with_unit s o (λ v. with_queue s (slice_set s.queue (suc k) (record v { arrived = put r word v.arrived })))) one.1;
+      })
 
   drain_may : (k r : ℕ) → refusal p units s (Drain k r) ≡ None → Drains p s k r (after p s (Drain k r))
   drain_may k r e =
@@ -251,7 +258,8 @@ module _ (p : Listing) (range : IsInRange p) (units : ℕ) (s : State) where
         is_unsent = none_is (u.sent r) four.0;
         word = operand u r;
         has_word = is_some_some (value u r) five.0;
-        is = ap (λ (o : Option Active). with_unit s o (λ v. with_queue s (slice_set s.queue k (record v { sent = put r (operand v r) v.sent })))) one.1; }
+        is = ap (λ (o : Option Active). with_unit s o (λ v. with_queue s (slice_set s.queue k (record v { sent = put r (operand v r) v.sent })))) one.1;
+      }
 
   squash_may : (k : ℕ) → refusal p units s (Squash k) ≡ None → Squashes p s k (after p s (Squash k))
   squash_may k e =
@@ -267,7 +275,8 @@ module _ (p : Listing) (range : IsInRange p) (units : ℕ) (s : State) where
         after = after_it;
         is_after = one.1;
         is_elsewhere = not-true _ three.0;
-        is = refl; })
+        is = refl;
+      })
 
   retire_may : refusal p units s Retire ≡ None → Retires p s (after p s Retire)
   retire_may e =
@@ -287,7 +296,8 @@ module _ (p : Listing) (range : IsInRange p) (units : ℕ) (s : State) where
         all_sent = λ r created. not_none (u.sent r) (least_nothing (creates p u.task) (λ x. is_none (u.sent x)) three.0 r (range.creates_below u.task r created) created);
         next_begins = four.0;
         is = ap (λ (o : Option Active). with_unit s o (λ v. retire_leaves p s v (drop 1 s.queue) (unwrap_or (exit_of v.place) 0))) one.1
-          ∙ ap (λ (o : Option ℕ). retire_leaves p s u (drop 1 s.queue) (unwrap_or o 0)) two.1; }
+            ∙ ap (λ (o : Option ℕ). retire_leaves p s u (drop 1 s.queue) (unwrap_or o 0)) two.1;
+      }
 
   fault_may : refusal p units s Fault ≡ None → Faults p s (after p s Fault)
   fault_may e =
@@ -302,13 +312,14 @@ module _ (p : Listing) (range : IsInRange p) (units : ℕ) (s : State) where
         is_stopped = exit_stopped u.place two.0 two.1;
         is_unlisted = not-true _ three.0;
         is = ap (λ (o : Option Active). with_unit s o (λ v. record s { outcome = Unlisted (unwrap_or (exit_of v.place) 0) })) one.1
-          ∙ ap (λ (o : Option ℕ). record s { outcome = Unlisted (unwrap_or o 0) }) two.1; }
+            ∙ ap (λ (o : Option ℕ). record s { outcome = Unlisted (unwrap_or o 0) }) two.1;
+      }
 
   drop_may : (k : ℕ) → refusal p units s (Drop k) ≡ None → Drops s k (after p s (Drop k))
   drop_may k e =
       let one = some_passed (slice_get s.queue k) _ _ e in
       let two = unless_passed (nat_lt 0 k) _ _ one.2 in
-      record { unit = one.0; is_unit = one.1; is_behind = ltb-true 0 k two.0; is = refl; }
+      record { unit = one.0; is_unit = one.1; is_behind = ltb-true 0 k two.0; is = refl }
 
   does_may : (e : Event) → refusal p units s e ≡ None → Does p units s e (after p s e)
   does_may (Assign t) e = assign_may t e
@@ -325,20 +336,23 @@ module _ (p : Listing) (range : IsInRange p) (units : ℕ) (s : State) where
 module _ (p : Listing) (units : ℕ) (s s' : State) where
   assign_is : (t : ℕ) → Assigns p units s t s' → (refusal p units s (Assign t) ≡ None) × (s' ≡ after p s (Assign t))
   assign_is t d = (
-      unless_pass (nat_lt (length s.queue) units) _ _ (lt-ltb (length s.queue) units d.is_free)
+    unless_pass (nat_lt (length s.queue) units) _ _ (lt-ltb (length s.queue) units d.is_free)
         (unless_pass (nat_lt t (length p.tasks)) _ _ (lt-ltb t (length p.tasks) d.is_task)
-          (unless_pass (follows p s.next t (last_or None s.queue)) _ _ d.may_follow refl)),
-      d.is)
+        (unless_pass (follows p s.next t (last_or None s.queue)) _ _ d.may_follow refl)),
+    d.is,
+  )
 
   -- no register that the instruction waits for lacks a value
   nothing_waits : (u : Active) (m : Marked) (a b : ℕ) → value u (reg_a m.op) ≡ Some a → value u (reg_b m.op) ≡ Some b → ((r : ℕ) → released m.op r ≡ true → is_some (value u r) ≡ true) → (r : ℕ) → waits m.op r ≡ true → is_none (value u r) ≡ false
   nothing_waits u m a b has_a has_b has_released r w =
       some_not_none (value u r)
-        (elim (or_cases (is_source (source_a m.op) r || is_source (source_b m.op) r) (released m.op r) w) [
-            inl source ↦ elim (or_cases (is_source (source_a m.op) r) (is_source (source_b m.op) r) source) [
-                inl first ↦ source_is u (source_a m.op) a has_a r first
-              | inr second ↦ source_is u (source_b m.op) b has_b r second ]
-          | inr named ↦ has_released r named ])
+      (elim (or_cases (is_source (source_a m.op) r || is_source (source_b m.op) r) (released m.op r) w) [
+        | inl source ↦ elim (or_cases (is_source (source_a m.op) r) (is_source (source_b m.op) r) source) [
+          | inl first ↦ source_is u (source_a m.op) a has_a r first
+          | inr second ↦ source_is u (source_b m.op) b has_b r second
+        ]
+        | inr named ↦ has_released r named
+      ])
 
   ahead_or_head : (k : ℕ) (m : Marked) (a : ℕ) → (k ≡ 0) ⊎ (may_run_ahead m.op a ≡ true) → (nat_eq k 0 || may_run_ahead m.op a) ≡ true
   ahead_or_head k m a (inl zero_is) = or_left _ _ (eq-eqb k 0 zero_is)
@@ -352,17 +366,18 @@ module _ (p : Listing) (units : ℕ) (s s' : State) where
       let first : operand u (reg_a m.op) ≡ d.a = ap (λ (o : Option ℕ). unwrap_or o 0) d.has_a in
       let second : operand u (reg_b m.op) ≡ d.b = ap (λ (o : Option ℕ). unwrap_or o 0) d.has_b in (
         some_pass (slice_get s.queue k) _ _ u d.is_unit
-          (some_pass (instruction_at p u.place) _ _ m there
+            (some_pass (instruction_at p u.place) _ _ m there
             (none_pass (least (waits m.op) (λ r. is_none (value u r))) _ _
-              (least_none (waits m.op) (λ r. is_none (value u r)) (nothing_waits u m d.a d.b d.has_a d.has_b d.has_released))
-              (unless_pass (nat_eq k 0 || may_run_ahead m.op (operand u (reg_a m.op))) _ _
-                (ap (λ (x : ℕ). nat_eq k 0 || may_run_ahead m.op x) first ∙ ahead_or_head k m d.a d.may) refl))),
+            (least_none (waits m.op) (λ r. is_none (value u r)) (nothing_waits u m d.a d.b d.has_a d.has_b d.has_released))
+            (unless_pass (nat_eq k 0 || may_run_ahead m.op (operand u (reg_a m.op))) _ _
+            (ap (λ (x : ℕ). nat_eq k 0 || may_run_ahead m.op x) first ∙ ahead_or_head k m d.a d.may) refl))),
         d.is
-          ∙ ap (exec_leaves p s k u m d.index d.a) (sym second)
-          ∙ ap (λ (x : ℕ). exec_leaves p s k u m d.index x (operand u (reg_b m.op))) (sym first)
-          ∙ ap (λ (x : Spot). exec_leaves p s k u m (index_of_place x) (operand u (reg_a m.op)) (operand u (reg_b m.op))) (sym d.is_inside)
-          ∙ ap (exec_after p s k u) (sym there)
-          ∙ ap (λ (o : Option Active). with_unit s o (λ v. exec_after p s k v (instruction_at p v.place))) (sym d.is_unit))
+            ∙ ap (exec_leaves p s k u m d.index d.a) (sym second)
+            ∙ ap (λ (x : ℕ). exec_leaves p s k u m d.index x (operand u (reg_b m.op))) (sym first)
+            ∙ ap (λ (x : Spot). exec_leaves p s k u m (index_of_place x) (operand u (reg_a m.op)) (operand u (reg_b m.op))) (sym d.is_inside)
+            ∙ ap (exec_after p s k u) (sym there)
+            ∙ ap (λ (o : Option Active). with_unit s o (λ v. exec_after p s k v (instruction_at p v.place))) (sym d.is_unit),
+      )
 
   transfer_is : (k r : ℕ) → Transfers p s k r s' → (refusal p units s (Transfer k r) ≡ None) × (s' ≡ after p s (Transfer k r))
   transfer_is zero r d = absurd (let e : 0 ≡ suc d.ahead = d.is_ahead in omega arith)
@@ -371,59 +386,65 @@ module _ (p : Listing) (units : ℕ) (s s' : State) where
       let giver : slice_get s.queue k ≡ Some d.giver = ap (slice_get s.queue) (sym same) ∙ d.is_giver in
       let passes : option_and_then (λ x. pass p x r) (slice_get s.queue k) ≡ Some d.word = ap (option_and_then (λ (x : Active). pass p x r)) giver ∙ d.has_word in (
         some_pass (slice_get s.queue (suc k)) _ _ d.unit d.is_unit
-          (unless_pass (is_none (d.unit.arrived r)) _ _ (ap is_none d.is_missing)
+            (unless_pass (is_none (d.unit.arrived r)) _ _ (ap is_none d.is_missing)
             (unless_pass (is_some (option_and_then (λ x. pass p x r) (slice_get s.queue k))) _ _ (ap is_some passes) refl)),
         d.is
-          ∙ ap (λ (o : Option ℕ). with_queue s (slice_set s.queue (suc k) (record (d.unit) { arrived = put r (unwrap_or o 0) d.unit.arrived }))) (sym passes)
-          ∙ ap (λ (o : Option Active). with_unit s o (λ v. with_queue s (slice_set s.queue (suc k) (record v { arrived = put r (unwrap_or (option_and_then (λ x. pass p x r) (slice_get s.queue k)) 0) v.arrived })))) (sym d.is_unit))
+            ∙ ap (λ (o : Option ℕ). with_queue s (slice_set s.queue (suc k) (record (d.unit) { arrived = put r (unwrap_or o 0) d.unit.arrived }))) (sym passes)
+            ∙ ap (λ (o : Option Active). with_unit s o (λ v. with_queue s (slice_set s.queue (suc k) (record v { arrived = put r (unwrap_or (option_and_then (λ x. pass p x r) (slice_get s.queue k)) 0) v.arrived })))) (sym d.is_unit),
+      )
 
   drain_is : (k r : ℕ) → Drains p s k r s' → (refusal p units s (Drain k r) ≡ None) × (s' ≡ after p s (Drain k r))
   drain_is k r d = (
-      some_pass (slice_get s.queue k) _ _ d.unit d.is_unit
+    some_pass (slice_get s.queue k) _ _ d.unit d.is_unit
         (unless_pass (creates p d.unit.task r) _ _ d.is_created
-          (some_pass (exit_of d.unit.place) _ _ d.exit (ap exit_of d.is_stopped)
-            (unless_pass (is_none (d.unit.sent r)) _ _ (ap is_none d.is_unsent)
-              (unless_pass (is_some (value d.unit r)) _ _ (ap is_some d.has_word) refl)))),
-      d.is
+        (some_pass (exit_of d.unit.place) _ _ d.exit (ap exit_of d.is_stopped)
+        (unless_pass (is_none (d.unit.sent r)) _ _ (ap is_none d.is_unsent)
+        (unless_pass (is_some (value d.unit r)) _ _ (ap is_some d.has_word) refl)))),
+    d.is
         ∙ ap (λ (o : Option ℕ). with_queue s (slice_set s.queue k (record (d.unit) { sent = put r (unwrap_or o 0) d.unit.sent }))) (sym d.has_word)
-        ∙ ap (λ (o : Option Active). with_unit s o (λ v. with_queue s (slice_set s.queue k (record v { sent = put r (operand v r) v.sent })))) (sym d.is_unit))
+        ∙ ap (λ (o : Option Active). with_unit s o (λ v. with_queue s (slice_set s.queue k (record v { sent = put r (operand v r) v.sent })))) (sym d.is_unit),
+  )
 
   squash_is : (k : ℕ) → Squashes p s k s' → (refusal p units s (Squash k) ≡ None) × (s' ≡ after p s (Squash k))
   squash_is k d = (
-      some_pass (slice_get s.queue (suc k)) _ _ d.after d.is_after
+    some_pass (slice_get s.queue (suc k)) _ _ d.after d.is_after
         (some_pass (option_and_then (λ u. exit_of u.place) (slice_get s.queue k)) _ _ d.exit
-          (ap (option_and_then (λ (u : Active). exit_of u.place)) d.is_unit ∙ ap exit_of d.is_stopped)
-          (unless_pass (not (nat_eq (begins p d.after.task) d.exit)) _ _ (ap not d.is_elsewhere) refl)),
-      d.is)
+        (ap (option_and_then (λ (u : Active). exit_of u.place)) d.is_unit ∙ ap exit_of d.is_stopped)
+        (unless_pass (not (nat_eq (begins p d.after.task) d.exit)) _ _ (ap not d.is_elsewhere) refl)),
+    d.is,
+  )
 
   retire_is : Retires p s s' → (refusal p units s Retire ≡ None) × (s' ≡ after p s Retire)
   retire_is d =
       let there : slice_get s.queue 0 ≡ Some d.head = head_from s.queue d.head d.rest d.is_queue in
       let rest : drop 1 s.queue ≡ d.rest = ap (λ (x : List Active). drop 1 x) d.is_queue in (
         some_pass (slice_get s.queue 0) _ _ d.head there
-          (some_pass (exit_of d.head.place) _ _ d.exit (ap exit_of d.is_stopped)
+            (some_pass (exit_of d.head.place) _ _ d.exit (ap exit_of d.is_stopped)
             (none_pass (least (creates p d.head.task) (λ r. is_none (d.head.sent r))) _ _
-              (least_none (creates p d.head.task) (λ r. is_none (d.head.sent r)) (λ r created. some_not_none (d.head.sent r) (d.all_sent r created)))
-              (unless_pass (next_begins p (drop 1 s.queue) d.exit) _ _ (ap (λ (x : List Active). next_begins p x d.exit) rest ∙ d.next_begins)
-                (unless_pass (is_listed p d.head.task d.exit) _ _ d.is_listed refl)))),
+            (least_none (creates p d.head.task) (λ r. is_none (d.head.sent r)) (λ r created. some_not_none (d.head.sent r) (d.all_sent r created)))
+            (unless_pass (next_begins p (drop 1 s.queue) d.exit) _ _ (ap (λ (x : List Active). next_begins p x d.exit) rest ∙ d.next_begins)
+            (unless_pass (is_listed p d.head.task d.exit) _ _ d.is_listed refl)))),
         d.is
-          ∙ ap (λ (x : List Active). retire_leaves p s d.head x d.exit) (sym rest)
-          ∙ ap (λ (o : Option ℕ). retire_leaves p s d.head (drop 1 s.queue) (unwrap_or o 0)) (sym (ap exit_of d.is_stopped))
-          ∙ ap (λ (o : Option Active). with_unit s o (λ v. retire_leaves p s v (drop 1 s.queue) (unwrap_or (exit_of v.place) 0))) (sym there))
+            ∙ ap (λ (x : List Active). retire_leaves p s d.head x d.exit) (sym rest)
+            ∙ ap (λ (o : Option ℕ). retire_leaves p s d.head (drop 1 s.queue) (unwrap_or o 0)) (sym (ap exit_of d.is_stopped))
+            ∙ ap (λ (o : Option Active). with_unit s o (λ v. retire_leaves p s v (drop 1 s.queue) (unwrap_or (exit_of v.place) 0))) (sym there),
+      )
 
   fault_is : Faults p s s' → (refusal p units s Fault ≡ None) × (s' ≡ after p s Fault)
   fault_is d = (
-      some_pass (slice_get s.queue 0) _ _ d.head d.is_head
+    some_pass (slice_get s.queue 0) _ _ d.head d.is_head
         (some_pass (exit_of d.head.place) _ _ d.exit (ap exit_of d.is_stopped)
-          (unless_pass (not (is_listed p d.head.task d.exit)) _ _ (ap not d.is_unlisted) refl)),
-      d.is
+        (unless_pass (not (is_listed p d.head.task d.exit)) _ _ (ap not d.is_unlisted) refl)),
+    d.is
         ∙ ap (λ (o : Option ℕ). record s { outcome = Unlisted (unwrap_or o 0) }) (sym (ap exit_of d.is_stopped))
-        ∙ ap (λ (o : Option Active). with_unit s o (λ v. record s { outcome = Unlisted (unwrap_or (exit_of v.place) 0) })) (sym d.is_head))
+        ∙ ap (λ (o : Option Active). with_unit s o (λ v. record s { outcome = Unlisted (unwrap_or (exit_of v.place) 0) })) (sym d.is_head),
+  )
 
   drop_is : (k : ℕ) → Drops s k s' → (refusal p units s (Drop k) ≡ None) × (s' ≡ after p s (Drop k))
   drop_is k d = (
-      some_pass (slice_get s.queue k) _ _ d.unit d.is_unit (unless_pass (nat_lt 0 k) _ _ (lt-ltb 0 k d.is_behind) refl),
-      d.is)
+    some_pass (slice_get s.queue k) _ _ d.unit d.is_unit (unless_pass (nat_lt 0 k) _ _ (lt-ltb 0 k d.is_behind) refl),
+    d.is,
+  )
 
   does_is : (e : Event) → Does p units s e s' → (refusal p units s e ≡ None) × (s' ≡ after p s e)
   does_is (Assign t) d = assign_is t d
@@ -446,21 +467,23 @@ ok_none (Some r) e = absurd (cc)
 
 refusal_of : (p : Listing) (units : ℕ) (s : State) (n : ℕ) (e : Event) → (first_refusal p units s n e ≡ None) ↔ ((s.outcome ≡ Running) × (refusal p units s e ≡ None) × (n < most_events))
 refusal_of p units s n e = (
-    λ h.
+  λ h.
       let one = unless_passed (is_running s.outcome) _ _ h in
       let two = or_passed (refusal p units s e) _ one.1 in
       let three = unless_passed (nat_lt n most_events) _ _ two.1 in
       (running_is s.outcome one.0, two.0, ltb-true n most_events three.0),
-    λ h.
+  λ h.
       unless_pass (is_running s.outcome) _ _ (ap is_running h.0)
-        (or_pass (refusal p units s e) _ h.1 (unless_pass (nat_lt n most_events) _ _ (lt-ltb n most_events h.2) refl)))
+      (or_pass (refusal p units s e) _ h.1 (unless_pass (nat_lt n most_events) _ _ (lt-ltb n most_events h.2) refl)),
+)
 
 pub answer_is_next : (p : Listing) (units : ℕ) (s : State) (n : ℕ) (e : Event) → IsInRange p → (answer p units s n e ≡ Ok tt) ↔ (Next p units s e (after p s e) × (n < most_events))
 answer_is_next p units s n e range = (
-    λ h.
+  λ h.
       let passed = (refusal_of p units s n e).0 (ok_none (first_refusal p units s n e) h) in
-      (record { runs = passed.0; does = does_may p range units s e passed.1; }, passed.2),
-    λ h. ap ok_unless ((refusal_of p units s n e).1 (h.0.runs, (does_is p units s (after p s e) e h.0.does).0, h.1)))
+      (record { runs = passed.0; does = does_may p range units s e passed.1 }, passed.2),
+  λ h. ap ok_unless ((refusal_of p units s n e).1 (h.0.runs, (does_is p units s (after p s e) e h.0.does).0, h.1)),
+)
 
 -- one event of the function is one step
 taken : (p : Listing) (units : ℕ) (s : State) (e : Event) (o : Option Refused) (mid : State) → cond (is_none o) (Some (after p s e)) None ≡ Some mid → (o ≡ None) × (after p s e ≡ mid)
@@ -469,14 +492,15 @@ taken p units s e (Some r) mid h = absurd (cc)
 
 next_state_is : (p : Listing) (units : ℕ) (s mid : State) (e : Event) → IsInRange p → (next_state p units s e ≡ Some mid) ↔ Next p units s e mid
 next_state_is p units s mid e range = (
-    λ h.
+  λ h.
       let t = taken p units s e (first_refusal p units s 0 e) mid h in
       let passed = (refusal_of p units s 0 e).0 t.0 in
-      subst (Next p units s e) t.1 (record { runs = passed.0; does = does_may p range units s e passed.1; }),
-    λ h.
+      subst (Next p units s e) t.1 (record { runs = passed.0; does = does_may p range units s e passed.1 }),
+  λ h.
       let is = does_is p units s mid e h.does in
       ap (λ (o : Option Refused). cond (is_none o) (Some (after p s e)) None) ((refusal_of p units s 0 e).1 (h.runs, is.0, lt_of_zero))
-      ∙ ap Some (sym is.1))
+      ∙ ap Some (sym is.1),
+)
   where
     lt_of_zero : 0 < most_events
     lt_of_zero = omega arith
@@ -484,10 +508,11 @@ next_state_is p units s mid e range = (
 replay_from_is : (p : Listing) (units : ℕ) (s s' : State) (es : List Event) → IsInRange p → (replay_from p units s es ≡ Some s' → ReplaysFrom p units s es s') × (ReplaysFrom p units s es s' → replay_from p units s es ≡ Some s')
 replay_from_is p units s s' [] range = (λ h. cc, λ h. ap Some (sym h))
 replay_from_is p units s s' (e ∷ es) range = (
-    λ h. option_and_then_some {P = ReplaysFrom p units s (e ∷ es) s'} (λ mid. replay_from p units mid es) (next_state p units s e) s' h
+  λ h. option_and_then_some {P = ReplaysFrom p units s (e ∷ es) s'} (λ mid. replay_from p units mid es) (next_state p units s e) s' h
       (λ mid one rest. (mid, (next_state_is p units s mid e range).0 one, (replay_from_is p units mid s' es range).0 rest)),
-    λ h. ap (option_and_then (λ (mid : State). replay_from p units mid es)) ((next_state_is p units s h.0 e range).1 h.1)
-      ∙ (replay_from_is p units h.0 s' es range).1 h.2)
+  λ h. ap (option_and_then (λ (mid : State). replay_from p units mid es)) ((next_state_is p units s h.0 e range).1 h.1)
+      ∙ (replay_from_is p units h.0 s' es range).1 h.2,
+)
 
 pub replay_is_replays : (p : Listing) (units : ℕ) (events : List Event) (s : State) → IsInRange p → (replay p units events ≡ Some s) ↔ Replays p units events s
 replay_is_replays p units events s range = replay_from_is p units (opening p) s events range

@@ -86,16 +86,18 @@ module _ (p : Listing) (u u' : Active) (step : StepsAlone p u u') (arrived : Wor
   -- what it sends it has written, or had before
   sent_has : (r : ℕ) → sends step.at r ≡ true → (is_some (words no_memory r) ≡ true) ⊎ (is_some (value u r) ≡ true)
   sent_has r e = elim (or_cases (step.at.forward && dests step.at.op r) (released step.at.op r) e) [
-        inl f ↦ inl (dest_written step.at.op step.a step.b (address step.index) (byte_of p.fixed) no_memory r step.may_run_ahead (and_parts (step.at.forward) (dests step.at.op r) f).1)
-      | inr g ↦ inr (step.has_released r g) ]
+    | inl f ↦ inl (dest_written step.at.op step.a step.b (address step.index) (byte_of p.fixed) no_memory r step.may_run_ahead (and_parts (step.at.forward) (dests step.at.op r) f).1)
+    | inr g ↦ inr (step.has_released r g)
+  ]
 
   abbrev with_both : Words → Words → Active
   with_both local sent = record u {
-        arrived = arrived;
-        local = local;
-        sent = sent;
-        place = place_after (leaves step.at.stop (taken step.at.op step.a step.b)) (edge step.at.op step.index (taken step.at.op step.a step.b)) (turn step.at.op step.a step.b (address step.index));
-        log = u.log ++ record { pc = address step.index; a = step.a; b = step.b } ∷ []; }
+    arrived = arrived;
+    local = local;
+    sent = sent;
+    place = place_after (leaves step.at.stop (taken step.at.op step.a step.b)) (edge step.at.op step.index (taken step.at.op step.a step.b)) (turn step.at.op step.a step.b (address step.index));
+    log = u.log ++ record { pc = address step.index; a = step.a; b = step.b } ∷ [];
+  }
 
   abbrev local_by : Words → Words
   local_by ws = λ r. option_or (ws r) (u.local r)
@@ -106,7 +108,7 @@ module _ (p : Listing) (u u' : Active) (step : StepsAlone p u u') (arrived : Wor
 
   sent_is : sent_by arrived (words no_memory) ≡ sent_by u.arrived (words no_memory)
   sent_is = fun_ext (λ r. sent_same (sends step.at r) (u.sent r) (value (with_written u (words no_memory)) r) (value (with_written (with_arrived u arrived) (words no_memory)) r)
-        (λ e. value_same (nat_eq 0 r) (words no_memory r) (u.local r) (u.arrived r) (arrived r) (sent_has r e) (more r)))
+      (λ e. value_same (nat_eq 0 r) (words no_memory r) (u.local r) (u.arrived r) (arrived r) (sent_has r e) (more r)))
 
   moved_same : (memory : ℕ → ℕ) → record (moved p (with_arrived u arrived) step.at step.index step.a step.b memory) { log = u.log ++ record { pc = address step.index; a = step.a; b = step.b } ∷ [] } ≡ with_arrived (record (moved p u step.at step.index step.a step.b no_memory) { log = u.log ++ record { pc = address step.index; a = step.a; b = step.b } ∷ [] }) arrived
   moved_same memory =
@@ -126,25 +128,27 @@ module _ (p : Listing) (u u' : Active) (step : StepsAlone p u u') (arrived : Wor
   -- the event
   pub step_event : (units k : ℕ) (s : State) → s.outcome ≡ standing.Running → slice_get s.queue k ≡ Some (with_arrived u arrived) → Next p units s (Exec k) (with_queue s (slice_set s.queue k (with_arrived u' arrived)))
   step_event units k s goes_on is_unit = record {
-        runs = goes_on;
-        does = record {
-          unit = with_arrived u arrived;
-          is_unit = is_unit;
-          index = step.index;
-          is_inside = step.is_inside;
-          at = step.at;
-          is_there = step.is_there;
-          a = step.a;
-          has_a = has_more (reg_a step.at.op) step.a step.has_a;
-          b = step.b;
-          has_b = has_more (reg_b step.at.op) step.b step.has_b;
-          has_released = λ r e. some_more (nat_eq 0 r) (u.local r) (u.arrived r) (arrived r) (more r) (step.has_released r e);
-          may = inr (step.may_run_ahead);
-          is = ap (λ (x : Active). with_queue s (slice_set s.queue k (with_arrived x arrived))) step.is
-            ∙ ap (λ (x : Active). with_queue s (slice_set s.queue k x)) (sym (after_same s.memory))
-            ∙ ap (λ (m : ℕ → ℕ). record s { queue = slice_set s.queue k (after_exec p (with_arrived u arrived) step.at step.index step.a step.b s.memory); memory = m }) (sym (ahead_memory step.at.op step.a step.b s.memory step.may_run_ahead))
-            ∙ ap (λ (o : List ℕ). record s { queue = slice_set s.queue k (after_exec p (with_arrived u arrived) step.at step.index step.a step.b s.memory); memory = memory_after step.at.op step.a step.b s.memory; output = o }) (sym (ahead_output step.at.op step.a s.output step.may_run_ahead))
-            ∙ ap (λ (o : _). record s { queue = slice_set s.queue k (after_exec p (with_arrived u arrived) step.at step.index step.a step.b s.memory); memory = memory_after step.at.op step.a step.b s.memory; output = output_after step.at.op step.a s.output; outcome = o }) (goes_on ∙ sym (ap stands runs)); }; }
+    runs = goes_on;
+    does = record {
+      unit = with_arrived u arrived;
+      is_unit = is_unit;
+      index = step.index;
+      is_inside = step.is_inside;
+      at = step.at;
+      is_there = step.is_there;
+      a = step.a;
+      has_a = has_more (reg_a step.at.op) step.a step.has_a;
+      b = step.b;
+      has_b = has_more (reg_b step.at.op) step.b step.has_b;
+      has_released = λ r e. some_more (nat_eq 0 r) (u.local r) (u.arrived r) (arrived r) (more r) (step.has_released r e);
+      may = inr (step.may_run_ahead);
+      is = ap (λ (x : Active). with_queue s (slice_set s.queue k (with_arrived x arrived))) step.is
+          ∙ ap (λ (x : Active). with_queue s (slice_set s.queue k x)) (sym (after_same s.memory))
+          ∙ ap (λ (m : ℕ → ℕ). record s { queue = slice_set s.queue k (after_exec p (with_arrived u arrived) step.at step.index step.a step.b s.memory); memory = m }) (sym (ahead_memory step.at.op step.a step.b s.memory step.may_run_ahead))
+          ∙ ap (λ (o : List ℕ). record s { queue = slice_set s.queue k (after_exec p (with_arrived u arrived) step.at step.index step.a step.b s.memory); memory = memory_after step.at.op step.a step.b s.memory; output = o }) (sym (ahead_output step.at.op step.a s.output step.may_run_ahead))
+          ∙ ap (λ (o : _). record s { queue = slice_set s.queue k (after_exec p (with_arrived u arrived) step.at step.index step.a step.b s.memory); memory = memory_after step.at.op step.a step.b s.memory; output = output_after step.at.op step.a s.output; outcome = o }) (goes_on ∙ sym (ap stands runs));
+    };
+  }
 
 burst_arrived : (p : Listing) (u : Active) (n : ℕ) (u' : Active) → Burst p u n u' → u'.arrived ≡ u.arrived
 burst_arrived p u zero u' h = ap (λ (x : Active). x.arrived) h
@@ -161,6 +165,6 @@ bursts_are_events p units (suc n) k s before after_burst arrived burst more goes
     let more_mid : AllIn mid.arrived arrived = λ r w e. more r w (subst (λ (f : Words). f r ≡ Some w) (burst_arrived p before n mid burst.1) e) in
     let event = step_event p mid after_burst burst.2 arrived more_mid units k s1 goes_on (set_found s.queue k (with_arrived before arrived) (with_arrived mid arrived) is_unit) in
     let event' : Next p units s1 (Exec k) (with_queue s (slice_set s.queue k (with_arrived after_burst arrived))) =
-      subst (λ (x : List Active). Next p units s1 (Exec k) (with_queue s x)) (set-set s.queue k (with_arrived mid arrived) (with_arrived after_burst arrived)) event in
+    subst (λ (x : List Active). Next p units s1 (Exec k) (with_queue s x)) (set-set s.queue k (with_arrived mid arrived) (with_arrived after_burst arrived)) event in
     subst (λ (es : List Event). ReplaysFrom p units s es (with_queue s (slice_set s.queue k (with_arrived after_burst arrived)))) (one_more n (Exec k))
-      (joined p units s s1 (with_queue s (slice_set s.queue k (with_arrived after_burst arrived))) (replicate n (Exec k)) (Exec k ∷ []) first (_, event', refl))
+    (joined p units s s1 (with_queue s (slice_set s.queue k (with_arrived after_burst arrived))) (replicate n (Exec k)) (Exec k ∷ []) first (_, event', refl))

@@ -72,19 +72,20 @@ module _ (p : Listing) where
       let same : x ≡ u = cc in
       let some = some_value (nat_eq 0 r) (x.local r) (x.arrived r) (q.full r) in
       let is : value x r ≡ Some ((plain_of p (c + length x.log)).regs r) =
-        some.1 ∙ ap Some (sym (value_right p h r some.0 some.1) ∙ ap (λ (k : ℕ). (plain_of p k).regs r) h.count) in
+      some.1 ∙ ap Some (sym (value_right p h r some.0 some.1) ∙ ap (λ (k : ℕ). (plain_of p k).regs r) h.count) in
       subst (λ (y : Active). value y r ≡ Some ((plain_of p (c + length x.log)).regs r)) same is
 
   -- a unit behind the head changes
   pub behind_changes : (c : ℕ) (us : List Active) (next : ℕ) (memory : ℕ → ℕ) (output : List ℕ) (k : ℕ) (u v : Active) → slice_get us (suc k) ≡ Some u → v.task ≡ u.task → ((q : Bool) (i : ℕ) → UnitRight p q i u → UnitRight p q i v) → QueueRight p c us next memory output → QueueRight p c (slice_set us (suc k) v) next memory output
   behind_changes c [] next memory output k u v e same keeps q = absurd (cc)
   behind_changes c (x ∷ us) next memory output k u v e same keeps q = record {
-        next_is = q.next_is;
-        begins = q.begins;
-        full = q.full;
-        right = update p false c (x ∷ us) (suc k) u v e same keeps q.right;
-        memory_is = q.memory_is;
-        output_is = q.output_is; }
+    next_is = q.next_is;
+    begins = q.begins;
+    full = q.full;
+    right = update p false c (x ∷ us) (suc k) u v e same keeps q.right;
+    memory_is = q.memory_is;
+    output_is = q.output_is;
+  }
 
   -- a unit changes, but not its log or what arrived
   pub unit_changes : (c : ℕ) (us : List Active) (next : ℕ) (memory : ℕ → ℕ) (output : List ℕ) (k : ℕ) (u v : Active) → slice_get us k ≡ Some u → v.task ≡ u.task → v.log ≡ u.log → v.arrived ≡ u.arrived → ((q : Bool) (i : ℕ) → UnitRight p q i u → UnitRight p q i v) → QueueRight p c us next memory output → QueueRight p c (slice_set us k v) next memory output
@@ -101,56 +102,60 @@ module _ (p : Listing) where
         full = λ r. ap (λ (f : Words). is_some (f r)) (sym same_arrived) ∙ q.full r;
         right = update p false c (x ∷ us) zero u v e same keeps q.right;
         memory_is = q.memory_is ∙ ap (λ (k : ℕ). (plain_of p (c + k)).memory) same_log;
-        output_is = q.output_is ∙ ap (λ (k : ℕ). (plain_of p (c + k)).output) same_log; }
+        output_is = q.output_is ∙ ap (λ (k : ℕ). (plain_of p (c + k)).output) same_log;
+      }
 
   -- Squash and Drop
   pub cut : (c : ℕ) (us : List Active) (next : ℕ) (memory : ℕ → ℕ) (output : List ℕ) (k : ℕ) → QueueRight p c us next memory output → QueueRight p c (take (suc k) us) next memory output
   cut c [] next memory output k q = q
   cut c (x ∷ us) next memory output k q = record {
-        next_is = q.next_is;
-        begins = q.begins;
-        full = q.full;
-        right = front p false c (x ∷ us) (suc k) q.right;
-        memory_is = q.memory_is;
-        output_is = q.output_is; }
+    next_is = q.next_is;
+    begins = q.begins;
+    full = q.full;
+    right = front p false c (x ∷ us) (suc k) q.right;
+    memory_is = q.memory_is;
+    output_is = q.output_is;
+  }
 
   module _ (fits : length p.code ≤ 4096) (sound : Sound p) where
     -- Transfer
     pub moved_on : (c : ℕ) (us : List Active) (next : ℕ) (memory : ℕ → ℕ) (output : List ℕ) (k r word : ℕ) (giver unit : Active) → slice_get us k ≡ Some giver → slice_get us (suc k) ≡ Some unit → pass p giver r ≡ Some word → QueueRight p c us next memory output → QueueRight p c (slice_set us (suc k) (record unit { arrived = put r word unit.arrived })) next memory output
     moved_on c [] next memory output k r word giver unit g u e q = absurd (cc)
     moved_on c (x ∷ us) next memory output k r word giver unit g u e q = record {
-          next_is = q.next_is;
-          begins = q.begins;
-          full = q.full;
-          right = transferred p fits sound false c (x ∷ us) k r word giver unit g u e q.right;
-          memory_is = q.memory_is;
-          output_is = q.output_is; }
+      next_is = q.next_is;
+      begins = q.begins;
+      full = q.full;
+      right = transferred p fits sound false c (x ∷ us) k r word giver unit g u e q.right;
+      memory_is = q.memory_is;
+      output_is = q.output_is;
+    }
 
     -- Assign
     pub fits_behind : (c : ℕ) (us : List Active) (next : ℕ) (memory : ℕ → ℕ) (output : List ℕ) (regs : ℕ → ℕ) (t serial : ℕ) → t < length p.tasks → follows p next t (last_or None us) ≡ true → (plain_of p c).outcome ≡ Running → ((r : ℕ) → regs r ≡ (plain_of p c).regs r) → QueueRight p c us next memory output →
         QueueRight p c (us ++ record { task = t; serial = serial; arrived = λ r. cond (is_reserved p us r) None (Some (regs r)); local = λ r. None; sent = λ r. None; place = Inside (task_at p t).entry; log = [] } ∷ []) next memory output
     fits_behind c [] next memory output regs t serial is_task may runs are q = record {
-          next_is = q.next_is;
-          begins = may;
-          full = λ r. refl;
-          right = assigned p fits sound [] false c t serial (λ r. Some (regs r)) is_task runs
-            (λ r w e. (refl, sym (are r) ∙ (arrived_found false (regs r) w e).1)) q.right;
-          memory_is = q.memory_is;
-          output_is = q.output_is; }
+      next_is = q.next_is;
+      begins = may;
+      full = λ r. refl;
+      right = assigned p fits sound [] false c t serial (λ r. Some (regs r)) is_task runs
+          (λ r w e. (refl, sym (are r) ∙ (arrived_found false (regs r) w e).1)) q.right;
+      memory_is = q.memory_is;
+      output_is = q.output_is;
+    }
     fits_behind c (x ∷ us) next memory output regs t serial is_task may runs are q = record {
-          next_is = q.next_is;
-          begins = q.begins;
-          full = q.full;
-          right = assigned p fits sound (x ∷ us) false c t serial (λ r. cond (is_reserved p (x ∷ us) r) None (Some (regs r))) is_task runs
-            (λ r w e. let found = arrived_found (is_reserved p (x ∷ us) r) (regs r) w e in (found.0, sym (are r) ∙ found.1)) q.right;
-          memory_is = q.memory_is;
-          output_is = q.output_is; }
+      next_is = q.next_is;
+      begins = q.begins;
+      full = q.full;
+      right = assigned p fits sound (x ∷ us) false c t serial (λ r. cond (is_reserved p (x ∷ us) r) None (Some (regs r))) is_task runs
+          (λ r w e. let found = arrived_found (is_reserved p (x ∷ us) r) (regs r) w e in (found.0, sym (are r) ∙ found.1)) q.right;
+      memory_is = q.memory_is;
+      output_is = q.output_is;
+    }
 
     -- Exec of the head, which goes on
     module _ (c : ℕ) (u : Active) (us : List Active) (next : ℕ) (memory : ℕ → ℕ) (output : List ℕ) (q : QueueRight p c (u ∷ us) next memory output)
         (i : ℕ) (inside : u.place ≡ Inside i) (at : Marked) (there : slice_get p.code i ≡ Some at)
         (a : ℕ) (has_a : value u (reg_a at.op) ≡ Some a) (b : ℕ) (has_b : value u (reg_b at.op) ≡ Some b) where
-
       abbrev pub h : UnitRight p false c u
       h = head_right c u us next memory output q
 
@@ -169,16 +174,18 @@ module _ (p : Listing) where
 
       pub exec_on : outcome_after at.op a ≡ Running → QueueRight p c (record (moved p u at i a b memory) { log = u.log ++ record { pc = address i; a = a; b = b } ∷ [] } ∷ us) next (memory_after at.op a b memory) (output_after at.op a output)
       exec_on runs = record {
-            next_is = q.next_is;
-            begins = q.begins;
-            full = q.full;
-            right = λ start. (
-              moved_right p fits sound false c u h i inside at there a has_a b has_b runs memory
-                (λ r. ap (λ (m : ℕ → ℕ). written at.op a b (address i) (byte_of p.fixed) m r) memory_now)
-                (λ e. absurd (true≢false (sym e))),
-              (q.right start).1);
-            memory_is = ap (memory_after at.op a b) memory_now ∙ sym head_leaves.memory ∙ ap (λ (k : ℕ). (plain_of p k).memory) grown;
-            output_is = ap (output_after at.op a) output_now ∙ sym head_leaves.output ∙ ap (λ (k : ℕ). (plain_of p k).output) grown; }
+        next_is = q.next_is;
+        begins = q.begins;
+        full = q.full;
+        right = λ start. (
+          moved_right p fits sound false c u h i inside at there a has_a b has_b runs memory
+              (λ r. ap (λ (m : ℕ → ℕ). written at.op a b (address i) (byte_of p.fixed) m r) memory_now)
+              (λ e. absurd (true≢false (sym e))),
+          (q.right start).1,
+        );
+        memory_is = ap (memory_after at.op a b) memory_now ∙ sym head_leaves.memory ∙ ap (λ (k : ℕ). (plain_of p k).memory) grown;
+        output_is = ap (output_after at.op a) output_now ∙ sym head_leaves.output ∙ ap (λ (k : ℕ). (plain_of p k).output) grown;
+      }
 
     -- Retire
 
@@ -207,12 +214,14 @@ module _ (p : Listing) where
     -- what the new head executed ahead left memory and output as they were
     filled_quiet : (us : List Active) (regs : ℕ → ℕ) (n : ℕ) → next_begins p us (plain_of p n).pc ≡ true → RightFrom p true n us → Quiet p true n (n + by_head (filled regs us))
     filled_quiet [] regs n e h = (
-        ap (λ (k : ℕ). (plain_of p k).memory) (add-zero n),
-        ap (λ (k : ℕ). (plain_of p k).output) (add-zero n))
+      ap (λ (k : ℕ). (plain_of p k).memory) (add-zero n),
+      ap (λ (k : ℕ). (plain_of p k).output) (add-zero n),
+    )
     filled_quiet (u ∷ us) regs n e h =
         let right : UnitRight p true n u = (h (sym (eqb-true (begins p u.task) (plain_of p n).pc e))).0 in (
           ap (λ (k : ℕ). (plain_of p k).memory) (sym right.count) ∙ right.quiet.0,
-          ap (λ (k : ℕ). (plain_of p k).output) (sym right.count) ∙ right.quiet.1)
+          ap (λ (k : ℕ). (plain_of p k).output) (sym right.count) ∙ right.quiet.1,
+        )
 
     pub retired : (c : ℕ) (u : Active) (us : List Active) (next : ℕ) (memory : ℕ → ℕ) (output : List ℕ) (regs : ℕ → ℕ) (exit : ℕ) → (q : QueueRight p c (u ∷ us) next memory output) → u.place ≡ Stopped exit → next_begins p us exit ≡ true → ((r : ℕ) → creates p u.task r ≡ true → IsSome (u.sent r)) → ((r : ℕ) → regs r ≡ (plain_of p c).regs r) →
         QueueRight p (c + length u.log) (filled (handed_over p u regs) us) exit memory output × ((r : ℕ) → handed_over p u regs r ≡ (plain_of p (c + length u.log)).regs r) × ((plain_of p (c + length u.log)).outcome ≡ Running)
@@ -221,7 +230,7 @@ module _ (p : Listing) where
         let at = head_at c u us next memory output q in
         let n : ℕ = c + length u.log in
         let place : PlaceRight p u.task c n (Stopped exit) =
-          subst (λ (k : ℕ). PlaceRight p u.task c k (Stopped exit)) h.count (subst (PlaceRight p u.task c h.now) stopped h.place) in
+        subst (λ (k : ℕ). PlaceRight p u.task c k (Stopped exit)) h.count (subst (PlaceRight p u.task c h.now) stopped h.place) in
         let rest : RightFrom p true n us = (q.right at).1 n place.0 in
         let here : next_begins p us (plain_of p n).pc ≡ true = subst (λ (k : ℕ). next_begins p us k ≡ true) (sym place.1) begins in
         let quiet = filled_quiet us (handed_over p u regs) n here rest in
@@ -232,6 +241,8 @@ module _ (p : Listing) where
             full = filled_full us (handed_over p u regs);
             right = filled_right p us (handed_over p u regs) n handed rest;
             memory_is = q.memory_is ∙ sym quiet.0;
-            output_is = q.output_is ∙ sym quiet.1; },
+            output_is = q.output_is ∙ sym quiet.1;
+          },
           handed,
-          end_runs place.0)
+          end_runs place.0,
+        )

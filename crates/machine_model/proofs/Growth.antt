@@ -119,7 +119,8 @@ module _ (p : Listing) (units : ℕ) (s s' : State) where
       let queue : length s.queue ≡ suc (length d.rest) = ap length d.is_queue in
       counts_by (retire_leaves p s d.head d.rest d.exit) Retire d.is (
         omega (arith, length-append s.commits (record { task = d.head.task; exit = d.exit; count = length d.head.log } ∷ [])),
-        omega (arith, length_filled d.rest (handed_over p d.head s.regs)))
+        omega (arith, length_filled d.rest (handed_over p d.head s.regs)),
+      )
   events_count Fault next =
       let d = next.does in
       counts_by _ Fault d.is (refl, refl)

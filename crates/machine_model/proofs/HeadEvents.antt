@@ -41,8 +41,9 @@ BeginsThere p at = list_any (λ (task : Descriptor). nat_eq (address task.entry)
 any_then : {X : Type 0} (f g : X → Bool) → ((x : X) → f x ≡ true → g x ≡ true) → (xs : List X) → list_any f xs ≡ true → list_any g xs ≡ true
 any_then f g then_ [] e = e
 any_then f g then_ (x ∷ xs) e = elim (or_cases (f x) (list_any f xs) e) [
-      inl here ↦ or_left _ _ (then_ x here)
-    | inr there ↦ or_right _ _ (any_then f g then_ xs there) ]
+  | inl here ↦ or_left _ _ (then_ x here)
+  | inr there ↦ or_right _ _ (any_then f g then_ xs there)
+]
 
 entry_begins : (p : Listing) (j : ℕ) → is_entry p j ≡ true → BeginsThere p (address j)
 entry_begins p j e =
@@ -52,8 +53,9 @@ entry_begins p j e =
 target_begins : (p : Listing) (at : ℕ) (targets : List ℕ) → ((j : ℕ) → list_any (nat_eq j) targets ≡ true → is_entry p j ≡ true) → list_any (λ (target : ℕ). nat_eq (address target) at) targets ≡ true → BeginsThere p at
 target_begins p at [] entries e = absurd (true≢false (sym e))
 target_begins p at (x ∷ xs) entries e = elim (or_cases (nat_eq (address x) at) (list_any (λ (target : ℕ). nat_eq (address target) at) xs) e) [
-      inl here ↦ subst (BeginsThere p) (eqb-true (address x) at here) (entry_begins p x (entries x (or_left _ _ (eq-eqb x x refl))))
-    | inr there ↦ target_begins p at xs (λ j listed. entries j (or_right _ _ listed)) there ]
+  | inl here ↦ subst (BeginsThere p) (eqb-true (address x) at here) (entry_begins p x (entries x (or_left _ _ (eq-eqb x x refl))))
+  | inr there ↦ target_begins p at xs (λ j listed. entries j (or_right _ _ listed)) there
+]
 
 within_position : {X : Type 0} (test : X → Bool) (xs : List X) → list_any test xs ≡ true → position_or_len test xs < length xs
 within_position test [] e = absurd (true≢false (sym e))
@@ -92,7 +94,7 @@ module _ (p : Listing) (formed : IsWellFormed p) (sound : Sound p) where
       let d = next.does in
       let is_task : d.head.task < length p.tasks = queue_head_is_task s (count_c s) d.head d.rest d.is_queue (good.inv next.runs) in
       subst (BeginsThere p) (sym (ap (λ (x : State). x.next) d.is))
-        (target_begins p d.exit (task_at p d.head.task).targets (sound_at p (within_limit p formed) sound d.head.task is_task).targets_begin d.is_listed)
+      (target_begins p d.exit (task_at p d.head.task).targets (sound_at p (within_limit p formed) sound d.head.task is_task).targets_begin d.is_listed)
   step_begins units s s' Fault good next h = next_begins_by s s' (ap (λ (x : State). x.next) next.does.is) h
   step_begins units s s' (Drop k) good next h = next_begins_by s s' (ap (λ (x : State). x.next) next.does.is) h
 
@@ -120,14 +122,22 @@ module _ (p : Listing) (formed : IsWellFormed p) (sound : Sound p) where
     assign_allowed : s.queue ≡ [] → HasEvent (option_map Assign (task_beginning p s.next))
     assign_allowed empty =
         let found = task_there p s.next begins_there in
-        let at = position-Some (λ (task : Descriptor). nat_eq (address task.entry) s.next) p.tasks found.0 no_task found.1 in
-        (Assign found.0, ap (option_map Assign) found.1, (_, record {
-          runs = runs;
-          does = record {
-            is_task = at.0;
-            is_free = subst (λ (n : ℕ). n < units) (sym (ap length empty)) some_unit;
-            may_follow = ap (λ (x : List Active). follows p s.next found.0 (last_or None x)) empty ∙ at.1;
-            is = refl; }; }))
+        let at = position-Some (λ (task : Descriptor). nat_eq (address task.entry) s.next) p.tasks found.0 no_task found.1 in (
+          Assign found.0,
+          ap (option_map Assign) found.1,
+          (
+            _,
+            record {
+              runs = runs;
+              does = record {
+                is_task = at.0;
+                is_free = subst (λ (n : ℕ). n < units) (sym (ap length empty)) some_unit;
+                may_follow = ap (λ (x : List Active). follows p s.next found.0 (last_or None x)) empty ∙ at.1;
+                is = refl;
+              };
+            },
+          ),
+        )
 
     module _ (u : Active) (us : List Active) (is_queue : s.queue ≡ u ∷ us) where
       abbrev q : QueueRight p (count_c s) (u ∷ us) s.next s.memory s.output
@@ -148,7 +158,9 @@ module _ (p : Listing) (formed : IsWellFormed p) (sound : Sound p) where
           let place : PlaceRight p u.task (count_c s) h.now (Inside i) = subst (PlaceRight p u.task (count_c s) h.now) inside h.place in
           let within : i < length p.code = reached_inside u.task i h.is_task place.0 in
           elim (slice_get_cases p.code i).1 [
-              inl found ↦ (_, record {
+            | inl found ↦ (
+              _,
+              record {
                 runs = runs;
                 does = record {
                   unit = u;
@@ -163,57 +175,79 @@ module _ (p : Listing) (formed : IsWellFormed p) (sound : Sound p) where
                   has_b = has_value (reg_b found.0.op);
                   has_released = λ r e. ap is_some (has_value r);
                   may = inl refl;
-                  is = refl; }; })
-            | inr past ↦ absurd (let behind : length p.code ≤ i = past.0 in omega arith) ]
+                  is = refl;
+                };
+              },
+            )
+            | inr past ↦ absurd (let behind : length p.code ≤ i = past.0 in omega arith)
+          ]
 
       squash_allowed : (exit : ℕ) (vs : List Active) → us ≡ vs → u.place ≡ Stopped exit → next_begins p vs exit ≡ false → Allowed (Squash 0)
       squash_allowed exit [] is stopped e = absurd (true≢false e)
-      squash_allowed exit (v ∷ vs) is stopped e = (_, record {
-            runs = runs;
-            does = record {
-              unit = u;
-              is_unit = is_head;
-              exit = exit;
-              is_stopped = stopped;
-              after = v;
-              is_after = ap (λ (x : List Active). slice_get x 1) (is_queue ∙ ap (λ (x : List Active). u ∷ x) is);
-              is_elsewhere = e;
-              is = refl; }; })
+      squash_allowed exit (v ∷ vs) is stopped e = (
+        _,
+        record {
+          runs = runs;
+          does = record {
+            unit = u;
+            is_unit = is_head;
+            exit = exit;
+            is_stopped = stopped;
+            after = v;
+            is_after = ap (λ (x : List Active). slice_get x 1) (is_queue ∙ ap (λ (x : List Active). u ∷ x) is);
+            is_elsewhere = e;
+            is = refl;
+          };
+        },
+      )
 
       sent_all : least (creates p u.task) (λ r. is_none (u.sent r)) ≡ None → (r : ℕ) → creates p u.task r ≡ true → is_some (u.sent r) ≡ true
       sent_all none r created = not_none (u.sent r) (least_nothing (creates p u.task) (λ x. is_none (u.sent x)) none r (range.creates_below u.task r created) created)
 
       stopped_allowed : (exit : ℕ) (listed begin : Bool) (unsent : Option ℕ) → u.place ≡ Stopped exit → is_listed p u.task exit ≡ listed → next_begins p us exit ≡ begin → least (creates p u.task) (λ r. is_none (u.sent r)) ≡ unsent → Allowed (cond (not listed) Fault (cond (not begin) (Squash 0) (drain_or_retire unsent)))
-      stopped_allowed exit false begin unsent stopped l b e = (_, record {
-            runs = runs;
-            does = record { head = u; is_head = is_head; exit = exit; is_stopped = stopped; is_unlisted = l; is = refl; }; })
+      stopped_allowed exit false begin unsent stopped l b e = (
+        _,
+        record {
+          runs = runs;
+          does = record { head = u; is_head = is_head; exit = exit; is_stopped = stopped; is_unlisted = l; is = refl };
+        },
+      )
       stopped_allowed exit true false unsent stopped l b e = squash_allowed exit us refl stopped b
       stopped_allowed exit true true (Some r) stopped l b e =
-          let unsent = least_passes (creates p u.task) (λ x. is_none (u.sent x)) r e in
-          (_, record {
-            runs = runs;
-            does = record {
-              unit = u;
-              is_unit = is_head;
-              is_created = unsent.0;
-              exit = exit;
-              is_stopped = stopped;
-              is_unsent = none_is (u.sent r) unsent.1;
-              word = (plain_of p (count_c s + length u.log)).regs r;
-              has_word = has_value r;
-              is = refl; }; })
-      stopped_allowed exit true true None stopped l b e = (_, record {
-            runs = runs;
-            does = record {
-              head = u;
-              rest = us;
-              is_queue = is_queue;
-              exit = exit;
-              is_stopped = stopped;
-              is_listed = l;
-              all_sent = sent_all e;
-              next_begins = b;
-              is = refl; }; })
+          let unsent = least_passes (creates p u.task) (λ x. is_none (u.sent x)) r e in (
+            _,
+            record {
+              runs = runs;
+              does = record {
+                unit = u;
+                is_unit = is_head;
+                is_created = unsent.0;
+                exit = exit;
+                is_stopped = stopped;
+                is_unsent = none_is (u.sent r) unsent.1;
+                word = (plain_of p (count_c s + length u.log)).regs r;
+                has_word = has_value r;
+                is = refl;
+              };
+            },
+          )
+      stopped_allowed exit true true None stopped l b e = (
+        _,
+        record {
+          runs = runs;
+          does = record {
+            head = u;
+            rest = us;
+            is_queue = is_queue;
+            exit = exit;
+            is_stopped = stopped;
+            is_listed = l;
+            all_sent = sent_all e;
+            next_begins = b;
+            is = refl;
+          };
+        },
+      )
 
       head_allowed : (place : Spot) → u.place ≡ place → Allowed (event_of_head p u us place)
       head_allowed (Inside i) inside = exec_allowed i inside

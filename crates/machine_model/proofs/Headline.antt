@@ -54,26 +54,29 @@ module _ (p : Listing) where
   -- while the run goes on, the claims follow from the invariant
   pub settled : (s : State) → s.outcome ≡ standing.Running → InvAt p (count_c s) s → Good p s
   settled s runs inv = record {
-        claims = record {
-          reads = inv.reads_are;
-          number = inv.number;
-          exits = inv.exits_are;
-          output = inv.queue.output_is;
-          memory = inv.queue.memory_is;
-          head = head_has p (count_c s) s.queue s.next s.memory s.output inv.queue;
-          regs = inv.regs_are;
-          ends = subst (EndsLike p s) (sym runs) (queue_runs p (count_c s) s.queue s.next s.memory s.output inv.runs inv.queue); };
-        inv = λ e. inv; }
+    claims = record {
+      reads = inv.reads_are;
+      number = inv.number;
+      exits = inv.exits_are;
+      output = inv.queue.output_is;
+      memory = inv.queue.memory_is;
+      head = head_has p (count_c s) s.queue s.next s.memory s.output inv.queue;
+      regs = inv.regs_are;
+      ends = subst (EndsLike p s) (sym runs) (queue_runs p (count_c s) s.queue s.next s.memory s.output inv.runs inv.queue);
+    };
+    inv = λ e. inv;
+  }
 
   -- the queue, memory and output change, and no instruction retires
   on_queue : (s : State) (queue : List Active) (memory : ℕ → ℕ) (output : List ℕ) (assigns : ℕ) → InvAt p (count_c s) s → QueueRight p (count_c s) queue s.next memory output → InvAt p (count_c s) (record s { queue = queue; memory = memory; output = output; assigns = assigns })
   on_queue s queue memory output assigns inv q = record {
-        reads_are = inv.reads_are;
-        number = inv.number;
-        exits_are = inv.exits_are;
-        regs_are = inv.regs_are;
-        runs = inv.runs;
-        queue = q; }
+    reads_are = inv.reads_are;
+    number = inv.number;
+    exits_are = inv.exits_are;
+    regs_are = inv.regs_are;
+    runs = inv.runs;
+    queue = q;
+  }
 
   good_queue : (s : State) (queue : List Active) → s.outcome ≡ standing.Running → InvAt p (count_c s) s → QueueRight p (count_c s) queue s.next s.memory s.output → Good p (record s { queue = queue })
   good_queue s queue runs inv q =
@@ -82,19 +85,19 @@ module _ (p : Listing) where
   drain_good : (s s' : State) (k r : ℕ) → s.outcome ≡ standing.Running → InvAt p (count_c s) s → Drains p s k r s' → Good p s'
   drain_good s s' k r runs inv d =
       subst (Good p) (sym d.is) (good_queue s (slice_set s.queue k (record (d.unit) { sent = put r d.word d.unit.sent })) runs inv
-        (unit_changes p (count_c s) s.queue s.next s.memory s.output k d.unit (record (d.unit) { sent = put r d.word d.unit.sent }) d.is_unit refl refl refl
-          (λ q i h. drained p d.unit r d.word d.exit d.is_stopped d.has_word h) inv.queue))
+      (unit_changes p (count_c s) s.queue s.next s.memory s.output k d.unit (record (d.unit) { sent = put r d.word d.unit.sent }) d.is_unit refl refl refl
+      (λ q i h. drained p d.unit r d.word d.exit d.is_stopped d.has_word h) inv.queue))
 
   squash_good : (s s' : State) (k : ℕ) → s.outcome ≡ standing.Running → InvAt p (count_c s) s → Squashes p s k s' → Good p s'
   squash_good s s' k runs inv d =
       subst (Good p) (sym d.is) (good_queue s (take (suc k) s.queue) runs inv
-        (cut p (count_c s) s.queue s.next s.memory s.output k inv.queue))
+      (cut p (count_c s) s.queue s.next s.memory s.output k inv.queue))
 
   drop_good : (s s' : State) (k : ℕ) → s.outcome ≡ standing.Running → InvAt p (count_c s) s → Drops s k s' → Good p s'
   drop_good s s' zero runs inv d = absurd (let b : 0 < 0 = d.is_behind in omega arith)
   drop_good s s' (suc k) runs inv d =
       subst (Good p) (sym d.is) (good_queue s (take (suc k) s.queue) runs inv
-        (cut p (count_c s) s.queue s.next s.memory s.output k inv.queue))
+      (cut p (count_c s) s.queue s.next s.memory s.output k inv.queue))
 
   -- the head stopped at exit, so the plain machine stands there
   fault_claims : (s : State) (us : List Active) (head : Active) (exit : ℕ) → QueueRight p (count_c s) us s.next s.memory s.output → slice_get us 0 ≡ Some head → head.place ≡ Stopped exit → (plain_of p (count_c s + by_head us)).pc ≡ exit
@@ -121,15 +124,18 @@ module _ (p : Listing) where
             queue_runs p (count_c s) s.queue s.next s.memory s.output inv.runs inv.queue,
             fault_claims s s.queue d.head d.exit inv.queue d.is_head d.is_stopped,
             λ head e. (let there = d.is_head in let same : d.head ≡ head = cc in
-              ap (λ (y : Active). is_listed p y.task d.exit) (sym same) ∙ d.is_unlisted)); };
-        inv = λ e. absurd (cc); })
+                ap (λ (y : Active). is_listed p y.task d.exit) (sym same) ∙ d.is_unlisted),
+          );
+        };
+        inv = λ e. absurd (cc);
+      })
 
   module _ (fits : length p.code ≤ 4096) (sound : Sound p) where
     assign_good : (units : ℕ) (s s' : State) (t : ℕ) → s.outcome ≡ standing.Running → InvAt p (count_c s) s → Assigns p units s t s' → Good p s'
     assign_good units s s' t runs inv d =
         subst (Good p) (sym d.is) (settled (record s { queue = s.queue ++ started p s t ∷ []; assigns = suc s.assigns }) runs
-          (on_queue s (s.queue ++ started p s t ∷ []) s.memory s.output (suc s.assigns) inv
-            (fits_behind p fits sound (count_c s) s.queue s.next s.memory s.output s.regs t s.assigns d.is_task d.may_follow inv.runs inv.regs_are inv.queue)))
+        (on_queue s (s.queue ++ started p s t ∷ []) s.memory s.output (suc s.assigns) inv
+        (fits_behind p fits sound (count_c s) s.queue s.next s.memory s.output s.regs t s.assigns d.is_task d.may_follow inv.runs inv.regs_are inv.queue)))
 
     transfer_good : (s s' : State) (k r : ℕ) → s.outcome ≡ standing.Running → InvAt p (count_c s) s → Transfers p s k r s' → Good p s'
     transfer_good s s' k r runs inv d =
@@ -137,7 +143,7 @@ module _ (p : Listing) where
         let queue : List Active = slice_set s.queue (suc d.ahead) (record (d.unit) { arrived = put r d.word d.unit.arrived }) in
         let is : s' ≡ record s { queue = queue } = d.is ∙ ap (λ (i : ℕ). record s { queue = slice_set s.queue i (record (d.unit) { arrived = put r d.word d.unit.arrived }) }) d.is_ahead in
         subst (Good p) (sym is) (good_queue s queue runs inv
-          (moved_on p fits sound (count_c s) s.queue s.next s.memory s.output d.ahead r d.word d.giver d.unit d.is_giver here d.has_word inv.queue))
+        (moved_on p fits sound (count_c s) s.queue s.next s.memory s.output d.ahead r d.word d.giver d.unit d.is_giver here d.has_word inv.queue))
 
     -- Exec behind the head: memory, output and outcome stay
     ahead_good : (s : State) (k : ℕ) (u : Active) (i : ℕ) (at : Marked) (a b : ℕ) → s.outcome ≡ standing.Running → InvAt p (count_c s) s → slice_get s.queue (suc k) ≡ Some u → u.place ≡ Inside i → slice_get p.code i ≡ Some at → value u (reg_a at.op) ≡ Some a → value u (reg_b at.op) ≡ Some b → may_run_ahead at.op a ≡ true → Good p (exec_leaves p s (suc k) u at i a b)
@@ -149,16 +155,16 @@ module _ (p : Listing) where
           regs_are = inv.regs_are;
           runs = inv.runs;
           queue = subst (λ (m : ℕ → ℕ). QueueRight p (count_c s) (slice_set s.queue (suc k) (after_exec p u at i a b s.memory)) s.next m (output_after at.op a s.output)) (sym (ahead_memory at.op a b s.memory ahead))
-            (subst (QueueRight p (count_c s) (slice_set s.queue (suc k) (after_exec p u at i a b s.memory)) s.next s.memory) (sym (ahead_output at.op a s.output ahead))
+              (subst (QueueRight p (count_c s) (slice_set s.queue (suc k) (after_exec p u at i a b s.memory)) s.next s.memory) (sym (ahead_output at.op a s.output ahead))
               (behind_changes p (count_c s) s.queue s.next s.memory s.output k u (after_exec p u at i a b s.memory) is_u
-                (ap (λ (o : Outcome). (executed o p u at i a b s.memory).task) (ahead_runs at.op a ahead))
-                (λ q n h. exec_ahead p fits sound q n u h i inside at there a has_a b has_b s.memory ahead) inv.queue)); })
+              (ap (λ (o : Outcome). (executed o p u at i a b s.memory).task) (ahead_runs at.op a ahead))
+              (λ q n h. exec_ahead p fits sound q n u h i inside at there a has_a b has_b s.memory ahead) inv.queue));
+        })
 
     -- Exec of the head
     module _ (s : State) (u : Active) (us : List Active) (is_queue : s.queue ≡ u ∷ us) (runs : s.outcome ≡ standing.Running) (inv : InvAt p (count_c s) s)
         (i : ℕ) (inside : u.place ≡ Inside i) (at : Marked) (there : slice_get p.code i ≡ Some at)
         (a : ℕ) (has_a : value u (reg_a at.op) ≡ Some a) (b : ℕ) (has_b : value u (reg_b at.op) ≡ Some b) where
-
       c : ℕ
       c = count_c s
 
@@ -177,45 +183,49 @@ module _ (p : Listing) where
       -- the state that it leaves, by how the instruction leaves the run
       abbrev leaves_by : Outcome → State
       leaves_by o = record s {
-            queue = record (executed o p u at i a b s.memory) { log = u.log ++ record { pc = address i; a = a; b = b } ∷ [] } ∷ us;
-            memory = memory_after at.op a b s.memory;
-            output = output_after at.op a s.output;
-            outcome = stands o; }
+        queue = record (executed o p u at i a b s.memory) { log = u.log ++ record { pc = address i; a = a; b = b } ∷ [] } ∷ us;
+        memory = memory_after at.op a b s.memory;
+        output = output_after at.op a s.output;
+        outcome = stands o;
+      }
 
       -- it ends the run: no register is written, and the plain machine ends too
       ended : (o : Outcome) → executed o p u at i a b s.memory ≡ u → (stands o ≡ standing.Running → ⊥) → (outcome_after at.op a ≡ Running → ⊥) → EndsLike p (leaves_by o) (stands o) → Good p (leaves_by o)
       ended o stays stops never ends = record {
-            claims = record {
-              reads = inv.reads_are;
-              number = inv.number;
-              exits = inv.exits_are;
-              output = ap (output_after at.op a) (output_now p fits sound (count_c s) u us s.next s.memory s.output q i inside at there a has_a b has_b)
-                ∙ sym left.output ∙ ap (λ (k : ℕ). (plain_of p k).output) on;
-              memory = ap (memory_after at.op a b) (memory_now p fits sound (count_c s) u us s.next s.memory s.output q i inside at there a has_a b has_b)
-                ∙ sym left.memory ∙ ap (λ (k : ℕ). (plain_of p k).memory) on;
-              head = λ v e r.
-                let same : record (executed o p u at i a b s.memory) { log = u.log ++ record { pc = address i; a = a; b = b } ∷ [] } ≡ v = cc in
-                ap (λ (x : Active). value x r) (sym same)
-                ∙ ap (λ (x : Active). value x r) stays
-                ∙ head_has p (count_c s) (u ∷ us) s.next s.memory s.output q u refl r
-                ∙ ap (λ (k : ℕ). Some ((plain_of p k).regs r)) (sym h.count)
-                ∙ ap Some (sym (left.regs r ∙ ap (λ (w : Option ℕ). unwrap_or w ((plain_of p h.now).regs r)) (ended_writes at.op a b (address i) (byte_of p.fixed) (plain_of p h.now).memory r never)))
-                ∙ ap (λ (k : ℕ). Some ((plain_of p k).regs r)) on;
-              regs = inv.regs_are;
-              ends = ends; };
-            inv = λ e. absurd (stops e); }
+        claims = record {
+          reads = inv.reads_are;
+          number = inv.number;
+          exits = inv.exits_are;
+          output = ap (output_after at.op a) (output_now p fits sound (count_c s) u us s.next s.memory s.output q i inside at there a has_a b has_b)
+              ∙ sym left.output ∙ ap (λ (k : ℕ). (plain_of p k).output) on;
+          memory = ap (memory_after at.op a b) (memory_now p fits sound (count_c s) u us s.next s.memory s.output q i inside at there a has_a b has_b)
+              ∙ sym left.memory ∙ ap (λ (k : ℕ). (plain_of p k).memory) on;
+          head = λ v e r.
+              let same : record (executed o p u at i a b s.memory) { log = u.log ++ record { pc = address i; a = a; b = b } ∷ [] } ≡ v = cc in
+              ap (λ (x : Active). value x r) (sym same)
+              ∙ ap (λ (x : Active). value x r) stays
+              ∙ head_has p (count_c s) (u ∷ us) s.next s.memory s.output q u refl r
+              ∙ ap (λ (k : ℕ). Some ((plain_of p k).regs r)) (sym h.count)
+              ∙ ap Some (sym (left.regs r ∙ ap (λ (w : Option ℕ). unwrap_or w ((plain_of p h.now).regs r)) (ended_writes at.op a b (address i) (byte_of p.fixed) (plain_of p h.now).memory r never)))
+              ∙ ap (λ (k : ℕ). Some ((plain_of p k).regs r)) on;
+          regs = inv.regs_are;
+          ends = ends;
+        };
+        inv = λ e. absurd (stops e);
+      }
 
       outcome_then : (o : Outcome) → outcome_after at.op a ≡ o → (plain_of p (count_c s + length (u.log ++ record { pc = address i; a = a; b = b } ∷ []))).outcome ≡ o
       outcome_then o e = ap (λ (k : ℕ). (plain_of p k).outcome) (sym on) ∙ left.outcome ∙ e
 
       head_by : (o : Outcome) → outcome_after at.op a ≡ o → Good p (leaves_by o)
       head_by Running e = settled (leaves_by Running) refl (record {
-            reads_are = inv.reads_are;
-            number = inv.number;
-            exits_are = inv.exits_are;
-            regs_are = inv.regs_are;
-            runs = inv.runs;
-            queue = exec_on p fits sound (count_c s) u us s.next s.memory s.output q i inside at there a has_a b has_b e; })
+        reads_are = inv.reads_are;
+        number = inv.number;
+        exits_are = inv.exits_are;
+        regs_are = inv.regs_are;
+        runs = inv.runs;
+        queue = exec_on p fits sound (count_c s) u us s.next s.memory s.output q i inside at there a has_a b has_b e;
+      })
       head_by Halted e = ended Halted refl (λ r. cc) (λ r. cc) (outcome_then Halted e)
       head_by (Trapped trap) e = ended (Trapped trap) refl (λ r. cc) (λ r. cc) (outcome_then (Trapped trap) e)
 
@@ -238,15 +248,16 @@ module _ (p : Listing) where
         let n : ℕ = count_c s + length d.head.log in
         let r = retired p fits sound (count_c s) d.head d.rest s.next s.memory s.output s.regs d.exit q d.is_stopped d.next_begins d.all_sent inv.regs_are in
         let new : InvAt p n (retire_leaves p s d.head d.rest d.exit) = record {
-              reads_are = ap (λ (xs : List Read). xs ++ d.head.log) inv.reads_are ∙ h.log ∙ ap (reads_of p) h.count;
-              number = length-append s.reads d.head.log ∙ ap (λ (k : ℕ). k + length d.head.log) inv.number;
-              exits_are = all_push (λ (x : Commit). is_listed p x.task x.exit ≡ true) s.commits (record { task = d.head.task; exit = d.exit; count = length d.head.log }) inv.exits_are d.is_listed;
-              regs_are = r.1;
-              runs = r.2;
-              queue = r.0; } in
+          reads_are = ap (λ (xs : List Read). xs ++ d.head.log) inv.reads_are ∙ h.log ∙ ap (reads_of p) h.count;
+          number = length-append s.reads d.head.log ∙ ap (λ (k : ℕ). k + length d.head.log) inv.number;
+          exits_are = all_push (λ (x : Commit). is_listed p x.task x.exit ≡ true) s.commits (record { task = d.head.task; exit = d.exit; count = length d.head.log }) inv.exits_are d.is_listed;
+          regs_are = r.1;
+          runs = r.2;
+          queue = r.0;
+        } in
         let counted : n ≡ count_c (retire_leaves p s d.head d.rest d.exit) = sym (counted_push 0 s.commits (record { task = d.head.task; exit = d.exit; count = length d.head.log })) in
         subst (Good p) (sym d.is) (settled (retire_leaves p s d.head d.rest d.exit) runs
-          (subst (λ (k : ℕ). InvAt p k (retire_leaves p s d.head d.rest d.exit)) counted new))
+        (subst (λ (k : ℕ). InvAt p k (retire_leaves p s d.head d.rest d.exit)) counted new))
 
     pub step_good : (units : ℕ) (s s' : State) (e : Event) → Good p s → Next p units s e s' → Good p s'
     step_good units s s' (Assign t) good next = assign_good units s s' t next.runs (good.inv next.runs) next.does
@@ -267,18 +278,20 @@ module _ (p : Listing) where
   pub opening_good : Good p (opening p)
   unfolding plain reads
   opening_good = settled (opening p) refl (record {
-        reads_are = refl;
-        number = refl;
-        exits_are = tt;
-        regs_are = λ r. refl;
-        runs = refl;
-        queue = record {
-          next_is = refl;
-          begins = refl;
-          full = tt;
-          right = tt;
-          memory_is = refl;
-          output_is = refl; }; })
+    reads_are = refl;
+    number = refl;
+    exits_are = tt;
+    regs_are = λ r. refl;
+    runs = refl;
+    queue = record {
+      next_is = refl;
+      begins = refl;
+      full = tt;
+      right = tt;
+      memory_is = refl;
+      output_is = refl;
+    };
+  })
 
   pub every_replay_good : length p.code ≤ 4096 → Sound p → (units : ℕ) (events : List Event) (s : State) → Replays p units events s → Good p s
   every_replay_good fits sound units events s replay = replay_good fits sound units events (opening p) s opening_good replay

@@ -134,34 +134,37 @@ on i h = omega arith
 
 branch_two : (kind : _) (rs rt place a b i : ℕ) (t : Bool) → i < 4096 → two_taken kind a b ≡ t → Leads (BranchTwo kind rs rt place) a b i
 branch_two kind rs rt place a b i true h e = record {
-    to = place;
-    leads = ap (edge (BranchTwo kind rs rt place) i) e;
-    turns = cond-true _ _ _ e; }
+  to = place;
+  leads = ap (edge (BranchTwo kind rs rt place) i) e;
+  turns = cond-true _ _ _ e;
+}
 branch_two kind rs rt place a b i false h e = record {
-    to = i + 1;
-    leads = ap (edge (BranchTwo kind rs rt place) i) e;
-    turns = cond-false _ _ _ e ∙ on i h; }
+  to = i + 1;
+  leads = ap (edge (BranchTwo kind rs rt place) i) e;
+  turns = cond-false _ _ _ e ∙ on i h;
+}
 
 branch_one : (kind : _) (rs place a b i : ℕ) (t : Bool) → i < 4096 → one_taken kind a ≡ t → Leads (BranchOne kind rs place) a b i
 branch_one kind rs place a b i true h e = record {
-    to = place;
-    leads = ap (edge (BranchOne kind rs place) i) e;
-    turns = cond-true _ _ _ e; }
+  to = place;
+  leads = ap (edge (BranchOne kind rs place) i) e;
+  turns = cond-true _ _ _ e;
+}
 branch_one kind rs place a b i false h e = record {
-    to = i + 1;
-    leads = ap (edge (BranchOne kind rs place) i) e;
-    turns = cond-false _ _ _ e ∙ on i h; }
+  to = i + 1;
+  leads = ap (edge (BranchOne kind rs place) i) e;
+  turns = cond-false _ _ _ e ∙ on i h;
+}
 
 pub leads_on : (op : Op) (a b i : ℕ) → i < 4096 → is_indirect op ≡ false → outcome_after op a ≡ Running → Leads op a b i
 leads_on (BranchTwo kind rs rt place) a b i h direct runs = branch_two kind rs rt place a b i (two_taken kind a b) h refl
 leads_on (BranchOne kind rs place) a b i h direct runs = branch_one kind rs place a b i (one_taken kind a) h refl
-leads_on (Jump place) a b i h direct runs = record { to = place; leads = refl; turns = refl; }
-leads_on (JumpLink place) a b i h direct runs = record { to = place; leads = refl; turns = refl; }
+leads_on (Jump place) a b i h direct runs = record { to = place; leads = refl; turns = refl }
+leads_on (JumpLink place) a b i h direct runs = record { to = place; leads = refl; turns = refl }
 leads_on (JumpReg rs) a b i h direct runs = absurd (cc)
 leads_on (JumpLinkReg rd rs) a b i h direct runs = absurd (cc)
 leads_on Halt a b i h direct runs = absurd (cc)
-leads_on _ a b i h direct runs = record { to = i + 1; leads = refl; turns = on i h; }
-
+leads_on _ a b i h direct runs = record { to = i + 1; leads = refl; turns = on i h }
 
 alu_written : (op : Op) (a b pc r : ℕ) → is_register_only op ≡ true → dests op r ≡ true → is_some (alu op a b pc r) ≡ true
 alu_written op a b pc r only e = ap is_some (cond-true (is_register_only op && dests op r) _ _ (and_from _ _ only e))

@@ -92,7 +92,8 @@ module _ (p : Listing) where
       let is_u : x ≡ u = cc in
       λ at. (
         keeps behind n (subst (UnitRight p behind n) is_u (h (at ∙ ap (begins p) (same ∙ ap (λ (y : Active). y.task) (sym is_u)))).0),
-        (h (at ∙ ap (begins p) (same ∙ ap (λ (y : Active). y.task) (sym is_u)))).1)
+        (h (at ∙ ap (begins p) (same ∙ ap (λ (y : Active). y.task) (sym is_u)))).1,
+      )
   update behind n (x ∷ us) (suc k) u v e same keeps h =
       λ at. ((h at).0, λ m ends. update true m us k u v e same keeps ((h at).1 m ends))
 
@@ -107,20 +108,22 @@ module _ (p : Listing) where
 
   pub arrives : {behind : Bool} {n : ℕ} (u : Active) (r word : ℕ) → (plain_of p n).regs r ≡ word → UnitRight p behind n u → UnitRight p behind n (record u { arrived = put r word u.arrived })
   arrives {behind} {n} u r word right h = record {
-        now = h.now;
-        count = h.count;
-        is_task = h.is_task;
-        place = h.place;
-        runs = h.runs;
-        log = h.log;
-        local = h.local;
-        kept = h.kept;
-        arrived = λ s w e. elim (put_found (nat_eq s r) (u.arrived s) word w e) [
-              inl g ↦ ap (plain_of p n).regs (eqb-true s r g.0) ∙ right ∙ g.1
-            | inr g ↦ h.arrived s w g ];
-        sent = h.sent;
-        last = h.last;
-        quiet = h.quiet; }
+    now = h.now;
+    count = h.count;
+    is_task = h.is_task;
+    place = h.place;
+    runs = h.runs;
+    log = h.log;
+    local = h.local;
+    kept = h.kept;
+    arrived = λ s w e. elim (put_found (nat_eq s r) (u.arrived s) word w e) [
+      | inl g ↦ ap (plain_of p n).regs (eqb-true s r g.0) ∙ right ∙ g.1
+      | inr g ↦ h.arrived s w g
+    ];
+    sent = h.sent;
+    last = h.last;
+    quiet = h.quiet;
+  }
 
   last_stopped : (place : Spot) (at r : ℕ) → place ≡ Stopped at → Last p place r
   last_stopped (Inside i) at r e = cc
@@ -128,20 +131,22 @@ module _ (p : Listing) where
 
   pub drained : {behind : Bool} {n : ℕ} (u : Active) (r word at : ℕ) → u.place ≡ Stopped at → value u r ≡ Some word → UnitRight p behind n u → UnitRight p behind n (record u { sent = put r word u.sent })
   drained u r word at stopped has h = record {
-        now = h.now;
-        count = h.count;
-        is_task = h.is_task;
-        place = h.place;
-        runs = h.runs;
-        log = h.log;
-        local = h.local;
-        kept = h.kept;
-        arrived = h.arrived;
-        sent = λ s w e. elim (put_found (nat_eq s r) (u.sent s) word w e) [
-              inl g ↦ ap (plain_of p h.now).regs (eqb-true s r g.0) ∙ value_right h r word has ∙ g.1
-            | inr g ↦ h.sent s w g ];
-        last = λ s w e. last_stopped u.place at s stopped;
-        quiet = h.quiet; }
+    now = h.now;
+    count = h.count;
+    is_task = h.is_task;
+    place = h.place;
+    runs = h.runs;
+    log = h.log;
+    local = h.local;
+    kept = h.kept;
+    arrived = h.arrived;
+    sent = λ s w e. elim (put_found (nat_eq s r) (u.sent s) word w e) [
+      | inl g ↦ ap (plain_of p h.now).regs (eqb-true s r g.0) ∙ value_right h r word has ∙ g.1
+      | inr g ↦ h.sent s w g
+    ];
+    last = λ s w e. last_stopped u.place at s stopped;
+    quiet = h.quiet;
+  }
 
   quiet_now : (behind : Bool) (n : ℕ) → Quiet p behind n n
   quiet_now false n = tt
@@ -150,18 +155,19 @@ module _ (p : Listing) where
   -- a unit that has just been assigned
   pub new_right : (behind : Bool) (n t serial : ℕ) (arrived : Words) → t < length p.tasks → (plain_of p n).outcome ≡ Running → (plain_of p n).pc ≡ begins p t → ((r w : ℕ) → arrived r ≡ Some w → (plain_of p n).regs r ≡ w) → UnitRight p behind n (record { task = t; serial = serial; arrived = arrived; local = λ r. None; sent = λ r. None; place = Inside (task_at p t).entry; log = [] })
   new_right behind n t serial arrived is_task runs at right = record {
-        now = n;
-        count = sym (add-zero n);
-        is_task = is_task;
-        place = (stay, here, at);
-        runs = runs;
-        log = append-nil _;
-        local = λ r w e. cc;
-        kept = λ r e. refl;
-        arrived = right;
-        sent = λ r w e. cc;
-        last = λ r w e. absurd (cc);
-        quiet = quiet_now behind n; }
+    now = n;
+    count = sym (add-zero n);
+    is_task = is_task;
+    place = (stay, here, at);
+    runs = runs;
+    log = append-nil _;
+    local = λ r w e. cc;
+    kept = λ r e. refl;
+    arrived = right;
+    sent = λ r w e. cc;
+    last = λ r w e. absurd (cc);
+    quiet = quiet_now behind n;
+  }
 
   -- the new head takes what has not arrived from the head registers; it owes no quiet any more
   pub filled_right : (us : List Active) (regs : ℕ → ℕ) (n : ℕ) → ((r : ℕ) → regs r ≡ (plain_of p n).regs r) → RightFrom p true n us → RightFrom p false n (filled regs us)
@@ -178,12 +184,15 @@ module _ (p : Listing) where
           local = old.local;
           kept = old.kept;
           arrived = λ r w e. elim (filled_found (u.arrived r) (regs r) w e) [
-                inl g ↦ old.arrived r w g
-              | inr g ↦ sym (are r) ∙ g ];
+            | inl g ↦ old.arrived r w g
+            | inr g ↦ sym (are r) ∙ g
+          ];
           sent = old.sent;
           last = old.last;
-          quiet = tt; },
-        (h at).1)
+          quiet = tt;
+        },
+        (h at).1,
+      )
 
   module _ (fits : length p.code ≤ 4096) (sound : Sound p) where
     -- what is last at its place is the same at the task's end
@@ -208,10 +217,13 @@ module _ (p : Listing) where
         let is_giver : giver ≡ x = cc in
         let is_unit : unit ≡ y = cc in
         let passed : pass p x r ≡ Some word = ap (λ (z : Active). pass p z r) (sym is_giver) ∙ e in
-        λ at. ((h at).0, λ m ends at'.
-          let at'' : (plain_of p m).pc ≡ begins p y.task = at' ∙ ap (λ (z : Active). begins p z.task) is_unit in
-          let right = pass_right x r word at (h at).0 ends passed in
-          (arrives unit r word right (subst (UnitRight p true m) (sym is_unit) ((h at).1 m ends at'').0), ((h at).1 m ends at'').1))
+        λ at. (
+          (h at).0,
+          λ m ends at'.
+              let at'' : (plain_of p m).pc ≡ begins p y.task = at' ∙ ap (λ (z : Active). begins p z.task) is_unit in
+              let right = pass_right x r word at (h at).0 ends passed in
+              (arrives unit r word right (subst (UnitRight p true m) (sym is_unit) ((h at).1 m ends at'').0), ((h at).1 m ends at'').1),
+        )
     transferred behind n (x ∷ us) (suc k) r word giver unit g u e h =
         λ at. ((h at).0, λ m ends. transferred true m us k r word giver unit g u e ((h at).1 m ends))
 
@@ -224,9 +236,10 @@ module _ (p : Listing) where
     assigned [] behind n t serial arrived is_task runs suits h = λ at.
         (new_right behind n t serial arrived is_task runs at (λ r w e. (suits r w e).1), λ m ends. tt)
     assigned (u ∷ us) behind n t serial arrived is_task runs suits h = λ at. (
-        (h at).0,
-        λ m ends. assigned us true m t serial arrived is_task (end_runs ends)
+      (h at).0,
+      λ m ends. assigned us true m t serial arrived is_task (end_runs ends)
           (λ r w e.
-            let parts = or_parts (creates p u.task r) (is_reserved p us r) (suits r w e).0 in
-            (parts.1, not_created p fits sound u.task r (h at).0.is_task at parts.0 ends ∙ (suits r w e).1))
-          ((h at).1 m ends))
+          let parts = or_parts (creates p u.task r) (is_reserved p us r) (suits r w e).0 in
+          (parts.1, not_created p fits sound u.task r (h at).0.is_task at parts.0 ends ∙ (suits r w e).1))
+          ((h at).1 m ends),
+    )

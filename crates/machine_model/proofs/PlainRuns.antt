@@ -61,18 +61,19 @@ step_leaves p n index at a b h =
     let step = plain_step p n index at a b h in
     record {
       pc = ap (λ (s : PlainState). s.pc) step
-        ∙ ap (λ (pc : ℕ). pc_after (outcome_after at.op a) (turn at.op a b pc) pc) h.pc_is;
+          ∙ ap (λ (pc : ℕ). pc_after (outcome_after at.op a) (turn at.op a b pc) pc) h.pc_is;
       regs = λ r. ap (λ (s : PlainState). s.regs r) step
-        ∙ ap (λ (pc : ℕ). unwrap_or (written at.op a b pc (byte_of p.fixed) (plain_of p n).memory r) ((plain_of p n).regs r)) h.pc_is;
+          ∙ ap (λ (pc : ℕ). unwrap_or (written at.op a b pc (byte_of p.fixed) (plain_of p n).memory r) ((plain_of p n).regs r)) h.pc_is;
       memory = ap (λ (s : PlainState). s.memory) step;
       output = ap (λ (s : PlainState). s.output) step;
       outcome = ap (λ (s : PlainState). s.outcome) step;
       reads = reads_step_is (input p) n
-        ∙ ap (λ (o : Outcome). reads_of p n ++ reads_when o (input p) (plain_of p n)) h.runs
-        ∙ ap (λ (o : Option Op). reads_of p n ++ read_at (plain_of p n) o ∷ []) (ap (fetch (input p).code) h.pc_is ∙ fetch_marked p index at h.is_there)
-        ∙ ap (λ (pc : ℕ). reads_of p n ++ record { pc = pc; a = (plain_of p n).regs (reg_a at.op); b = (plain_of p n).regs (reg_b at.op) } ∷ []) h.pc_is
-        ∙ ap (λ (x : ℕ). reads_of p n ++ record { pc = address index; a = x; b = (plain_of p n).regs (reg_b at.op) } ∷ []) h.has_a
-        ∙ ap (λ (y : ℕ). reads_of p n ++ record { pc = address index; a = a; b = y } ∷ []) h.has_b; }
+          ∙ ap (λ (o : Outcome). reads_of p n ++ reads_when o (input p) (plain_of p n)) h.runs
+          ∙ ap (λ (o : Option Op). reads_of p n ++ read_at (plain_of p n) o ∷ []) (ap (fetch (input p).code) h.pc_is ∙ fetch_marked p index at h.is_there)
+          ∙ ap (λ (pc : ℕ). reads_of p n ++ record { pc = pc; a = (plain_of p n).regs (reg_a at.op); b = (plain_of p n).regs (reg_b at.op) } ∷ []) h.pc_is
+          ∙ ap (λ (x : ℕ). reads_of p n ++ record { pc = address index; a = x; b = (plain_of p n).regs (reg_b at.op) } ∷ []) h.has_a
+          ∙ ap (λ (y : ℕ). reads_of p n ++ record { pc = address index; a = a; b = y } ∷ []) h.has_b;
+    }
 
 -- register 0 stays 0
 
@@ -158,10 +159,10 @@ path_first e stay = onward stay e
 path_first e (onward q e') = onward (path_first e q) e'
 
 pub may_write_first : {p : Listing} {i j r : ℕ} → Edge p false i j → MayWrite p j r → MayWrite p i r
-may_write_first e w = record { place = w.place; comes = path_first e w.comes; at = w.at; is_there = w.is_there; writes = w.writes; }
+may_write_first e w = record { place = w.place; comes = path_first e w.comes; at = w.at; is_there = w.is_there; writes = w.writes }
 
 pub not_dest : (p : Listing) (i r : ℕ) (at : Marked) → slice_get p.code i ≡ Some at → (MayWrite p i r → ⊥) → dests at.op r ≡ false
-not_dest p i r at there never = false_from_ne_true (dests at.op r) (λ e. never (record { place = i; comes = stay; at = at; is_there = there; writes = e; }))
+not_dest p i r at there never = false_from_ne_true (dests at.op r) (λ e. never (record { place = i; comes = stay; at = at; is_there = there; writes = e }))
 
 pub step_keeps : (p : Listing) (leaving : Bool) (n i r : ℕ) (s : Steps p leaving n) → s.index ≡ i → (MayWrite p i r → ⊥) → (plain_of p (suc n)).regs r ≡ (plain_of p n).regs r
 step_keeps p leaving n i r s e never =
@@ -196,11 +197,12 @@ module _ (p : Listing) (fits : length p.code ≤ 4096) (sound : Sound p) where
       let on = leads_inside t i s.at s.a s.b h path there s.kind s.goes_on in
       record {
         to = on.to;
-        over = record { at = s.at; is_there = there; taken = taken s.at.op s.a s.b; leads = on.leads; kind = s.kind; };
+        over = record { at = s.at; is_there = there; taken = taken s.at.op s.a s.b; leads = on.leads; kind = s.kind };
         comes_to = (step_leaves p n s.index s.at s.a s.b s.stands).pc
-          ∙ ap (λ (o : Outcome). pc_after o (turn s.at.op s.a s.b (address s.index)) (address s.index)) s.goes_on
-          ∙ ap (λ (k : ℕ). turn s.at.op s.a s.b (address k)) e
-          ∙ on.turns; }
+            ∙ ap (λ (o : Outcome). pc_after o (turn s.at.op s.a s.b (address s.index)) (address s.index)) s.goes_on
+            ∙ ap (λ (k : ℕ). turn s.at.op s.a s.b (address k)) e
+            ∙ on.turns;
+      }
 
   -- from a reached place, the rest of a task's run keeps a register that no path from there writes
   pub end_keeps : (t i r : ℕ) {n m : ℕ} → t < length p.tasks → Path p (task_at p t).entry i → (plain_of p n).pc ≡ address i → (MayWrite p i r → ⊥) → Ends p n m → (plain_of p m).regs r ≡ (plain_of p n).regs r

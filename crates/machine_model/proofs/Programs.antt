@@ -41,4 +41,4 @@ starts_at_entry p h =
 pub entry_inside : (p : Listing) (t : ℕ) → IsWellFormed p → t < length p.tasks → (task_at p t).entry < length p.code
 entry_inside p t h below =
     leb-false (length p.code) (task_at p t).entry (false_from_ne_true _ (λ e.
-      true≢false (sym (list_any_at (λ (d : Descriptor). nat_le (length p.code) d.entry) p.tasks t no_task below e) ∙ (first_tests p h).0)))
+    true≢false (sym (list_any_at (λ (d : Descriptor). nat_le (length p.code) d.entry) p.tasks t no_task below e) ∙ (first_tests p h).0)))

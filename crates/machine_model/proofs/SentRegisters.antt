@@ -21,7 +21,6 @@ use Rattle.machine_model.proofs.UnitExec.{sent_found}
 
 module _ (p : Listing) (mask : ℕ → ℕ → Bool) (u : Active) (i : ℕ) (m : Marked) (a b : ℕ) (memory : ℕ → ℕ)
     (fits : MasksFit p mask i m) (inside : u.place ≡ Inside i) (there : slice_get p.code i ≡ Some m) (last : SentIsLast mask u) where
-
   -- the masks only shrink along an inner edge
   later : (j r : ℕ) → Edge p false i j → mask i r ≡ false → mask j r ≡ false
   later j r over never = false_from_ne_true (mask j r) (λ e. true≢false (sym (fits.holds_later j r over e) ∙ never))
@@ -30,18 +29,20 @@ module _ (p : Listing) (mask : ℕ → ℕ → Bool) (u : Active) (i : ℕ) (m :
   goes_to true o j kind e at = absurd (cc)
   goes_to false None j kind e at = absurd (cc)
   goes_to false (Some to) j kind e at = record {
-        at = m;
-        is_there = there;
-        taken = taken m.op a b;
-        leads = (let same : to ≡ j = cc in e ∙ ap Some same);
-        kind = kind; }
+    at = m;
+    is_there = there;
+    taken = taken m.op a b;
+    leads = (let same : to ≡ j = cc in e ∙ ap Some same);
+    kind = kind;
+  }
 
   last_by : (o : Outcome) (j r w : ℕ) → (executed o p u m i a b memory).place ≡ Inside j → (executed o p u m i a b memory).sent r ≡ Some w → mask j r ≡ false
   last_by Running j r w at e =
       let over : Edge p false i j = goes_to (leaves m.stop (taken m.op a b)) (edge m.op i (taken m.op a b)) j refl refl at in
       elim (sent_found (sends m r) (u.sent r) (value (with_written u (written m.op a b (address i) (byte_of p.fixed) memory)) r) w e) [
-        inl g ↦ later j r over (last i r w inside g)
-      | inr g ↦ fits.sends_last j r over g.0 ]
+        | inl g ↦ later j r over (last i r w inside g)
+        | inr g ↦ fits.sends_last j r over g.0
+      ]
   last_by Halted j r w at e = last j r w at e
   last_by (Trapped trap) j r w at e = last j r w at e
 

@@ -40,18 +40,18 @@ module _ (p : Listing) (fits : length p.code ≤ 4096) (sound : Sound p) where
   module _ (behind : Bool) (n : ℕ) (u : Active) (h : UnitRight p behind n u) (i : ℕ) (inside : u.place ≡ Inside i)
       (at : Marked) (there : slice_get p.code i ≡ Some at)
       (a : ℕ) (has_a : value u (reg_a at.op) ≡ Some a) (b : ℕ) (has_b : value u (reg_b at.op) ≡ Some b) where
-
     stood : PlaceRight p u.task n h.now (Inside i)
     stood = subst (PlaceRight p u.task n h.now) inside h.place
 
     -- the plain machine stands there too, with the same operands
     pub stands_there : At p h.now i at a b
     stands_there = record {
-        runs = h.runs;
-        pc_is = stood.2;
-        is_there = there;
-        has_a = value_right p h (reg_a at.op) a has_a;
-        has_b = value_right p h (reg_b at.op) b has_b; }
+      runs = h.runs;
+      pc_is = stood.2;
+      is_there = there;
+      has_a = value_right p h (reg_a at.op) a has_a;
+      has_b = value_right p h (reg_b at.op) b has_b;
+    }
 
     left : Leaves p h.now i at a b
     left = step_leaves p h.now i at a b stands_there
@@ -67,15 +67,15 @@ module _ (p : Listing) (fits : length p.code ≤ 4096) (sound : Sound p) where
     quiet_on : (q : Bool) → (q ≡ true → may_run_ahead at.op a ≡ true) → Quiet p q n h.now → Quiet p q n (suc h.now)
     quiet_on false ahead quiet = tt
     quiet_on true ahead quiet = (
-        left.memory ∙ ahead_memory at.op a b (plain_of p h.now).memory (ahead refl) ∙ quiet.0,
-        left.output ∙ ahead_output at.op a (plain_of p h.now).output (ahead refl) ∙ quiet.1)
+      left.memory ∙ ahead_memory at.op a b (plain_of p h.now).memory (ahead refl) ∙ quiet.0,
+      left.output ∙ ahead_output at.op a (plain_of p h.now).output (ahead refl) ∙ quiet.1,
+    )
 
     module _ (runs : outcome_after at.op a ≡ Running) (memory : ℕ → ℕ)
         (same : (r : ℕ) → written at.op a b (address i) (byte_of p.fixed) memory r ≡ written at.op a b (address i) (byte_of p.fixed) (plain_of p h.now).memory r)
         (ahead : behind ≡ true → may_run_ahead at.op a ≡ true) where
-
       step : (leaving : Bool) → leaves at.stop (taken at.op a b) ≡ leaving → Steps p leaving h.now
-      step leaving kind = record { index = i; at = at; a = a; b = b; stands = stands_there; goes_on = runs; kind = kind; }
+      step leaving kind = record { index = i; at = at; a = a; b = b; stands = stands_there; goes_on = runs; kind = kind }
 
       turned : (plain_of p (suc h.now)).pc ≡ turn at.op a b (address i)
       turned = left.pc ∙ ap (λ (o : Outcome). pc_after o (turn at.op a b (address i)) (address i)) runs
@@ -85,16 +85,17 @@ module _ (p : Listing) (fits : length p.code ≤ 4096) (sound : Sound p) where
       place_on false (Some to) kind e =
           let on : Leads at.op a b i = leads_inside p fits sound u.task i at a b h.is_task stood.0 there kind runs in
           let same_end : on.to ≡ to = (let f = on.leads in cc) in (
-            onward stood.0 (record { at = at; is_there = there; taken = taken at.op a b; leads = e; kind = kind; }),
+            onward stood.0 (record { at = at; is_there = there; taken = taken at.op a b; leads = e; kind = kind }),
             follow_on stood.1 (step false kind),
-            turned ∙ on.turns ∙ ap address same_end)
+            turned ∙ on.turns ∙ ap address same_end,
+          )
       place_on false None kind e =
           let on : Leads at.op a b i = leads_inside p fits sound u.task i at a b h.is_task stood.0 there kind runs in
           absurd (let f = on.leads in cc)
 
       last_on : (leaving : Bool) (o : Option ℕ) (r : ℕ) → leaves at.stop (taken at.op a b) ≡ leaving → edge at.op i (taken at.op a b) ≡ o → ((j : ℕ) → Edge p false i j → MayWrite p j r → ⊥) → Last p (place_after leaving o (turn at.op a b (address i))) r
       last_on true o r kind e never = tt
-      last_on false (Some to) r kind e never = never to (record { at = at; is_there = there; taken = taken at.op a b; leads = e; kind = kind; })
+      last_on false (Some to) r kind e never = never to (record { at = at; is_there = there; taken = taken at.op a b; leads = e; kind = kind })
       last_on false None r kind e never = tt
 
       written_now : (r : ℕ) → (plain_of p (suc h.now)).regs r ≡ unwrap_or (written at.op a b (address i) (byte_of p.fixed) memory r) ((plain_of p h.now).regs r)
@@ -114,23 +115,26 @@ module _ (p : Listing) (fits : length p.code ≤ 4096) (sound : Sound p) where
 
       pub moved_right : UnitRight p behind n (record (moved p u at i a b memory) { log = u.log ++ record { pc = address i; a = a; b = b } ∷ [] })
       moved_right = record {
-          now = suc h.now;
-          count = (let c : h.now ≡ n + length u.log = h.count in omega (arith, length-append u.log (record { pc = address i; a = a; b = b } ∷ [])));
-          is_task = h.is_task;
-          place = place_on (leaves at.stop (taken at.op a b)) (edge at.op i (taken at.op a b)) refl refl;
-          runs = left.outcome ∙ runs;
-          log = sym (append_assoc (reads_of p n) u.log _) ∙ ap (λ (xs : List Read). xs ++ record { pc = address i; a = a; b = b } ∷ []) h.log ∙ sym left.reads;
-          local = local_on;
-          kept = kept_on;
-          arrived = h.arrived;
-          sent = λ r w e. elim (sent_found (sends at r) (u.sent r) (value (with_written u (written at.op a b (address i) (byte_of p.fixed) memory)) r) w e) [
-                inl g ↦ stays r (not_again r w g) ∙ h.sent r w g
-              | inr g ↦ value_on r w g.1 ];
-          last = λ r w e. last_on (leaves at.stop (taken at.op a b)) (edge at.op i (taken at.op a b)) r refl refl
+        now = suc h.now;
+        count = (let c : h.now ≡ n + length u.log = h.count in omega (arith, length-append u.log (record { pc = address i; a = a; b = b } ∷ [])));
+        is_task = h.is_task;
+        place = place_on (leaves at.stop (taken at.op a b)) (edge at.op i (taken at.op a b)) refl refl;
+        runs = left.outcome ∙ runs;
+        log = sym (append_assoc (reads_of p n) u.log _) ∙ ap (λ (xs : List Read). xs ++ record { pc = address i; a = a; b = b } ∷ []) h.log ∙ sym left.reads;
+        local = local_on;
+        kept = kept_on;
+        arrived = h.arrived;
+        sent = λ r w e. elim (sent_found (sends at r) (u.sent r) (value (with_written u (written at.op a b (address i) (byte_of p.fixed) memory)) r) w e) [
+          | inl g ↦ stays r (not_again r w g) ∙ h.sent r w g
+          | inr g ↦ value_on r w g.1
+        ];
+        last = λ r w e. last_on (leaves at.stop (taken at.op a b)) (edge at.op i (taken at.op a b)) r refl refl
             (elim (sent_found (sends at r) (u.sent r) (value (with_written u (written at.op a b (address i) (byte_of p.fixed) memory)) r) w e) [
-                inl g ↦ λ j over writes. not_again r w g (may_write_first over writes)
-              | inr g ↦ (sound_at p fits sound u.task h.is_task).sends_last i at stood.0 there r g.0 ]);
-          quiet = quiet_on behind ahead h.quiet; }
+              | inl g ↦ λ j over writes. not_again r w g (may_write_first over writes)
+              | inr g ↦ (sound_at p fits sound u.task h.is_task).sends_last i at stood.0 there r g.0
+            ]);
+        quiet = quiet_on behind ahead h.quiet;
+      }
 
       pub exec_right : UnitRight p behind n (after_exec p u at i a b memory)
       exec_right = subst (λ (o : Outcome). UnitRight p behind n (record (executed o p u at i a b memory) { log = u.log ++ record { pc = address i; a = a; b = b } ∷ [] })) (sym runs) moved_right

@@ -65,47 +65,47 @@ operand u r = unwrap_or (value u r) 0
 abbrev pub refusal : Listing → (units : ℕ) → State → Event → Option Refused
 refusal p units s (Assign t) =
     unless (nat_lt (length s.queue) units) refused.NoUnit (
-      unless (nat_lt t (length p.tasks)) refused.NoSuch (
-        unless (follows p s.next t (last_or None s.queue)) refused.NotATarget None))
+    unless (nat_lt t (length p.tasks)) refused.NoSuch (
+    unless (follows p s.next t (last_or None s.queue)) refused.NotATarget None))
 refusal p units s (Exec k) =
     for_some (slice_get s.queue k) refused.NoSuch (λ u.
-      for_some (instruction_at p u.place) refused.Stopped (λ m.
-        for_none (least (waits m.op) (λ r. is_none (value u r))) refused.Waiting (
-          unless (nat_eq k 0 || may_run_ahead m.op (operand u (reg_a m.op))) refused.NotHead None)))
+    for_some (instruction_at p u.place) refused.Stopped (λ m.
+    for_none (least (waits m.op) (λ r. is_none (value u r))) refused.Waiting (
+    unless (nat_eq k 0 || may_run_ahead m.op (operand u (reg_a m.op))) refused.NotHead None)))
 refusal p units s (Transfer zero r) = Some refused.NoSuch
 refusal p units s (Transfer (suc k) r) =
     for_some (slice_get s.queue (suc k)) refused.NoSuch (λ u.
-      unless (is_none (u.arrived r)) refused.AlreadyThere (
-        unless (is_some (option_and_then (λ giver. pass p giver r) (slice_get s.queue k))) (refused.NotYet r) None))
+    unless (is_none (u.arrived r)) refused.AlreadyThere (
+    unless (is_some (option_and_then (λ giver. pass p giver r) (slice_get s.queue k))) (refused.NotYet r) None))
 refusal p units s (Drain k r) =
     for_some (slice_get s.queue k) refused.NoSuch (λ u.
-      unless (creates p u.task r) refused.NoSuch (
-        for_some (exit_of u.place) refused.NotStopped (λ exit.
-          unless (is_none (u.sent r)) refused.AlreadyThere (
-            unless (is_some (value u r)) (refused.NotYet r) None))))
+    unless (creates p u.task r) refused.NoSuch (
+    for_some (exit_of u.place) refused.NotStopped (λ exit.
+    unless (is_none (u.sent r)) refused.AlreadyThere (
+    unless (is_some (value u r)) (refused.NotYet r) None))))
 refusal p units s (Squash k) =
     for_some (slice_get s.queue (suc k)) refused.NoSuch (λ after.
-      for_some (option_and_then (λ u. exit_of u.place) (slice_get s.queue k)) refused.NotStopped (λ exit.
-        unless (not (nat_eq (begins p after.task) exit)) refused.NoMismatch None))
+    for_some (option_and_then (λ u. exit_of u.place) (slice_get s.queue k)) refused.NotStopped (λ exit.
+    unless (not (nat_eq (begins p after.task) exit)) refused.NoMismatch None))
 refusal p units s Retire =
     for_some (slice_get s.queue 0) refused.NoSuch (λ u.
-      for_some (exit_of u.place) refused.NotStopped (λ exit.
-        for_none (least (creates p u.task) (λ r. is_none (u.sent r))) refused.Unfinished (
-          unless (next_begins p (drop 1 s.queue) exit) refused.Mismatch (
-            unless (is_listed p u.task exit) refused.NotListed None))))
+    for_some (exit_of u.place) refused.NotStopped (λ exit.
+    for_none (least (creates p u.task) (λ r. is_none (u.sent r))) refused.Unfinished (
+    unless (next_begins p (drop 1 s.queue) exit) refused.Mismatch (
+    unless (is_listed p u.task exit) refused.NotListed None))))
 refusal p units s Fault =
     for_some (slice_get s.queue 0) refused.NoSuch (λ u.
-      for_some (exit_of u.place) refused.NotStopped (λ exit.
-        unless (not (is_listed p u.task exit)) refused.IsListed None))
+    for_some (exit_of u.place) refused.NotStopped (λ exit.
+    unless (not (is_listed p u.task exit)) refused.IsListed None))
 refusal p units s (Drop k) =
     for_some (slice_get s.queue k) refused.NoSuch (λ u.
-      unless (nat_lt 0 k) refused.NoSuch None)
+    unless (nat_lt 0 k) refused.NoSuch None)
 
 -- with n events before it
 abbrev pub first_refusal : Listing → (units : ℕ) → State → (n : ℕ) → Event → Option Refused
 first_refusal p units s n e =
     unless (is_running s.outcome) refused.Ended (
-      option_or (refusal p units s e) (unless (nat_lt n most_events) refused.Full None))
+    option_or (refusal p units s e) (unless (nat_lt n most_events) refused.Full None))
 
 abbrev pub ok_unless : Option Refused → Result (Unit {0}) Refused
 ok_unless None = Ok tt
@@ -138,15 +138,16 @@ abbrev pub after : Listing → State → Event → State
 after p s (Assign t) = record s { queue = s.queue ++ started p s t ∷ []; assigns = suc s.assigns }
 after p s (Exec k) = with_unit s (slice_get s.queue k) (λ u. exec_after p s k u (instruction_at p u.place))
 after p s (Transfer k r) = with_unit s (slice_get s.queue k) (λ u.
-      with_queue s (slice_set s.queue k (record u {
-        arrived = put r (unwrap_or (option_and_then (λ giver. pass p giver r) (slice_get s.queue (pred k))) 0) u.arrived })))
+    with_queue s (slice_set s.queue k (record u {
+      arrived = put r (unwrap_or (option_and_then (λ giver. pass p giver r) (slice_get s.queue (pred k))) 0) u.arrived;
+    })))
 after p s (Drain k r) = with_unit s (slice_get s.queue k) (λ u.
-      with_queue s (slice_set s.queue k (record u { sent = put r (operand u r) u.sent })))
+    with_queue s (slice_set s.queue k (record u { sent = put r (operand u r) u.sent })))
 after p s (Squash k) = with_queue s (take (suc k) s.queue)
 after p s Retire = with_unit s (slice_get s.queue 0) (λ u.
-      retire_leaves p s u (drop 1 s.queue) (unwrap_or (exit_of u.place) 0))
+    retire_leaves p s u (drop 1 s.queue) (unwrap_or (exit_of u.place) 0))
 after p s Fault = with_unit s (slice_get s.queue 0) (λ u.
-      record s { outcome = standing.Unlisted (unwrap_or (exit_of u.place) 0) })
+    record s { outcome = standing.Unlisted (unwrap_or (exit_of u.place) 0) })
 after p s (Drop k) = with_queue s (take k s.queue)
 
 abbrev pub next_state : Listing → (units : ℕ) → State → Event → Option State

@@ -68,11 +68,12 @@ value_at played k r = value_of (slice_get played.state.queue k) r
 -- register 9
 abbrev pub count : Listing
 count = record {
-      code = forwards (Imm Addiu 8 8 (pos 1)) ∷ forwards (Three Addu 9 9 8) ∷ bare (Imm Slti 10 8 (pos 4)) ∷ stops (BranchTwo Bne 10 0 0) ∷ bare (Out 9) ∷ bare Halt ∷ [];
-      bytes = [];
-      fixed = [];
-      tasks = task 0 0x700 (0 ∷ 4 ∷ []) ∷ task 4 0 [] ∷ [];
-      start = 0; }
+  code = forwards (Imm Addiu 8 8 (pos 1)) ∷ forwards (Three Addu 9 9 8) ∷ bare (Imm Slti 10 8 (pos 4)) ∷ stops (BranchTwo Bne 10 0 0) ∷ bare (Out 9) ∷ bare Halt ∷ [];
+  bytes = [];
+  fixed = [];
+  tasks = task 0 0x700 (0 ∷ 4 ∷ []) ∷ task 4 0 [] ∷ [];
+  start = 0;
+}
 
 -- the second unit waits for register 8 until it is sent and taken
 abbrev pub count_waits : List Event
@@ -117,11 +118,12 @@ count_refused_shows = record { answers_are = refl; output_is = refl; c_is = refl
 -- Task B, predicted wrongly, would load from an address that is in no region
 abbrev pub wrong_path_load : Listing
 wrong_path_load = record {
-      code = forwards (Imm Addiu 8 0 (pos 1)) ∷ stops (BranchTwo Bne 8 0 3) ∷ forwards_and_stops (Load Lw 11 0 (pos 1)) ∷ bare (Out 8) ∷ bare Halt ∷ [];
-      bytes = [];
-      fixed = [];
-      tasks = task 0 0x100 (2 ∷ 3 ∷ []) ∷ task 2 0x800 (3 ∷ []) ∷ task 3 0 [] ∷ [];
-      start = 0; }
+  code = forwards (Imm Addiu 8 0 (pos 1)) ∷ stops (BranchTwo Bne 8 0 3) ∷ forwards_and_stops (Load Lw 11 0 (pos 1)) ∷ bare (Out 8) ∷ bare Halt ∷ [];
+  bytes = [];
+  fixed = [];
+  tasks = task 0 0x100 (2 ∷ 3 ∷ []) ∷ task 2 0x800 (3 ∷ []) ∷ task 3 0 [] ∷ [];
+  start = 0;
+}
 
 -- the load waits for the head and is squashed: no trap
 abbrev pub wrong_path_squashed : List Event
@@ -134,11 +136,12 @@ wrong_path_squashed_shows = record { answers_are = refl; output_is = refl; c_is 
 -- The one task jumps through register 31 to an address that it does not list
 abbrev pub unlisted_jump : Listing
 unlisted_jump = record {
-      code = bare (Lui 31 0x40) ∷ bare (Logic Ori 31 31 0x10) ∷ stops (JumpReg 31) ∷ bare Halt ∷ bare (Out 31) ∷ bare Halt ∷ [];
-      bytes = [];
-      fixed = [];
-      tasks = task 0 0x80000000 [] ∷ [];
-      start = 0; }
+  code = bare (Lui 31 0x40) ∷ bare (Logic Ori 31 31 0x10) ∷ stops (JumpReg 31) ∷ bare Halt ∷ bare (Out 31) ∷ bare Halt ∷ [];
+  bytes = [];
+  fixed = [];
+  tasks = task 0 0x80000000 [] ∷ [];
+  start = 0;
+}
 
 -- it ends by a Fault, and nothing retires
 abbrev pub jump_unlisted : List Event
@@ -151,11 +154,12 @@ jump_unlisted_shows = record { answers_are = refl; output_is = refl; c_is = refl
 -- Task B, predicted wrongly, loads a word of read-only data, and then one that is not aligned
 abbrev pub read_only : Listing
 read_only = record {
-      code = forwards (Imm Addiu 8 0 (pos 1)) ∷ stops (BranchTwo Bne 8 0 6) ∷ bare (Lui 9 0x1000) ∷ bare (Logic Ori 9 9 0) ∷ forwards (Load Lw 9 9 (pos 0)) ∷ forwards_and_stops (Load Lw 10 9 (pos 1)) ∷ bare (Out 8) ∷ bare Halt ∷ [];
-      bytes = [];
-      fixed = 7 ∷ 0 ∷ 0 ∷ 0 ∷ [];
-      tasks = task 0 0x100 (2 ∷ 6 ∷ []) ∷ task 2 0x600 (6 ∷ []) ∷ task 6 0 [] ∷ [];
-      start = 0; }
+  code = forwards (Imm Addiu 8 0 (pos 1)) ∷ stops (BranchTwo Bne 8 0 6) ∷ bare (Lui 9 0x1000) ∷ bare (Logic Ori 9 9 0) ∷ forwards (Load Lw 9 9 (pos 0)) ∷ forwards_and_stops (Load Lw 10 9 (pos 1)) ∷ bare (Out 8) ∷ bare Halt ∷ [];
+  bytes = [];
+  fixed = 7 ∷ 0 ∷ 0 ∷ 0 ∷ [];
+  tasks = task 0 0x100 (2 ∷ 6 ∷ []) ∷ task 2 0x600 (6 ∷ []) ∷ task 6 0 [] ∷ [];
+  start = 0;
+}
 
 -- a load of read-only data may run ahead of the head, any other waits for it
 abbrev pub read_ahead : List Event
@@ -180,11 +184,12 @@ read_and_squashed_shows = record { answers_are = refl; output_is = refl; c_is = 
 -- Task A multiplies 2 ^ 32 - 2 by itself, task B puts out HI and LO
 abbrev pub product : Listing
 product = record {
-      code = forwards (Imm Addiu 8 0 (negsuc 1)) ∷ forwards_and_stops (Mult Multu 8 8) ∷ bare (MoveFrom Mfhi 9) ∷ bare (Out 9) ∷ forwards (MoveFrom Mflo 9) ∷ bare (Out 9) ∷ bare Halt ∷ [];
-      bytes = [];
-      fixed = [];
-      tasks = task 0 0x300000100 (2 ∷ []) ∷ task 2 0x200 [] ∷ [];
-      start = 0; }
+  code = forwards (Imm Addiu 8 0 (negsuc 1)) ∷ forwards_and_stops (Mult Multu 8 8) ∷ bare (MoveFrom Mfhi 9) ∷ bare (Out 9) ∷ forwards (MoveFrom Mflo 9) ∷ bare (Out 9) ∷ bare Halt ∷ [];
+  bytes = [];
+  fixed = [];
+  tasks = task 0 0x300000100 (2 ∷ []) ∷ task 2 0x200 [] ∷ [];
+  start = 0;
+}
 
 -- HI and LO go from task to task like any register
 abbrev pub product_run : List Event

@@ -43,19 +43,20 @@ pub record State : Type 0 where
 
 abbrev pub opening : Listing → State
 opening p = record {
-      queue = [];
-      regs = λ r. 0;
-      memory = byte_of p.bytes;
-      output = [];
-      outcome = standing.Running;
-      next = address p.start;
-      reads = [];
-      commits = [];
-      assigns = 0; }
+  queue = [];
+  regs = λ r. 0;
+  memory = byte_of p.bytes;
+  output = [];
+  outcome = standing.Running;
+  next = address p.start;
+  reads = [];
+  commits = [];
+  assigns = 0;
+}
 
 -- the task of a number; a number beyond the tasks stands for one that has no target and produces nothing
 abbrev pub no_task : Descriptor
-no_task = record { name = []; entry = 0; create = 0; targets = []; }
+no_task = record { name = []; entry = 0; create = 0; targets = [] }
 
 abbrev pub task_at : Listing → ℕ → Descriptor
 task_at p t = slice_index_or p.tasks t no_task

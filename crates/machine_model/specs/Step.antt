@@ -37,13 +37,14 @@ is_reserved p us r = list_any (λ u. creates p u.task r) us
 
 abbrev pub started : Listing → State → ℕ → Active
 started p s t = record {
-      task = t;
-      serial = s.assigns;
-      arrived = λ r. if is_reserved p s.queue r then None else Some (s.regs r);
-      local = λ r. None;
-      sent = λ r. None;
-      place = Inside (task_at p t).entry;
-      log = []; }
+  task = t;
+  serial = s.assigns;
+  arrived = λ r. if is_reserved p s.queue r then None else Some (s.regs r);
+  local = λ r. None;
+  sent = λ r. None;
+  place = Inside (task_at p t).entry;
+  log = [];
+}
 
 -- behind a stopped tail the task begins where the tail stopped, and the tail lists it; behind a
 -- running tail it is a target; on an empty queue it begins at the next address
@@ -87,8 +88,8 @@ with_log u log = record u { log = log }
 abbrev pub moved : Listing → Active → Marked → (index a b : ℕ) → (ℕ → ℕ) → Active
 moved p u m index a b memory =
     with_place
-      (with_sent (with_written u (written m.op a b (address index) (byte_of p.fixed) memory)) (sends m))
-      (place_after (leaves m.stop (taken m.op a b)) (edge m.op index (taken m.op a b)) (turn m.op a b (address index)))
+    (with_sent (with_written u (written m.op a b (address index) (byte_of p.fixed) memory)) (sends m))
+    (place_after (leaves m.stop (taken m.op a b)) (edge m.op index (taken m.op a b)) (turn m.op a b (address index)))
 
 abbrev pub executed : Outcome → Listing → Active → Marked → (index a b : ℕ) → (ℕ → ℕ) → Active
 executed Running p u m index a b memory = moved p u m index a b memory
@@ -106,10 +107,11 @@ stands (Trapped trap) = standing.Trapped trap
 
 abbrev pub exec_leaves : Listing → State → ℕ → Active → Marked → (index a b : ℕ) → State
 exec_leaves p s k u m index a b = record s {
-      queue = slice_set s.queue k (after_exec p u m index a b s.memory);
-      memory = memory_after m.op a b s.memory;
-      output = output_after m.op a s.output;
-      outcome = stands (outcome_after m.op a); }
+  queue = slice_set s.queue k (after_exec p u m index a b s.memory);
+  memory = memory_after m.op a b s.memory;
+  output = output_after m.op a s.output;
+  outcome = stands (outcome_after m.op a);
+}
 
 pub record Execs (p : Listing) (s : State) (k : ℕ) (s' : State) : Type 0 where
   pub unit : Active
@@ -181,11 +183,12 @@ filled regs (u ∷ us) = record u { arrived = λ r. option_or (u.arrived r) (Som
 
 abbrev pub retire_leaves : Listing → State → Active → List Active → (exit : ℕ) → State
 retire_leaves p s head rest exit = record s {
-      queue = filled (handed_over p head s.regs) rest;
-      regs = handed_over p head s.regs;
-      next = exit;
-      reads = s.reads ++ head.log;
-      commits = s.commits ++ record { task = head.task; exit = exit; count = length head.log; } ∷ []; }
+  queue = filled (handed_over p head s.regs) rest;
+  regs = handed_over p head s.regs;
+  next = exit;
+  reads = s.reads ++ head.log;
+  commits = s.commits ++ record { task = head.task; exit = exit; count = length head.log } ∷ [];
+}
 
 pub record Retires (p : Listing) (s : State) (s' : State) : Type 0 where
   pub head : Active

@@ -9,75 +9,63 @@ ghost use Rattle.machine_model.specs.Laws.{Headline, HowARunEnds, ReplayCut, Ans
 /// machine's after h instructions, and so is each register of the head.
 pub fn headline()
     ensures { Headline }
-{
-}
+{}
 
 /// The run is Halted or Trapped only where the plain machine is so after h instructions, and Unlisted
 /// at an address only where the plain machine, still running, is about to fetch there.
 pub fn how_a_run_ends()
     ensures { HowARunEnds }
-{
-}
+{}
 
 /// The state after a list of events does not depend on where the list is cut in two.
 pub fn replays_join()
     ensures { ReplayCut }
-{
-}
+{}
 
 /// The answer to an event is Ok exactly where the machine step allows it and the history has room.
 pub fn answer_is_next()
     ensures { AnswerIsNext }
-{
-}
+{}
 
 /// An event that is allowed leaves one state, the one that `after` computes.
 pub fn next_is_after()
     ensures { NextIsAfter }
-{
-}
+{}
 
 /// The replay as a function and the replay as a relation are one.
 pub fn replay_is_replays()
     ensures { ReplayIsReplays }
-{
-}
+{}
 
 /// While the run goes on there is a head event, and the machine step allows it.
 pub fn never_stuck()
     ensures { NeverStuck }
-{
-}
+{}
 
 /// Once the run has ended there is no head event.
 pub fn ended_has_none()
     ensures { EndedHasNone }
-{
-}
+{}
 
 /// By how much each event lets h grow: an instruction of the head by one, a Retire by what the next
 /// unit has executed ahead, any other event not at all.
 pub fn events_grow()
     ensures { EventsGrow }
-{
-}
+{}
 
 /// How many tasks have retired and how many units are active follows from the events alone.
 pub fn events_count()
     ensures { EventsCount }
-{
-}
+{}
 
 /// A burst that was made on a unit, handed in where that unit stands with at most more registers
 /// arrived, is a list of Exec events.
 pub fn bursts_are_events()
     ensures { BurstsAreEvents }
-{
-}
+{}
 
 /// What a unit keeps of its sent registers: where none of them is in the mask of the unit's place,
 /// that holds after each Exec too, and each keeps its value.
 pub fn sent_registers_stay()
     ensures { SentRegistersStay }
-{
-}
+{}

@@ -40,8 +40,9 @@ listed : (p : Listing) (leaving : Bool) (i j : ℕ) (m : Marked) (test : ℕ →
     → test j ≡ true → list_any test (ends_of leaving m i) ≡ true
 listed p leaving i j m test there e h = any_of test (end_of leaving m i false) (end_of leaving m i true)
     ∙ (elim (edge_to p leaving i j m there e) [
-        inl x ↦ or_left (holds_at (end_of leaving m i false) test) (holds_at (end_of leaving m i true) test) (some_holds (end_of leaving m i false) test j x h)
-        | inr y ↦ or_right (holds_at (end_of leaving m i false) test) (holds_at (end_of leaving m i true) test) (some_holds (end_of leaving m i true) test j y h) ])
+      | inl x ↦ or_left (holds_at (end_of leaving m i false) test) (holds_at (end_of leaving m i true) test) (some_holds (end_of leaving m i false) test j x h)
+      | inr y ↦ or_right (holds_at (end_of leaving m i false) test) (holds_at (end_of leaving m i true) test) (some_holds (end_of leaving m i true) test j y h)
+    ])
 
 unlisted : (p : Listing) (leaving : Bool) (i j : ℕ) (m : Marked) (test : ℕ → Bool) → slice_get p.code i ≡ Some m → Edge p leaving i j
     → list_any test (ends_of leaving m i) ≡ false → test j ≡ false
@@ -117,7 +118,6 @@ some_there (m ∷ ms) (suc i) h = some_there ms i (omega arith)
 
 -- One task: d, its list es, and every place right.
 module _ (p : Listing) (d : Descriptor) (es : List (ℕ × ℕ)) (all : AllRight p d es (places d.entry es)) where
-
   clean_at : (i mask : ℕ) (m : Marked) → slice_get p.code i ≡ Some m → mask_at es i ≡ Some mask → IsClean (conditions p d es i m (Some mask))
   clean_at i mask m there has_mask = right_place p d es es i mask all has_mask m there
 
@@ -130,8 +130,8 @@ module _ (p : Listing) (d : Descriptor) (es : List (ℕ × ℕ)) (all : AllRight
   next_mask i mask j m there has_mask e =
       some (mask_at es j)
       (excluded (nat_lt j (length p.code)) (is_none (mask_at es j))
-          (unlisted p false i j m (λ k. nat_lt k (length p.code) && is_none (mask_at es k)) there e (clean_at i mask m there has_mask).next_without_mask)
-          (lt-ltb j (length p.code) (inside i mask j m there has_mask e)))
+      (unlisted p false i j m (λ k. nat_lt k (length p.code) && is_none (mask_at es k)) there e (clean_at i mask m there has_mask).next_without_mask)
+      (lt-ltb j (length p.code) (inside i mask j m there has_mask e)))
     where
       some : (o : Option ℕ) → is_none o ≡ false → (k : ℕ) × (o ≡ Some k)
       some None h = absurd (cc)
@@ -142,7 +142,7 @@ module _ (p : Listing) (d : Descriptor) (es : List (ℕ × ℕ)) (all : AllRight
   next_has_it i mask j k r m there has_mask e next h =
       listed p false i j m (λ l. nat_lt l (length p.code) && in_mask (mask_at es l) r) there e
       (and_from (nat_lt j (length p.code)) (in_mask (mask_at es j) r) (lt-ltb j (length p.code) (inside i mask j m there has_mask e))
-          (subst (λ (o : Option ℕ). in_mask o r ≡ true) (sym next) h))
+      (subst (λ (o : Option ℕ). in_mask o r ≡ true) (sym next) h))
 
   shrinks : (i mask j k r : ℕ) (m : Marked) → slice_get p.code i ≡ Some m → mask_at es i ≡ Some mask → Edge p false i j → mask_at es j ≡ Some k
       → has k r ≡ true → has mask r ≡ true
@@ -153,11 +153,12 @@ module _ (p : Listing) (d : Descriptor) (es : List (ℕ × ℕ)) (all : AllRight
       → sends m r ≡ true → has k r ≡ false
   not_next i mask j k r m there has_mask e next h =
       false_from_ne_true (has k r) (λ yes.
-          let there_too = next_has_it i mask j k r m there has_mask e next yes in
-          let clean = clean_at i mask m there has_mask in
-          elim (or_cases (m.forward && dests m.op r) (released m.op r) h) [
-              inl f ↦ both (next_has p es m i r) (excluded (m.forward && dests m.op r) (next_has p es m i r) (clean.forwarded_in_next r) f) there_too
-              | inr l ↦ both (next_has p es m i r) (excluded (released m.op r) (next_has p es m i r) (clean.released_in_next r) l) there_too ])
+      let there_too = next_has_it i mask j k r m there has_mask e next yes in
+      let clean = clean_at i mask m there has_mask in
+      elim (or_cases (m.forward && dests m.op r) (released m.op r) h) [
+        | inl f ↦ both (next_has p es m i r) (excluded (m.forward && dests m.op r) (next_has p es m i r) (clean.forwarded_in_next r) f) there_too
+        | inr l ↦ both (next_has p es m i r) (excluded (released m.op r) (next_has p es m i r) (clean.released_in_next r) l) there_too
+      ])
     where
       both : (b : Bool) → b ≡ false → b ≡ true → ⊥
       both b x y = cc
@@ -172,14 +173,15 @@ pub record Shrunk (es : List (ℕ × ℕ)) (mask k : ℕ) : Type 0 where
   pub within : (r : ℕ) → has later r ≡ true → has mask r ≡ true
 
 shrunk : (p : Listing) (d : Descriptor) (es : List (ℕ × ℕ)) → AllRight p d es (places d.entry es) → (i mask k : ℕ) → mask_at es i ≡ Some mask → Path p i k → Shrunk es mask k
-shrunk p d es all i mask k has_mask stay = record { later = mask; has_mask = has_mask; within = λ r h. h; }
+shrunk p d es all i mask k has_mask stay = record { later = mask; has_mask = has_mask; within = λ r h. h }
 shrunk p d es all i mask k has_mask (onward {j = j} path e) =
     let before : Shrunk es mask j = shrunk p d es all i mask j has_mask path in
     let next : (l : ℕ) × (mask_at es k ≡ Some l) = next_mask p d es all j before.later k e.at e.is_there before.has_mask e in
     record {
       later = next.0;
       has_mask = next.1;
-      within = λ r h. before.within r (shrinks p d es all j before.later k next.0 r e.at e.is_there before.has_mask e next.1 h); }
+      within = λ r h. before.within r (shrinks p d es all j before.later k next.0 r e.at e.is_there before.has_mask e next.1 h);
+    }
 
 -- the entry's mask lies in the create mask
 entry_created : (p : Listing) (d : Descriptor) (es : List (ℕ × ℕ)) (mask : ℕ) (m : Marked) → AllRight p d es (places d.entry es)
@@ -191,8 +193,9 @@ entry_created p d es mask m all there has_mask r h =
 target_begins : (test : ℕ → Bool) (xs : List ℕ) (j : ℕ) → list_any (λ k. not (test k)) xs ≡ false → list_any (nat_eq j) xs ≡ true → test j ≡ true
 target_begins test [] j none h = absurd (cc)
 target_begins test (x ∷ xs) j none h = elim (or_cases (nat_eq j x) (list_any (nat_eq j) xs) h) [
-    inl e ↦ subst (λ n. test n ≡ true) (sym (eqb-true j x e)) (not-false (test x) (or_parts (not (test x)) (list_any (λ k. not (test k)) xs) none).0)
-    | inr rest ↦ target_begins test xs j (or_parts (not (test x)) (list_any (λ k. not (test k)) xs) none).1 rest ]
+  | inl e ↦ subst (λ n. test n ≡ true) (sym (eqb-true j x e)) (not-false (test x) (or_parts (not (test x)) (list_any (λ k. not (test k)) xs) none).0)
+  | inr rest ↦ target_begins test xs j (or_parts (not (test x)) (list_any (λ k. not (test k)) xs) none).1 rest
+]
 
 always : (s : Stop) → stops_always s ≡ true → s ≡ stop.Always
 always stop.None h = absurd (cc)
@@ -202,40 +205,45 @@ always stop.NotTaken h = absurd (cc)
 
 pub sound_task : (p : Listing) (d : Descriptor) (es : List (ℕ × ℕ)) → d.entry < length p.code → AllRight p d es (places d.entry es) → SoundTask p d
 sound_task p d es begins all = record {
-      writes_created = λ r w.
-          let s = at w.place w.comes in
-          created r (s.within r (writes p d es all w.place s.later r w.at w.is_there s.has_mask w.writes));
-      sends_created = λ i m path there r h.
-          let s = at i path in
-          implied (sends m r) (has d.create r) ((clean_at p d es all i s.later m there s.has_mask).sent_not_created r) h;
-      sends_last = λ i m path there r h j e w.
-          let s = at i path in
-          let next = next_mask p d es all i s.later j m there s.has_mask e in
-          let last = shrunk p d es all j next.0 w.place next.1 w.comes in
-          both (has next.0 r) (not_next p d es all i s.later j next.0 r m there s.has_mask e next.1 h)
-          (last.within r (writes p d es all w.place last.later r w.at w.is_there last.has_mask w.writes));
-      exits_listed = λ i j path e.
-          let s = at i path in
-          not-false (is_target d j)
-          (unlisted p true i j e.at (λ k. not (is_target d k)) e.is_there e (clean_at p d es all i s.later e.at e.is_there s.has_mask).exit_not_listed);
-      targets_begin = λ j h.
-          target_begins (is_entry p) d.targets j
-          (at_true (nat_eq d.entry d.entry) (list_any (λ k. not (is_entry p k)) d.targets)
-              (clean_at p d es all d.entry entry.0 first.0 first.1 entry.1).target_not_entry (eq-eqb d.entry d.entry refl)) h;
-      stays_inside = λ i j path e.
-          let s = at i path in inside p d es all i s.later j e.at e.is_there s.has_mask e;
-      indirect_stops = λ i m path there h.
-          let s = at i path in
-          always m.stop (implied (is_indirect m.op) (stops_always m.stop) (clean_at p d es all i s.later m there s.has_mask).indirect_goes_on h); }
+  writes_created = λ r w.
+      let s = at w.place w.comes in
+      created r (s.within r (writes p d es all w.place s.later r w.at w.is_there s.has_mask w.writes));
+  sends_created = λ i m path there r h.
+      let s = at i path in
+      implied (sends m r) (has d.create r) ((clean_at p d es all i s.later m there s.has_mask).sent_not_created r) h;
+  sends_last = λ i m path there r h j e w.
+      let s = at i path in
+      let next = next_mask p d es all i s.later j m there s.has_mask e in
+      let last = shrunk p d es all j next.0 w.place next.1 w.comes in
+      both (has next.0 r) (not_next p d es all i s.later j next.0 r m there s.has_mask e next.1 h)
+      (last.within r (writes p d es all w.place last.later r w.at w.is_there last.has_mask w.writes));
+  exits_listed = λ i j path e.
+      let s = at i path in
+      not-false (is_target d j)
+      (unlisted p true i j e.at (λ k. not (is_target d k)) e.is_there e (clean_at p d es all i s.later e.at e.is_there s.has_mask).exit_not_listed);
+  targets_begin = λ j h.
+      target_begins (is_entry p) d.targets j
+      (at_true (nat_eq d.entry d.entry) (list_any (λ k. not (is_entry p k)) d.targets)
+      (clean_at p d es all d.entry entry.0 first.0 first.1 entry.1).target_not_entry (eq-eqb d.entry d.entry refl)) h;
+  stays_inside = λ i j path e.
+      let s = at i path in inside p d es all i s.later j e.at e.is_there s.has_mask e;
+  indirect_stops = λ i m path there h.
+      let s = at i path in
+      always m.stop (implied (is_indirect m.op) (stops_always m.stop) (clean_at p d es all i s.later m there s.has_mask).indirect_goes_on h);
+}
   where
     first : (m : Marked) × (slice_get p.code d.entry ≡ Some m)
     first = some_there p.code d.entry begins
+
     entry : (k : ℕ) × (mask_at es d.entry ≡ Some k)
     entry = entry_masked p d es es first.0 first.1 all
+
     created : (r : ℕ) → has entry.0 r ≡ true → has d.create r ≡ true
     created = entry_created p d es entry.0 first.0 all first.1 entry.1
+
     at : (i : ℕ) → Path p d.entry i → Shrunk es entry.0 i
     at i path = shrunk p d es all d.entry entry.0 i entry.1 path
+
     both : (b : Bool) → b ≡ false → b ≡ true → ⊥
     both b x y = cc
 
@@ -247,18 +255,20 @@ sound p cert well right t d there = sound_task p d (list_of cert t) (entry_insid
 pub place_says : (p : Listing) (d : Descriptor) (es : List (ℕ × ℕ)) (i mask : ℕ) (m : Marked) → AllRight p d es (places d.entry es)
     → slice_get p.code i ≡ Some m → mask_at es i ≡ Some mask → d.entry < length p.code → PlaceSays p d es i m mask
 place_says p d es i mask m all there has_mask begins = record {
-      destinations = λ r h. writes p d es all i mask r m there has_mask h;
-      next_inside = λ j e. inside p d es all i mask j m there has_mask e;
-      next_masked = λ j e. next_mask p d es all i mask j m there has_mask e;
-      next_within = λ j k r e next h. shrinks p d es all i mask j k r m there has_mask e next h;
-      sent = λ j k r e next h. not_next p d es all i mask j k r m there has_mask e next h;
-      created = λ path r h.
-          let s = shrunk p d es all d.entry entry.0 i entry.1 path in
-          let same : mask ≡ s.later = cc (has_mask, s.has_mask) in
-          entry_created p d es entry.0 first.0 all first.1 entry.1 r (s.within r (subst (λ n. has n r ≡ true) same h)); }
+  destinations = λ r h. writes p d es all i mask r m there has_mask h;
+  next_inside = λ j e. inside p d es all i mask j m there has_mask e;
+  next_masked = λ j e. next_mask p d es all i mask j m there has_mask e;
+  next_within = λ j k r e next h. shrinks p d es all i mask j k r m there has_mask e next h;
+  sent = λ j k r e next h. not_next p d es all i mask j k r m there has_mask e next h;
+  created = λ path r h.
+      let s = shrunk p d es all d.entry entry.0 i entry.1 path in
+      let same : mask ≡ s.later = cc (has_mask, s.has_mask) in
+      entry_created p d es entry.0 first.0 all first.1 entry.1 r (s.within r (subst (λ n. has n r ≡ true) same h));
+}
   where
     first : (m : Marked) × (slice_get p.code d.entry ≡ Some m)
     first = some_there p.code d.entry begins
+
     entry : (k : ℕ) × (mask_at es d.entry ≡ Some k)
     entry = entry_masked p d es es first.0 first.1 all
 

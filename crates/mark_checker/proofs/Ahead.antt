@@ -53,29 +53,34 @@ carried : (a b c d : Option ℕ) (f g : ℕ → Bool)
     → ((j : ℕ) → (a ≡ Some j) ⊎ (b ≡ Some j) → f j ≡ true → ((c ≡ Some j) ⊎ (d ≡ Some j)) × (g j ≡ true))
     → (holds_at a f || holds_at b f) ≡ true → (holds_at c g || holds_at d g) ≡ true
 carried a b c d f g link h = elim (or_cases (holds_at a f) (holds_at b f) h) [
-    inl x ↦ let k = holds_some a f x in over k.0 (link k.0 (inl k.1) k.2)
-    | inr y ↦ let k = holds_some b f y in over k.0 (link k.0 (inr k.1) k.2) ]
+  | inl x ↦ let k = holds_some a f x in over k.0 (link k.0 (inl k.1) k.2)
+  | inr y ↦ let k = holds_some b f y in over k.0 (link k.0 (inr k.1) k.2)
+]
   where
     over : (j : ℕ) → ((c ≡ Some j) ⊎ (d ≡ Some j)) × (g j ≡ true) → (holds_at c g || holds_at d g) ≡ true
     over j k = elim k.0 [
-        inl e ↦ or_left (holds_at c g) (holds_at d g) (some_holds c g j e k.1)
-        | inr e ↦ or_right (holds_at c g) (holds_at d g) (some_holds d g j e k.1) ]
+      | inl e ↦ or_left (holds_at c g) (holds_at d g) (some_holds c g j e k.1)
+      | inr e ↦ or_right (holds_at c g) (holds_at d g) (some_holds d g j e k.1)
+    ]
 
 either : (next : Next) (j : ℕ) → is_among next j ≡ true → (next.first ≡ Some j) ⊎ (next.second ≡ Some j)
 either next j h = elim (or_cases (is_it next.first j) (is_it next.second j) h) [
-    inl x ↦ inl (that next.first j x)
-    | inr y ↦ inr (that next.second j y) ]
+  | inl x ↦ inl (that next.first j x)
+  | inr y ↦ inr (that next.second j y)
+]
 
 among : (next : Next) (j : ℕ) → (next.first ≡ Some j) ⊎ (next.second ≡ Some j) → is_among next j ≡ true
 among next j h = elim h [
-    inl e ↦ or_left (is_it next.first j) (is_it next.second j) (it next.first j e)
-    | inr e ↦ or_right (is_it next.first j) (is_it next.second j) (it next.second j e) ]
+  | inl e ↦ or_left (is_it next.first j) (is_it next.second j) (it next.first j e)
+  | inr e ↦ or_right (is_it next.first j) (is_it next.second j) (it next.second j e)
+]
 
 from_end : (p : Listing) (leaving : Bool) (i j : ℕ) (m : Marked) → slice_get p.code i ≡ Some m
     → (end_of leaving m i false ≡ Some j) ⊎ (end_of leaving m i true ≡ Some j) → Edge p leaving i j
 from_end p leaving i j m there h = elim h [
-    inl e ↦ edge_from p leaving i j m false there e
-    | inr e ↦ edge_from p leaving i j m true there e ]
+  | inl e ↦ edge_from p leaving i j m false there e
+  | inr e ↦ edge_from p leaving i j m true there e
+]
 
 -- the inner successors
 pub any_inside : (p : Listing) (i : ℕ) (m : Marked) (next : Next) (test : ℕ → Bool) → slice_get p.code i ≡ Some m
@@ -84,17 +89,19 @@ pub any_inside : (p : Listing) (i : ℕ) (m : Marked) (next : Next) (test : ℕ 
 any_inside p i m next test there exact =
     bool_same (holds_at next.first test || holds_at next.second test) (holds_at a guarded || holds_at b guarded)
     (carried next.first next.second a b test guarded (λ j e h.
-        let f = (exact j).0 (among next j e) in
-        (edge_to p false i j m there f.edge, and_from (nat_lt j (length p.code)) (test j) (lt-ltb j (length p.code) f.within) h)))
+    let f = (exact j).0 (among next j e) in
+    (edge_to p false i j m there f.edge, and_from (nat_lt j (length p.code)) (test j) (lt-ltb j (length p.code) f.within) h)))
     (carried a b next.first next.second guarded test (λ j e h.
-        let k = and_parts (nat_lt j (length p.code)) (test j) h in
-        (either next j ((exact j).1 (record { edge = from_end p false i j m there e; within = ltb-true j (length p.code) k.0; })), k.1)))
+    let k = and_parts (nat_lt j (length p.code)) (test j) h in
+    (either next j ((exact j).1 (record { edge = from_end p false i j m there e; within = ltb-true j (length p.code) k.0 })), k.1)))
     ∙ sym (any_of guarded a b)
   where
     a : Option ℕ
     a = end_of false m i false
+
     b : Option ℕ
     b = end_of false m i true
+
     guarded : ℕ → Bool
     guarded j = nat_lt j (length p.code) && test j
 
@@ -105,9 +112,9 @@ pub any_exit : (p : Listing) (i : ℕ) (m : Marked) (next : Next) (test : ℕ �
 any_exit p i m next test there exact =
     bool_same (holds_at next.first test || holds_at next.second test) (holds_at (end_of true m i false) test || holds_at (end_of true m i true) test)
     (carried next.first next.second (end_of true m i false) (end_of true m i true) test test
-        (λ j e h. (edge_to p true i j m there ((exact j).0 (among next j e)), h)))
+    (λ j e h. (edge_to p true i j m there ((exact j).0 (among next j e)), h)))
     (carried (end_of true m i false) (end_of true m i true) next.first next.second test test
-        (λ j e h. (either next j ((exact j).1 (from_end p true i j m there e)), h)))
+    (λ j e h. (either next j ((exact j).1 (from_end p true i j m there e)), h)))
     ∙ sym (any_of test (end_of true m i false) (end_of true m i true))
 
 -- the ends beyond the code
@@ -117,21 +124,25 @@ pub any_beyond : (p : Listing) (i : ℕ) (m : Marked) (off : Bool) → slice_get
 any_beyond p i m off there exact =
     bool_same off (holds_at a beyond || holds_at b beyond)
     (λ h. let f = exact.0 h in
-        let far : beyond f.to ≡ true = le-leb (length p.code) f.to f.beyond in
-        elim (edge_to p false i f.to m there f.edge) [
-            inl e ↦ or_left (holds_at a beyond) (holds_at b beyond) (some_holds a beyond f.to e far)
-            | inr e ↦ or_right (holds_at a beyond) (holds_at b beyond) (some_holds b beyond f.to e far) ])
+    let far : beyond f.to ≡ true = le-leb (length p.code) f.to f.beyond in
+    elim (edge_to p false i f.to m there f.edge) [
+      | inl e ↦ or_left (holds_at a beyond) (holds_at b beyond) (some_holds a beyond f.to e far)
+      | inr e ↦ or_right (holds_at a beyond) (holds_at b beyond) (some_holds b beyond f.to e far)
+    ])
     (λ h. elim (or_cases (holds_at a beyond) (holds_at b beyond) h) [
-        inl x ↦ let k = holds_some a beyond x in
-            exact.1 (record { to = k.0; edge = edge_from p false i k.0 m false there k.1; beyond = leb-true (length p.code) k.0 k.2; })
-        | inr y ↦ let k = holds_some b beyond y in
-            exact.1 (record { to = k.0; edge = edge_from p false i k.0 m true there k.1; beyond = leb-true (length p.code) k.0 k.2; }) ])
+      | inl x ↦ let k = holds_some a beyond x in
+          exact.1 (record { to = k.0; edge = edge_from p false i k.0 m false there k.1; beyond = leb-true (length p.code) k.0 k.2 })
+      | inr y ↦ let k = holds_some b beyond y in
+          exact.1 (record { to = k.0; edge = edge_from p false i k.0 m true there k.1; beyond = leb-true (length p.code) k.0 k.2 })
+    ])
     ∙ sym (any_of beyond a b)
   where
     a : Option ℕ
     a = end_of false m i false
+
     b : Option ℕ
     b = end_of false m i true
+
     beyond : ℕ → Bool
     beyond j = nat_le (length p.code) j
 
@@ -139,9 +150,9 @@ one_before : (b rest : Bool) (n k : ℕ) → nat_lt n k ≡ rest → nat_lt (con
 one_before true rest n k e = lt-ltb 0 (suc k) (omega arith)
 one_before false rest n k e = bool_same (nat_lt (1 + n) (suc k)) rest
     (λ h. let less : 1 + n < suc k = ltb-true (1 + n) (suc k) h in
-        sym e ∙ lt-ltb n k (omega arith))
+    sym e ∙ lt-ltb n k (omega arith))
     (λ h. let less : n < k = ltb-true n k (e ∙ h) in
-        lt-ltb (1 + n) (suc k) (omega arith))
+    lt-ltb (1 + n) (suc k) (omega arith))
 
 -- some element passes where the first that does comes before the end
 stops_before : {X : Type 0} (test : X → Bool) (xs : List X) → nat_lt (prefix_len (λ x. not (test x)) xs) (length xs) ≡ list_any test xs

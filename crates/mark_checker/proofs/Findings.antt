@@ -20,7 +20,7 @@ use Rattle.mark_checker.specs.Places.{Same, IsClean, IsRight}
 pub empty_below : (set bits : ℕ) → bits ≡ set → bits < 2 ^ 34 → ((r : ℕ) → r < 34 → has set r ≡ false) → nat_eq bits 0 ≡ true
 empty_below set bits same range none =
     eq-eqb bits 0 (same_from_bits_below 34 bits 0 range (lit< tt) (λ i less.
-        no_bit (bit_at bits i) (bit_at-lt bits i) (ap (λ (n : ℕ). nat_eq (bit_at n i) 1) same ∙ none i less) ∙ sym (bit_at-zero i)))
+    no_bit (bit_at bits i) (bit_at-lt bits i) (ap (λ (n : ℕ). nat_eq (bit_at n i) 1) same ∙ none i less) ∙ sym (bit_at-zero i)))
   where
     no_bit : (b : ℕ) → b < 2 → nat_eq b 1 ≡ false → b ≡ 0
     no_bit zero less h = refl
@@ -60,14 +60,15 @@ keeps_nothing test a zero h r low high = absurd (omega arith)
 keeps_nothing test a (suc n) h r low high =
     let k = first_fails (test a) a (filter test (range_with_len (a + 1) n)) h in
     elim (cases_eq r a) [
-        inl e ↦ ap test e ∙ k.0
-        | inr ne ↦ keeps_nothing test (a + 1) n k.1 r (omega arith) (omega arith) ]
+      | inl e ↦ ap test e ∙ k.0
+      | inr ne ↦ keeps_nothing test (a + 1) n k.1 r (omega arith) (omega arith)
+    ]
 
 not_each : (t i : ℕ) (rule : Rule) (test : ℕ → Bool) → each t i rule test ≡ [] → (r : ℕ) → r < 34 → test r ≡ false
 unfolding each
 not_each t i rule test h r less = keeps_nothing test 0 34 (unmapped (filter test (range_with_len 0 34)) h) r (omega arith) (omega arith)
   where
-    unmapped : (rs : List ℕ) → map (λ r. let f : Finding = record { task = t; index = i; rule = rule; reg = Some r; } in f) rs ≡ [] → rs ≡ []
+    unmapped : (rs : List ℕ) → map (λ r. let f : Finding = record { task = t; index = i; rule = rule; reg = Some r } in f) rs ≡ [] → rs ≡ []
     unmapped [] e = refl
     unmapped (x ∷ xs) e = absurd (cc)
 
@@ -96,7 +97,8 @@ nothing_named t i c h1 =
       exit_not_listed = not_once t i ExitNotListed c.exit_not_listed p9.0;
       falls_off = not_once t i FallsOff c.falls_off p10.0;
       indirect_goes_on = not_once t i IndirectGoesOn c.indirect_goes_on p11.0;
-      target_not_entry = not_once t i TargetNotEntry c.target_not_entry p11.1; }
+      target_not_entry = not_once t i TargetNotEntry c.target_not_entry p11.1;
+    }
 
 pub no_flag : (c : Conditions) → NoneNamed c
     → (c.entry_without_mask || (c.next_without_mask || (c.exit_not_listed || (c.falls_off || (c.indirect_goes_on || c.target_not_entry))))) ≡ false
@@ -118,7 +120,7 @@ none_kept test none (r ∷ rs) = ap (λ (b : Bool). cond b (r ∷ filter test rs
 
 no_each : (t i : ℕ) (rule : Rule) (test : ℕ → Bool) → ((r : ℕ) → test r ≡ false) → each t i rule test ≡ []
 unfolding each
-no_each t i rule test none = ap (map (λ r. let f : Finding = record { task = t; index = i; rule = rule; reg = Some r; } in f)) (none_kept test none (range_with_len 0 34))
+no_each t i rule test none = ap (map (λ r. let f : Finding = record { task = t; index = i; rule = rule; reg = Some r } in f)) (none_kept test none (range_with_len 0 34))
 
 join_empty : {X : Type 0} (xs ys : List X) → xs ≡ [] → ys ≡ [] → xs ++ ys ≡ []
 join_empty xs ys e f = ap (λ zs. zs ++ ys) e ∙ f
@@ -141,7 +143,7 @@ clean_nothing t i c n =
 -- conditions that agree find the same
 same_each : (t i : ℕ) (rule : Rule) (f g : ℕ → Bool) → ((r : ℕ) → f r ≡ g r) → each t i rule f ≡ each t i rule g
 unfolding each
-same_each t i rule f g e = ap (map (λ r. let x : Finding = record { task = t; index = i; rule = rule; reg = Some r; } in x)) (filter_agree f g e (range_with_len 0 34))
+same_each t i rule f g e = ap (map (λ r. let x : Finding = record { task = t; index = i; rule = rule; reg = Some r } in x)) (filter_agree f g e (range_with_len 0 34))
 
 pub same_found : (t i : ℕ) (c d : Conditions) → Same c d → found t i c ≡ found t i d
 same_found t i c d s = λ k.
@@ -160,18 +162,19 @@ same_found t i c d s = λ k.
 
 pub same_clean : (c d : Conditions) → Same c d → IsClean c → IsClean d
 same_clean c d s n = record {
-      entry_without_mask = sym s.entry_without_mask ∙ n.entry_without_mask;
-      next_without_mask = sym s.next_without_mask ∙ n.next_without_mask;
-      lacks_destination = λ r. sym (s.lacks_destination r) ∙ n.lacks_destination r;
-      lacks_next = λ r. sym (s.lacks_next r) ∙ n.lacks_next r;
-      exceeds_create = λ r. sym (s.exceeds_create r) ∙ n.exceeds_create r;
-      forwarded_in_next = λ r. sym (s.forwarded_in_next r) ∙ n.forwarded_in_next r;
-      released_in_next = λ r. sym (s.released_in_next r) ∙ n.released_in_next r;
-      sent_not_created = λ r. sym (s.sent_not_created r) ∙ n.sent_not_created r;
-      exit_not_listed = sym s.exit_not_listed ∙ n.exit_not_listed;
-      falls_off = sym s.falls_off ∙ n.falls_off;
-      indirect_goes_on = sym s.indirect_goes_on ∙ n.indirect_goes_on;
-      target_not_entry = sym s.target_not_entry ∙ n.target_not_entry; }
+  entry_without_mask = sym s.entry_without_mask ∙ n.entry_without_mask;
+  next_without_mask = sym s.next_without_mask ∙ n.next_without_mask;
+  lacks_destination = λ r. sym (s.lacks_destination r) ∙ n.lacks_destination r;
+  lacks_next = λ r. sym (s.lacks_next r) ∙ n.lacks_next r;
+  exceeds_create = λ r. sym (s.exceeds_create r) ∙ n.exceeds_create r;
+  forwarded_in_next = λ r. sym (s.forwarded_in_next r) ∙ n.forwarded_in_next r;
+  released_in_next = λ r. sym (s.released_in_next r) ∙ n.released_in_next r;
+  sent_not_created = λ r. sym (s.sent_not_created r) ∙ n.sent_not_created r;
+  exit_not_listed = sym s.exit_not_listed ∙ n.exit_not_listed;
+  falls_off = sym s.falls_off ∙ n.falls_off;
+  indirect_goes_on = sym s.indirect_goes_on ∙ n.indirect_goes_on;
+  target_not_entry = sym s.target_not_entry ∙ n.target_not_entry;
+}
 
 -- a right place has no finding
 at_instruction : (o : Option Marked) (p : Listing) (d : Descriptor) (es : List (ℕ × ℕ)) (t : ℕ) (place : ℕ × Option ℕ)

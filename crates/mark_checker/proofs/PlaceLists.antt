@@ -40,7 +40,7 @@ pub bare_entry_found : (p : Listing) (d : Descriptor) (es : List (ℕ × ℕ)) (
 bare_entry_found p d es t inside nothing =
     let first = some_there p.code d.entry inside in
     let none : NoneNamed (conditions p d es d.entry first.0 None) =
-        nothing_named t d.entry (conditions p d es d.entry first.0 None) (sym (at_place p d es t d.entry None first.0 first.1) ∙ nothing) in
+    nothing_named t d.entry (conditions p d es d.entry first.0 None) (sym (at_place p d es t d.entry None first.0 first.1) ∙ nothing) in
     wrong (nat_eq d.entry d.entry) (eq-eqb d.entry d.entry refl) none.entry_without_mask
   where
     wrong : (b : Bool) → b ≡ true → (b && true) ≡ false → ⊥
@@ -100,7 +100,7 @@ pub nothing_passed : (p : Listing) (d : Descriptor) (es entries : List (ℕ × �
 nothing_passed p d es entries t begun k x less is step inside nothing =
     bare_entry_found p d es t inside
     (both_empty (rules_at p d es t (d.entry, None)) (flat_map (rules_at p d es t) ((x.0, Some x.1) ∷ left_places true d.entry (drop (k + 1) entries)))
-        (sym (ap (flat_map (rules_at p d es t)) (ap (left_places begun d.entry) (next_of entries k x less is) ∙ left_passed begun d.entry x (drop (k + 1) entries) step)) ∙ nothing)).0
+    (sym (ap (flat_map (rules_at p d es t)) (ap (left_places begun d.entry) (next_of entries k x less is) ∙ left_passed begun d.entry x (drop (k + 1) entries) step)) ∙ nothing)).0
 
 -- the whole of a task and of a program
 pub all_right_nothing : (p : Listing) (d : Descriptor) (es : List (ℕ × ℕ)) (t : ℕ) (ps : List (ℕ × Option ℕ)) → AllRight p d es ps → flat_map (rules_at p d es t) ps ≡ []
@@ -116,8 +116,9 @@ nothing_in_range f a zero h k low high = absurd (omega arith)
 nothing_in_range f a (suc n) h k low high =
     let both = both_empty (f a) (flat_map f (range_with_len (a + 1) n)) h in
     elim (cases_eq k a) [
-        inl e ↦ ap f e ∙ both.0
-        | inr ne ↦ nothing_in_range f (a + 1) n both.1 k (omega arith) (omega arith) ]
+      | inl e ↦ ap f e ∙ both.0
+      | inr ne ↦ nothing_in_range f (a + 1) n both.1 k (omega arith) (omega arith)
+    ]
 
 task_nothing : (o : Option Descriptor) (p : Listing) (es : List (ℕ × ℕ)) (t : ℕ) → ((d : Descriptor) → o ≡ Some d → AllRight p d es (places d.entry es)) → task_rules o p es t ≡ []
 task_nothing None p es t right = refl
@@ -127,16 +128,17 @@ pub accepted : (p : Listing) (cert : List (List (ℕ × ℕ))) → IsWellFormed 
     → ((t : ℕ) (d : Descriptor) → t < length p.tasks → slice_get p.tasks t ≡ Some d → AllRight p d (list_of cert t) (places d.entry (list_of cert t)))
     → IsAccepted p cert
 accepted p cert well right = record {
-      nothing_found = range_nothing (rules p cert) 0 (length p.tasks) (λ t low high. task_nothing (slice_get p.tasks t) p (list_of cert t) t (all t));
-      right = all;
-      sound = sound p cert well all; }
+  nothing_found = range_nothing (rules p cert) 0 (length p.tasks) (λ t low high. task_nothing (slice_get p.tasks t) p (list_of cert t) t (all t));
+  right = all;
+  sound = sound p cert well all;
+}
   where
     all : (t : ℕ) (d : Descriptor) → slice_get p.tasks t ≡ Some d → AllRight p d (list_of cert t) (places d.entry (list_of cert t))
     all t d is = right t d (slice_get_within p.tasks t d is) is
 
 -- one finding more for a register
 abbrev pub up_to : (t i : ℕ) → Rule → (ℕ → Bool) → ℕ → List Finding
-up_to t i rule test n = map (λ r. let f : Finding = record { task = t; index = i; rule = rule; reg = Some r; } in f) (filter test (range_with_len 0 n))
+up_to t i rule test n = map (λ r. let f : Finding = record { task = t; index = i; rule = rule; reg = Some r } in f) (filter test (range_with_len 0 n))
 
 pub each_is : (t i : ℕ) (rule : Rule) (test : ℕ → Bool) → up_to t i rule test 34 ≡ each t i rule test
 unfolding each
@@ -147,13 +149,13 @@ map_push f [] n = refl
 map_push f (x ∷ xs) n = ap (λ (ys : List Finding). f x ∷ ys) (map_push f xs n)
 
 pub one_more : (t i : ℕ) (rule : Rule) (test : ℕ → Bool) (n : ℕ) → test n ≡ true
-    → up_to t i rule test (n + 1) ≡ up_to t i rule test n ++ (let f : Finding = record { task = t; index = i; rule = rule; reg = Some n; } in f) ∷ []
+    → up_to t i rule test (n + 1) ≡ up_to t i rule test n ++ (let f : Finding = record { task = t; index = i; rule = rule; reg = Some n } in f) ∷ []
 one_more t i rule test n e =
-    ap (map (λ r. let f : Finding = record { task = t; index = i; rule = rule; reg = Some r; } in f)) (takes_one test n e)
-    ∙ map_push (λ r. record { task = t; index = i; rule = rule; reg = Some r; }) (filter test (range_with_len 0 n)) n
+    ap (map (λ r. let f : Finding = record { task = t; index = i; rule = rule; reg = Some r } in f)) (takes_one test n e)
+    ∙ map_push (λ r. record { task = t; index = i; rule = rule; reg = Some r }) (filter test (range_with_len 0 n)) n
 
 pub none_more : (t i : ℕ) (rule : Rule) (test : ℕ → Bool) (n : ℕ) → test n ≡ false → up_to t i rule test (n + 1) ≡ up_to t i rule test n
-none_more t i rule test n e = ap (map (λ r. let f : Finding = record { task = t; index = i; rule = rule; reg = Some r; } in f)) (takes_none test n e)
+none_more t i rule test n e = ap (map (λ r. let f : Finding = record { task = t; index = i; rule = rule; reg = Some r } in f)) (takes_none test n e)
 
 -- the findings of a task that is there
 pub rules_there : (p : Listing) (cert : List (List (ℕ × ℕ))) (t : ℕ) (d : Descriptor) → slice_get p.tasks t ≡ Some d

@@ -14,10 +14,10 @@ use Rattle.mark_checker.specs.Rules.{each, all_rules, rules}
 
 -- a finding, with and without a register
 abbrev pub at : (task index : ℕ) → Rule → (reg : ℕ) → Finding
-at task index rule reg = record { task = task; index = index; rule = rule; reg = Some reg; }
+at task index rule reg = record { task = task; index = index; rule = rule; reg = Some reg }
 
 abbrev pub whole : (task index : ℕ) → Rule → Finding
-whole task index rule = record { task = task; index = index; rule = rule; reg = None; }
+whole task index rule = record { task = task; index = index; rule = rule; reg = None }
 
 -- the certificate of `count`: nothing is found
 pub count_accepted :
@@ -48,13 +48,14 @@ missing_list = refl
 -- register 8 is written again behind index 1, so what index 0 forwards is not its last value
 abbrev pub written_again : Listing
 written_again = record {
-      code = forwards (Imm Addiu 8 8 (pos 1)) ∷ forwards (Three Addu 9 9 8) ∷ bare (Imm Addiu 8 8 (pos 0)) ∷ bare (Imm Slti 10 8 (pos 4))
-          ∷ stops (BranchTwo Bne 10 0 0) ∷ bare (Out 9) ∷ bare Halt ∷ [];
-      bytes = [];
-      fixed = [];
-      tasks = (record { name = 65 ∷ []; entry = 0; create = 0x700; targets = 0 ∷ 5 ∷ []; })
-          ∷ (record { name = 66 ∷ []; entry = 5; create = 0; targets = []; }) ∷ [];
-      start = 0; }
+  code = forwards (Imm Addiu 8 8 (pos 1)) ∷ forwards (Three Addu 9 9 8) ∷ bare (Imm Addiu 8 8 (pos 0)) ∷ bare (Imm Slti 10 8 (pos 4))
+      ∷ stops (BranchTwo Bne 10 0 0) ∷ bare (Out 9) ∷ bare Halt ∷ [];
+  bytes = [];
+  fixed = [];
+  tasks = (record { name = 65 ∷ []; entry = 0; create = 0x700; targets = 0 ∷ 5 ∷ [] })
+      ∷ (record { name = 66 ∷ []; entry = 5; create = 0; targets = [] }) ∷ [];
+  start = 0;
+}
 
 pub forwarded_again :
     all_rules written_again (((0, 0x700) ∷ (1, 0x700) ∷ (2, 0x500) ∷ (3, 0x400) ∷ (4, 0) ∷ []) ∷ ((5, 0) ∷ (6, 0) ∷ []) ∷ [])
@@ -66,13 +67,14 @@ forwarded_again = refl
 -- listed, a target that begins no task, and a successor without a mask
 abbrev pub five_findings : Listing
 five_findings = record {
-      code = forwards_stops (Imm Addiu 8 0 (pos 1)) ∷ stops (Imm Addiu 9 0 (pos 2)) ∷ bare (Out 9) ∷ bare Halt ∷ [];
-      bytes = [];
-      fixed = [];
-      tasks = (record { name = 65 ∷ []; entry = 0; create = 0; targets = 1 ∷ []; })
-          ∷ (record { name = 66 ∷ []; entry = 1; create = 0x200; targets = 3 ∷ []; })
-          ∷ (record { name = 67 ∷ []; entry = 2; create = 0; targets = []; }) ∷ [];
-      start = 0; }
+  code = forwards_stops (Imm Addiu 8 0 (pos 1)) ∷ stops (Imm Addiu 9 0 (pos 2)) ∷ bare (Out 9) ∷ bare Halt ∷ [];
+  bytes = [];
+  fixed = [];
+  tasks = (record { name = 65 ∷ []; entry = 0; create = 0; targets = 1 ∷ [] })
+      ∷ (record { name = 66 ∷ []; entry = 1; create = 0x200; targets = 3 ∷ [] })
+      ∷ (record { name = 67 ∷ []; entry = 2; create = 0; targets = [] }) ∷ [];
+  start = 0;
+}
 
 pub five_found :
     all_rules five_findings (((0, 0x100) ∷ []) ∷ ((1, 0x200) ∷ []) ∷ ((2, 0) ∷ []) ∷ [])

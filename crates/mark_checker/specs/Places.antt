@@ -21,18 +21,19 @@ holds_at (Some j) test = test j
 -- the conditions that the code's flags and sets stand for
 abbrev pub told : Faults → Conditions
 told f = record {
-      entry_without_mask = f.entry.without_mask;
-      next_without_mask = f.inside.next_without_mask;
-      lacks_destination = has f.inside.lacks_destination;
-      lacks_next = has f.inside.lacks_next;
-      exceeds_create = has f.entry.exceeds_create;
-      forwarded_in_next = has f.inside.forwarded_in_next;
-      released_in_next = has f.inside.released_in_next;
-      sent_not_created = has f.inside.sent_not_created;
-      exit_not_listed = f.inside.exit_not_listed;
-      falls_off = f.inside.falls_off;
-      indirect_goes_on = f.inside.indirect_goes_on;
-      target_not_entry = f.entry.target_not_entry; }
+  entry_without_mask = f.entry.without_mask;
+  next_without_mask = f.inside.next_without_mask;
+  lacks_destination = has f.inside.lacks_destination;
+  lacks_next = has f.inside.lacks_next;
+  exceeds_create = has f.entry.exceeds_create;
+  forwarded_in_next = has f.inside.forwarded_in_next;
+  released_in_next = has f.inside.released_in_next;
+  sent_not_created = has f.inside.sent_not_created;
+  exit_not_listed = f.inside.exit_not_listed;
+  falls_off = f.inside.falls_off;
+  indirect_goes_on = f.inside.indirect_goes_on;
+  target_not_entry = f.entry.target_not_entry;
+}
 
 -- two conditions agree, of each register
 pub record Same (c d : Conditions) : Type 0 where
@@ -89,15 +90,12 @@ pub record Checked : Type 0 where
 pub record PlaceSays (p : Listing) (d : Descriptor) (es : List (ℕ × ℕ)) (i : ℕ) (m : Marked) (mask : ℕ) : Type 0 where
   -- the mask has each destination of the instruction
   pub destinations : (r : ℕ) → dests m.op r ≡ true → has mask r ≡ true
-
   -- an inner edge leads to an instruction that has a mask, and the mask here has each register of it
   pub next_inside : (j : ℕ) → Edge p false i j → j < length p.code
   pub next_masked : (j : ℕ) → Edge p false i j → (k : ℕ) × (mask_at es j ≡ Some k)
   pub next_within : (j k r : ℕ) → Edge p false i j → mask_at es j ≡ Some k → has k r ≡ true → has mask r ≡ true
-
   -- what the instruction sends is in no inner successor's mask
   pub sent : (j k r : ℕ) → Edge p false i j → mask_at es j ≡ Some k → sends m r ≡ true → has k r ≡ false
-
   -- the mask lies in the create mask where the place is reached from the entry
   pub created : Path p d.entry i → (r : ℕ) → has mask r ≡ true → has d.create r ≡ true
 

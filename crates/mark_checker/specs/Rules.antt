@@ -66,16 +66,17 @@ conditions p d es i m mask =
       exit_not_listed = masked && list_any (λ j. not (is_target d j)) (ends_of true m i);
       falls_off = masked && list_any (λ j. nat_le (length p.code) j) (ends_of false m i);
       indirect_goes_on = masked && (is_indirect m.op && not (stops_always m.stop));
-      target_not_entry = begins && list_any (λ j. not (is_entry p j)) d.targets; }
+      target_not_entry = begins && list_any (λ j. not (is_entry p j)) d.targets;
+    }
 
 -- one finding without a register, if the condition holds
 abbrev pub once : (t i : ℕ) → Rule → Bool → List Finding
-once t i rule holds = if holds then record { task = t; index = i; rule = rule; reg = None; } ∷ [] else []
+once t i rule holds = if holds then record { task = t; index = i; rule = rule; reg = None } ∷ [] else []
 
 -- one finding for each register, 0 to 33, of which the condition holds
 unfoldable pub each : (t i : ℕ) → Rule → (ℕ → Bool) → List Finding
 each t i rule holds =
-    map (λ r. record { task = t; index = i; rule = rule; reg = Some r; }) (filter holds (range_with_len 0 34))
+    map (λ r. record { task = t; index = i; rule = rule; reg = Some r }) (filter holds (range_with_len 0 34))
 
 -- the findings of one place, by rule and register
 abbrev pub found : (t i : ℕ) → Conditions → List Finding

@@ -1,18 +1,18 @@
 //! Programs that are accepted.
 
-use crate::place::{begun_after, faults_at, is_clean};
-use mask_certificate::certificate::Cert;
-use mips_plain::number::RegSet;
-use std::marker::Model;
-use task_descriptor::descriptor::Descriptor;
-use task_descriptor::program::Program;
-
 ghost use Rattle.std.specs.Prelude.{◌≡◌, ◌↔◌, ℕ, true, Some, None, [], slice_get};
 ghost use Rattle.std.specs.List.{flat_map};
 ghost use Rattle.task_descriptor.specs.Listing.{IsWellFormed};
 ghost use Rattle.mask_certificate.specs.Lists.{list_of};
 ghost use Rattle.mark_checker.specs.Rules.{rules_at, places, rules, all_rules};
 ghost use Rattle.mark_checker.specs.Places.{IsRight, AllRight, IsAccepted};
+
+use crate::place::{begun_after, faults_at, is_clean};
+use mask_certificate::certificate::Cert;
+use mips_plain::number::RegSet;
+use std::marker::Model;
+use task_descriptor::descriptor::Descriptor;
+use task_descriptor::program::Program;
 
 /// Whether the rules find nothing. Then the program's annotations are sound, whoever made the
 /// certificate. Takes no memory.
@@ -98,13 +98,15 @@ impl Accepted {
     ///
     /// The program and the certificate, unchanged, where the rules find something.
     pub fn new(program: Program, cert: Cert) -> Result<Accepted, (Program, Cert)>
-        ensures {
-            MatchResult result
+        ensures { MatchResult result
             (λ accepted. (all_rules program cert ≡ []) × (accepted.program ≡ program) × (accepted.cert ≡ cert))
-            (λ refused. (all_rules program cert ≢ []) × (refused.0 ≡ program) × (refused.1 ≡ cert))
-        }
+            (λ refused. (all_rules program cert ≢ []) × (refused.0 ≡ program) × (refused.1 ≡ cert)) }
     {
-        if accepts(&program, &cert) { Ok(Accepted { program, cert }) } else { Err((program, cert)) }
+        if accepts(&program, &cert) {
+            Ok(Accepted { program, cert })
+        } else {
+            Err((program, cert))
+        }
     }
 
     /// The program. Its annotations are sound.

@@ -1,5 +1,11 @@
 //! The findings of a task and of a program.
 
+ghost use Rattle.std.specs.Prelude.{◌≡◌, ◌∷◌, ◌++◌, ℕ, List, Some, None, IfOk, OnOk, slice_get, length};
+ghost use Rattle.std.specs.List.{flat_map, range_with_len};
+ghost use Rattle.mask_certificate.specs.Lists.{list_of};
+ghost use Rattle.mark_checker.specs.Rules.{rules_at, places, rules, all_rules};
+ghost use Rattle.mark_checker.specs.Places.{left_places};
+
 use crate::append::append_faults;
 use crate::finding::{Finding, Findings, Verdict};
 use crate::place::{begun_after, faults_at, is_clean};
@@ -9,19 +15,18 @@ use std::alloc::{AllocError, Global};
 use task_descriptor::descriptor::Descriptor;
 use task_descriptor::program::Program;
 
-ghost use Rattle.std.specs.Prelude.{◌≡◌, ◌∷◌, ◌++◌, ℕ, List, Some, None, IfOk, OnOk, slice_get, length};
-ghost use Rattle.std.specs.List.{flat_map, range_with_len};
-ghost use Rattle.mask_certificate.specs.Lists.{list_of};
-ghost use Rattle.mark_checker.specs.Rules.{rules_at, places, rules, all_rules};
-ghost use Rattle.mark_checker.specs.Places.{left_places};
-
 /// The findings of one task, in order of index, rule and register; none for a task number that is not
 /// there.
 ///
 /// # Errors
 ///
 /// `AllocError` where memory was refused.
-pub fn check_task(alloc: Global, program: &Program, cert: &Cert, task: u32) -> Result<Vec<Finding>, AllocError>
+pub fn check_task(
+    alloc: Global,
+    program: &Program,
+    cert: &Cert,
+    task: u32,
+) -> Result<Vec<Finding>, AllocError>
     ensures { IfOk result (λ v. v.items ≡ rules program.now cert.now task) }
 {
     let mut list = Vec::new(alloc);
@@ -47,7 +52,12 @@ pub fn verdict(alloc: Global, program: &Program, cert: &Cert) -> Result<Verdict,
 }
 
 /// Appends the findings of one task.
-fn append_task(program: &Program, cert: &Cert, task: u32, list: &mut Vec<Finding>) -> Result<(), AllocError>
+fn append_task(
+    program: &Program,
+    cert: &Cert,
+    task: u32,
+    list: &mut Vec<Finding>,
+) -> Result<(), AllocError>
     ensures { OnOk result (list.new.items ≡ list.old.items ++ rules program.now cert.now task) }
 {
     match program.tasks().get(task as usize) {
@@ -64,22 +74,35 @@ fn append_places(
     task: u32,
     list: &mut Vec<Finding>,
 ) -> Result<(), AllocError>
-    ensures {
-        OnOk result
+    ensures { OnOk result
         (list.new.items
         ≡ list.old.items
-        ++ flat_map (rules_at program.now descriptor.now (list_of cert.now task) task) (places descriptor.now.entry (list_of cert.now task)))
-    }
+        ++ flat_map (rules_at program.now descriptor.now (list_of cert.now task) task) (places descriptor.now.entry (list_of cert.now task))) }
 {
     let mut begun = false;
     let entries = cert.list(task);
     for (index, mask) in entries {
-        begun = append_next(program, cert, descriptor, task, begun, (*index, *mask), list)?;
+        begun = append_next(
+            program,
+            cert,
+            descriptor,
+            task,
+            begun,
+            (*index, *mask),
+            list,
+        )?;
     }
     if begun {
         return Ok(());
     }
-    append_place(program, cert, descriptor, task, (descriptor.entry.get(), None), list)
+    append_place(
+        program,
+        cert,
+        descriptor,
+        task,
+        (descriptor.entry.get(), None),
+        list,
+    )
 }
 
 /// Appends the findings of the next entry of the task's list, and before them those of the task's entry
@@ -93,12 +116,10 @@ fn append_next(
     next: (u32, RegSet),
     list: &mut Vec<Finding>,
 ) -> Result<bool, AllocError>
-    ensures {
-        IfOk result
+    ensures { IfOk result
         (λ now. (rest : List (ℕ × ℕ))
-            → list.new.items ++ flat_map (rules_at program.now descriptor.now (list_of cert.now task) task) (left_places now descriptor.now.entry rest)
-            ≡ list.old.items ++ flat_map (rules_at program.now descriptor.now (list_of cert.now task) task) (left_places begun descriptor.now.entry (next ∷ rest)))
-    }
+        → list.new.items ++ flat_map (rules_at program.now descriptor.now (list_of cert.now task) task) (left_places now descriptor.now.entry rest)
+        ≡ list.old.items ++ flat_map (rules_at program.now descriptor.now (list_of cert.now task) task) (left_places begun descriptor.now.entry (next ∷ rest))) }
 {
     let (index, mask) = next;
     let entry = descriptor.entry.get();

@@ -10,19 +10,13 @@ ghost use Rattle.mark_checker.specs.Places.{IsAccepted, PlaceSays};
 /// What an accepted program says of one place: the mask there has every destination and every register
 /// of its inner successors' masks, and lies in the create mask where the place is reached from the entry.
 pub fn accepted_place()
-    ensures {
-        (p : Listing) (cert : List (List (ℕ × ℕ))) → IsWellFormed p → IsAccepted p cert → (t i mask : ℕ) (d : Descriptor) (m : Marked)
+    ensures { (p : Listing) (cert : List (List (ℕ × ℕ))) → IsWellFormed p → IsAccepted p cert → (t i mask : ℕ) (d : Descriptor) (m : Marked)
         → slice_get p.tasks t ≡ Some d → slice_get p.code i ≡ Some m → mask_at (list_of cert t) i ≡ Some mask
-        → PlaceSays p d (list_of cert t) i m mask
-    }
-{
-}
+        → PlaceSays p d (list_of cert t) i m mask }
+{}
 
 /// The entry of each task of an accepted program has a mask.
 pub fn accepted_entry()
-    ensures {
-        (p : Listing) (cert : List (List (ℕ × ℕ))) → IsWellFormed p → IsAccepted p cert → (t : ℕ) (d : Descriptor)
-        → slice_get p.tasks t ≡ Some d → (mask : ℕ) × (mask_at (list_of cert t) d.entry ≡ Some mask)
-    }
-{
-}
+    ensures { (p : Listing) (cert : List (List (ℕ × ℕ))) → IsWellFormed p → IsAccepted p cert → (t : ℕ) (d : Descriptor)
+        → slice_get p.tasks t ≡ Some d → (mask : ℕ) × (mask_at (list_of cert t) d.entry ≡ Some mask) }
+{}

@@ -77,14 +77,15 @@ pub(crate) fn faults_at(
 }
 
 /// What the rules of the entry say of a place.
-fn entry_faults(program: &Program, descriptor: &Descriptor, index: u32, mask: Option<RegSet>) -> EntryFaults
+fn entry_faults(
+    program: &Program,
+    descriptor: &Descriptor,
+    index: u32,
+    mask: Option<RegSet>,
+) -> EntryFaults
     ensures without_mask { result.without_mask ≡ (nat_eq index descriptor.now.entry && is_none mask) }
-    ensures exceeds_create {
-        (r : ℕ) → has result.exceeds_create r ≡ (nat_eq index descriptor.now.entry && (in_mask mask r && not (has descriptor.now.create r)))
-    }
-    ensures target_not_entry {
-        result.target_not_entry ≡ (nat_eq index descriptor.now.entry && list_any (λ j. not (is_entry program.now j)) descriptor.now.targets)
-    }
+    ensures exceeds_create { (r : ℕ) → has result.exceeds_create r ≡ (nat_eq index descriptor.now.entry && (in_mask mask r && not (has descriptor.now.create r))) }
+    ensures target_not_entry { result.target_not_entry ≡ (nat_eq index descriptor.now.entry && list_any (λ j. not (is_entry program.now j)) descriptor.now.targets) }
 {
     if index != descriptor.entry.get() {
         return EntryFaults {
@@ -135,22 +136,14 @@ fn masked_faults(
     mask: RegSet,
 ) -> InsideFaults
     requires { slice_get program.now.code index ≡ Some marked.now }
-    ensures next_without_mask {
-        result.next_without_mask
-        ≡ list_any (λ j. nat_lt j (length program.now.code) && is_none (mask_at (list_of cert.now task) j)) (ends_of false marked.now index)
-    }
+    ensures next_without_mask { result.next_without_mask
+        ≡ list_any (λ j. nat_lt j (length program.now.code) && is_none (mask_at (list_of cert.now task) j)) (ends_of false marked.now index) }
     ensures lacks_destination { (r : ℕ) → has result.lacks_destination r ≡ (dests marked.now.op r && not (has mask r)) }
-    ensures lacks_next {
-        (r : ℕ) → has result.lacks_next r ≡ (next_has program.now (list_of cert.now task) marked.now index r && not (has mask r))
-    }
-    ensures forwarded_in_next {
-        (r : ℕ) → has result.forwarded_in_next r
-        ≡ ((marked.now.forward && dests marked.now.op r) && next_has program.now (list_of cert.now task) marked.now index r)
-    }
-    ensures released_in_next {
-        (r : ℕ) → has result.released_in_next r
-        ≡ (released marked.now.op r && next_has program.now (list_of cert.now task) marked.now index r)
-    }
+    ensures lacks_next { (r : ℕ) → has result.lacks_next r ≡ (next_has program.now (list_of cert.now task) marked.now index r && not (has mask r)) }
+    ensures forwarded_in_next { (r : ℕ) → has result.forwarded_in_next r
+        ≡ ((marked.now.forward && dests marked.now.op r) && next_has program.now (list_of cert.now task) marked.now index r) }
+    ensures released_in_next { (r : ℕ) → has result.released_in_next r
+        ≡ (released marked.now.op r && next_has program.now (list_of cert.now task) marked.now index r) }
     ensures sent_not_created { (r : ℕ) → has result.sent_not_created r ≡ (sends marked.now r && not (has descriptor.now.create r)) }
     ensures exit_not_listed { result.exit_not_listed ≡ list_any (λ j. not (is_target descriptor.now j)) (ends_of true marked.now index) }
     ensures falls_off { result.falls_off ≡ list_any (λ j. nat_le (length program.now.code) j) (ends_of false marked.now index) }
@@ -185,10 +178,8 @@ fn masked_faults(
 /// What the inner successors say.
 fn ahead_of(program: &Program, cert: &Cert, marked: &Marked, task: u32, index: u32) -> Ahead
     requires { slice_get program.now.code index ≡ Some marked.now }
-    ensures without_mask {
-        result.without_mask
-        ≡ list_any (λ j. nat_lt j (length program.now.code) && is_none (mask_at (list_of cert.now task) j)) (ends_of false marked.now index)
-    }
+    ensures without_mask { result.without_mask
+        ≡ list_any (λ j. nat_lt j (length program.now.code) && is_none (mask_at (list_of cert.now task) j)) (ends_of false marked.now index) }
     ensures masks { (r : ℕ) → has result.masks r ≡ next_has program.now (list_of cert.now task) marked.now index r }
 {
     let next = next_inside(program, index);
@@ -251,14 +242,22 @@ fn is_unlisted(descriptor: &Descriptor, exit: Option<u32>) -> bool
 fn is_listed(descriptor: &Descriptor, index: u32) -> bool
     ensures { result ≡ is_target descriptor.now index }
 {
-    descriptor.targets.as_slice().iter().any(|target| index == target.get())
+    descriptor
+        .targets
+        .as_slice()
+        .iter()
+        .any(|target| index == target.get())
 }
 
 /// Whether a listed target is no task's entry.
 fn has_bad_target(program: &Program, descriptor: &Descriptor) -> bool
     ensures { result ≡ list_any (λ j. not (is_entry program.now j)) descriptor.now.targets }
 {
-    descriptor.targets.as_slice().iter().any(|target| !begins_task(program, target.get()))
+    descriptor
+        .targets
+        .as_slice()
+        .iter()
+        .any(|target| !begins_task(program, target.get()))
 }
 
 fn begins_task(program: &Program, index: u32) -> bool
@@ -281,7 +280,11 @@ fn registers_of(mask: Option<RegSet>) -> RegSet
 fn forwarded_by(marked: &Marked) -> RegSet
     ensures { (r : ℕ) → has result r ≡ (marked.now.forward && dests marked.now.op r) }
 {
-    if marked.forward { marked.op.dests() } else { RegSet::empty() }
+    if marked.forward {
+        marked.op.dests()
+    } else {
+        RegSet::empty()
+    }
 }
 
 /// The registers that a `release` names.
@@ -324,10 +327,8 @@ pub(crate) fn is_clean(faults: &Faults) -> bool
 
 /// Whether a rule without registers finds something.
 fn has_flag(faults: &Faults) -> bool
-    ensures {
-        result ≡ (faults.now.entry.without_mask || (faults.now.inside.next_without_mask || (faults.now.inside.exit_not_listed
-        || (faults.now.inside.falls_off || (faults.now.inside.indirect_goes_on || faults.now.entry.target_not_entry)))))
-    }
+    ensures { result ≡ (faults.now.entry.without_mask || (faults.now.inside.next_without_mask || (faults.now.inside.exit_not_listed
+        || (faults.now.inside.falls_off || (faults.now.inside.indirect_goes_on || faults.now.entry.target_not_entry))))) }
 {
     faults.entry.without_mask
         || faults.inside.next_without_mask
@@ -339,14 +340,18 @@ fn has_flag(faults: &Faults) -> bool
 
 /// The registers at which some rule finds something.
 fn registers(faults: &Faults) -> RegSet
-    ensures {
-        (r : ℕ) → has result r ≡ (has faults.now.inside.lacks_destination r || (has faults.now.inside.lacks_next r || (has faults.now.entry.exceeds_create r
-        || (has faults.now.inside.forwarded_in_next r || (has faults.now.inside.released_in_next r || has faults.now.inside.sent_not_created r)))))
-    }
+    ensures { (r : ℕ) → has result r ≡ (has faults.now.inside.lacks_destination r || (has faults.now.inside.lacks_next r || (has faults.now.entry.exceeds_create r
+        || (has faults.now.inside.forwarded_in_next r || (has faults.now.inside.released_in_next r || has faults.now.inside.sent_not_created r))))) }
 {
     let inside = faults.inside;
-    let sent = inside.forwarded_in_next.union(inside.released_in_next.union(inside.sent_not_created));
-    inside.lacks_destination.union(inside.lacks_next.union(faults.entry.exceeds_create.union(sent)))
+    let sent = inside
+        .forwarded_in_next
+        .union(inside.released_in_next.union(inside.sent_not_created));
+    inside.lacks_destination.union(
+        inside
+            .lacks_next
+            .union(faults.entry.exceeds_create.union(sent)),
+    )
 }
 
 /// Whether the set has no member; it needs to be looked at below 34 alone.

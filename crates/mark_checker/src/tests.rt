@@ -77,7 +77,12 @@ fn program(alloc: Global) -> Result<Program, Fail> {
 /// A certificate of the program, with this mask at index 1.
 fn cert(alloc: Global, second: u64) -> Result<Cert, Fail> {
     let lists = vec![in alloc;
-        vec![in alloc; (0, mask(0x700)?), (1, mask(second)?), (2, mask(0x400)?), (3, mask(0)?)]?,
+        vec![in alloc;
+            (0, mask(0x700)?),
+            (1, mask(second)?),
+            (2, mask(0x400)?),
+            (3, mask(0)?)
+        ]?,
         vec![in alloc; (4, mask(0)?), (5, mask(0)?)]?,
     ]?;
     if lists.len() > 2 {
@@ -96,7 +101,13 @@ fn count_is_accepted(rt: HostRuntime) -> Result<(), Fail> {
     let cert = cert(rt.alloc(), 0x600)?;
     assert_eq!(rt; check_task(rt.alloc(), &program, &cert, 0)?.len(), 0);
     assert_eq!(rt; check_task(rt.alloc(), &program, &cert, 7)?.len(), 0);
-    assert_eq!(rt; verdict(rt.alloc(), &program, &cert)?.findings.as_slice().len(), 0);
+    assert_eq!(rt;
+        verdict(rt.alloc(), &program, &cert)?
+            .findings
+            .as_slice()
+            .len(),
+        0
+    );
     assert!(rt; accepts(&program, &cert));
     let accepted = Accepted::new(program, cert).ok().ok_or("refused")?;
     assert_eq!(rt; accepted.program().code().len(), 6);

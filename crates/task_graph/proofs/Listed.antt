@@ -43,24 +43,28 @@ filter_has test zero k h e = absurd (omega arith)
 filter_has test (suc n) k h e =
     subst (λ (xs : List ℕ). Contains xs k) (sym (ap (λ (m : ℕ). filter test (range_with_len 0 m)) (sym (add-one n)) ∙ one_more test n))
     (elim (cases_lt k n) [
-        inl less ↦ Contains-append_left (filter test (range_with_len 0 n)) (cond (test n) (n ∷ []) []) k (filter_has test n k less e)
-        | inr last ↦
-            let same : k ≡ n = omega arith in
-            let passes : test n ≡ true = subst (λ (m : ℕ). test m ≡ true) same e in
-            subst (λ (b : Bool). Contains (filter test (range_with_len 0 n) ++ cond b (n ∷ []) []) k) (sym passes)
-            (subst (λ (m : ℕ). Contains (filter test (range_with_len 0 n) ++ n ∷ []) m) (sym same) (Contains-push (filter test (range_with_len 0 n)) n)) ])
+      | inl less ↦ Contains-append_left (filter test (range_with_len 0 n)) (cond (test n) (n ∷ []) []) k (filter_has test n k less e)
+      | inr last ↦
+          let same : k ≡ n = omega arith in
+          let passes : test n ≡ true = subst (λ (m : ℕ). test m ≡ true) same e in
+          subst (λ (b : Bool). Contains (filter test (range_with_len 0 n) ++ cond b (n ∷ []) []) k) (sym passes)
+          (subst (λ (m : ℕ). Contains (filter test (range_with_len 0 n) ++ n ∷ []) m) (sym same) (Contains-push (filter test (range_with_len 0 n)) n))
+    ])
 
 filter_only : (test : ℕ → Bool) (n k : ℕ) → Contains (filter test (range_with_len 0 n)) k → (k < n) × (test k ≡ true)
 filter_only test zero k c = absurd (omega (arith, c.1))
 filter_only test (suc n) k c =
     elim (cases_Bool (test n)) [
-        inl passes ↦ elim (Contains-push_cases (filter test (range_with_len 0 n)) n k (moved (takes_one test n passes))) [
-            inl before ↦ more (filter_only test n k before)
-            | inr same ↦ (omega arith, subst (λ (m : ℕ). test m ≡ true) same passes) ]
-        | inr fails ↦ more (filter_only test n k (moved (takes_none test n fails))) ]
+      | inl passes ↦ elim (Contains-push_cases (filter test (range_with_len 0 n)) n k (moved (takes_one test n passes))) [
+        | inl before ↦ more (filter_only test n k before)
+        | inr same ↦ (omega arith, subst (λ (m : ℕ). test m ≡ true) same passes)
+      ]
+      | inr fails ↦ more (filter_only test n k (moved (takes_none test n fails)))
+    ]
   where
     moved : {xs : List ℕ} → filter test (range_with_len 0 (n + 1)) ≡ xs → Contains xs k
     moved e = subst (λ (xs : List ℕ). Contains xs k) (ap (λ (m : ℕ). filter test (range_with_len 0 m)) (sym (add-one n)) ∙ e) c
+
     more : (k < n) × (test k ≡ true) → (k < suc n) × (test k ≡ true)
     more h = let less : k < n = h.0 in (omega arith, h.1)
 
@@ -68,8 +72,9 @@ pub lists_exactly : (p : Listing) (entry entry' : ℕ) (given marks : List Bool)
     → given ≡ marks → items ≡ filter (is_marked given) (range_with_len 0 (length given)) → entry ≡ entry'
     → ((i : ℕ) → (is_marked marks i ≡ true) ↔ Reaches p entry i)
     → (i : ℕ) → Contains items i ↔ Reaches p entry' i
-lists_exactly p entry entry' given marks items same is e exact i =
-    ( λ c. let k = filter_only (is_marked given) (length given) i (subst (λ (xs : List ℕ). Contains xs i) is c) in
-        subst (λ n. Reaches p n i) e ((exact i).0 (subst (λ (ms : List Bool). is_marked ms i ≡ true) same k.1))
-    , λ r. let m : is_marked given i ≡ true = subst (λ (ms : List Bool). is_marked ms i ≡ true) (sym same) ((exact i).1 (subst (λ n. Reaches p n i) (sym e) r)) in
-        subst (λ (xs : List ℕ). Contains xs i) (sym is) (filter_has (is_marked given) (length given) i (marked_within given i m) m) )
+lists_exactly p entry entry' given marks items same is e exact i = (
+  λ c. let k = filter_only (is_marked given) (length given) i (subst (λ (xs : List ℕ). Contains xs i) is c) in
+      subst (λ n. Reaches p n i) e ((exact i).0 (subst (λ (ms : List Bool). is_marked ms i ≡ true) same k.1)),
+  λ r. let m : is_marked given i ≡ true = subst (λ (ms : List Bool). is_marked ms i ≡ true) (sym same) ((exact i).1 (subst (λ n. Reaches p n i) (sym e) r)) in
+      subst (λ (xs : List ℕ). Contains xs i) (sym is) (filter_has (is_marked given) (length given) i (marked_within given i m) m),
+)

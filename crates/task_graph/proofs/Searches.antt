@@ -31,13 +31,15 @@ marked_new marks j h = get_or-set_same marks j true false h
 
 marked_kept : (marks : List Bool) (j k : ℕ) → j < length marks → is_marked marks k ≡ true → is_marked (slice_set marks j true) k ≡ true
 marked_kept marks j k h is = elim (cases_eq k j) [
-    inl e ↦ subst (λ n. is_marked (slice_set marks j true) n ≡ true) (sym e) (marked_new marks j h)
-    | inr ne ↦ get_or-set_other marks j k true false ne ∙ is ]
+  | inl e ↦ subst (λ n. is_marked (slice_set marks j true) n ≡ true) (sym e) (marked_new marks j h)
+  | inr ne ↦ get_or-set_other marks j k true false ne ∙ is
+]
 
 marked_old : (marks : List Bool) (j k : ℕ) → is_marked (slice_set marks j true) k ≡ true → (k ≡ j) ⊎ (is_marked marks k ≡ true)
 marked_old marks j k is = elim (cases_eq k j) [
-    inl e ↦ inl e
-    | inr ne ↦ inr (sym (get_or-set_other marks j k true false ne) ∙ is) ]
+  | inl e ↦ inl e
+  | inr ne ↦ inr (sym (get_or-set_other marks j k true false ne) ∙ is)
+]
 
 -- the work
 work_kept : (b : Bool) (work : List ℕ) (j k : ℕ) → Contains work k → Contains (if b then work else work ++ j ∷ []) k
@@ -58,23 +60,30 @@ pub searches_on : (p : Listing) (entry : ℕ) (marks : List Bool) (work : List �
     → Search p entry marks work busy → Search p entry (mark_of index marks) (work_of index marks work) busy
 searches_on p entry marks work busy None reached s = s
 searches_on p entry marks work busy (Some j) reached s = record {
-      sized = length-set marks j true ∙ s.sized;
-      sound = λ i is. elim (marked_old marks j i is) [
-          inl e ↦ subst (Path p entry) (sym e) r.path
-          | inr was ↦ s.sound i was ];
-      waiting = λ i has. elim (work_new (is_marked marks j) work j i has) [
-          inl was ↦ marked_kept marks j i within (s.waiting i was)
-          | inr e ↦ subst (λ n. is_marked (slice_set marks j true) n ≡ true) e (marked_new marks j within) ];
-      closed = λ i k is f. elim (marked_old marks j i is) [
-          inl e ↦ elim (cases_Bool (is_marked marks j)) [
-              inl was ↦ more i k (s.closed i k (subst (λ n. is_marked marks n ≡ true) (sym e) was) f)
-              | inr fresh ↦ inr (inl (subst (Contains (work_of (Some j) marks work)) (sym e) (work_has (is_marked marks j) work j fresh))) ]
-          | inr was ↦ more i k (s.closed i k was f) ]; }
+  sized = length-set marks j true ∙ s.sized;
+  sound = λ i is. elim (marked_old marks j i is) [
+    | inl e ↦ subst (Path p entry) (sym e) r.path
+    | inr was ↦ s.sound i was
+  ];
+  waiting = λ i has. elim (work_new (is_marked marks j) work j i has) [
+    | inl was ↦ marked_kept marks j i within (s.waiting i was)
+    | inr e ↦ subst (λ n. is_marked (slice_set marks j true) n ≡ true) e (marked_new marks j within)
+  ];
+  closed = λ i k is f. elim (marked_old marks j i is) [
+    | inl e ↦ elim (cases_Bool (is_marked marks j)) [
+      | inl was ↦ more i k (s.closed i k (subst (λ n. is_marked marks n ≡ true) (sym e) was) f)
+      | inr fresh ↦ inr (inl (subst (Contains (work_of (Some j) marks work)) (sym e) (work_has (is_marked marks j) work j fresh)))
+    ]
+    | inr was ↦ more i k (s.closed i k was f)
+  ];
+}
   where
     r : Reaches p entry j
     r = reached j refl
+
     within : j < length marks
     within = subst (λ n. j < n) (sym s.sized) r.within
+
     more : (i k : ℕ) → (is_marked marks k ≡ true) ⊎ (Contains work i ⊎ (busy ≡ Some i))
         → (is_marked (slice_set marks j true) k ≡ true) ⊎ (Contains (work_of (Some j) marks work) i ⊎ (busy ≡ Some i))
     more i k (inl was) = inl (marked_kept marks j k within was)
@@ -94,16 +103,18 @@ stays (Some j) marks k h is = marked_kept marks j k (h j refl) is
 pub takes : (p : Listing) (entry : ℕ) (marks : List Bool) (work rest : List ℕ) (i : ℕ) → work ≡ rest ++ i ∷ []
     → Search p entry marks work None → Search p entry marks rest (Some i)
 takes p entry marks work rest i is s = record {
-      sized = s.sized;
-      sound = s.sound;
-      waiting = λ k has. s.waiting k (subst (λ (xs : List ℕ). Contains xs k) (sym is) (Contains-append_left rest (i ∷ []) k has));
-      closed = λ k j m f. left k j (s.closed k j m f); }
+  sized = s.sized;
+  sound = s.sound;
+  waiting = λ k has. s.waiting k (subst (λ (xs : List ℕ). Contains xs k) (sym is) (Contains-append_left rest (i ∷ []) k has));
+  closed = λ k j m f. left k j (s.closed k j m f);
+}
   where
     left : (k j : ℕ) → (is_marked marks j ≡ true) ⊎ (Contains work k ⊎ (None ≡ Some k)) → (is_marked marks j ≡ true) ⊎ (Contains rest k ⊎ (Some i ≡ Some k))
     left k j (inl m) = inl m
     left k j (inr (inl has)) = elim (Contains-push_cases rest i k (subst (λ (xs : List ℕ). Contains xs k) is has)) [
-        inl r ↦ inr (inl r)
-        | inr e ↦ inr (inr (ap (λ n. Some n) e)) ]
+      | inl r ↦ inr (inl r)
+      | inr e ↦ inr (inr (ap (λ n. Some n) e))
+    ]
     left k j (inr (inr e)) = absurd (cc)
 
 pub taken_marked : (p : Listing) (entry : ℕ) (marks : List Bool) (work rest : List ℕ) (i : ℕ) → work ≡ rest ++ i ∷ []
@@ -115,10 +126,11 @@ pub done : (p : Listing) (entry : ℕ) (marks : List Bool) (work : List ℕ) (i 
     → ((j : ℕ) → Follows p i j → is_marked marks j ≡ true)
     → Search p entry marks work (Some i) → Search p entry marks work None
 done p entry marks work i all s = record {
-      sized = s.sized;
-      sound = s.sound;
-      waiting = s.waiting;
-      closed = λ k j m f. left k j f (s.closed k j m f); }
+  sized = s.sized;
+  sound = s.sound;
+  waiting = s.waiting;
+  closed = λ k j m f. left k j f (s.closed k j m f);
+}
   where
     left : (k j : ℕ) → Follows p k j → (is_marked marks j ≡ true) ⊎ (Contains work k ⊎ (Some i ≡ Some k)) → (is_marked marks j ≡ true) ⊎ (Contains work k ⊎ (None ≡ Some k))
     left k j f (inl m) = inl m
@@ -160,24 +172,27 @@ looked_at p entry marks work rest i next is exact s =
   where
     reach : (o : Option ℕ) → ((j : ℕ) → o ≡ Some j → is_among next j ≡ true) → (j : ℕ) → o ≡ Some j → Reaches p entry j
     reach o among j e = let f = (exact j).0 (among j e) in
-        record { path = onward (s.sound i (taken_marked p entry marks work rest i is s)) f.edge; within = f.within; }
+        record { path = onward (s.sound i (taken_marked p entry marks work rest i is s)) f.edge; within = f.within }
+
     marked_both : (j : ℕ) → Follows p i j → is_marked (mark_of next.second (mark_of next.first marks)) j ≡ true
     marked_both j f =
         let inside : j < length marks = subst (λ n. j < n) (sym s.sized) f.within in
         let still : length (mark_of next.first marks) ≡ length marks = length-mark_of next.first marks in
         elim (or_cases (is_it next.first j) (is_it next.second j) ((exact j).1 f)) [
-            inl a ↦ stays next.second (mark_of next.first marks) j (second_within p i (length (mark_of next.first marks)) next exact (still ∙ s.sized))
-                (asked next.first marks j inside (that next.first j a))
-            | inr b ↦ asked next.second (mark_of next.first marks) j (subst (λ n. j < n) (sym still) inside) (that next.second j b) ]
+          | inl a ↦ stays next.second (mark_of next.first marks) j (second_within p i (length (mark_of next.first marks)) next exact (still ∙ s.sized))
+              (asked next.first marks j inside (that next.first j a))
+          | inr b ↦ asked next.second (mark_of next.first marks) j (subst (λ n. j < n) (sym still) inside) (that next.second j b)
+        ]
 
 -- nothing waits: what is marked is what is reached
 pub all_marked : (p : Listing) (entry k : ℕ) (marks : List Bool) → is_marked marks entry ≡ true → Search p entry marks [] None
     → Path p entry k → k < length p.code → is_marked marks k ≡ true
 all_marked p entry k marks begun s stay within = begun
 all_marked p entry k marks begun s (onward {j = j} path e) within =
-    elim (s.closed j k (all_marked p entry j marks begun s path (slice_get_within p.code j e.at e.is_there)) (record { edge = e; within = within; })) [
-        inl m ↦ m
-        | inr w ↦ absurd (nothing w) ]
+    elim (s.closed j k (all_marked p entry j marks begun s path (slice_get_within p.code j e.at e.is_there)) (record { edge = e; within = within })) [
+      | inl m ↦ m
+      | inr w ↦ absurd (nothing w)
+    ]
   where
     nothing : {j : ℕ} → Contains [] j ⊎ (None ≡ Some j) → ⊥
     nothing (inl c) = absurd (omega (arith, c.1))
@@ -185,9 +200,10 @@ all_marked p entry k marks begun s (onward {j = j} path e) within =
 
 pub search_ends : (p : Listing) (entry : ℕ) (marks : List Bool) → is_marked marks entry ≡ true → Search p entry marks [] None
     → (i : ℕ) → (is_marked marks i ≡ true) ↔ Reaches p entry i
-search_ends p entry marks begun s i =
-    ( λ m. record { path = s.sound i m; within = subst (λ n. i < n) s.sized (marked_within marks i m); }
-    , λ r. all_marked p entry i marks begun s r.path r.within )
+search_ends p entry marks begun s i = (
+  λ m. record { path = s.sound i m; within = subst (λ n. i < n) s.sized (marked_within marks i m) },
+  λ r. all_marked p entry i marks begun s r.path r.within,
+)
 
 -- nothing is marked at first
 unmarked_first : (n i : ℕ) → is_marked (replicate n false) i ≡ true → ⊥
@@ -198,10 +214,11 @@ unmarked_first (suc n) (suc i) h = unmarked_first n i h
 
 pub search_begins : (p : Listing) (entry : ℕ) → Search p entry (replicate (length p.code) false) [] None
 search_begins p entry = record {
-      sized = length-replicate (length p.code) false;
-      sound = λ i m. absurd (unmarked_first (length p.code) i m);
-      waiting = λ i c. absurd (omega (arith, c.1));
-      closed = λ i j m f. absurd (unmarked_first (length p.code) i m); }
+  sized = length-replicate (length p.code) false;
+  sound = λ i m. absurd (unmarked_first (length p.code) i m);
+  waiting = λ i c. absurd (omega (arith, c.1));
+  closed = λ i j m f. absurd (unmarked_first (length p.code) i m);
+}
 
 -- what is left to do: two for each index without a mark, and one for each that waits
 abbrev pub unmarked : List Bool → ℕ
@@ -231,11 +248,12 @@ pub begins_at : (p : Listing) (entry : ℕ) (none marks : List Bool) (empty work
     → (is_marked marks entry ≡ true) × Search p entry marks work None
 begins_at p entry none marks empty work en ee em ew inside =
     let start : Search p entry none empty None =
-        subst (λ (ms : List Bool). Search p entry ms empty None) (sym en) (subst (λ (ws : List ℕ). Search p entry (replicate (length p.code) false) ws None) (sym ee) (search_begins p entry)) in
-    let within : entry < length none = subst (λ n. entry < n) (sym start.sized) inside in
-    ( subst (λ (ms : List Bool). is_marked ms entry ≡ true) (sym em) (asked (Some entry) none entry within refl)
-    , subst (λ (ms : List Bool). Search p entry ms work None) (sym em) (subst (λ (ws : List ℕ). Search p entry (mark_of (Some entry) none) ws None) (sym ew)
-        (searches_on p entry none empty None (Some entry) (λ j e. let same : entry ≡ j = cc in subst (Reaches p entry) same (record { path = stay; within = inside; })) start)) )
+    subst (λ (ms : List Bool). Search p entry ms empty None) (sym en) (subst (λ (ws : List ℕ). Search p entry (replicate (length p.code) false) ws None) (sym ee) (search_begins p entry)) in
+    let within : entry < length none = subst (λ n. entry < n) (sym start.sized) inside in (
+      subst (λ (ms : List Bool). is_marked ms entry ≡ true) (sym em) (asked (Some entry) none entry within refl),
+      subst (λ (ms : List Bool). Search p entry ms work None) (sym em) (subst (λ (ws : List ℕ). Search p entry (mark_of (Some entry) none) ws None) (sym ew)
+          (searches_on p entry none empty None (Some entry) (λ j e. let same : entry ≡ j = cc in subst (Reaches p entry) same (record { path = stay; within = inside })) start)),
+    )
 
 pub goes_on : (p : Listing) (entry : ℕ) (marks first second : List Bool) (work rest one two : List ℕ) (i : ℕ) (next : Next)
     → work ≡ rest ++ i ∷ [] → ((j : ℕ) → (is_among next j ≡ true) ↔ Follows p i j)

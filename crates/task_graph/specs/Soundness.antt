@@ -25,22 +25,18 @@ is_entry p j = list_any (λ (d : Descriptor). nat_eq j d.entry) p.tasks
 pub record SoundTask (p : Listing) (d : Descriptor) : Type 0 where
   -- (a) A path from the entry writes only registers of the create mask.
   pub writes_created : (r : ℕ) → MayWrite p d.entry r → has d.create r ≡ true
-
   -- (b) What a reached instruction forwards or releases is in the create mask, and no path from an
   -- inner successor writes it again.
   pub sends_created : (i : ℕ) (m : Marked) → Path p d.entry i → slice_get p.code i ≡ Some m →
       (r : ℕ) → sends m r ≡ true → has d.create r ≡ true
   pub sends_last : (i : ℕ) (m : Marked) → Path p d.entry i → slice_get p.code i ≡ Some m →
       (r : ℕ) → sends m r ≡ true → (j : ℕ) → Edge p false i j → MayWrite p j r → ⊥
-
   -- (c) Each direct exit of a reached instruction is a listed target, and each listed target is the
   -- entry of a task.
   pub exits_listed : (i j : ℕ) → Path p d.entry i → Edge p true i j → is_target d j ≡ true
   pub targets_begin : (j : ℕ) → is_target d j ≡ true → is_entry p j ≡ true
-
   -- (d) Each inner edge of a reached instruction leads to an instruction.
   pub stays_inside : (i j : ℕ) → Path p d.entry i → Edge p false i j → j < length p.code
-
   -- (e) A reached jump to an address in a register stops always.
   pub indirect_stops : (i : ℕ) (m : Marked) → Path p d.entry i → slice_get p.code i ≡ Some m →
       is_indirect m.op ≡ true → m.stop ≡ stop.Always

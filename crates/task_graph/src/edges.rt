@@ -98,7 +98,11 @@ fn end(marked: &Marked, i: u32, taken: bool, leaving: bool) -> Option<u32>
     requires { i < 4096 }
     ensures { result ≡ end_of leaving marked.now i taken }
 {
-    if ends_task(marked.stop, taken) == leaving { leads_to(&marked.op, i, taken) } else { None }
+    if ends_task(marked.stop, taken) == leaving {
+        leads_to(&marked.op, i, taken)
+    } else {
+        None
+    }
 }
 
 /// The end of one inner edge, if there is an instruction.
@@ -115,9 +119,7 @@ fn end_inside(marked: &Marked, i: u32, taken: bool, count: u32) -> Option<u32>
 /// Whether an inner edge leads to no instruction.
 fn falls_off(marked: &Marked, i: u32, count: u32) -> bool
     requires { i < 4096 }
-    ensures {
-        (result ≡ true) ↔ ((j : ℕ) × ((end_of false marked.now i false ≡ Some j) ⊎ (end_of false marked.now i true ≡ Some j)) × (count ≤ j))
-    }
+    ensures { (result ≡ true) ↔ ((j : ℕ) × ((end_of false marked.now i false ≡ Some j) ⊎ (end_of false marked.now i true ≡ Some j)) × (count ≤ j)) }
 {
     is_beyond(end(marked, i, false, false), count) || is_beyond(end(marked, i, true, false), count)
 }

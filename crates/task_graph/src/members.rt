@@ -1,14 +1,14 @@
 //! Which instructions belong to a task.
 
-use crate::edges::next_inside;
-use std::alloc::{AllocError, Global};
-use task_descriptor::program::Program;
-
 ghost use Rattle.std.specs.Prelude.{◌≡◌, ℕ, ◌<◌, ◌≤◌, ◌↔◌, true, false, length, filter, Contains, IfOk, OnOk, Some, None, slice_get, slice_index_or, []};
 ghost use Rattle.std.specs.List.Sorted.{IsStrictlyIncreasing};
 ghost use Rattle.std.specs.List.{range_with_len};
 ghost use Rattle.task_descriptor.specs.declared.descriptor.Descriptor.{Descriptor};
 ghost use Rattle.task_graph.specs.Members.{Reaches, is_marked, mark_of, work_of};
+
+use crate::edges::next_inside;
+use std::alloc::{AllocError, Global};
+use task_descriptor::program::Program;
 
 /// The indices of the instructions that the task comes to from its entry along inner edges, rising;
 /// none for a task number that is not there. Each instruction is visited once.
@@ -18,10 +18,8 @@ ghost use Rattle.task_graph.specs.Members.{Reaches, is_marked, mark_of, work_of}
 /// `AllocError` where memory was refused.
 pub fn members(alloc: Global, program: &Program, task: u32) -> Result<Vec<u32>, AllocError>
     ensures rising { IfOk result (λ v. IsStrictlyIncreasing v.items) }
-    ensures exact {
-        IfOk result
-        (λ v. (d : Descriptor) → slice_get program.now.tasks task ≡ Some d → (i : ℕ) → Contains v.items i ↔ Reaches program.now d.entry i)
-    }
+    ensures exact { IfOk result
+        (λ v. (d : Descriptor) → slice_get program.now.tasks task ≡ Some d → (i : ℕ) → Contains v.items i ↔ Reaches program.now d.entry i) }
     ensures missing { IfOk result (λ v. slice_get program.now.tasks task ≡ None → v.items ≡ []) }
 {
     match program.tasks().get(task as usize) {

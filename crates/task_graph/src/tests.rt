@@ -97,8 +97,14 @@ fn edges_of_count(rt: HostRuntime) -> Result<(), Fail> {
 #[test]
 fn members_of_count(rt: HostRuntime) -> Result<(), Fail> {
     let program = program(rt.alloc())?;
-    assert_eq!(rt; members(rt.alloc(), &program, 0)?.as_slice(), [0, 1, 2, 3].as_slice());
-    assert_eq!(rt; members(rt.alloc(), &program, 1)?.as_slice(), [4, 5].as_slice());
+    assert_eq!(rt;
+        members(rt.alloc(), &program, 0)?.as_slice(),
+        [0, 1, 2, 3].as_slice()
+    );
+    assert_eq!(rt;
+        members(rt.alloc(), &program, 1)?.as_slice(),
+        [4, 5].as_slice()
+    );
     assert_eq!(rt; members(rt.alloc(), &program, 2)?.len(), 0);
     Ok(())
 }

@@ -277,10 +277,7 @@ fn read_print(alloc: Global, values: &ArgMatches<'_>) -> Result<Option<(Job, Pat
     Ok(Some((Job::Print, program_path(alloc, values)?)))
 }
 
-fn read_annotate(
-    alloc: Global,
-    values: &ArgMatches<'_>,
-) -> Result<Option<(Job, Paths)>, UsageFault>
+fn read_annotate(alloc: Global, values: &ArgMatches<'_>) -> Result<Option<(Job, Paths)>, UsageFault>
     ensures files { IfOk result (λ r. IfSome r (λ job. HasFilesOf job.0 job.1)) }
 {
     let Some(text) = values.get_str("emit") else {

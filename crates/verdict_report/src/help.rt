@@ -4,7 +4,8 @@
 pub const PROGRAM: &str = "Runs and checks annotated Multiscalar programs";
 
 /// What the program is for.
-pub const PROGRAM_LONG: &str = "Runs and checks annotated Multiscalar programs: MIPS code cut into tasks, where each task names
+pub const PROGRAM_LONG: &str =
+    "Runs and checks annotated Multiscalar programs: MIPS code cut into tasks, where each task names
 the registers that it may create and the tasks that may follow it.
 
 PROGRAM is a program text. CERT is its certificate: for each task, the registers that may still be
@@ -25,7 +26,8 @@ error.";
 pub const SEQ: &str = "Runs a program, one instruction after another";
 
 /// `seq`.
-pub const SEQ_LONG: &str = "Runs a program on the plain machine, one instruction after another, without its annotations.
+pub const SEQ_LONG: &str =
+    "Runs a program on the plain machine, one instruction after another, without its annotations.
 
 Writes the words that `out` sends, in decimal, one on a line, and then how the run ended:
   halted after N instructions
@@ -36,7 +38,8 @@ Writes the words that `out` sends, in decimal, one on a line, and then how the r
 pub const PRINT: &str = "Writes a program in canonical text";
 
 /// `print`.
-pub const PRINT_LONG: &str = "Writes a program in canonical text, which reads back as the same program. Of a text that is no
+pub const PRINT_LONG: &str =
+    "Writes a program in canonical text, which reads back as the same program. Of a text that is no
 program it writes the first fault and its line:
   program refused: K Name line N";
 
@@ -44,14 +47,16 @@ program it writes the first fault and its line:
 pub const ANNOTATE: &str = "Proposes a program's annotations, or its certificate";
 
 /// `annotate`.
-pub const ANNOTATE_LONG: &str = "Proposes which registers each task creates and where values are forwarded; stops, releases and
+pub const ANNOTATE_LONG: &str =
+    "Proposes which registers each task creates and where values are forwarded; stops, releases and
 targets stay as they are. The proposal is not trusted: `check` judges it like any other.";
 
 /// `check`, in one line.
 pub const CHECK: &str = "Checks a program with its certificate";
 
 /// `check`.
-pub const CHECK_LONG: &str = "Checks that a program's annotations are right, with its certificate. Writes
+pub const CHECK_LONG: &str =
+    "Checks that a program's annotations are right, with its certificate. Writes
   accepted T tasks N instructions
 or one line for each finding, and then their number:
   TASK INDEX rule R $REG
@@ -61,7 +66,8 @@ or one line for each finding, and then their number:
 pub const REPLAY: &str = "Applies a script of events to a machine of some units";
 
 /// `replay`.
-pub const REPLAY_LONG: &str = "Applies a script of events to a machine of some units, after the check. Writes for each event
+pub const REPLAY_LONG: &str =
+    "Applies a script of events to a machine of some units, after the check. Writes for each event
 `N ok` or `N refused K Name`, and then the words that `out` sent, how many tasks and instructions
 were retired, and how the run stands.";
 
@@ -69,13 +75,16 @@ were retired, and how the run stands.";
 pub const RUN: &str = "Runs a program in threads, one for each unit";
 
 /// `run`.
-pub const RUN_LONG: &str = "Runs a program on a machine of some units, each in a thread of its own, after the check. Writes the
+pub const RUN_LONG: &str =
+    "Runs a program on a machine of some units, each in a thread of its own, after the check. Writes the
 words that `out` sent, how many tasks and instructions were retired, and how the run ended.";
 
 /// `--emit`.
-pub const EMIT: &str = "What is written: text (the proposed program), cert (its certificate) or keep (the certificate of
+pub const EMIT: &str =
+    "What is written: text (the proposed program), cert (its certificate) or keep (the certificate of
 the program as it stands)";
 
 /// `--predict`.
-pub const PREDICT: &str = "Which target is guessed behind a running task: first, last, or 1 to 64 numbers 0 to 15 with commas,
+pub const PREDICT: &str =
+    "Which target is guessed behind a running task: first, last, or 1 to 64 numbers 0 to 15 with commas,
 used over and over";

@@ -28,15 +28,23 @@ pub enum Prediction {
 #[derive(Debug, Drop)]
 pub enum Job {
     /// Runs the program on the plain machine, at most this many instructions.
-    Seq { budget: Budget },
+    Seq {
+        budget: Budget,
+    },
     /// Writes the canonical text of the program.
     Print,
     /// Proposes annotations, or certifies those that stand.
-    Annotate { emit: Emit },
+    Annotate {
+        emit: Emit,
+    },
     /// Checks the program against its certificate.
-    Check { workers: Workers },
+    Check {
+        workers: Workers,
+    },
     /// Applies the events of a script to a machine of this many units.
-    Replay { units: Units },
+    Replay {
+        units: Units,
+    },
     /// Runs the program in threads, one for each unit, up to this many events.
     Run {
         units: Units,
@@ -53,7 +61,10 @@ impl Job {
     pub fn has_certificate(&self) -> bool
         ensures { result ≡ has_certificate self.now }
     {
-        matches!(self, Job::Check { .. } | Job::Replay { .. } | Job::Run { .. })
+        matches!(
+            self,
+            Job::Check { .. } | Job::Replay { .. } | Job::Run { .. }
+        )
     }
 
     /// Whether the job has an event script.

@@ -11,6 +11,5 @@ pub mod ranges;
 pub mod report;
 pub mod sequential;
 pub mod serve;
-
 #[cfg(test)]
 mod tests;

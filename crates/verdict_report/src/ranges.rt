@@ -164,7 +164,9 @@ impl Answers {
             × All (λ n. n ≤ 15) numbers.items) }
         ensures value { IfSome result (λ answers. answers ≡ numbers.items) }
     {
-        if (1..=MOST_ANSWERS).contains(&numbers.len()) && numbers.iter().all(|&n| n <= MOST_ANSWER) {
+        if (1..=MOST_ANSWERS).contains(&numbers.len())
+            && numbers.iter().all(|&n| n <= MOST_ANSWER)
+        {
             Some(Answers { numbers })
         } else {
             None

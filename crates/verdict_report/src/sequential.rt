@@ -26,7 +26,9 @@ fn run(alloc: Global, budget: Budget, program: &Program) -> Result<Report, Alloc
     ensures { IfOk result (λ report. report ≡ run_report budget program.now) }
 {
     let mut machine = program.plain(alloc).map_err(|_| AllocError)?;
-    machine.run(u64::from(budget.get())).map_err(|_| AllocError)?;
+    machine
+        .run(u64::from(budget.get()))
+        .map_err(|_| AllocError)?;
     let mut text = String::new(alloc);
     write_words(&mut text, machine.output())?;
     let outcome = machine.outcome();

@@ -76,8 +76,6 @@ fn deliver<W: Write>(writer: &mut W, text: &[u8]) -> Result<(), ServeFault>
     ensures ok { OnOk result (Appends (W.contents writer.old) (W.contents writer.new) text.now) }
     ensures err { OnErr result (result ≡ Err ServeFault.Write) }
 {
-    writer
-        .write_all(text)
-        .map_err(|_| ServeFault::Write)?;
+    writer.write_all(text).map_err(|_| ServeFault::Write)?;
     writer.flush().map_err(|_| ServeFault::Write)
 }

@@ -39,8 +39,17 @@ fn reads_jobs(rt: HostRuntime) -> Result<(), Fail> {
 #[test]
 fn refuses_words(rt: HostRuntime) -> Result<(), Fail> {
     let alloc = rt.alloc();
-    for line in ["seq", "seq a.s b.s", "seq a.s --budget 0", "seq a.s --budget 1000001", "foo"] {
-        assert!(rt; matches!(job(alloc, line), Err(UsageFault::Words(_))), "{line}");
+    for line in [
+        "seq",
+        "seq a.s b.s",
+        "seq a.s --budget 0",
+        "seq a.s --budget 1000001",
+        "foo",
+    ] {
+        assert!(rt;
+            matches!(job(alloc, line), Err(UsageFault::Words(_))),
+            "{line}"
+        );
     }
     Ok(())
 }
@@ -60,7 +69,11 @@ impl Read for Worn {
             return Err(io::Error::from(ErrorKind::Interrupted));
         }
         if self.bytes == 0 {
-            return if self.fails { Err(io::Error::from(ErrorKind::Other)) } else { Ok(0) };
+            return if self.fails {
+                Err(io::Error::from(ErrorKind::Other))
+            } else {
+                Ok(0)
+            };
         }
         match buf.first_mut() {
             Some(first) => {
@@ -73,8 +86,17 @@ impl Read for Worn {
     }
 }
 
-fn fetch_worn(alloc: Global, interruptions: u32, bytes: u32, fails: bool) -> Result<usize, FetchFault> {
-    let mut reader = Worn { interruptions, bytes, fails };
+fn fetch_worn(
+    alloc: Global,
+    interruptions: u32,
+    bytes: u32,
+    fails: bool,
+) -> Result<usize, FetchFault> {
+    let mut reader = Worn {
+        interruptions,
+        bytes,
+        fails,
+    };
     Ok(fetch(alloc, &mut reader, 5)?.len())
 }
 
@@ -89,7 +111,11 @@ fn fetches(rt: HostRuntime) -> Result<(), Fail> {
     assert_eq!(rt; fetch_worn(alloc, 1000, 3, false), Ok(3));
     assert_eq!(rt; fetch_worn(alloc, 1001, 3, false), Err(FetchFault::Read));
     for failing in 0..5 {
-        assert_eq!(rt; fetch_worn(alloc, 0, failing, true), Err(FetchFault::Read), "read {failing}");
+        assert_eq!(rt;
+            fetch_worn(alloc, 0, failing, true),
+            Err(FetchFault::Read),
+            "read {failing}"
+        );
     }
     Ok(())
 }

@@ -61,7 +61,14 @@ fn write_section(text: &mut String, name: &str, bytes: u32) -> Result<(), AllocE
 
 fn expect_too_many(rt: &impl Abort, alloc: Global, program: &str) -> Result<(), Fail> {
     let expected = b"program refused: 10 Build 1 TooMany\n";
-    expect(rt, alloc, "print a.s", program.as_bytes(), expected.as_slice(), 1)
+    expect(
+        rt,
+        alloc,
+        "print a.s",
+        program.as_bytes(),
+        expected.as_slice(),
+        1,
+    )
 }
 
 #[test]
@@ -70,23 +77,52 @@ fn prints_the_largest_program(rt: HostRuntime) -> Result<(), Fail> {
     let program = program_of(alloc, MOST)?;
     let (printed, status) = answer(alloc, "print a.s", program.as_bytes())?;
     assert_eq!(rt; status, 0);
-    expect(&rt, alloc, "print a.s", printed.as_slice(), printed.as_slice(), 0)
+    expect(
+        &rt,
+        alloc,
+        "print a.s",
+        printed.as_slice(),
+        printed.as_slice(),
+        0,
+    )
 }
 
 #[test]
 fn refuses_larger_programs(rt: HostRuntime) -> Result<(), Fail> {
     let alloc = rt.alloc();
     for sizes in [
-        Sizes { instructions: 4097, ..MOST },
-        Sizes { tasks: 1025, ..MOST },
-        Sizes { targets: 17, ..MOST },
-        Sizes { bytes: 65_537, ..MOST },
-        Sizes { fixed: 65_537, ..MOST },
+        Sizes {
+            instructions: 4097,
+            ..MOST
+        },
+        Sizes {
+            tasks: 1025,
+            ..MOST
+        },
+        Sizes {
+            targets: 17,
+            ..MOST
+        },
+        Sizes {
+            bytes: 65_537,
+            ..MOST
+        },
+        Sizes {
+            fixed: 65_537,
+            ..MOST
+        },
     ] {
         let program = program_of(alloc, sizes)?;
         expect_too_many(&rt, alloc, program.as_str())?;
     }
     let long = vec![in alloc; b' '; 4_194_305]?;
     let expected = b"program refused: 1 TooLong\n";
-    expect(&rt, alloc, "print a.s", long.as_slice(), expected.as_slice(), 1)
+    expect(
+        &rt,
+        alloc,
+        "print a.s",
+        long.as_slice(),
+        expected.as_slice(),
+        1,
+    )
 }

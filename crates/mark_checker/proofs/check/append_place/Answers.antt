@@ -34,7 +34,7 @@ returns-else-is_clean c =
     let here : slice_get p.code i ≡ Some m = there p.code c.code.result.now i m c.code.ensures.value look.3.0 look.3.1 in
     IfOk-weaker c.append_faults.result _ _
     (λ u e. e ∙ ap (λ (xs : List Finding). c.args.list.now.items ++ xs)
-        (same_found c.args.task i (told c.faults_at-faults.result) (conditions p d es i m mask) c.faults_at-faults.ensures ∙ sym (at_place p d es c.args.task i mask m here)))
+    (same_found c.args.task i (told c.faults_at-faults.result) (conditions p d es i m mask) c.faults_at-faults.ensures ∙ sym (at_place p d es c.args.task i mask m here)))
     c.append_faults.ensures
 
 pub returns-in-None : goal.returns-in-None

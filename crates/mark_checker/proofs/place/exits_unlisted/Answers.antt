@@ -11,7 +11,7 @@ returns-then-first c =
     let test : ℕ → Bool = λ j. not (is_target c.args.descriptor.now j) in
     let direct = c.exits_of-exits.result.direct in
     let sides : (c.is_unlisted-first.result || c.is_unlisted-second.result) ≡ (holds_at direct.first test || holds_at direct.second test) =
-        λ k. c.is_unlisted-first.ensures k || c.is_unlisted-second.ensures k in
+    λ k. c.is_unlisted-first.ensures k || c.is_unlisted-second.ensures k in
     let whole = sides ∙ any_exit c.args.program.now c.args.index c.args.marked.now direct test c.requires c.exits_of-exits.ensures.direct in
     c.if-first.true ∙ sym (ap (λ (x : Bool). x || c.is_unlisted-second.result) c.if-first.true) ∙ whole
 
@@ -20,6 +20,6 @@ returns-else-first c =
     let test : ℕ → Bool = λ j. not (is_target c.args.descriptor.now j) in
     let direct = c.exits_of-exits.result.direct in
     let sides : (c.is_unlisted-first.result || c.is_unlisted-second.result) ≡ (holds_at direct.first test || holds_at direct.second test) =
-        λ k. c.is_unlisted-first.ensures k || c.is_unlisted-second.ensures k in
+    λ k. c.is_unlisted-first.ensures k || c.is_unlisted-second.ensures k in
     let whole = sides ∙ any_exit c.args.program.now c.args.index c.args.marked.now direct test c.requires c.exits_of-exits.ensures.direct in
     sym (ap (λ (x : Bool). x || c.is_unlisted-second.result) c.if-first.false) ∙ whole

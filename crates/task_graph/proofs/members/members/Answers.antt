@@ -21,9 +21,9 @@ returns-in_ok-marks-in-Some-clause-exact c =
     let here = there p.tasks c.tasks.result.now c.args.task d c.tasks.ensures.value a.3.0 a.3.1 in
     IfOk-weaker c.marked.result _ _
     (λ v e d' is.
-        let same : d ≡ d' = cc in
-        lists_exactly p c.get-in-Some.result d'.entry c.deref.result.now c.in_ok-marks-in-Some.marks.items v.items
-        c.deref.ensures.value e (c.get-in-Some.ensures.value ∙ ap (λ (x : Descriptor). x.entry) same) c.in_ok-marks-in-Some.ensures.exact)
+    let same : d ≡ d' = cc in
+    lists_exactly p c.get-in-Some.result d'.entry c.deref.result.now c.in_ok-marks-in-Some.marks.items v.items
+    c.deref.ensures.value e (c.get-in-Some.ensures.value ∙ ap (λ (x : Descriptor). x.entry) same) c.in_ok-marks-in-Some.ensures.exact)
     c.marked.ensures
 
 pub returns-in_ok-marks-in-Some-clause-rising : goal.returns-in_ok-marks-in-Some-clause-rising

@@ -5,8 +5,9 @@ use Rattle.task_graph.proofs.members.reached.Given as goal
 
 abbrev pub invariant-loop-i : goal.invariant-loop-i
 invariant-loop-i l = record {
-      begun : is_marked l.marks.items l.entry ≡ true;
-      search : Search l.program l.entry l.marks.items l.work.items None; }
+  begun : is_marked l.marks.items l.entry ≡ true;
+  search : Search l.program l.entry l.marks.items l.work.items None;
+}
 
 abbrev pub decreases-loop-i : goal.decreases-loop-i
 decreases-loop-i l = left_to_do l.marks.items l.work.items

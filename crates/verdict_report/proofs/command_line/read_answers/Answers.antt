@@ -11,9 +11,9 @@ returns-then-len-gt-MOST_ANSWERS c =
 pub returns-in-Some : goal.returns-in-Some
 returns-in-Some c =
     let values : all_there (map (λ p. answer_of p.now) c.in_ok-pieces.pieces.items) ≡ Some c.in-Some.numbers.items =
-        search rules in
+    search rules in
     let one : 1 ≤ length c.in_ok-pieces.pieces.items =
-        pieces-some (λ p. p.now) c.args.text.now c.in_ok-pieces.pieces.items c.in_ok-pieces.ensures in
+    pieces-some (λ p. p.now) c.args.text.now c.in_ok-pieces.pieces.items c.in_ok-pieces.ensures in
     let few : length c.in_ok-pieces.pieces.items ≤ 64 = omega arith in
     let as_many : length c.in-Some.numbers.items ≡ length c.in_ok-pieces.pieces.items = search rules in
     let small : All (λ n. n ≤ 15) c.in-Some.numbers.items = search rules in

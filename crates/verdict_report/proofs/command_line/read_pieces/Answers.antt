@@ -10,9 +10,9 @@ returns-in-None-clause-value c =
 
 pub loop-piece-preserved : goal.loop-piece-preserved
 loop-piece-preserved c = (
-    all_there-more (λ p. answer_of p.now) c.args.pieces.now c.loop-piece.piece-index _ c.in-Some.number
-    c.loop-piece.numbers.items c.loop-piece-test.true (sym c.read_answer.ensures.value ∙ c.in-Some.is) c.loop-piece.invariant.0
-    ∙ ap (λ xs. Some xs) (sym c.in_ok-push-in-Some.ensures.items),
-    search rules,
-    search rules
-  )
+  all_there-more (λ p. answer_of p.now) c.args.pieces.now c.loop-piece.piece-index _ c.in-Some.number
+      c.loop-piece.numbers.items c.loop-piece-test.true (sym c.read_answer.ensures.value ∙ c.in-Some.is) c.loop-piece.invariant.0
+      ∙ ap (λ xs. Some xs) (sym c.in_ok-push-in-Some.ensures.items),
+  search rules,
+  search rules,
+)

@@ -18,7 +18,7 @@ returns c =
     let made : Makes c.from.result c.in_ok-machine.machine c.run.new.self = search rules in
     let steps : 0 + c.from.result ≡ c.args.budget = omega arith in
     let after : IsAfter (input c.args.program.now) c.args.budget c.run.new.self =
-        subst (λ n. IsAfter (input c.args.program.now) n c.run.new.self) steps (made (input c.args.program.now) 0 begins) in
+    subst (λ n. IsAfter (input c.args.program.now) n c.run.new.self) steps (made (input c.args.program.now) 0 begins) in
     let said : c.new.result ≡ report_after c.run.new.self =
-        first_of (search rules, grind (arith, common_steps), cc) in
+    first_of (search rules, grind (arith, common_steps), cc) in
     said ∙ run_report-after c.args.program.now c.args.budget c.run.new.self after
