@@ -12,6 +12,7 @@ the program does not have yet are named and passed over.
 What is timed is the whole process, as a user sees it. Where a figure is given
 per instruction, per event or per byte, the time of the start-up case is taken
 off first. Generated texts are written to a temporary folder and removed.
+Memory of less than this script's own, some 15 megabytes, cannot be told.
 """
 import argparse
 import itertools
@@ -154,6 +155,7 @@ def long_task(rounds):
             "LOOP: addu $9,$9,$8\naddiu $8,$8,-1\nbne $8,$0,LOOP\nout $9\nhalt\n")
 
 
+LONG_TASKS = (3000, 30000, 300000)
 LONG_TASK_CERTIFICATE = ("cert 2\ntask A\n" + "".join(f"{index} 0000000000000300\n" for index in range(5))
                          + "5 0000000000000000\n6 0000000000000000\n")
 
@@ -225,46 +227,61 @@ def has(program, subcommand):
     return subprocess.run([program, subcommand, "--help"], capture_output=True).returncode == 0
 
 
+def write_texts(folder, with_certificate):
+    """All texts that are generated, in the folder."""
+    for name, text in [("maximal", maximal_program()), ("comments", comment_text()), ("labels", label_text()),
+                       ("statements", statement_text()), ("late_fault", late_fault_text()), ("nest", loop_nest()),
+                       ("zigzag", zigzag()), ("steady", STEADY)]:
+        write(folder, f"{name}.s", text)
+    write(folder, "steady.cert2", STEADY_CERTIFICATE)
+    write(folder, "long.cert2", LONG_TASK_CERTIFICATE)
+    write(folder, "empty.events", "")
+    for units in (1, 4, 16):
+        write(folder, f"steady{units}.events", "\n".join(steady_script(units, 1000000)) + "\n")
+    for rounds in LONG_TASKS:
+        write(folder, f"long{rounds}.s", long_task(rounds))
+    if with_certificate:
+        write(folder, "maximal.cert2", maximal_certificate())
+
+
+def lines_in(path):
+    with open(path, "rb") as file:
+        return sum(1 for _ in file)
+
+
 def cases(program, folder, known):
     """The cases, in the order in which they are reported; the first is the start-up."""
     count = TOP / "examples" / "count"
+    kernels = sorted((HERE / "kernels").glob("*.s"))
     out = [Case("start-up: seq of count", ["seq", count / "program.s"])]
-    for kernel in sorted((HERE / "kernels").glob("*.s")):
+    for kernel in kernels:
         words = ["seq", kernel]
         executed = number_before(Run(program, words, True).output, "instructions") if known("seq") else None
         out.append(Case(f"seq of {kernel.stem}", words, "instruction", executed))
-    texts = [("maximal program", maximal_program(), 0), ("longest text, comments", comment_text(), 0),
-             ("longest text, labels", label_text(), 0), ("longest text, statements", statement_text(), 0),
-             ("longest text, fault in the last line", late_fault_text(), 1)]
-    for name, text, wanted in texts:
-        path = write(folder, name.replace(" ", "_").replace(",", "") + ".s", text)
-        out.append(Case(f"print of the {name} ({len(text)} bytes)", ["print", path], "byte", len(text), wanted))
-    maximal = folder / "maximal_program.s"
-    if known("check"):
-        certificate = write(folder, "maximal.cert2", maximal_certificate())
-        size = certificate.stat().st_size
-        for workers in (1, 4):
-            words = ["check", "--workers", workers, maximal, certificate]
-            out.append(Case(f"check of the maximal certificate, workers {workers} ({size} bytes)", words, "byte", size))
-    else:
-        out.append(Case("check of the maximal certificate", ["check"]))
-    entries = CODE * TASKS
-    for name, path, size in [("maximal program", maximal, entries), ("loop nest", write(folder, "nest.s", loop_nest()), 4002),
-                             ("zigzag path", write(folder, "zigzag.s", zigzag()), CODE)]:
-        out.append(Case(f"annotate --emit keep of the {name}", ["annotate", "--emit", "keep", path], "entry", size))
-    steady = write(folder, "steady.s", STEADY)
-    steady_certificate = write(folder, "steady.cert2", STEADY_CERTIFICATE)
+    for file, name, wanted in [("maximal", "maximal program", 0), ("comments", "longest text, comments", 0),
+                               ("labels", "longest text, labels", 0), ("statements", "longest text, statements", 0),
+                               ("late_fault", "longest text, fault in the last line", 1)]:
+        path = folder / f"{file}.s"
+        size = path.stat().st_size
+        out.append(Case(f"print of the {name} ({size} bytes)", ["print", path], "byte", size, wanted))
+    maximal, certificate = folder / "maximal.s", folder / "maximal.cert2"
+    size = certificate.stat().st_size if certificate.exists() else 0
+    for workers in (1, 4):
+        words = ["check", "--workers", workers, maximal, certificate]
+        out.append(Case(f"check of the maximal certificate ({size} bytes), workers {workers}", words, "byte", size))
+    for file, name, size in [("maximal", "maximal program", CODE * TASKS), ("nest", "loop nest", 4002), ("zigzag", "zigzag path", CODE)]:
+        words = ["annotate", "--emit", "keep", folder / f"{file}.s"]
+        out.append(Case(f"annotate --emit keep of the {name}", words, "entry", size))
+    steady, steady_certificate = folder / "steady.s", folder / "steady.cert2"
     for units in (1, 4, 16):
-        events = steady_script(units, 1000000)
-        script = write(folder, f"steady{units}.events", "\n".join(events) + "\n")
+        script = folder / f"steady{units}.events"
         words = ["replay", "--units", units, steady, steady_certificate, script]
-        out.append(Case(f"replay of a script, units {units}", words, "event", len(events)))
-    out.append(Case("replay of the empty script", ["replay", "--units", 1, steady, steady_certificate, write(folder, "empty.events", "")]))
-    certificate = write(folder, "long.cert2", LONG_TASK_CERTIFICATE)
-    for rounds in (3000, 30000, 300000):
-        words = ["run", "--units", 1, write(folder, f"long{rounds}.s", long_task(rounds)), certificate]
+        out.append(Case(f"replay of a script, units {units}", words, "event", lines_in(script)))
+    out.append(Case("replay of the empty script", ["replay", "--units", 1, steady, steady_certificate, folder / "empty.events"]))
+    for rounds in LONG_TASKS:
+        words = ["run", "--units", 1, folder / f"long{rounds}.s", folder / "long.cert2"]
         out.append(Case(f"run of one task of {3 * rounds + 4} instructions", words, "instruction", 3 * rounds + 4))
-    for kernel in sorted((HERE / "kernels").glob("*.s")):
+    for kernel in kernels:
         marked, certificate = folder / f"{kernel.stem}.s", folder / f"{kernel.stem}.cert2"
         if known("annotate"):
             marked.write_bytes(Run(program, ["annotate", kernel], True).output)
@@ -281,7 +298,12 @@ def main():
     options.add_argument("--rounds", type=int, default=7)
     options.add_argument("--only", default="", help="only the cases whose name has this")
     options.add_argument("--list", action="store_true", help="only name the cases")
+    options.add_argument("--write", metavar="FOLDER", help=argparse.SUPPRESS)
+    options.add_argument("--certificate", action="store_true", help=argparse.SUPPRESS)
     given = options.parse_args()
+    if given.write:
+        write_texts(pathlib.Path(given.write), given.certificate)
+        return
     program = str(pathlib.Path(given.program).resolve()) if given.program else built()
     answers = {}
 
@@ -291,6 +313,10 @@ def main():
         return answers[subcommand]
 
     with tempfile.TemporaryDirectory(prefix="multiscalar-bench-") as name:
+        # by a process of its own, so that this one stays small: what a child has
+        # touched counts from where its parent stood when it began
+        writer = [sys.executable, __file__, "--write", name] + (["--certificate"] if known("check") else [])
+        subprocess.run(writer, check=True)
         every = cases(program, pathlib.Path(name), known)
         if given.list:
             print("\n".join(case.name for case in every))

@@ -1,14 +1,13 @@
 -- The answer is Ok exactly where the step is allowed: each test of the answer is a condition of the
 -- step, and back, event by event.
-use Rattle.std.proofs.Common.{◌≡◌, ℕ, zero, suc, pred, ◌+◌, ◌<◌, ◌≤◌, ◌⊎◌, inl, inr, ◌↔◌, Bool, true, false, cond, not, ◌&&◌, ◌||◌, List, [], ◌∷◌, ◌++◌, length, drop, Option, Some, None, refl, sym, ap, ◌∙◌, subst, arith, take, unwrap_or, true≢false, eq-eqb, eqb-true, ltb-true, lt-ltb}
-use Rattle.std.specs.Prelude.{slice_get, slice_set, nat_eq, nat_lt, IsSome, is_some, is_none, Result, Ok, Err}
+use Rattle.std.proofs.Common.{◌≡◌, ℕ, zero, suc, ◌+◌, ◌<◌, ◌≤◌, ◌⊎◌, inl, inr, ◌↔◌, Bool, true, false, cond, not, ◌||◌, List, [], ◌∷◌, length, drop, Option, Some, None, refl, sym, ap, ◌∙◌, subst, arith, unwrap_or, true≢false, eq-eqb, eqb-true, ltb-true, lt-ltb}
+use Rattle.std.specs.Prelude.{slice_get, slice_set, nat_eq, nat_lt, is_some, is_none, Ok}
 use Rattle.std.specs.List.{find, filter, range_with_len, last_or}
 use Rattle.std.specs.Option.{option_or, option_and_then}
-use Rattle.std.proofs.lemmas.Bool.{and_cases, and_left, and_right, or_cases, or_left, or_right, not-true, not_from_false, cases_eq}
+use Rattle.std.proofs.lemmas.Bool.{or_cases, or_left, or_right, not-true, cases_eq}
 use Rattle.std.proofs.lemmas.Option.{option_and_then_some}
 use Rattle.mips_plain.specs.Instruction.{source_a, source_b, reg_a, reg_b, is_source, released, waits}
 use Rattle.mips_plain.specs.Effect.{may_run_ahead}
-use Rattle.mips_plain.specs.declared.instruction.Op.{Op}
 use Rattle.task_descriptor.specs.Listing.{Listing}
 use Rattle.task_descriptor.specs.declared.descriptor.Marked.{Marked}
 use Rattle.machine_model.specs.Machine.{Active, State, opening, creates, begins, value, pass}
@@ -254,7 +253,7 @@ module _ (p : Listing) (range : IsInRange p) (units : ℕ) (s : State) where
         is_unit = one.1;
         is_created = two.0;
         exit = three.0;
-        is_stopped = exit_stopped u.place three.0 three.1;
+        has_stopped = exit_stopped u.place three.0 three.1;
         is_unsent = none_is (u.sent r) four.0;
         word = operand u r;
         has_word = is_some_some (value u r) five.0;
@@ -397,7 +396,7 @@ module _ (p : Listing) (units : ℕ) (s s' : State) where
   drain_is k r d = (
     some_pass (slice_get s.queue k) _ _ d.unit d.is_unit
         (unless_pass (creates p d.unit.task r) _ _ d.is_created
-        (some_pass (exit_of d.unit.place) _ _ d.exit (ap exit_of d.is_stopped)
+        (some_pass (exit_of d.unit.place) _ _ d.exit (ap exit_of d.has_stopped)
         (unless_pass (is_none (d.unit.sent r)) _ _ (ap is_none d.is_unsent)
         (unless_pass (is_some (value d.unit r)) _ _ (ap is_some d.has_word) refl)))),
     d.is

@@ -1,27 +1,24 @@
 -- A burst is a list of Exec events: what a step reads it finds with more registers arrived too, and it
 -- leaves the same; by induction on the burst.
-use Rattle.std.proofs.Common.{◌≡◌, ℕ, zero, suc, ◌+◌, ◌<◌, ◌⊎◌, inl, inr, Bool, true, false, cond, ◌&&◌, List, [], ◌∷◌, ◌++◌, replicate, Option, Some, None, refl, sym, ap, ◌∙◌, subst, arith, set-set}
+use Rattle.std.proofs.Common.{◌≡◌, ℕ, zero, suc, ◌⊎◌, inl, inr, Bool, true, false, cond, ◌&&◌, List, [], ◌∷◌, ◌++◌, replicate, Option, Some, None, refl, sym, ap, ◌∙◌, subst, set-set}
 use mathlib.Core.Path.{fun_ext}
 use Rattle.std.specs.Prelude.{slice_get, slice_set, nat_eq, is_some}
 use Rattle.std.specs.Option.{option_or}
 use Rattle.std.proofs.lemmas.Bool.{or_cases, and_parts}
 use Rattle.mips_plain.specs.Words.{address, byte_of}
 use Rattle.mips_plain.specs.Instruction.{reg_a, reg_b, released, dests, taken, turn}
-use Rattle.mips_plain.specs.Effect.{written, memory_after, output_after, outcome_after, may_run_ahead}
+use Rattle.mips_plain.specs.Effect.{written, memory_after, output_after, outcome_after}
 use Rattle.mips_plain.specs.declared.outcome.Outcome.{Outcome}
-use Rattle.mips_plain.specs.declared.outcome.Outcome.TheVariants.{Running, Halted, Trapped}
+use Rattle.mips_plain.specs.declared.outcome.Outcome.TheVariants.{Running}
 use Rattle.task_descriptor.specs.Listing.{Listing}
-use Rattle.task_descriptor.specs.declared.descriptor.Marked.{Marked}
 use Rattle.task_graph.specs.Edges.{edge, leaves, sends}
 use Rattle.machine_model.specs.Machine.{Words, Active, State, value}
-use Rattle.machine_model.specs.Step.{Next, Execs, with_written, place_after, moved, executed, after_exec, stands, exec_leaves}
+use Rattle.machine_model.specs.Step.{Next, with_written, place_after, moved, executed, after_exec, stands}
 use Rattle.machine_model.specs.Replay.{ReplaysFrom}
 use Rattle.machine_model.specs.Answer.{with_queue}
 use Rattle.machine_model.specs.Burst.{no_memory, StepsAlone, Burst, AllIn, with_arrived}
 use Rattle.machine_model.specs.declared.event.Event.{Event}
 use Rattle.machine_model.specs.declared.event.Event.TheVariants.{Exec}
-use Rattle.machine_model.specs.declared.event.Spot.{Spot}
-use Rattle.machine_model.specs.declared.event.Spot.TheVariants.{Inside}
 use Rattle.machine_model.specs.declared.event.Standing.TheVariants as standing
 use Rattle.machine_model.proofs.Instructions.{ahead_written, ahead_runs, ahead_memory, ahead_output, dest_written}
 use Rattle.machine_model.proofs.Replays.{joined}

@@ -7,19 +7,17 @@ use Rattle.std.specs.Option.{option_or}
 use Rattle.mips_plain.specs.Words.{address, byte_of}
 use Rattle.mips_plain.specs.Instruction.{reg_a, reg_b}
 use Rattle.mips_plain.specs.Effect.{written, memory_after, output_after, outcome_after}
-use Rattle.mips_plain.specs.declared.outcome.Outcome.{Outcome}
 use Rattle.mips_plain.specs.declared.outcome.Outcome.TheVariants.{Running}
-use Rattle.mips_plain.specs.declared.outcome.Read.{Read}
 use Rattle.task_descriptor.specs.Listing.{Listing}
 use Rattle.task_descriptor.specs.declared.descriptor.Marked.{Marked}
 use Rattle.task_graph.specs.Soundness.{Sound}
 use Rattle.machine_model.specs.Machine.{Words, Active, task_at, creates, begins, value, pass}
 use Rattle.machine_model.specs.Step.{put, is_reserved, follows, next_begins, filled, moved, handed_over}
-use Rattle.machine_model.specs.Claims.{plain_of, reads_of, by_head}
+use Rattle.machine_model.specs.Claims.{plain_of, by_head}
 use Rattle.machine_model.specs.declared.event.Spot.TheVariants.{Inside, Stopped}
 use Rattle.std.specs.List.{last_or}
-use Rattle.machine_model.proofs.PlainRuns.{At, Leaves, step_leaves, Ends, end_runs, not_created}
-use Rattle.machine_model.proofs.Invariant.{UnitRight, RightFrom, Quiet, PlaceRight, Last, value_right, update, front, transferred, assigned, filled_right, pass_right, drained}
+use Rattle.machine_model.proofs.PlainRuns.{Leaves, step_leaves, Ends, end_runs, not_created}
+use Rattle.machine_model.proofs.Invariant.{UnitRight, RightFrom, Quiet, PlaceRight, value_right, update, front, transferred, assigned, filled_right, pass_right}
 use Rattle.machine_model.proofs.UnitExec.{stands_there, moved_right}
 
 -- every register has arrived at the head

@@ -1,16 +1,14 @@
 -- What an event does to the counts, read off its record.
-use Rattle.std.proofs.Common.{◌≡◌, ℕ, zero, suc, ◌+◌, ◌-◌, ◌<◌, ◌≤◌, List, [], ◌∷◌, ◌++◌, length, drop, Option, Some, None, refl, sym, ap, ◌∙◌, subst, arith, take, length-append, length-set, length-take-le, add-zero, set}
+use Rattle.std.proofs.Common.{◌≡◌, ℕ, zero, suc, ◌+◌, ◌<◌, List, [], ◌∷◌, ◌++◌, length, drop, Some, refl, sym, ap, ◌∙◌, arith, take, length-append, length-set, length-take-le}
 use Rattle.std.specs.Prelude.{slice_get, slice_set}
-use Rattle.std.specs.List.{fold}
 use Rattle.std.proofs.lemmas.Option.{slice_get_within}
 use Rattle.mips_plain.specs.Words.{address}
 use Rattle.mips_plain.specs.declared.outcome.Read.{Read}
 use Rattle.task_descriptor.specs.Listing.{Listing}
 use Rattle.machine_model.specs.Machine.{Active, State}
-use Rattle.machine_model.specs.Step.{Next, Assigns, Execs, Transfers, Drains, Squashes, Retires, Drops, after_exec, put, started, filled, handed_over, retire_leaves}
+use Rattle.machine_model.specs.Step.{Next, after_exec, put, started, filled, handed_over, retire_leaves}
 use Rattle.machine_model.specs.Claims.{by_head, count_c, count_h}
 use Rattle.machine_model.specs.HeadEvent.{growth, retired_after, active_after}
-use Rattle.machine_model.specs.declared.event.Commit.{Commit}
 use Rattle.machine_model.specs.declared.event.Event.{Event}
 use Rattle.machine_model.specs.declared.event.Event.TheVariants.{Assign, Exec, Transfer, Drain, Squash, Retire, Fault, Drop}
 use Rattle.machine_model.proofs.Headline.{counted_push}

@@ -1,24 +1,24 @@
 -- While the run goes on the head is ready for an event: it is right, so it stands at an instruction
 -- and has every register; and the next address is always where a task begins.
-use Rattle.std.proofs.Common.{◌≡◌, ℕ, zero, suc, ◌+◌, ◌<◌, ◌≤◌, ◌⊎◌, inl, inr, Bool, true, false, cond, not, ◌&&◌, ◌||◌, List, [], ◌∷◌, ◌++◌, length, Option, Some, None, refl, sym, ap, ◌∙◌, subst, arith, true≢false, eq-eqb, eqb-true, unwrap_or}
-use Rattle.std.specs.Prelude.{slice_get, slice_index_or, nat_eq, nat_lt, is_some, is_none, position}
-use Rattle.std.specs.List.{list_any, last_or, prefix_len, position_or_len}
+use Rattle.std.proofs.Common.{◌≡◌, ℕ, suc, ◌+◌, ◌<◌, ◌≤◌, inl, inr, Bool, true, false, cond, not, ◌||◌, List, [], ◌∷◌, length, Option, Some, None, refl, sym, ap, ◌∙◌, subst, arith, true≢false, eq-eqb, eqb-true}
+use Rattle.std.specs.Prelude.{slice_get, nat_eq, nat_lt, is_some, is_none}
+use Rattle.std.specs.List.{list_any, last_or, position_or_len}
 use Rattle.std.specs.Option.{option_map}
-use Rattle.std.proofs.lemmas.Bool.{or_cases, or_left, or_right, and_parts, cond-true, lt-ltb}
-use Rattle.std.proofs.lemmas.Option.{slice_get_cases}
+use Rattle.std.proofs.lemmas.Bool.{or_cases, or_left, or_right, cond-true, lt-ltb}
+use Rattle.std.proofs.lemmas.Option.{slice_get_cases, slice_get-get_or}
 use Rattle.std.proofs.lemmas.List.Quantifiers.{position-Some}
-use Rattle.mips_plain.specs.Words.{address, has}
-use Rattle.mips_plain.specs.Instruction.{reg_a, reg_b, released}
+use Rattle.mips_plain.specs.Words.{address}
+use Rattle.mips_plain.specs.Instruction.{reg_a, reg_b}
 use Rattle.task_descriptor.specs.Listing.{Listing, IsWellFormed}
+use Rattle.task_descriptor.specs.WellFormed.{limits, entry_below, start_is_entry}
 use Rattle.task_descriptor.specs.declared.descriptor.Descriptor.{Descriptor}
-use Rattle.task_descriptor.specs.declared.descriptor.Marked.{Marked}
 use Rattle.task_graph.specs.Edges.{Path, stay, onward}
-use Rattle.task_graph.specs.Soundness.{Sound, is_target, is_entry}
-use Rattle.machine_model.specs.Machine.{Active, State, opening, task_at, no_task, creates, begins, value}
-use Rattle.machine_model.specs.Step.{Next, follows, is_listed, next_begins, Assigns, Execs, Squashes, Drains, Retires, Faults}
+use Rattle.task_graph.specs.Soundness.{Sound, is_entry}
+use Rattle.machine_model.specs.Machine.{Active, State, opening, task_at, no_task, creates, value}
+use Rattle.machine_model.specs.Step.{Next, follows, is_listed, next_begins}
 use Rattle.machine_model.specs.Replay.{ReplaysFrom, Replays}
 use Rattle.machine_model.specs.Answer.{IsInRange, least, is_running, after}
-use Rattle.machine_model.specs.Claims.{plain_of, by_head, count_c}
+use Rattle.machine_model.specs.Claims.{plain_of, count_c}
 use Rattle.machine_model.specs.HeadEvent.{task_beginning, drain_or_retire, event_of_head, event_of_queue, head_event}
 use Rattle.machine_model.specs.declared.event.Event.{Event}
 use Rattle.machine_model.specs.declared.event.Event.TheVariants.{Assign, Exec, Transfer, Drain, Squash, Retire, Fault, Drop}
@@ -30,7 +30,6 @@ use Rattle.machine_model.proofs.PlainRuns.{sound_at}
 use Rattle.machine_model.proofs.Invariant.{UnitRight, PlaceRight}
 use Rattle.machine_model.proofs.Events.{QueueRight, head_right, head_has}
 use Rattle.machine_model.proofs.Headline.{InvAt, Good, step_good, opening_good}
-use Rattle.machine_model.proofs.Programs.{within_limit, starts_at_entry, entry_inside}
 use Rattle.machine_model.proofs.Answering.{next_is_after, least_passes, least_nothing, none_is, not_none}
 
 -- A task begins at the next address
@@ -74,7 +73,7 @@ module _ (p : Listing) (formed : IsWellFormed p) (sound : Sound p) where
   opening_begins : BeginsThere p (opening p).next
   opening_begins =
       any_then (λ (task : Descriptor). nat_eq task.entry p.start) (λ (task : Descriptor). nat_eq (address task.entry) (address p.start))
-      (λ task same. eq-eqb (address task.entry) (address p.start) (ap address (eqb-true task.entry p.start same))) p.tasks (starts_at_entry p formed)
+      (λ task same. eq-eqb (address task.entry) (address p.start) (ap address (eqb-true task.entry p.start same))) p.tasks (start_is_entry p formed)
 
   queue_head_is_task : (s : State) (c : ℕ) (head : Active) (rest : List Active) → s.queue ≡ head ∷ rest → InvAt p c s → head.task < length p.tasks
   queue_head_is_task s c head rest is inv =
@@ -94,7 +93,7 @@ module _ (p : Listing) (formed : IsWellFormed p) (sound : Sound p) where
       let d = next.does in
       let is_task : d.head.task < length p.tasks = queue_head_is_task s (count_c s) d.head d.rest d.is_queue (good.inv next.runs) in
       subst (BeginsThere p) (sym (ap (λ (x : State). x.next) d.is))
-      (target_begins p d.exit (task_at p d.head.task).targets (sound_at p (within_limit p formed) sound d.head.task is_task).targets_begin d.is_listed)
+      (target_begins p d.exit (task_at p d.head.task).targets (sound_at p ((limits p formed).code) sound d.head.task is_task).targets_begin d.is_listed)
   step_begins units s s' Fault good next h = next_begins_by s s' (ap (λ (x : State). x.next) next.does.is) h
   step_begins units s s' (Drop k) good next h = next_begins_by s s' (ap (λ (x : State). x.next) next.does.is) h
 
@@ -102,13 +101,13 @@ module _ (p : Listing) (formed : IsWellFormed p) (sound : Sound p) where
   replay_begins units [] s s' good h replay =
       (subst (Good p) (sym replay) good, subst (λ (x : State). BeginsThere p x.next) (sym replay) h)
   replay_begins units (e ∷ es) s s' good h replay =
-      replay_begins units es replay.0 s' (step_good p (within_limit p formed) sound units s replay.0 e good replay.1) (step_begins units s replay.0 e good replay.1 h) replay.2
+      replay_begins units es replay.0 s' (step_good p ((limits p formed).code) sound units s replay.0 e good replay.1) (step_begins units s replay.0 e good replay.1 h) replay.2
 
   -- A reached place is an instruction
 
   reached_inside : (t i : ℕ) → t < length p.tasks → Path p (task_at p t).entry i → i < length p.code
-  reached_inside t i is_task stay = entry_inside p t formed is_task
-  reached_inside t i is_task (onward {j} path over) = (sound_at p (within_limit p formed) sound t is_task).stays_inside j i path over
+  reached_inside t i is_task stay = entry_below p formed t (task_at p t) (slice_get-get_or p.tasks t no_task is_task)
+  reached_inside t i is_task (onward {j} path over) = (sound_at p ((limits p formed).code) sound t is_task).stays_inside j i path over
 
   -- The event of the head is allowed
 
@@ -223,7 +222,7 @@ module _ (p : Listing) (formed : IsWellFormed p) (sound : Sound p) where
                 is_unit = is_head;
                 is_created = unsent.0;
                 exit = exit;
-                is_stopped = stopped;
+                has_stopped = stopped;
                 is_unsent = none_is (u.sent r) unsent.1;
                 word = (plain_of p (count_c s + length u.log)).regs r;
                 has_word = has_value r;

@@ -1,27 +1,26 @@
 -- The headline: each event keeps the invariant, or ends the run with the claims as they should be; so
 -- by induction on the list of events, every replay has the claims.
-use Rattle.std.proofs.Common.{◌≡◌, ℕ, zero, suc, ◌+◌, ◌<◌, ◌≤◌, ◌⊎◌, inl, inr, Bool, true, false, List, [], ◌∷◌, ◌++◌, length, Option, Some, None, refl, sym, ap, ◌∙◌, subst, arith, take, length-append, add-zero, unwrap_or, true≢false}
-use Rattle.std.specs.Prelude.{slice_get, slice_set, nat_eq, IsSome}
-use Rattle.std.specs.List.{AllByRecursion, last_or, sum_by, fold}
+use Rattle.std.proofs.Common.{◌≡◌, ℕ, zero, suc, ◌+◌, ◌<◌, ◌≤◌, ◌⊎◌, inl, inr, true, false, List, [], ◌∷◌, ◌++◌, length, Option, Some, refl, sym, ap, ◌∙◌, subst, arith, take, length-append, unwrap_or}
+use Rattle.std.specs.Prelude.{slice_get, slice_set}
+use Rattle.std.specs.List.{AllByRecursion, fold}
 use Rattle.mips_plain.specs.Words.{address, byte_of}
 use Rattle.mips_plain.specs.Instruction.{reg_a, reg_b}
-use Rattle.mips_plain.specs.Effect.{memory_after, output_after, outcome_after, may_run_ahead, written}
+use Rattle.mips_plain.specs.Effect.{memory_after, output_after, outcome_after, may_run_ahead}
 use Rattle.mips_plain.specs.PlainMachine.{plain, reads}
 use Rattle.mips_plain.specs.declared.outcome.Outcome.{Outcome}
 use Rattle.mips_plain.specs.declared.outcome.Outcome.TheVariants.{Running, Halted, Trapped}
 use Rattle.mips_plain.specs.declared.outcome.Read.{Read}
-use Rattle.task_descriptor.specs.Listing.{Listing, input}
+use Rattle.task_descriptor.specs.Listing.{Listing}
 use Rattle.task_descriptor.specs.declared.descriptor.Marked.{Marked}
 use Rattle.task_graph.specs.Soundness.{Sound}
-use Rattle.machine_model.specs.Machine.{Active, State, opening, value, creates}
-use Rattle.machine_model.specs.Step.{Next, Assigns, Execs, Transfers, Drains, Squashes, Retires, Faults, Drops, put, is_listed, started, executed, moved, after_exec, stands, exec_leaves, retire_leaves, next_begins}
+use Rattle.machine_model.specs.Machine.{Active, State, opening, value}
+use Rattle.machine_model.specs.Step.{Next, Assigns, Transfers, Drains, Squashes, Retires, Faults, Drops, put, is_listed, started, executed, after_exec, stands, exec_leaves, retire_leaves}
 use Rattle.machine_model.specs.Replay.{ReplaysFrom, Replays}
-use Rattle.machine_model.specs.Claims.{plain_of, reads_of, committed, by_head, count_c, count_h, EndsLike, Claims}
+use Rattle.machine_model.specs.Claims.{plain_of, reads_of, by_head, count_c, EndsLike, Claims}
 use Rattle.machine_model.specs.declared.event.Commit.{Commit}
 use Rattle.machine_model.specs.declared.event.Event.{Event}
 use Rattle.machine_model.specs.declared.event.Event.TheVariants.{Assign, Exec, Transfer, Drain, Squash, Retire, Fault, Drop}
 use Rattle.machine_model.specs.declared.event.Spot.TheVariants.{Inside, Stopped}
-use Rattle.machine_model.specs.declared.event.Standing.{Standing}
 use Rattle.machine_model.specs.declared.event.Standing.TheVariants as standing
 use Rattle.machine_model.proofs.Instructions.{ahead_memory, ahead_output, ahead_runs, ended_writes}
 use Rattle.machine_model.proofs.PlainRuns.{Leaves}
@@ -86,7 +85,7 @@ module _ (p : Listing) where
   drain_good s s' k r runs inv d =
       subst (Good p) (sym d.is) (good_queue s (slice_set s.queue k (record (d.unit) { sent = put r d.word d.unit.sent })) runs inv
       (unit_changes p (count_c s) s.queue s.next s.memory s.output k d.unit (record (d.unit) { sent = put r d.word d.unit.sent }) d.is_unit refl refl refl
-      (λ q i h. drained p d.unit r d.word d.exit d.is_stopped d.has_word h) inv.queue))
+      (λ q i h. drained p d.unit r d.word d.exit d.has_stopped d.has_word h) inv.queue))
 
   squash_good : (s s' : State) (k : ℕ) → s.outcome ≡ standing.Running → InvAt p (count_c s) s → Squashes p s k s' → Good p s'
   squash_good s s' k runs inv d =

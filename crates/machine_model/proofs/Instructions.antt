@@ -1,6 +1,6 @@
 -- What the theorems need to know of one instruction; no other proof looks into one. Cases on the
 -- instruction, nearly all by computation.
-use Rattle.std.proofs.Common.{◌≡◌, ℕ, suc, ◌+◌, ◌*◌, ◌%◌, ◌^◌, ◌<◌, ◌≤◌, ◌-◌, ◌/◌, Bool, true, false, cond, ◌&&◌, List, Option, Some, None, refl, sym, ap, ◌∙◌, subst, arith, map}
+use Rattle.std.proofs.Common.{◌≡◌, ℕ, ◌+◌, ◌*◌, ◌%◌, ◌^◌, ◌<◌, ◌-◌, Bool, true, false, cond, ◌&&◌, List, Option, Some, None, refl, ap, ◌∙◌, arith}
 use Rattle.std.specs.Prelude.{slice_get, nat_le, nat_eq, is_some}
 use Rattle.std.specs.Option.{option_map, option_and_then}
 use Rattle.std.proofs.lemmas.Bool.{and_right, cond-false, cond-true, and_from, le-leb, eq-eqb}
@@ -8,16 +8,15 @@ use Rattle.std.proofs.lemmas.Option.{slice_get-map}
 use Rattle.mips_plain.specs.Words.{address, index_of}
 use Rattle.mips_plain.specs.Arithmetic.{two_taken, one_taken}
 use Rattle.mips_plain.specs.Instruction.{dests, general, alu, is_register_only, taken, turn, moved_to}
-use Rattle.mips_plain.specs.Effect.{written, loaded, memory_after, output_after, outcome_after, outcome_of_load, outcome_of_store, may_run_ahead, is_fixed}
+use Rattle.mips_plain.specs.Effect.{written, loaded, memory_after, output_after, outcome_after, outcome_of_load, may_run_ahead, is_fixed}
 use Rattle.mips_plain.specs.MemoryMap.{Region, Fixed, Ordinary, Nowhere, region, effective, load_size}
 use Rattle.mips_plain.specs.PlainMachine.{fetch}
 use Rattle.mips_plain.specs.declared.instruction.LoadKind.{LoadKind}
 use Rattle.mips_plain.specs.declared.instruction.MoveToKind.{MoveToKind}
 use Rattle.mips_plain.specs.declared.instruction.MoveToKind.TheVariants.{Mthi, Mtlo}
 use Rattle.mips_plain.specs.declared.instruction.Op.{Op}
-use Rattle.mips_plain.specs.declared.instruction.Op.TheVariants.{Three, ShiftBy, ShiftVar, Imm, Logic, Lui, Mult, MoveFrom, MoveTo, Load, Store, BranchTwo, BranchOne, Jump, JumpLink, JumpReg, JumpLinkReg, Out, Release, Halt}
-use Rattle.mips_plain.specs.declared.outcome.Outcome.{Outcome}
-use Rattle.mips_plain.specs.declared.outcome.Outcome.TheVariants.{Running, Halted, Trapped}
+use Rattle.mips_plain.specs.declared.instruction.Op.TheVariants.{Three, ShiftBy, ShiftVar, Imm, Logic, Lui, Mult, MoveFrom, MoveTo, Load, Store, BranchTwo, BranchOne, Jump, JumpLink, JumpReg, JumpLinkReg, Out, Halt}
+use Rattle.mips_plain.specs.declared.outcome.Outcome.TheVariants.{Running}
 use Rattle.task_descriptor.specs.Listing.{Listing, input}
 use Rattle.task_descriptor.specs.declared.descriptor.Marked.{Marked}
 use Rattle.task_graph.specs.Edges.{edge, is_indirect}

@@ -1,13 +1,11 @@
 -- The invariant over the queue. Each unit is right, but only where the plain machine comes by the
 -- entry of its task when the units before it are done: nothing at all is said of the others.
-use Rattle.std.proofs.Common.{◌≡◌, ℕ, zero, suc, ◌+◌, ◌<◌, ◌≤◌, Bool, true, false, cond, ◌||◌, ◌⊎◌, inl, inr, List, [], ◌∷◌, ◌++◌, length, Option, Some, None, refl, sym, ap, ◌∙◌, subst, arith, unwrap_or, true≢false, take, append_assoc, append-nil, length-append, eqb-true, add-zero}
-use Rattle.std.specs.Prelude.{slice_get, slice_set, nat_eq, IsSome}
+use Rattle.std.proofs.Common.{◌≡◌, ℕ, zero, suc, ◌+◌, ◌<◌, ◌≤◌, Bool, true, false, cond, ◌⊎◌, inl, inr, List, [], ◌∷◌, ◌++◌, length, Option, Some, None, refl, sym, ap, ◌∙◌, subst, take, append-nil, eqb-true, add-zero}
+use Rattle.std.specs.Prelude.{slice_get, slice_set, nat_eq}
 use Rattle.std.specs.Option.{option_or}
-use Rattle.std.proofs.lemmas.Bool.{or_parts, cases_Bool}
-use Rattle.mips_plain.specs.Words.{address, byte_of}
-use Rattle.mips_plain.specs.Instruction.{dests}
+use Rattle.std.proofs.lemmas.Bool.{or_parts}
+use Rattle.mips_plain.specs.Words.{address}
 use Rattle.mips_plain.specs.declared.outcome.Outcome.TheVariants.{Running}
-use Rattle.mips_plain.specs.declared.outcome.Read.{Read}
 use Rattle.task_descriptor.specs.Listing.{Listing, input}
 use Rattle.task_graph.specs.Edges.{Path, stay, MayWrite}
 use Rattle.task_graph.specs.Soundness.{Sound}

@@ -4,7 +4,6 @@ pub mod Invariant
 pub mod UnitExec
 pub mod Events
 pub mod Headline
-pub mod Programs
 pub mod Replays
 pub mod Answering
 pub mod HeadEvents

@@ -1,21 +1,19 @@
 -- The plain machine's run, cut where a task ends: one step of it, what a task's steps leave as they
 -- were, and that it leaves a task at one place alone. By induction on the run.
-use Rattle.std.proofs.Common.{◌≡◌, ℕ, zero, suc, ◌+◌, ◌<◌, ◌≤◌, Bool, true, false, List, [], ◌∷◌, ◌++◌, length, Option, Some, None, refl, sym, ap, ◌∙◌, subst, arith, unwrap_or, true≢false}
-use Rattle.std.specs.Prelude.{slice_get, slice_index_or}
-use Rattle.std.proofs.lemmas.Bool.{false_from_ne_true, cases_Bool}
+use Rattle.std.proofs.Common.{◌≡◌, ℕ, zero, suc, ◌<◌, ◌≤◌, Bool, true, false, [], ◌∷◌, ◌++◌, length, Option, Some, None, refl, sym, ap, ◌∙◌, subst, arith, unwrap_or, true≢false}
+use Rattle.std.specs.Prelude.{slice_get}
+use Rattle.std.proofs.lemmas.Bool.{false_from_ne_true}
 use Rattle.std.proofs.lemmas.Option.{slice_get_within, slice_get-get_or}
-use Rattle.mips_plain.specs.Words.{address, byte_of, has}
+use Rattle.mips_plain.specs.Words.{address, byte_of}
 use Rattle.mips_plain.specs.Instruction.{reg_a, reg_b, dests, taken, turn}
 use Rattle.mips_plain.specs.Effect.{written, memory_after, output_after, outcome_after}
 use Rattle.mips_plain.specs.PlainMachine.{Input, State as PlainState, plain, reads, fetch, fetched, do_op, step_when, read_at, reads_when, pc_after}
 use Rattle.mips_plain.specs.declared.instruction.Op.{Op}
 use Rattle.mips_plain.specs.declared.outcome.Outcome.{Outcome}
 use Rattle.mips_plain.specs.declared.outcome.Outcome.TheVariants.{Running, Halted, Trapped}
-use Rattle.mips_plain.specs.declared.outcome.Read.{Read}
 use Rattle.task_descriptor.specs.Listing.{Listing, input}
 use Rattle.task_descriptor.specs.declared.descriptor.Marked.{Marked}
-use Rattle.task_descriptor.specs.declared.descriptor.Stop.TheVariants as stop
-use Rattle.task_graph.specs.Edges.{Edge, Path, stay, onward, MayWrite, edge, leaves, is_indirect}
+use Rattle.task_graph.specs.Edges.{Edge, Path, stay, onward, MayWrite, leaves, is_indirect}
 use Rattle.task_graph.specs.Soundness.{Sound, SoundTask}
 use Rattle.machine_model.specs.Machine.{task_at, no_task, creates}
 use Rattle.machine_model.specs.Claims.{plain_of, reads_of}

@@ -1,5 +1,5 @@
 -- A register that was sent is in no mask from its unit's place on, so no later instruction writes it.
-use Rattle.std.proofs.Common.{◌≡◌, ℕ, ◌⊎◌, inl, inr, Bool, true, false, cond, Option, Some, None, refl, sym, ap, ◌∙◌, subst, true≢false}
+use Rattle.std.proofs.Common.{◌≡◌, ℕ, inl, inr, Bool, true, false, cond, Option, Some, None, refl, sym, ap, ◌∙◌, true≢false}
 use Rattle.std.specs.Prelude.{slice_get, nat_eq}
 use Rattle.std.specs.Option.{option_or}
 use Rattle.std.proofs.lemmas.Bool.{false_from_ne_true}
@@ -14,8 +14,7 @@ use Rattle.task_graph.specs.Edges.{Edge, edge, leaves, sends}
 use Rattle.machine_model.specs.Machine.{Active, value}
 use Rattle.machine_model.specs.Step.{with_written, place_after, executed, after_exec}
 use Rattle.machine_model.specs.Burst.{MasksFit, SentIsLast}
-use Rattle.machine_model.specs.declared.event.Spot.{Spot}
-use Rattle.machine_model.specs.declared.event.Spot.TheVariants.{Inside, Stopped}
+use Rattle.machine_model.specs.declared.event.Spot.TheVariants.{Inside}
 use Rattle.machine_model.proofs.Instructions.{written_dest}
 use Rattle.machine_model.proofs.UnitExec.{sent_found}
 

@@ -1,6 +1,6 @@
 -- A right unit is right after one more instruction, wherever it stands: its operands are the plain
 -- machine's, so the instruction writes what the plain machine's next step writes.
-use Rattle.std.proofs.Common.{◌≡◌, ℕ, zero, suc, ◌+◌, ◌<◌, ◌≤◌, Bool, true, false, cond, ◌⊎◌, inl, inr, List, [], ◌∷◌, ◌++◌, length, Option, Some, None, refl, sym, ap, ◌∙◌, subst, arith, unwrap_or, append_assoc, length-append, eqb-true}
+use Rattle.std.proofs.Common.{◌≡◌, ℕ, suc, ◌+◌, ◌≤◌, Bool, true, false, cond, ◌⊎◌, inl, inr, List, [], ◌∷◌, ◌++◌, length, Option, Some, None, refl, sym, ap, ◌∙◌, subst, arith, unwrap_or, append_assoc, length-append, eqb-true}
 use Rattle.std.specs.Prelude.{slice_get, nat_eq}
 use Rattle.std.specs.Option.{option_or}
 use Rattle.mips_plain.specs.Words.{address, byte_of}
@@ -12,15 +12,15 @@ use Rattle.mips_plain.specs.declared.outcome.Outcome.TheVariants.{Running}
 use Rattle.mips_plain.specs.declared.outcome.Read.{Read}
 use Rattle.task_descriptor.specs.Listing.{Listing, input}
 use Rattle.task_descriptor.specs.declared.descriptor.Marked.{Marked}
-use Rattle.task_graph.specs.Edges.{Edge, Path, onward, MayWrite, edge, leaves, sends}
+use Rattle.task_graph.specs.Edges.{Edge, onward, MayWrite, edge, leaves, sends}
 use Rattle.task_graph.specs.Soundness.{Sound}
-use Rattle.machine_model.specs.Machine.{Words, Active, task_at, value}
-use Rattle.machine_model.specs.Step.{with_written, with_sent, place_after, moved, executed, after_exec}
+use Rattle.machine_model.specs.Machine.{Active, value}
+use Rattle.machine_model.specs.Step.{with_written, place_after, moved, executed, after_exec}
 use Rattle.machine_model.specs.Claims.{plain_of, reads_of}
 use Rattle.machine_model.specs.declared.event.Spot.{Spot}
-use Rattle.machine_model.specs.declared.event.Spot.TheVariants.{Inside, Stopped}
+use Rattle.machine_model.specs.declared.event.Spot.TheVariants.{Inside}
 use Rattle.machine_model.proofs.Instructions.{ahead_memory, ahead_output, ahead_runs, ahead_written, written_dest, Leads}
-use Rattle.machine_model.proofs.PlainRuns.{At, Leaves, step_leaves, Steps, Follows, Ends, follow_on, end_now, not_dest, may_write_first, sound_at, leads_inside, plain_zero}
+use Rattle.machine_model.proofs.PlainRuns.{At, Leaves, step_leaves, Steps, follow_on, end_now, not_dest, may_write_first, sound_at, leads_inside, plain_zero}
 use Rattle.machine_model.proofs.Invariant.{PlaceRight, Last, Quiet, UnitRight, value_found, value_right}
 
 pub sent_found : (b : Bool) (s v : Option ℕ) (w : ℕ) → option_or s (cond b v None) ≡ Some w → (s ≡ Some w) ⊎ ((b ≡ true) × (v ≡ Some w))

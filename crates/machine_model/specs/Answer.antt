@@ -1,6 +1,6 @@
 -- What the machine answers to an event: the first refusal whose condition holds; and replays as a
 -- function (own).
-use Rattle.std.specs.Prelude.{◌≡◌, ℕ, zero, suc, List, [], ◌∷◌, ◌++◌, Bool, true, false, not, ◌&&◌, ◌||◌, nat_eq, nat_lt, length, take, drop, pred, ◌<◌, if◌then◌else◌, slice_get, slice_set, is_some, is_none, Option, Some, None}
+use Rattle.std.specs.Prelude.{◌≡◌, ℕ, zero, suc, List, [], ◌∷◌, ◌++◌, Bool, true, false, not, ◌||◌, nat_eq, nat_lt, length, take, drop, pred, ◌<◌, if◌then◌else◌, slice_get, slice_set, is_some, is_none, Option, Some, None}
 use Rattle.std.specs.List.{find, filter, fold, range_with_len, last_or}
 use Rattle.std.specs.Option.{option_or, option_and_then, unwrap_or}
 use Rattle.std.specs.Prelude.{Result, Ok, Err}

@@ -1,6 +1,6 @@
 -- Bursts: instructions of one unit that need nothing but its own registers and read-only data, so that
 -- they may be made away from the machine and handed in later (own).
-use Rattle.std.specs.Prelude.{◌≡◌, ℕ, zero, suc, Bool, true, false, List, slice_get, IsSome, Option, Some}
+use Rattle.std.specs.Prelude.{◌≡◌, ℕ, zero, suc, Bool, true, false, slice_get, IsSome, Some}
 use Rattle.mips_plain.specs.Instruction.{reg_a, reg_b, released, dests}
 use Rattle.mips_plain.specs.Effect.{may_run_ahead}
 use Rattle.task_descriptor.specs.Listing.{Listing}

@@ -1,6 +1,6 @@
 -- Worked examples, computed by the checker: scripts of events on small programs, their answers, and
 -- the state that they leave.
-use Rattle.std.specs.Prelude.{◌≡◌, ℕ, ℤ, pos, negsuc, List, [], ◌∷◌, Bool, true, false, slice_get, Option, Some, None, Result, Ok, Err}
+use Rattle.std.specs.Prelude.{◌≡◌, ℕ, pos, negsuc, List, [], ◌∷◌, true, false, slice_get, Option, Some, None, Result, Ok, Err}
 use Rattle.std.proofs.Common.{refl}
 use Rattle.mips_plain.specs.Words.{address, index_of}
 use Rattle.mips_plain.specs.MemoryMap.{region, effective}
@@ -17,7 +17,7 @@ use Rattle.task_descriptor.specs.Listing.{Listing}
 use Rattle.task_descriptor.specs.declared.descriptor.Descriptor.{Descriptor}
 use Rattle.task_descriptor.specs.declared.descriptor.Marked.{Marked}
 use Rattle.task_descriptor.specs.declared.descriptor.Stop.TheVariants as stop
-use Rattle.machine_model.specs.Machine.{Active, State, opening, value}
+use Rattle.machine_model.specs.Machine.{Active, opening, value}
 use Rattle.machine_model.specs.Answer.{Played, play, least}
 use Rattle.machine_model.specs.Claims.{count_c, count_h}
 use Rattle.machine_model.specs.HeadEvent.{head_event}

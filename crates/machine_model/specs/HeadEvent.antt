@@ -1,6 +1,6 @@
 -- The event that the head is ready for (own): while the run goes on there is always one. Also which
 -- unit of the ring an event belongs to.
-use Rattle.std.specs.Prelude.{◌≡◌, ℕ, zero, suc, ◌+◌, ◌-◌, ◌%◌, List, [], ◌∷◌, Bool, not, ◌&&◌, nat_eq, if◌then◌else◌, length, drop, is_none, position, Option, Some, None}
+use Rattle.std.specs.Prelude.{ℕ, zero, suc, ◌+◌, ◌-◌, ◌%◌, List, [], ◌∷◌, not, nat_eq, if◌then◌else◌, drop, is_none, position, Option, Some, None}
 use Rattle.std.specs.Option.{option_map}
 use Rattle.mips_plain.specs.Words.{address}
 use Rattle.task_descriptor.specs.Listing.{Listing}

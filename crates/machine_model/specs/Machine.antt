@@ -1,6 +1,6 @@
 -- The machine between two events (Sohi, Breach, Vijaykumar, "Multiscalar Processors", ISCA 1995,
 -- sections 2 and 3): a queue of units from head to tail, and beside it what has retired.
-use Rattle.std.specs.Prelude.{◌≡◌, ℕ, List, [], ◌∷◌, ◌++◌, Bool, nat_eq, if◌then◌else◌, slice_index_or, Option, Some, None}
+use Rattle.std.specs.Prelude.{ℕ, List, [], Bool, nat_eq, if◌then◌else◌, slice_index_or, Option, Some}
 use Rattle.std.specs.Option.{option_or}
 use Rattle.mips_plain.specs.Words.{has, address, byte_of}
 use Rattle.mips_plain.specs.declared.outcome.Read.{Read}

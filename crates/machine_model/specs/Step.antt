@@ -1,10 +1,10 @@
 -- The machine step: when each event is allowed and what it leaves (ISCA 1995, sections 2.1 and 2.2;
 -- that a step is one instruction or one register, and what waits for the head, are own choices).
-use Rattle.std.specs.Prelude.{◌≡◌, ℕ, suc, ◌+◌, ◌<◌, ◌⊎◌, List, [], ◌∷◌, ◌++◌, Bool, true, false, ◌&&◌, ◌||◌, nat_eq, if◌then◌else◌, length, take, slice_get, slice_set, IsSome, Option, Some, None}
+use Rattle.std.specs.Prelude.{◌≡◌, ℕ, suc, ◌<◌, ◌⊎◌, List, [], ◌∷◌, ◌++◌, Bool, true, false, ◌&&◌, nat_eq, if◌then◌else◌, length, take, slice_get, slice_set, IsSome, Option, Some, None}
 use Rattle.std.specs.List.{list_any, last_or}
 use Rattle.std.specs.Option.{option_or, unwrap_or}
 use Rattle.mips_plain.specs.Words.{address, byte_of}
-use Rattle.mips_plain.specs.Instruction.{reg_a, reg_b, released, dests, taken, turn}
+use Rattle.mips_plain.specs.Instruction.{reg_a, reg_b, released, taken, turn}
 use Rattle.mips_plain.specs.Effect.{written, memory_after, output_after, outcome_after, may_run_ahead}
 use Rattle.mips_plain.specs.declared.outcome.Outcome.{Outcome}
 use Rattle.mips_plain.specs.declared.outcome.Outcome.TheVariants.{Running, Halted, Trapped}
@@ -14,7 +14,6 @@ use Rattle.task_descriptor.specs.declared.descriptor.Marked.{Marked}
 use Rattle.task_graph.specs.Edges.{edge, leaves, sends}
 use Rattle.task_graph.specs.Soundness.{is_target}
 use Rattle.machine_model.specs.Machine.{Words, task_at, Active, State, creates, begins, value, pass}
-use Rattle.machine_model.specs.declared.event.Commit.{Commit}
 use Rattle.machine_model.specs.declared.event.Event.{Event}
 use Rattle.machine_model.specs.declared.event.Event.TheVariants.{Assign, Exec, Transfer, Drain, Squash, Retire, Fault, Drop}
 use Rattle.machine_model.specs.declared.event.Spot.{Spot}
@@ -149,7 +148,7 @@ pub record Drains (p : Listing) (s : State) (k r : ℕ) (s' : State) : Type 0 wh
   pub is_unit : slice_get s.queue k ≡ Some unit
   pub is_created : creates p unit.task r ≡ true
   pub exit : ℕ
-  pub is_stopped : unit.place ≡ Stopped exit
+  pub has_stopped : unit.place ≡ Stopped exit
   pub is_unsent : unit.sent r ≡ None
   pub word : ℕ
   pub has_word : value unit r ≡ Some word
