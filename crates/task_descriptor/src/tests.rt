@@ -84,9 +84,9 @@ fn builds_and_reads(rt: HostRuntime) -> Result<(), Fail> {
     assert_eq!(rt; program.index(0x0040_0001), None);
     assert_eq!(rt; program.task_at(4), Some(1));
     assert_eq!(rt; program.task_at(5), None);
-    let mut machine = program.plain(rt.alloc()).ok().ok_or("memory")?;
-    machine.step().ok().ok_or("memory")?;
-    assert_eq!(rt; machine.pc(), 0x0040_0004);
+    let machine = program.plain(rt.alloc()).ok().ok_or("memory")?;
+    assert_eq!(rt; machine.pc(), 0x0040_0000);
+    assert_eq!(rt; machine.count(), 0);
     assert_eq!(rt; program.parts().code.len(), 6);
     Ok(())
 }
