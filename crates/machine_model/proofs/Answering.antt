@@ -4,16 +4,21 @@ use Rattle.std.proofs.Common.{◌≡◌, ℕ, zero, suc, ◌+◌, ◌<◌, ◌�
 use Rattle.std.specs.Prelude.{slice_get, slice_set, nat_eq, nat_lt, is_some, is_none, Ok}
 use Rattle.std.specs.List.{find, filter, range_with_len, last_or}
 use Rattle.std.specs.Option.{option_or, option_and_then}
-use Rattle.std.proofs.lemmas.Bool.{or_cases, or_left, or_right, not-true, cases_eq}
+use Rattle.std.proofs.lemmas.Bool.{or_cases, or_left, or_right, not-true, cases_eq, cases_lt}
+use Rattle.std.proofs.lemmas.Nat.Bits.{bit_at-zero}
+use Rattle.std.proofs.Math.ListN.{get_or-eq_default}
 use Rattle.std.proofs.lemmas.Option.{option_and_then_some}
+use Rattle.mips_plain.specs.Words.{has}
 use Rattle.mips_plain.specs.Instruction.{source_a, source_b, reg_a, reg_b, is_source, released, waits}
 use Rattle.mips_plain.specs.Effect.{may_run_ahead}
-use Rattle.task_descriptor.specs.Listing.{Listing}
+use Rattle.task_descriptor.specs.Listing.{Listing, IsWellFormed}
+use Rattle.task_descriptor.specs.WellFormed.{waits_below}
+use Rattle.task_descriptor.specs.declared.descriptor.Descriptor.{Descriptor}
 use Rattle.task_descriptor.specs.declared.descriptor.Marked.{Marked}
-use Rattle.machine_model.specs.Machine.{Active, State, opening, creates, begins, value, pass}
+use Rattle.machine_model.specs.Machine.{Active, State, opening, no_task, creates, begins, value, pass}
 use Rattle.machine_model.specs.Step.{Next, Does, Assigns, Execs, Transfers, Drains, Squashes, Retires, Faults, Drops, put, is_listed, follows, exec_leaves, next_begins, retire_leaves}
 use Rattle.machine_model.specs.Replay.{ReplaysFrom, Replays}
-use Rattle.machine_model.specs.Answer.{IsInRange, most_events, least, unless, for_some, for_none, instruction_at, exit_of, operand, is_running, refusal, first_refusal, ok_unless, answer, index_of_place, exec_after, with_unit, with_queue, after, next_state, replay_from, replay}
+use Rattle.machine_model.specs.Answer.{most_events, least, unless, for_some, for_none, instruction_at, exit_of, operand, is_running, refusal, first_refusal, ok_unless, answer, index_of_place, exec_after, with_unit, with_queue, after, next_state, replay_from, replay}
 use Rattle.machine_model.specs.declared.event.Event.{Event}
 use Rattle.machine_model.specs.declared.event.Event.TheVariants.{Assign, Exec, Transfer, Drain, Squash, Retire, Fault, Drop}
 use Rattle.machine_model.specs.declared.event.Refused.{Refused}
@@ -171,9 +176,19 @@ queue_from (x ∷ us) u e = (let same : x ≡ u = cc in ap (λ (y : Active). y �
 head_from : (us : List Active) (u : Active) (rest : List Active) → us ≡ u ∷ rest → slice_get us 0 ≡ Some u
 head_from us u rest e = ap (λ (x : List Active). slice_get x 0) e
 
+-- a create mask has registers alone, also where there is no task
+pub creates_alone : (p : Listing) → IsWellFormed p → (t r : ℕ) → creates p t r ≡ true → r < 34
+creates_alone p formed t r created =
+    elim (cases_lt t (length p.tasks)) [
+      | inl within ↦ formed.in_range.tasks t no_task within r created
+      | inr beyond ↦
+          let has_none : has 0 r ≡ true = subst (λ (d : Descriptor). has d.create r ≡ true) (get_or-eq_default p.tasks no_task beyond) created in
+          absurd (true≢false (sym has_none ∙ ap (λ (bit : ℕ). nat_eq bit 1) (bit_at-zero r)))
+    ]
+
 -- From the answer to the step
 
-module _ (p : Listing) (range : IsInRange p) (units : ℕ) (s : State) where
+module _ (p : Listing) (formed : IsWellFormed p) (units : ℕ) (s : State) where
   assign_may : (t : ℕ) → refusal p units s (Assign t) ≡ None → Assigns p units s t (after p s (Assign t))
   assign_may t e =
       let one = unless_passed (nat_lt (length s.queue) units) _ _ e in
@@ -196,7 +211,7 @@ module _ (p : Listing) (range : IsInRange p) (units : ℕ) (s : State) where
       let three = none_passed (least (waits m.op) (λ r. is_none (value u r))) _ _ two.2 in
       let four = unless_passed (nat_eq k 0 || may_run_ahead m.op (operand u (reg_a m.op))) _ _ three.1 in
       let has : (r : ℕ) → waits m.op r ≡ true → value u r ≡ Some (operand u r) = λ r w.
-      some_is (value u r) (least_nothing (waits m.op) (λ x. is_none (value u x)) three.0 r (range.waits_below place.0 m place.2 r w) w) in
+      some_is (value u r) (least_nothing (waits m.op) (λ x. is_none (value u x)) three.0 r (waits_below p formed place.0 m place.2 r w) w) in
       record {
         unit = u;
         is_unit = one.1;
@@ -292,7 +307,7 @@ module _ (p : Listing) (range : IsInRange p) (units : ℕ) (s : State) where
         exit = two.0;
         is_stopped = exit_stopped u.place two.0 two.1;
         is_listed = five.0;
-        all_sent = λ r created. not_none (u.sent r) (least_nothing (creates p u.task) (λ x. is_none (u.sent x)) three.0 r (range.creates_below u.task r created) created);
+        all_sent = λ r created. not_none (u.sent r) (least_nothing (creates p u.task) (λ x. is_none (u.sent x)) three.0 r (creates_alone p formed u.task r created) created);
         next_begins = four.0;
         is = ap (λ (o : Option Active). with_unit s o (λ v. retire_leaves p s v (drop 1 s.queue) (unwrap_or (exit_of v.place) 0))) one.1
             ∙ ap (λ (o : Option ℕ). retire_leaves p s u (drop 1 s.queue) (unwrap_or o 0)) two.1;
@@ -476,11 +491,11 @@ refusal_of p units s n e = (
       (or_pass (refusal p units s e) _ h.1 (unless_pass (nat_lt n most_events) _ _ (lt-ltb n most_events h.2) refl)),
 )
 
-pub answer_is_next : (p : Listing) (units : ℕ) (s : State) (n : ℕ) (e : Event) → IsInRange p → (answer p units s n e ≡ Ok tt) ↔ (Next p units s e (after p s e) × (n < most_events))
-answer_is_next p units s n e range = (
+pub answer_is_next : (p : Listing) (units : ℕ) (s : State) (n : ℕ) (e : Event) → IsWellFormed p → (answer p units s n e ≡ Ok tt) ↔ (Next p units s e (after p s e) × (n < most_events))
+answer_is_next p units s n e formed = (
   λ h.
       let passed = (refusal_of p units s n e).0 (ok_none (first_refusal p units s n e) h) in
-      (record { runs = passed.0; does = does_may p range units s e passed.1 }, passed.2),
+      (record { runs = passed.0; does = does_may p formed units s e passed.1 }, passed.2),
   λ h. ap ok_unless ((refusal_of p units s n e).1 (h.0.runs, (does_is p units s (after p s e) e h.0.does).0, h.1)),
 )
 
@@ -489,12 +504,12 @@ taken : (p : Listing) (units : ℕ) (s : State) (e : Event) (o : Option Refused)
 taken p units s e None mid h = (refl, cc)
 taken p units s e (Some r) mid h = absurd (cc)
 
-next_state_is : (p : Listing) (units : ℕ) (s mid : State) (e : Event) → IsInRange p → (next_state p units s e ≡ Some mid) ↔ Next p units s e mid
-next_state_is p units s mid e range = (
+next_state_is : (p : Listing) (units : ℕ) (s mid : State) (e : Event) → IsWellFormed p → (next_state p units s e ≡ Some mid) ↔ Next p units s e mid
+next_state_is p units s mid e formed = (
   λ h.
       let t = taken p units s e (first_refusal p units s 0 e) mid h in
       let passed = (refusal_of p units s 0 e).0 t.0 in
-      subst (Next p units s e) t.1 (record { runs = passed.0; does = does_may p range units s e passed.1 }),
+      subst (Next p units s e) t.1 (record { runs = passed.0; does = does_may p formed units s e passed.1 }),
   λ h.
       let is = does_is p units s mid e h.does in
       ap (λ (o : Option Refused). cond (is_none o) (Some (after p s e)) None) ((refusal_of p units s 0 e).1 (h.runs, is.0, lt_of_zero))
@@ -504,14 +519,14 @@ next_state_is p units s mid e range = (
     lt_of_zero : 0 < most_events
     lt_of_zero = omega arith
 
-replay_from_is : (p : Listing) (units : ℕ) (s s' : State) (es : List Event) → IsInRange p → (replay_from p units s es ≡ Some s' → ReplaysFrom p units s es s') × (ReplaysFrom p units s es s' → replay_from p units s es ≡ Some s')
-replay_from_is p units s s' [] range = (λ h. cc, λ h. ap Some (sym h))
-replay_from_is p units s s' (e ∷ es) range = (
+replay_from_is : (p : Listing) (units : ℕ) (s s' : State) (es : List Event) → IsWellFormed p → (replay_from p units s es ≡ Some s' → ReplaysFrom p units s es s') × (ReplaysFrom p units s es s' → replay_from p units s es ≡ Some s')
+replay_from_is p units s s' [] formed = (λ h. cc, λ h. ap Some (sym h))
+replay_from_is p units s s' (e ∷ es) formed = (
   λ h. option_and_then_some {P = ReplaysFrom p units s (e ∷ es) s'} (λ mid. replay_from p units mid es) (next_state p units s e) s' h
-      (λ mid one rest. (mid, (next_state_is p units s mid e range).0 one, (replay_from_is p units mid s' es range).0 rest)),
-  λ h. ap (option_and_then (λ (mid : State). replay_from p units mid es)) ((next_state_is p units s h.0 e range).1 h.1)
-      ∙ (replay_from_is p units h.0 s' es range).1 h.2,
+      (λ mid one rest. (mid, (next_state_is p units s mid e formed).0 one, (replay_from_is p units mid s' es formed).0 rest)),
+  λ h. ap (option_and_then (λ (mid : State). replay_from p units mid es)) ((next_state_is p units s h.0 e formed).1 h.1)
+      ∙ (replay_from_is p units h.0 s' es formed).1 h.2,
 )
 
-pub replay_is_replays : (p : Listing) (units : ℕ) (events : List Event) (s : State) → IsInRange p → (replay p units events ≡ Some s) ↔ Replays p units events s
-replay_is_replays p units events s range = replay_from_is p units (opening p) s events range
+pub replay_is_replays : (p : Listing) (units : ℕ) (events : List Event) (s : State) → IsWellFormed p → (replay p units events ≡ Some s) ↔ Replays p units events s
+replay_is_replays p units events s formed = replay_from_is p units (opening p) s events formed

@@ -17,7 +17,7 @@ use Rattle.task_graph.specs.Soundness.{Sound, is_entry}
 use Rattle.machine_model.specs.Machine.{Active, State, opening, task_at, no_task, creates, value}
 use Rattle.machine_model.specs.Step.{Next, follows, is_listed, next_begins}
 use Rattle.machine_model.specs.Replay.{ReplaysFrom, Replays}
-use Rattle.machine_model.specs.Answer.{IsInRange, least, is_running, after}
+use Rattle.machine_model.specs.Answer.{least, is_running, after}
 use Rattle.machine_model.specs.Claims.{plain_of, count_c}
 use Rattle.machine_model.specs.HeadEvent.{task_beginning, drain_or_retire, event_of_head, event_of_queue, head_event}
 use Rattle.machine_model.specs.declared.event.Event.{Event}
@@ -30,7 +30,7 @@ use Rattle.machine_model.proofs.PlainRuns.{sound_at}
 use Rattle.machine_model.proofs.Invariant.{UnitRight, PlaceRight}
 use Rattle.machine_model.proofs.Events.{QueueRight, head_right, head_has}
 use Rattle.machine_model.proofs.Headline.{InvAt, Good, step_good, opening_good}
-use Rattle.machine_model.proofs.Answering.{next_is_after, least_passes, least_nothing, none_is, not_none}
+use Rattle.machine_model.proofs.Answering.{next_is_after, creates_alone, least_passes, least_nothing, none_is, not_none}
 
 -- A task begins at the next address
 
@@ -111,7 +111,7 @@ module _ (p : Listing) (formed : IsWellFormed p) (sound : Sound p) where
 
   -- The event of the head is allowed
 
-  module _ (range : IsInRange p) (units : ℕ) (some_unit : 0 < units) (s : State) (runs : s.outcome ≡ Running) (inv : InvAt p (count_c s) s) (begins_there : BeginsThere p s.next) where
+  module _ (units : ℕ) (some_unit : 0 < units) (s : State) (runs : s.outcome ≡ Running) (inv : InvAt p (count_c s) s) (begins_there : BeginsThere p s.next) where
     abbrev Allowed : Event → Type 0
     Allowed e = (s' : State) × Next p units s e s'
 
@@ -201,7 +201,7 @@ module _ (p : Listing) (formed : IsWellFormed p) (sound : Sound p) where
       )
 
       sent_all : least (creates p u.task) (λ r. is_none (u.sent r)) ≡ None → (r : ℕ) → creates p u.task r ≡ true → is_some (u.sent r) ≡ true
-      sent_all none r created = not_none (u.sent r) (least_nothing (creates p u.task) (λ x. is_none (u.sent x)) none r (range.creates_below u.task r created) created)
+      sent_all none r created = not_none (u.sent r) (least_nothing (creates p u.task) (λ x. is_none (u.sent x)) none r (creates_alone p formed u.task r created) created)
 
       stopped_allowed : (exit : ℕ) (listed begin : Bool) (unsent : Option ℕ) → u.place ≡ Stopped exit → is_listed p u.task exit ≡ listed → next_begins p us exit ≡ begin → least (creates p u.task) (λ r. is_none (u.sent r)) ≡ unsent → Allowed (cond (not listed) Fault (cond (not begin) (Squash 0) (drain_or_retire unsent)))
       stopped_allowed exit false begin unsent stopped l b e = (
@@ -262,10 +262,10 @@ module _ (p : Listing) (formed : IsWellFormed p) (sound : Sound p) where
         let found = queue_allowed s.queue refl in
         (found.0, ap (λ (o : Standing). cond (is_running o) (event_of_queue p s.next s.queue) None) runs ∙ found.1, found.2)
 
-pub never_stuck : (p : Listing) (units : ℕ) (events : List Event) (s : State) → IsWellFormed p → IsInRange p → Sound p → 0 < units → Replays p units events s → s.outcome ≡ Running → (e : Event) × (head_event p s ≡ Some e) × Next p units s e (after p s e)
-never_stuck p units events s formed range sound some_unit replay runs =
+pub never_stuck : (p : Listing) (units : ℕ) (events : List Event) (s : State) → IsWellFormed p → Sound p → 0 < units → Replays p units events s → s.outcome ≡ Running → (e : Event) × (head_event p s ≡ Some e) × Next p units s e (after p s e)
+never_stuck p units events s formed sound some_unit replay runs =
     let kept = replay_begins p formed sound units events (opening p) s (opening_good p) (opening_begins p formed sound) replay in
-    let found = has_event p formed sound range units some_unit s runs (kept.0.inv runs) kept.1 in
+    let found = has_event p formed sound units some_unit s runs (kept.0.inv runs) kept.1 in
     (found.0, found.1, subst (Next p units s found.0) (next_is_after p units s found.2.0 found.0 found.2.1) found.2.1)
 
 pub ended_has_none : (p : Listing) (s : State) → (s.outcome ≡ Running → ⊥) → head_event p s ≡ None

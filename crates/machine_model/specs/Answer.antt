@@ -23,11 +23,6 @@ abbrev pub is_running : Standing → Bool
 is_running standing.Running = true
 is_running _ = false
 
--- the instructions and create masks name registers alone
-pub record IsInRange (p : Listing) : Type 0 where
-  pub waits_below : (index : ℕ) (m : Marked) → slice_get p.code index ≡ Some m → (r : ℕ) → waits m.op r ≡ true → r < 34
-  pub creates_below : (t r : ℕ) → creates p t r ≡ true → r < 34
-
 abbrev pub most_events : ℕ
 most_events = 1000000
 

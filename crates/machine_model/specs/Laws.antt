@@ -6,7 +6,7 @@ use Rattle.task_graph.specs.Soundness.{Sound}
 use Rattle.machine_model.specs.Machine.{Words, Active, State, value}
 use Rattle.machine_model.specs.Step.{Next, after_exec}
 use Rattle.machine_model.specs.Replay.{ReplaysFrom, Replays}
-use Rattle.machine_model.specs.Answer.{IsInRange, most_events, answer, after, with_queue, replay}
+use Rattle.machine_model.specs.Answer.{most_events, answer, after, with_queue, replay}
 use Rattle.machine_model.specs.Claims.{Claims, EndsLike, count_h}
 use Rattle.machine_model.specs.HeadEvent.{head_event, growth, retired_after, active_after}
 use Rattle.machine_model.specs.declared.event.Standing.TheVariants.{Running}
@@ -33,7 +33,7 @@ ReplayCut =
 -- an event is answered Ok exactly where it is allowed and there is room, and it leaves one state
 abbrev pub AnswerIsNext : Type 0
 AnswerIsNext =
-    (p : Listing) (units : ℕ) (s : State) (n : ℕ) (e : Event) → IsInRange p → (answer p units s n e ≡ Ok tt) ↔ (Next p units s e (after p s e) × (n < most_events))
+    (p : Listing) (units : ℕ) (s : State) (n : ℕ) (e : Event) → IsWellFormed p → (answer p units s n e ≡ Ok tt) ↔ (Next p units s e (after p s e) × (n < most_events))
 
 abbrev pub NextIsAfter : Type 0
 NextIsAfter = (p : Listing) (units : ℕ) (s s' : State) (e : Event) → Next p units s e s' → s' ≡ after p s e
@@ -41,12 +41,12 @@ NextIsAfter = (p : Listing) (units : ℕ) (s s' : State) (e : Event) → Next p 
 -- the relation and the function that computes it are one
 abbrev pub ReplayIsReplays : Type 0
 ReplayIsReplays =
-    (p : Listing) (units : ℕ) (events : List Event) (s : State) → IsInRange p → (replay p units events ≡ Some s) ↔ Replays p units events s
+    (p : Listing) (units : ℕ) (events : List Event) (s : State) → IsWellFormed p → (replay p units events ≡ Some s) ↔ Replays p units events s
 
 -- there is a head event exactly while the run goes on, and it is allowed
 abbrev pub NeverStuck : Type 0
 NeverStuck =
-    (p : Listing) (units : ℕ) (events : List Event) (s : State) → IsWellFormed p → IsInRange p → Sound p → 0 < units → Replays p units events s → s.outcome ≡ Running → (e : Event) × (head_event p s ≡ Some e) × Next p units s e (after p s e)
+    (p : Listing) (units : ℕ) (events : List Event) (s : State) → IsWellFormed p → Sound p → 0 < units → Replays p units events s → s.outcome ≡ Running → (e : Event) × (head_event p s ≡ Some e) × Next p units s e (after p s e)
 
 abbrev pub EndedHasNone : Type 0
 EndedHasNone = (p : Listing) (s : State) → (s.outcome ≡ Running → ⊥) → head_event p s ≡ None

@@ -4,7 +4,7 @@ use Rattle.std.specs.List.{list_any}
 use Rattle.std.proofs.lemmas.List.Folds.{list_any-append}
 use Rattle.std.specs.Int.{bit_at}
 use Rattle.std.proofs.lemmas.Bool.{cases_lt, cases_eq, cases_Bool, eqb-true, eqb-false, false_from_ne_true}
-use Rattle.std.proofs.lemmas.Nat.Bits.{bit_at-lt, bit_at-zero, same_from_bits_below}
+use Rattle.std.proofs.lemmas.Nat.Bits.{bit_at-lt, bit_at-zero, bit_at_above, same_from_bits_below}
 use Rattle.mips_plain.specs.Words.{has}
 use Rattle.task_descriptor.specs.Listing.{numbers_below}
 
@@ -56,4 +56,12 @@ member_below set small =
     elim (cases_eq set 0) [
       | inl none ↦ subst (λ (n : ℕ). not (nat_eq n 0) ≡ list_any (has n) (numbers_below 34)) (sym none) refl
       | inr apart ↦ not_zero set apart ∙ sym (some_member set small apart)
+    ]
+
+-- a set below 2 ^ 34 has registers alone
+pub members_below : (set : ℕ) → set < 2 ^ 34 → (r : ℕ) → has set r ≡ true → r < 34
+members_below set small r member =
+    elim (cases_lt r 34) [
+      | inl below ↦ below
+      | inr above ↦ let none = bit_at_above set 34 r small above in let one = eqb-true (bit_at set r) 1 member in absurd (omega arith)
     ]

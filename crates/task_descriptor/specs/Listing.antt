@@ -1,10 +1,10 @@
 -- What a well-formed annotated program is (Sohi, Breach, Vijaykumar, ISCA 1995, section 2.2; the
 -- limits and the marks that fit an instruction are own choices).
-use Rattle.std.specs.Prelude.{◌≡◌, ℕ, zero, suc, ◌++◌, Bool, true, false, not, ◌&&◌, ◌||◌, ◌==◌, nat_lt, nat_le, if◌then◌else◌, Option, Some, None, List, [], ◌∷◌, map, length, position}
-use Rattle.std.specs.List.{list_any}
+use Rattle.std.specs.Prelude.{◌≡◌, ◌<◌, ℕ, zero, suc, ◌++◌, Bool, true, false, not, ◌&&◌, ◌||◌, ◌==◌, nat_lt, nat_le, if◌then◌else◌, Option, Some, None, List, [], ◌∷◌, map, length, position}
+use Rattle.std.specs.List.{list_any, All}
 use Rattle.std.specs.Str.{bytes_eq}
 use Rattle.mips_plain.specs.Words.{has, index_of}
-use Rattle.mips_plain.specs.Instruction.{dests}
+use Rattle.mips_plain.specs.Instruction.{dests, waits}
 use Rattle.mips_plain.specs.PlainMachine.{Input}
 use Rattle.mips_plain.specs.declared.instruction.Op.{Op}
 use Rattle.mips_plain.specs.declared.instruction.Op.TheVariants.{BranchTwo, BranchOne, Release, Halt}
@@ -125,6 +125,21 @@ build_fault p =
     else if has_bad_mask p.tasks then Some BadMask
     else mark_fault (position is_bad_mark p.code) (starts_at_no_entry p)
 
--- none of the seven holds
-abbrev pub IsWellFormed : Listing → Type 0
-IsWellFormed p = build_fault p ≡ None
+-- a set of registers alone, 0 to 33
+abbrev pub OfRegisters : (ℕ → Bool) → Type 0
+OfRegisters set = (r : ℕ) → set r ≡ true → r < 34
+
+-- an instruction names registers alone: those that it waits for, and those that it writes
+pub record NamesRegisters (m : Marked) : Type 0 where
+  pub waits : OfRegisters (waits m.op)
+  pub dests : OfRegisters (dests m.op)
+
+-- so do all instructions and create masks; the types of the parts see to it, so no refusal tests it
+pub record IsInRange (p : Listing) : Type 0 where
+  pub code : All NamesRegisters p.code
+  pub tasks : All (λ t. OfRegisters (has t.create)) p.tasks
+
+-- none of the seven refusals holds, and each register is one
+pub record IsWellFormed (p : Listing) : Type 0 where
+  pub passes : build_fault p ≡ None
+  pub in_range : IsInRange p

@@ -1,11 +1,15 @@
 -- What a well-formed program's facts are, each by itself: the tests of the refusals, taken apart.
 use Rattle.std.specs.Prelude.{◌≡◌, ◌≤◌, ◌<◌, ℕ, zero, suc, Bool, true, false, not, ◌&&◌, ◌||◌, nat_eq, nat_lt, nat_le, cond, Option, Some, None, List, [], ◌∷◌, length, slice_get, position}
-use Rattle.std.specs.List.{list_any}
+use Rattle.std.specs.List.{list_any, All}
 use Rattle.std.proofs.Common.{refl, arith, ap, sym, ◌∙◌, subst}
 use Rattle.std.proofs.lemmas.Bool.{or_parts, ltb-false, leb-false}
+use Rattle.std.proofs.lemmas.List.Elements.{All-get_or}
+use Rattle.std.proofs.lemmas.Option.{get_or_from_slice_get, slice_get_within}
+use Rattle.mips_plain.specs.Instruction.{waits, dests}
 use Rattle.mips_plain.specs.Words.{has}
-use Rattle.task_descriptor.specs.Listing.{Listing, IsWellFormed, is_too_many, has_no_task, has_bad_entry, has_duplicate, has_bad_mask, mark_fault, is_bad_mark, starts_at_no_entry}
+use Rattle.task_descriptor.specs.Listing.{Listing, OfRegisters, NamesRegisters, IsWellFormed, is_too_many, has_no_task, has_bad_entry, has_duplicate, has_bad_mask, mark_fault, is_bad_mark, starts_at_no_entry}
 use Rattle.task_descriptor.specs.declared.descriptor.Descriptor.{Descriptor}
+use Rattle.task_descriptor.specs.declared.descriptor.Marked.{Marked}
 use Rattle.task_descriptor.specs.declared.program.BuildFault.{BuildFault}
 use Rattle.task_descriptor.specs.declared.program.BuildFault.TheVariants.{BadMark, BadStart}
 
@@ -31,7 +35,7 @@ last_passed None false h = (refl, refl)
 
 pub passes : (p : Listing) → IsWellFormed p → Passes p
 passes p h =
-    let many = passed (is_too_many p) _ _ h in
+    let many = passed (is_too_many p) _ _ h.passes in
     let none = passed (has_no_task p.tasks) _ _ many.1 in
     let entry = passed (has_bad_entry p) _ _ none.1 in
     let twice = passed (has_duplicate p.tasks) _ _ entry.1 in
@@ -98,3 +102,19 @@ not_false false h = absurd (cc)
 -- the start is a task's entry
 pub start_is_entry : (p : Listing) → IsWellFormed p → list_any (λ t. nat_eq t.entry p.start) p.tasks ≡ true
 start_is_entry p h = not_false (list_any (λ t. nat_eq t.entry p.start) p.tasks) (passes p h).starts
+
+-- what holds of all elements holds of the one at an index
+all_at : {X : Type 0} (P : X → Type 0) (xs : List X) (i : ℕ) (x : X) → All P xs → slice_get xs i ≡ Some x → P x
+all_at P xs i x all at =
+    subst P (get_or_from_slice_get xs i x x at) (All-get_or P xs i x (slice_get_within xs i x at) all)
+
+-- an instruction waits for registers alone, and writes registers alone
+pub waits_below : (p : Listing) → IsWellFormed p → (index : ℕ) (m : Marked) → slice_get p.code index ≡ Some m → (r : ℕ) → waits m.op r ≡ true → r < 34
+waits_below p h index m at = (all_at NamesRegisters p.code index m h.in_range.code at).waits
+
+pub dests_below : (p : Listing) → IsWellFormed p → (index : ℕ) (m : Marked) → slice_get p.code index ≡ Some m → (r : ℕ) → dests m.op r ≡ true → r < 34
+dests_below p h index m at = (all_at NamesRegisters p.code index m h.in_range.code at).dests
+
+-- a create mask has registers alone
+pub creates_below : (p : Listing) → IsWellFormed p → (t : ℕ) (d : Descriptor) → slice_get p.tasks t ≡ Some d → (r : ℕ) → has d.create r ≡ true → r < 34
+creates_below p h t d at = all_at (λ (u : Descriptor). OfRegisters (has u.create)) p.tasks t d h.in_range.tasks at

@@ -8,5 +8,6 @@ mod marks;
 pub mod name;
 pub mod places;
 pub mod program;
+mod registers;
 #[cfg(test)]
 mod tests;

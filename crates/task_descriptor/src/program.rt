@@ -2,6 +2,7 @@
 
 use crate::check::fault_of;
 use crate::descriptor::{Descriptor, Marked};
+use crate::registers::name_registers;
 use mips_plain::instruction::Op;
 use mips_plain::number::Place;
 use mips_plain::outcome::OutOfMemory;
@@ -103,6 +104,7 @@ impl Program {
         match fault_of(&parts) {
             Some(fault) => Err((parts, fault)),
             None => {
+                name_registers(&parts);
                 let Parts {
                     code,
                     bytes,

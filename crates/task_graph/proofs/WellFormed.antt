@@ -14,7 +14,7 @@ not_refused false fault rest h = (refl, h)
 
 pub code_fits : (p : Listing) → IsWellFormed p → length p.code ≤ 4096
 code_fits p h =
-    let few = not_refused (is_too_many p) _ _ h in
+    let few = not_refused (is_too_many p) _ _ h.passes in
     ltb-false 4096 (length p.code) (or_parts _ _ (or_parts _ _ (or_parts _ _ (or_parts _ _ few.0).0).0).0).0
 
 none_such : {X : Type 0} (test : X → Bool) (xs : List X) (k : ℕ) (x : X) → list_any test xs ≡ false → slice_get xs k ≡ Some x → test x ≡ false
@@ -24,7 +24,7 @@ none_such test (y ∷ ys) (suc k) x h there = none_such test ys k x (or_parts (t
 
 pub entry_inside : (p : Listing) (t : ℕ) (d : Descriptor) → IsWellFormed p → slice_get p.tasks t ≡ Some d → d.entry < length p.code
 entry_inside p t d h there =
-    let few = not_refused (is_too_many p) _ _ h in
+    let few = not_refused (is_too_many p) _ _ h.passes in
     let some = not_refused (has_no_task p.tasks) _ _ few.1 in
     let good = not_refused (has_bad_entry p) _ _ some.1 in
     leb-false (length p.code) d.entry (none_such (λ (u : Descriptor). nat_le (length p.code) u.entry) p.tasks t d good.0 there)

@@ -1,0 +1,13 @@
+-- The two parts of it.
+use Rattle.std.proofs.Common.{subst}
+use Rattle.std.specs.List.{All}
+use Rattle.mips_plain.specs.Words.{has}
+use Rattle.task_descriptor.specs.Listing.{OfRegisters, NamesRegisters}
+use Rattle.task_descriptor.specs.declared.descriptor.Descriptor.{Descriptor}
+use Rattle.task_descriptor.proofs.registers.name_registers.Goals as goal
+
+pub returns : goal.returns
+returns c = record {
+  code = subst (All NamesRegisters) c.deref.ensures.value c.all_name_registers.ensures;
+  tasks = subst (All (λ (t : Descriptor). OfRegisters (has t.create))) c.deref-2.ensures.value c.all_create_registers.ensures;
+}

@@ -1,0 +1,47 @@
+//! That parts name registers alone, as their types say. These calls do nothing: their contracts hand
+//! out what the types keep.
+
+ghost use Rattle.std.specs.List.{All};
+ghost use Rattle.mips_plain.specs.Words.{has};
+ghost use Rattle.task_descriptor.specs.Listing.{listing_of, OfRegisters, NamesRegisters, IsInRange};
+
+use crate::descriptor::{Descriptor, Marked};
+use crate::program::Parts;
+use mips_plain::number::RegSet;
+
+/// Each register that the parts name is below 34.
+pub(crate) fn name_registers(parts: &Parts)
+    ensures { IsInRange (listing_of parts.now) }
+{
+    all_name_registers(&parts.code);
+    all_create_registers(&parts.tasks);
+}
+
+fn all_name_registers(code: &[Marked])
+    ensures { All NamesRegisters code.now }
+{
+    for marked in code {
+        names_registers(marked);
+    }
+}
+
+fn all_create_registers(tasks: &[Descriptor])
+    ensures { All (λ t. OfRegisters (has t.create)) tasks.now }
+{
+    for task in tasks {
+        has_registers(task.create);
+    }
+}
+
+fn names_registers(marked: &Marked)
+    ensures { NamesRegisters marked.now }
+{
+    has_registers(marked.op.waits());
+    has_registers(marked.op.dests());
+}
+
+fn has_registers(set: RegSet)
+    ensures { OfRegisters (has set) }
+{
+    let _ = set.bits();
+}
