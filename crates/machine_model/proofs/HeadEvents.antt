@@ -105,7 +105,7 @@ module _ (p : Listing) (formed : IsWellFormed p) (sound : Sound p) where
 
   -- A reached place is an instruction
 
-  reached_inside : (t i : ℕ) → t < length p.tasks → Path p (task_at p t).entry i → i < length p.code
+  pub reached_inside : (t i : ℕ) → t < length p.tasks → Path p (task_at p t).entry i → i < length p.code
   reached_inside t i is_task stay = entry_below p formed t (task_at p t) (slice_get-get_or p.tasks t no_task is_task)
   reached_inside t i is_task (onward {j} path over) = (sound_at p ((limits p formed).code) sound t is_task).stays_inside j i path over
 

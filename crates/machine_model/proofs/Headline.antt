@@ -122,8 +122,7 @@ module _ (p : Listing) where
           ends = (
             queue_runs p (count_c s) s.queue s.next s.memory s.output inv.runs inv.queue,
             fault_claims s s.queue d.head d.exit inv.queue d.is_head d.is_stopped,
-            λ head e. (let there = d.is_head in let same : d.head ≡ head = cc in
-                ap (λ (y : Active). is_listed p y.task d.exit) (sym same) ∙ d.is_unlisted),
+            (d.head, d.is_head, d.is_unlisted),
           );
         };
         inv = λ e. absurd (cc);

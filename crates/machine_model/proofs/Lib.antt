@@ -9,4 +9,5 @@ pub mod Answering
 pub mod HeadEvents
 pub mod Growth
 pub mod Bursts
+pub mod Places
 pub mod SentRegisters

@@ -12,10 +12,11 @@ use Rattle.task_descriptor.specs.Listing.{Listing}
 use Rattle.task_descriptor.specs.declared.descriptor.Marked.{Marked}
 use Rattle.task_graph.specs.Edges.{Edge, edge, leaves, sends}
 use Rattle.machine_model.specs.Machine.{Active, value}
-use Rattle.machine_model.specs.Step.{with_written, place_after, executed, after_exec}
+use Rattle.machine_model.specs.Step.{with_written, executed, after_exec}
 use Rattle.machine_model.specs.Burst.{MasksFit, SentIsLast}
 use Rattle.machine_model.specs.declared.event.Spot.TheVariants.{Inside}
 use Rattle.machine_model.proofs.Instructions.{written_dest}
+use Rattle.machine_model.proofs.Places.{goes_to}
 use Rattle.machine_model.proofs.UnitExec.{sent_found}
 
 module _ (p : Listing) (mask : ℕ → ℕ → Bool) (u : Active) (i : ℕ) (m : Marked) (a b : ℕ) (memory : ℕ → ℕ)
@@ -24,20 +25,9 @@ module _ (p : Listing) (mask : ℕ → ℕ → Bool) (u : Active) (i : ℕ) (m :
   later : (j r : ℕ) → Edge p false i j → mask i r ≡ false → mask j r ≡ false
   later j r over never = false_from_ne_true (mask j r) (λ e. true≢false (sym (fits.holds_later j r over e) ∙ never))
 
-  goes_to : (leaving : Bool) (o : Option ℕ) (j : ℕ) → leaves m.stop (taken m.op a b) ≡ leaving → edge m.op i (taken m.op a b) ≡ o → place_after leaving o (turn m.op a b (address i)) ≡ Inside j → Edge p false i j
-  goes_to true o j kind e at = absurd (cc)
-  goes_to false None j kind e at = absurd (cc)
-  goes_to false (Some to) j kind e at = record {
-    at = m;
-    is_there = there;
-    taken = taken m.op a b;
-    leads = (let same : to ≡ j = cc in e ∙ ap Some same);
-    kind = kind;
-  }
-
   last_by : (o : Outcome) (j r w : ℕ) → (executed o p u m i a b memory).place ≡ Inside j → (executed o p u m i a b memory).sent r ≡ Some w → mask j r ≡ false
   last_by Running j r w at e =
-      let over : Edge p false i j = goes_to (leaves m.stop (taken m.op a b)) (edge m.op i (taken m.op a b)) j refl refl at in
+      let over : Edge p false i j = goes_to p i m there a b (leaves m.stop (taken m.op a b)) (edge m.op i (taken m.op a b)) j refl refl at in
       elim (sent_found (sends m r) (u.sent r) (value (with_written u (written m.op a b (address i) (byte_of p.fixed) memory)) r) w e) [
         | inl g ↦ later j r over (last i r w inside g)
         | inr g ↦ fits.sends_last j r over g.0

@@ -35,7 +35,8 @@ count_c s = committed s.commits
 abbrev pub count_h : State → ℕ
 count_h s = count_c s + by_head s.queue
 
--- how the plain machine stands after h instructions, by how the run stands
+-- how the plain machine stands after h instructions, by how the run stands; where that is Unlisted the
+-- head, which stopped there, does not list the address
 abbrev pub EndsLike : Listing → State → Standing → Type 0
 EndsLike p s Running = (plain_of p (count_h s)).outcome ≡ outcome.Running
 EndsLike p s Halted = (plain_of p (count_h s)).outcome ≡ outcome.Halted
@@ -43,7 +44,7 @@ EndsLike p s (Trapped trap) = (plain_of p (count_h s)).outcome ≡ outcome.Trapp
 EndsLike p s (Unlisted at) =
     ((plain_of p (count_h s)).outcome ≡ outcome.Running)
     × ((plain_of p (count_h s)).pc ≡ at)
-    × ((head : Active) → slice_get s.queue 0 ≡ Some head → is_listed p head.task at ≡ false)
+    × ((head : Active) × (slice_get s.queue 0 ≡ Some head) × (is_listed p head.task at ≡ false))
 
 pub record Claims (p : Listing) (s : State) : Type 0 where
   -- what the retired tasks read is what the plain machine's first c instructions read

@@ -4,11 +4,12 @@ use Rattle.task_descriptor.specs.Listing.{Listing, IsWellFormed}
 use Rattle.task_descriptor.specs.declared.descriptor.Marked.{Marked}
 use Rattle.task_graph.specs.Soundness.{Sound}
 use Rattle.machine_model.specs.Machine.{Words, Active, State, value}
-use Rattle.machine_model.specs.Step.{Next, after_exec}
+use Rattle.machine_model.specs.Step.{Next, started, after_exec}
 use Rattle.machine_model.specs.Replay.{ReplaysFrom, Replays}
 use Rattle.machine_model.specs.Answer.{most_events, answer, after, with_queue, replay}
 use Rattle.machine_model.specs.Claims.{Claims, EndsLike, count_h}
 use Rattle.machine_model.specs.HeadEvent.{head_event, growth, retired_after, active_after}
+use Rattle.machine_model.specs.Places.{PlaceValid}
 use Rattle.machine_model.specs.declared.event.Standing.TheVariants.{Running}
 use Rattle.machine_model.specs.Burst.{Burst, AllIn, with_arrived, MasksFit, SentIsLast}
 use Rattle.machine_model.specs.declared.event.Event.{Event}
@@ -67,6 +68,20 @@ abbrev pub BurstsAreEvents : Type 0
 BurstsAreEvents =
     (p : Listing) (units n k : ℕ) (s : State) (before after_burst : Active) (arrived : Words) → Burst p before n after_burst → AllIn before.arrived arrived → s.outcome ≡ Running → slice_get s.queue k ≡ Some (with_arrived before arrived) →
     ReplaysFrom p units s (replicate n (Exec k)) (with_queue s (slice_set s.queue k (with_arrived after_burst arrived)))
+
+-- each unit's place is valid, whatever its registers hold, on a wrong path too: after every replay
+abbrev pub PlacesAreValid : Type 0
+PlacesAreValid =
+    (p : Listing) (units : ℕ) (events : List Event) (s : State) → IsWellFormed p → Sound p → Replays p units events s → (k : ℕ) (u : Active) → slice_get s.queue k ≡ Some u → PlaceValid p u
+
+-- where a unit begins
+abbrev pub PlacesBeginValid : Type 0
+PlacesBeginValid = (p : Listing) (s : State) (t : ℕ) → IsWellFormed p → Sound p → t < length p.tasks → PlaceValid p (started p s t)
+
+-- and after one more instruction
+abbrev pub PlacesStayValid : Type 0
+PlacesStayValid =
+    (p : Listing) (u : Active) (index : ℕ) (m : Marked) (a b : ℕ) (memory : ℕ → ℕ) → IsWellFormed p → Sound p → PlaceValid p u → u.place ≡ Inside index → slice_get p.code index ≡ Some m → PlaceValid p (after_exec p u m index a b memory)
 
 -- what a unit keeps of its sent registers: each Exec leaves them out of the next place's mask, and
 -- keeps their values

@@ -5,5 +5,6 @@ pub mod Answer
 pub mod Claims
 pub mod HeadEvent
 pub mod Burst
+pub mod Places
 pub mod Laws
 pub mod Examples

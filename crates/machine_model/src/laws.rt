@@ -1,7 +1,7 @@
 //! The theorems about the model. Each is the contract of a function that does nothing; to use one,
 //! call its function.
 
-ghost use Rattle.machine_model.specs.Laws.{Headline, HowARunEnds, ReplayCut, AnswerIsNext, NextIsAfter, ReplayIsReplays, NeverStuck, EndedHasNone, EventsGrow, EventsCount, BurstsAreEvents, SentRegistersStay};
+ghost use Rattle.machine_model.specs.Laws.{Headline, HowARunEnds, ReplayCut, AnswerIsNext, NextIsAfter, ReplayIsReplays, NeverStuck, EndedHasNone, EventsGrow, EventsCount, BurstsAreEvents, PlacesAreValid, PlacesBeginValid, PlacesStayValid, SentRegistersStay};
 
 /// After every list of events that a sound program's machine allows, with wrong predictions,
 /// squashes, drops and tasks assigned anew among them: what the retired tasks read is what the plain
@@ -62,6 +62,22 @@ pub fn events_count()
 /// arrived, is a list of Exec events.
 pub fn bursts_are_events()
     ensures { BurstsAreEvents }
+{}
+
+/// A unit's place is valid in every state that a list of events leaves, on a wrong path too: it has
+/// stopped, or stands at an instruction that its task reaches from its entry along inner edges.
+pub fn places_are_valid()
+    ensures { PlacesAreValid }
+{}
+
+/// The place where a unit begins is valid.
+pub fn places_begin_valid()
+    ensures { PlacesBeginValid }
+{}
+
+/// A unit's place stays valid over each Exec, whatever its operands are.
+pub fn places_stay_valid()
+    ensures { PlacesStayValid }
 {}
 
 /// What a unit keeps of its sent registers: where none of them is in the mask of the unit's place,
