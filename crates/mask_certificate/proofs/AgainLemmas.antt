@@ -1,4 +1,4 @@
--- What is written is read again: each line is cut where it was ended, and is what it was written from.
+-- What is spelled is read again: each line is cut where it was ended, and is what it was spelled from.
 use Rattle.std.proofs.Common.{◌≡◌, ℕ, zero, suc, ◌+◌, ◌-◌, ◌*◌, ◌/◌, ◌%◌, ◌^◌, ◌<◌, ◌≤◌, Bool, true, false, cond, not, ◌&&◌, eqb, ltb, leb, List, [], ◌∷◌, ◌++◌, map, length, get_or, take, drop, Option, Some, None, Result, Ok, Err, refl, sym, ◌∙◌, ap, subst, arith, append_assoc, lit<}
 use Rattle.std.specs.Prelude.{codes, slice_get, is_none}
 use Rattle.std.specs.Char.{is_ascii_digit, digit_value, digit_char}
@@ -19,10 +19,10 @@ use Rattle.task_descriptor.specs.Names.{is_name, continues_name, begins}
 use Rattle.mask_certificate.specs.declared.fault.CertFault.{CertFault}
 use Rattle.mask_certificate.specs.declared.fault.CertFault.TheVariants.{Header, TaskName, Shape}
 use Rattle.mask_certificate.specs.declared.fault.Spelling.{Spelling}
-use Rattle.mask_certificate.specs.declared.fault.Spelling.TheVariants.{Wide}
+use Rattle.mask_certificate.specs.declared.fault.Spelling.TheVariants.{Narrow, Wide}
 use Rattle.mask_certificate.specs.declared.certificate.ListFault.{ListFault}
 use Rattle.mask_certificate.specs.Lists.{first_fault, fault_in, Rises, IsCertificate}
-use Rattle.mask_certificate.specs.CertificateText.{hexadecimal, entry_text, task_text, tasks_text, cert_text, mask_digits}
+use Rattle.mask_certificate.specs.CertificateText.{hexadecimal, entry_text, task_text, tasks_text, cert_text, mask_digits, spelled}
 use Rattle.mask_certificate.specs.CertificateReading.{◌>>=◌, is_newline, is_space, is_index, index_in, is_mask_digit, is_mask, mask_in, both, entry_in, name_in, Judged, entry_line, task_line, judged, judged_by, lines_of, lines_in, entries_in, behind_task_line, lists_at, rising, cert_parse, AreNames}
 use Rattle.mask_certificate.proofs.LineLemmas.{lines_more}
 use Rattle.mask_certificate.proofs.NameLemmas.{judged_named}
@@ -131,13 +131,14 @@ hexadecimal_read (suc k) n =
           ∙ omega arith;
     }
 
-mask_read : (n : ℕ) → n < 2 ^ 34 → mask_in Wide (hexadecimal 16 n) ≡ Some n
-mask_read n small =
-    let hex = hexadecimal_read 16 n in
-    let value = hex.value (omega arith) in
-    let right : is_mask Wide (hexadecimal 16 n) ≡ true =
+mask_read : (spelling : Spelling) (n : ℕ) → n < 2 ^ 34 → n < 16 ^ mask_digits spelling → mask_in spelling (hexadecimal (mask_digits spelling) n) ≡ Some n
+mask_read spelling n small short =
+    let ds = hexadecimal (mask_digits spelling) n in
+    let hex = hexadecimal_read (mask_digits spelling) n in
+    let value = hex.value short in
+    let right : is_mask spelling ds ≡ true =
     and_from _ _ (eq-eqb _ _ hex.long) (and_from _ _ hex.digits (lt-ltb _ _ (omega (arith, value)))) in
-    cond-true (is_mask Wide (hexadecimal 16 n)) (Some (digits_value 16 (hexadecimal 16 n))) None right ∙ ap (λ (m : ℕ). Some m) value
+    cond-true (is_mask spelling ds) (Some (digits_value 16 ds)) None right ∙ ap (λ (m : ℕ). Some m) value
 
 -- ---- lines
 
@@ -146,38 +147,41 @@ line_read spelling line more clean =
     lines_more spelling (line ++ 10 ∷ more) line more (slice_split_at is_newline line 10 more (All-from_recursion (λ x. is_newline x ≡ false) line clean) refl)
 
 -- an entry that has a text
-abbrev pub Fits : ℕ × ℕ → Type 0
-Fits entry = (entry.0 < 4096) × (entry.1 < 2 ^ 34)
+abbrev pub Fits : Spelling → ℕ × ℕ → Type 0
+Fits spelling entry = (entry.0 < 4096) × (entry.1 < 2 ^ 34) × (entry.1 < 16 ^ mask_digits spelling)
 
-entry_judged : (entry : ℕ × ℕ) → Fits entry → judged Wide (decimal entry.0 ++ 32 ∷ hexadecimal 16 entry.1) ≡ entry_line entry
-entry_judged entry fits =
+entry_judged : (spelling : Spelling) (entry : ℕ × ℕ) → Fits spelling entry → judged spelling (decimal entry.0 ++ 32 ∷ hexadecimal (mask_digits spelling) entry.1) ≡ entry_line entry
+entry_judged spelling entry fits =
     let index = index_read entry.0 (omega (arith, fits.0)) in
-    let line = decimal entry.0 ++ 32 ∷ hexadecimal 16 entry.1 in
-    let is : entry_in Wide line ≡ Some entry =
-    ap (λ (ds : List ℕ). both (index_in ds) (mask_in Wide (after_first is_space line))) (before_cut is_space (decimal entry.0) 32 (hexadecimal 16 entry.1) index.1 refl)
-    ∙ ap (λ (ds : List ℕ). both (index_in (decimal entry.0)) (mask_in Wide ds)) (after_cut is_space (decimal entry.0) 32 (hexadecimal 16 entry.1) index.1 refl)
-    ∙ ap (λ o. both o (mask_in Wide (hexadecimal 16 entry.1))) index.0
-    ∙ ap (both (Some entry.0)) (mask_read entry.1 fits.1) in
+    let mask = hexadecimal (mask_digits spelling) entry.1 in
+    let line = decimal entry.0 ++ 32 ∷ mask in
+    let is : entry_in spelling line ≡ Some entry =
+    ap (λ (ds : List ℕ). both (index_in ds) (mask_in spelling (after_first is_space line))) (before_cut is_space (decimal entry.0) 32 mask index.1 refl)
+    ∙ ap (λ (ds : List ℕ). both (index_in (decimal entry.0)) (mask_in spelling ds)) (after_cut is_space (decimal entry.0) 32 mask index.1 refl)
+    ∙ ap (λ o. both o (mask_in spelling mask)) index.0
+    ∙ ap (both (Some entry.0)) (mask_read spelling entry.1 fits.1 fits.2) in
     ap (λ o. judged_by o (name_in line)) is
 
-entry_read : (entry : ℕ × ℕ) (more : List ℕ) → Fits entry → lines_in Wide (entry_text Wide entry ++ more) ≡ entry_line entry ∷ lines_in Wide more
-entry_read entry more fits =
+entry_read : (spelling : Spelling) (entry : ℕ × ℕ) (more : List ℕ) → Fits spelling entry → lines_in spelling (entry_text spelling entry ++ more) ≡ entry_line entry ∷ lines_in spelling more
+entry_read spelling entry more fits =
     let index = index_read entry.0 (omega (arith, fits.0)) in
-    let line = decimal entry.0 ++ 32 ∷ hexadecimal 16 entry.1 in
-    let joined : entry_text Wide entry ++ more ≡ line ++ 10 ∷ more =
-    append_assoc (decimal entry.0) (32 ∷ (hexadecimal 16 entry.1 ++ 10 ∷ [])) more
-    ∙ ap (λ (t : List ℕ). decimal entry.0 ++ 32 ∷ t) (append_assoc (hexadecimal 16 entry.1) (10 ∷ []) more)
-    ∙ sym (append_assoc (decimal entry.0) (32 ∷ hexadecimal 16 entry.1) (10 ∷ more)) in
-    ap (lines_in Wide) joined
-    ∙ line_read Wide line more (clean_append is_newline (decimal entry.0) (32 ∷ hexadecimal 16 entry.1) index.2 (refl, (hexadecimal_read 16 entry.1).clean))
-    ∙ ap (λ j. j ∷ lines_in Wide more) (entry_judged entry fits)
+    let mask = hexadecimal (mask_digits spelling) entry.1 in
+    let line = decimal entry.0 ++ 32 ∷ mask in
+    let joined : entry_text spelling entry ++ more ≡ line ++ 10 ∷ more =
+    append_assoc (decimal entry.0) (32 ∷ (mask ++ 10 ∷ [])) more
+    ∙ ap (λ (t : List ℕ). decimal entry.0 ++ 32 ∷ t) (append_assoc mask (10 ∷ []) more)
+    ∙ sym (append_assoc (decimal entry.0) (32 ∷ mask) (10 ∷ more)) in
+    ap (lines_in spelling) joined
+    ∙ line_read spelling line more (clean_append is_newline (decimal entry.0) (32 ∷ mask) index.2 (refl, (hexadecimal_read (mask_digits spelling) entry.1).clean))
+    ∙ ap (λ j. j ∷ lines_in spelling more) (entry_judged spelling entry fits)
 
-entries_read : (list : List (ℕ × ℕ)) (more : List ℕ) → AllByRecursion Fits list → lines_in Wide (flat_map (entry_text Wide) list ++ more) ≡ map entry_line list ++ lines_in Wide more
-entries_read [] more fits = refl
-entries_read (entry ∷ entries) more fits =
-    ap (lines_in Wide) (append_assoc (entry_text Wide entry) (flat_map (entry_text Wide) entries) more)
-    ∙ entry_read entry (flat_map (entry_text Wide) entries ++ more) fits.0
-    ∙ ap (λ (ls : List Judged). entry_line entry ∷ ls) (entries_read entries more fits.1)
+entries_read : (spelling : Spelling) (list : List (ℕ × ℕ)) (more : List ℕ) → AllByRecursion (Fits spelling) list
+    → lines_in spelling (flat_map (entry_text spelling) list ++ more) ≡ map entry_line list ++ lines_in spelling more
+entries_read spelling [] more fits = refl
+entries_read spelling (entry ∷ entries) more fits =
+    ap (lines_in spelling) (append_assoc (entry_text spelling entry) (flat_map (entry_text spelling) entries) more)
+    ∙ entry_read spelling entry (flat_map (entry_text spelling) entries ++ more) fits.0
+    ∙ ap (λ (ls : List Judged). entry_line entry ∷ ls) (entries_read spelling entries more fits.1)
 
 entries_front : (list : List (ℕ × ℕ)) (lines : List Judged) → entries_in lines ≡ [] → entries_in (map entry_line list ++ lines) ≡ list
 entries_front [] lines none = none
@@ -200,14 +204,14 @@ name_clean (c ∷ cs) h =
     let parts = and_parts (continues_name c) (list_all continues_name cs) h in
     (not_newline (continues_name c) c (λ e. ap continues_name e) parts.0, name_clean cs parts.1)
 
-task_judged : (name : List ℕ) → IsName name → judged Wide (codes "task " ++ name) ≡ task_line name
-task_judged name is = judged_named Wide (codes "task " ++ name) name (sym (cond-true (is_name name) (Some name) None is))
+task_judged : (spelling : Spelling) (name : List ℕ) → IsName name → judged spelling (codes "task " ++ name) ≡ task_line name
+task_judged spelling name is = judged_named spelling (codes "task " ++ name) name (sym (cond-true (is_name name) (Some name) None is))
 
-task_read : (name body : List ℕ) → IsName name → lines_in Wide (codes "task " ++ (name ++ 10 ∷ body)) ≡ task_line name ∷ lines_in Wide body
-task_read name body is =
+task_read : (spelling : Spelling) (name body : List ℕ) → IsName name → lines_in spelling (codes "task " ++ (name ++ 10 ∷ body)) ≡ task_line name ∷ lines_in spelling body
+task_read spelling name body is =
     let clean = name_clean name (and_parts (leb (length name) 32 && begins (slice_get name 0)) (list_all continues_name name) is).1 in
-    line_read Wide (codes "task " ++ name) body (refl, (refl, (refl, (refl, (refl, clean)))))
-    ∙ ap (λ j. j ∷ lines_in Wide body) (task_judged name is)
+    line_read spelling (codes "task " ++ name) body (refl, (refl, (refl, (refl, (refl, clean)))))
+    ∙ ap (λ j. j ∷ lines_in spelling body) (task_judged spelling name is)
 
 -- ---- the whole
 
@@ -215,20 +219,20 @@ record IsReadAgain (names : List (List ℕ)) (lists : List (List (ℕ × ℕ))) 
   no_entry : entries_in lines ≡ []
   again : (n : ℕ) → lists_at n names lines ≡ Ok lists
 
-tasks_read : (names : List (List ℕ)) (lists : List (List (ℕ × ℕ))) → AllByRecursion IsName names → length lists ≡ length names → AllByRecursion (AllByRecursion Fits) lists
-    → IsReadAgain names lists (lines_in Wide (tasks_text Wide names lists))
-tasks_read [] [] are long fit = record { no_entry = refl; again = λ n. refl }
-tasks_read [] (list ∷ lists) are long fit = absurd (omega arith)
-tasks_read (name ∷ names) [] are long fit = absurd (omega arith)
-tasks_read (name ∷ names) (list ∷ lists) are long fit =
-    let rest = tasks_read names lists are.1 (omega arith) fit.1 in
-    let text = tasks_text Wide names lists in
-    let body = flat_map (entry_text Wide) list in
-    let lines = lines_in Wide text in
-    let joined : task_text Wide name list ++ text ≡ codes "task " ++ (name ++ 10 ∷ (body ++ text)) =
+tasks_read : (spelling : Spelling) (names : List (List ℕ)) (lists : List (List (ℕ × ℕ))) → AllByRecursion IsName names → length lists ≡ length names → AllByRecursion (AllByRecursion (Fits spelling)) lists
+    → IsReadAgain names lists (lines_in spelling (tasks_text spelling names lists))
+tasks_read spelling [] [] are long fit = record { no_entry = refl; again = λ n. refl }
+tasks_read spelling [] (list ∷ lists) are long fit = absurd (omega arith)
+tasks_read spelling (name ∷ names) [] are long fit = absurd (omega arith)
+tasks_read spelling (name ∷ names) (list ∷ lists) are long fit =
+    let rest = tasks_read spelling names lists are.1 (omega arith) fit.1 in
+    let text = tasks_text spelling names lists in
+    let body = flat_map (entry_text spelling) list in
+    let lines = lines_in spelling text in
+    let joined : task_text spelling name list ++ text ≡ codes "task " ++ (name ++ 10 ∷ (body ++ text)) =
     ap (λ (t : List ℕ). codes "task " ++ t) (append_assoc name (10 ∷ body) text) in
-    let read : lines_in Wide (task_text Wide name list ++ text) ≡ task_line name ∷ (map entry_line list ++ lines) =
-    ap (lines_in Wide) joined ∙ task_read name (body ++ text) are.0 ∙ ap (λ (ls : List Judged). task_line name ∷ ls) (entries_read list text fit.0) in
+    let read : lines_in spelling (task_text spelling name list ++ text) ≡ task_line name ∷ (map entry_line list ++ lines) =
+    ap (lines_in spelling) joined ∙ task_read spelling name (body ++ text) are.0 ∙ ap (λ (ls : List Judged). task_line name ∷ ls) (entries_read spelling list text fit.0) in
     let front = entries_front list lines rest.no_entry in
     record {
       no_entry = ap entries_in read;
@@ -244,21 +248,40 @@ tasks_read (name ∷ names) (list ∷ lists) are long fit =
           ∙ ap (λ (es : List (ℕ × ℕ)). Ok (es ∷ lists)) front;
     }
 
-pub read_again : (cert : List (List (ℕ × ℕ))) (names : List (List ℕ)) → AllByRecursion IsName names → length cert ≡ length names → AllByRecursion (AllByRecursion Fits) cert → first_fault 0 cert ≡ None
-    → cert_parse (cert_text cert names) names ≡ Ok cert
-read_again cert names are long fit right =
-    ap (λ (r : Result (List (List (ℕ × ℕ))) CertFault). r >>= rising) ((tasks_read names cert are long fit).again 2)
+body_again : (spelling : Spelling) (cert : List (List (ℕ × ℕ))) (names : List (List ℕ)) → AllByRecursion IsName names → length cert ≡ length names → AllByRecursion (AllByRecursion (Fits spelling)) cert → first_fault 0 cert ≡ None
+    → lists_at 2 names (lines_in spelling (tasks_text spelling names cert)) >>= rising ≡ Ok cert
+body_again spelling cert names are long fit right =
+    ap (λ (r : Result (List (List (ℕ × ℕ))) CertFault). r >>= rising) ((tasks_read spelling names cert are long fit).again 2)
     ∙ ap (λ (o : Option ListFault). cond (is_none o) (Ok cert) (Err Shape)) right
 
-fits_from : (list : List (ℕ × ℕ)) → Rises list → All (λ entry. entry.1 < 2 ^ 34) list → AllByRecursion Fits list
-fits_from list rises masks = recursion_from_All Fits list (λ k d within. (rises.inside k d within, masks k d within))
+text_again : (spelling : Spelling) (cert : List (List (ℕ × ℕ))) (names : List (List ℕ)) → AllByRecursion IsName names → length cert ≡ length names → AllByRecursion (AllByRecursion (Fits spelling)) cert → first_fault 0 cert ≡ None
+    → cert_parse (spelled spelling cert names) names ≡ Ok cert
+text_again Narrow cert names are long fit right = body_again Narrow cert names are long fit right
+text_again Wide cert names are long fit right = body_again Wide cert names are long fit right
 
-lists_fit : (lists : List (List (ℕ × ℕ))) (task : ℕ) → first_fault task lists ≡ None → AllByRecursion (All (λ entry. entry.1 < 2 ^ 34)) lists → AllByRecursion (AllByRecursion Fits) lists
-lists_fit [] task right masks = tt
-lists_fit (list ∷ lists) task right masks =
+-- the masks that a spelling has digits for
+abbrev pub Within : Spelling → ℕ × ℕ → Type 0
+Within spelling entry = entry.1 < 16 ^ mask_digits spelling
+
+fits_from : (spelling : Spelling) (list : List (ℕ × ℕ)) → Rises list → All (λ entry. entry.1 < 2 ^ 34) list → All (Within spelling) list → AllByRecursion (Fits spelling) list
+fits_from spelling list rises masks within = recursion_from_All (Fits spelling) list (λ k d less. (rises.inside k d less, masks k d less, within k d less))
+
+lists_fit : (spelling : Spelling) (lists : List (List (ℕ × ℕ))) (task : ℕ) → first_fault task lists ≡ None → AllByRecursion (All (λ entry. entry.1 < 2 ^ 34)) lists → AllByRecursion (All (Within spelling)) lists
+    → AllByRecursion (AllByRecursion (Fits spelling)) lists
+lists_fit spelling [] task right masks within = tt
+lists_fit spelling (list ∷ lists) task right masks within =
     let parts = option_or_none (fault_in task 0 0 list) (first_fault (task + 1) lists) right in
-    (fits_from list (rises_alone list task parts.0) masks.0, lists_fit lists (task + 1) parts.1 masks.1)
+    (fits_from spelling list (rises_alone list task parts.0) masks.0 within.0, lists_fit spelling lists (task + 1) parts.1 masks.1 within.1)
+
+pub spelled_again : (spelling : Spelling) (cert : List (List (ℕ × ℕ))) (names : List (List ℕ)) → IsCertificate cert → AreNames names → length cert ≡ length names → All (All (Within spelling)) cert
+    → cert_parse (spelled spelling cert names) names ≡ Ok cert
+spelled_again spelling cert names is are long within =
+    text_again spelling cert names (recursion_from_All IsName names are) long
+    (lists_fit spelling cert 0 is.rising (recursion_from_All (All (λ (entry : ℕ × ℕ). entry.1 < 2 ^ 34)) cert is.masks) (recursion_from_All (All (Within spelling)) cert within)) is.rising
+
+-- each mask has a text of 16 digits
+wide_enough : (list : List (ℕ × ℕ)) → All (λ entry. entry.1 < 2 ^ 34) list → All (Within Wide) list
+wide_enough list masks k d less = let small : (get_or list k d).1 < 2 ^ 34 = masks k d less in omega arith
 
 pub certificate_again : (cert : List (List (ℕ × ℕ))) (names : List (List ℕ)) → IsCertificate cert → AreNames names → length cert ≡ length names → cert_parse (cert_text cert names) names ≡ Ok cert
-certificate_again cert names is are long =
-    read_again cert names (recursion_from_All IsName names are) long (lists_fit cert 0 is.rising (recursion_from_All (All (λ (entry : ℕ × ℕ). entry.1 < 2 ^ 34)) cert is.masks)) is.rising
+certificate_again cert names is are long = spelled_again Wide cert names is are long (λ k d less. wide_enough (get_or cert k d) (is.masks k d less))

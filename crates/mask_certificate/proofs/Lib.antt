@@ -5,3 +5,4 @@ pub mod ListsLoop
 pub mod NameLemmas
 pub mod WriteLemmas
 pub mod AgainLemmas
+pub mod SpelledLemmas

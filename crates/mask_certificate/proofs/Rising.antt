@@ -1,20 +1,20 @@
 -- Lists without a fault rise, by recursion along the list; so a search finds the one entry of an index.
-use Rattle.std.proofs.Common.{◌≡◌, ℕ, zero, suc, ◌+◌, ◌^◌, ◌<◌, ◌≤◌, Bool, true, false, cond, eqb, ltb, leb, List, [], ◌∷◌, map, length, get_or, take, drop, Option, Some, None, Result, Ok, Err, refl, sym, ◌∙◌, ap, subst, arith}
+use Rattle.std.proofs.Common.{◌≡◌, ℕ, zero, suc, ◌+◌, ◌^◌, ◌<◌, ◌≤◌, Bool, true, false, cond, eqb, ltb, leb, List, [], ◌∷◌, map, length, get_or, set, take, drop, Option, Some, None, Result, Ok, Err, refl, sym, ◌∙◌, ap, subst, arith, inl, inr}
 use Rattle.std.specs.Prelude.{MatchResult, is_some, IfNone}
 use Rattle.std.specs.List.{All, AllPairs}
 use Rattle.std.specs.List.Sorted.{IsSearchInRange, IsBinarySearchResult, IsNonDecreasingBy, IsStrictlyIncreasing}
 use Rattle.std.specs.Option.{option_or}
 use Rattle.std.specs.Ordering.{nat_cmp, ordering_index}
 use Rattle.std.proofs.Math.Nat.{suc-add}
-use Rattle.std.proofs.lemmas.Bool.{ltb-false, leb-false, eq-eqb, ne_eqb, le-ltb, lt-leb, cond-true, cond-false}
+use Rattle.std.proofs.lemmas.Bool.{ltb-false, leb-false, eq-eqb, ne_eqb, le-ltb, lt-leb, cond-true, cond-false, cases_eq}
 use Rattle.std.proofs.lemmas.Bool.Decides.{nat_tests}
 use Rattle.std.proofs.lemmas.Cmp.{ranked}
-use Rattle.std.proofs.lemmas.List.{get_or-map, length-map, at_drop_more}
+use Rattle.std.proofs.lemmas.List.{get_or-map, length-map, at_drop_more, get_or-set_same, get_or-set_other}
 use Rattle.std.proofs.lemmas.List.Elements.{All-nil, All-cons, All-more}
 use Rattle.std.proofs.lemmas.List.Kept.{AllPairs-from_increasing}
 use Rattle.std.proofs.lemmas.List.Sorted.{IsNonDecreasingBy-from_default}
 use Rattle.mask_certificate.specs.declared.certificate.ListFault.{ListFault}
-use Rattle.mask_certificate.specs.Lists.{list_of, mask_at, fault_in, first_fault, Rises}
+use Rattle.mask_certificate.specs.Lists.{list_of, mask_at, fault_in, first_fault, Rises, ArePositions}
 
 -- the indices of entries
 abbrev indices : List (ℕ × ℕ) → List ℕ
@@ -105,6 +105,53 @@ module _ (entries : List (ℕ × ℕ)) (rises : Rises entries) (index : ℕ) whe
       let low : j < k → (get_or entries j (0, 0)).0 < index = λ lt. ranked _ index _ (sym (apart.0 j (0, 0) (omega arith) lt)) in
       let high : k ≤ j → index < (get_or entries j (0, 0)).0 = λ le. ranked _ index _ (sym (apart.1 j (0, 0) le in')) in
       grind (arith, low, high))
+
+-- ---- a table of positions
+
+-- so many indices stand before that of an entry
+pub position_small : (entries : List (ℕ × ℕ)) → Rises entries → (k : ℕ) → k < length entries → k ≤ (get_or entries k (0, 0)).0
+position_small entries rises zero lt = omega arith
+position_small entries rises (suc k) lt =
+    let before = position_small entries rises k (omega arith) in
+    let rise = indices_rise entries rises 0 k (suc k) (omega arith) lt in
+    omega arith
+
+pub index_small : (entries : List (ℕ × ℕ)) → Rises entries → (k : ℕ) → k < length entries → (get_or entries k (0, 0)).0 < 4096
+index_small entries rises k lt = rises.inside k (0, 0) lt
+
+-- the first n positions stand at their entries' indices
+abbrev pub HasPositions : List (ℕ × ℕ) → List ℕ → ℕ → Type 0
+HasPositions entries positions n = (k : ℕ) → k < n → get_or positions (get_or entries k (0, 0)).0 0 ≡ k
+
+-- one position more
+pub positions_more : (entries : List (ℕ × ℕ)) → Rises entries → (positions : List ℕ) (n index : ℕ) → n < length entries → index ≡ (get_or entries n (0, 0)).0 → length positions ≡ 4096
+    → HasPositions entries positions n → HasPositions entries (set positions index n) (n + 1)
+positions_more entries rises positions n index lt is long so_far k less = elim (cases_eq k n) [
+  | inl same ↦
+      let within : index < length positions = omega (arith, index_small entries rises n lt) in
+      let here : (get_or entries k (0, 0)).0 ≡ index = ap (λ j. (get_or entries j (0, 0)).0) same ∙ sym is in
+      ap (λ i. get_or (set positions index n) i 0) here ∙ get_or-set_same positions index n 0 within ∙ sym same
+  | inr other ↦
+      let before : k < n = omega arith in
+      let rise = indices_rise entries rises 0 k n before lt in
+      let apart : (get_or entries k (0, 0)).0 ≡ index → ⊥ = λ e. omega arith in
+      get_or-set_other positions index (get_or entries k (0, 0)).0 n 0 apart ∙ so_far k before
+]
+
+-- an index behind the code
+pub mask_beyond : (entries : List (ℕ × ℕ)) → Rises entries → (index : ℕ) → 4096 ≤ index → mask_at entries index ≡ None
+mask_beyond entries rises index beyond = absent entries index (λ k lt same. omega (arith, index_small entries rises k lt))
+
+-- the entry at a position has the index
+pub mask_there : (entries : List (ℕ × ℕ)) → Rises entries → (index k : ℕ) → k < length entries → (get_or entries k (0, 0)).0 ≡ index → mask_at entries index ≡ Some (get_or entries k (0, 0)).1
+mask_there entries rises index k lt same = ap (mask_at entries) (sym same) ∙ present entries k (pairs_rise entries rises 0) lt
+
+-- the entry at the only position that could have the index has another one, or there is no entry
+pub mask_absent : (entries : List (ℕ × ℕ)) (positions : List ℕ) → ArePositions entries positions → (index k : ℕ) → k ≡ get_or positions index 0
+    → (k < length entries → (get_or entries k (0, 0)).0 ≡ index → ⊥) → mask_at entries index ≡ None
+mask_absent entries positions are index k is other = absent entries index (λ j lt same.
+    let here : k ≡ j = is ∙ ap (λ i. get_or positions i 0) (sym same) ∙ are j lt in
+    other (omega arith) (ap (λ i. (get_or entries i (0, 0)).0) here ∙ same))
 
 -- ---- the loops that look for a fault
 

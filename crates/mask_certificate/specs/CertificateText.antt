@@ -2,13 +2,14 @@
 -- the program, in its order, stands `task NAME`, and a line for each entry: the index in decimal, a
 -- space, and the mask in lower-case hexadecimal digits, 16 of them in `cert 2` and 8 in `cert 1`.
 -- Every line ends with LF, which is 10; a space is 32.
-use Rattle.std.specs.Prelude.{ℕ, zero, suc, ◌/◌, ◌%◌, List, [], ◌∷◌, ◌++◌}
+use Rattle.std.specs.Prelude.{◌≡◌, ℕ, zero, suc, ◌<◌, ◌/◌, ◌%◌, ◌^◌, List, [], ◌∷◌, ◌++◌, length}
 use Rattle.std.specs.Char.{digit_char}
 use Rattle.std.specs.Fmt.{decimal}
-use Rattle.std.specs.List.{flat_map}
+use Rattle.std.specs.List.{All, flat_map}
 use Rattle.std.specs.Prelude.{codes}
 use Rattle.mask_certificate.specs.declared.fault.Spelling.{Spelling}
 use Rattle.mask_certificate.specs.declared.fault.Spelling.TheVariants.{Narrow, Wide}
+use Rattle.mask_certificate.specs.Lists.{IsCertificate}
 
 abbrev pub first_line : Spelling → List ℕ
 first_line Narrow = codes "cert 1" ++ 10 ∷ []
@@ -39,6 +40,15 @@ tasks_text spelling (name ∷ names) (list ∷ lists) = task_text spelling name 
 -- the text of the lists for the tasks of these names
 abbrev pub spelled : Spelling → List (List (ℕ × ℕ)) → List (List ℕ) → List ℕ
 spelled spelling lists names = first_line spelling ++ tasks_text spelling names lists
+
+-- The text is that of the certificate in one of the two spellings, with one list for each task. The
+-- narrow spelling has no digits for the registers 32 and 33, so it spells no mask that has one.
+pub record Spells (text : List ℕ) (names : List (List ℕ)) (cert : List (List (ℕ × ℕ))) : Type 0 where
+  pub spelling : Spelling
+  pub certificate : IsCertificate cert
+  pub complete : length cert ≡ length names
+  pub within : All (All (λ entry. entry.1 < 16 ^ mask_digits spelling)) cert
+  pub text_is : text ≡ spelled spelling cert names
 
 -- the text that is written
 abbrev pub cert_text : List (List (ℕ × ℕ)) → List (List ℕ) → List ℕ

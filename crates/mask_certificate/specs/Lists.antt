@@ -1,6 +1,6 @@
 -- What a certificate is: for each task a list of entries. An entry is the index of an instruction and
 -- a mask, a set of registers as a number, register r being bit r (own choice).
-use Rattle.std.specs.Prelude.{◌≡◌, ℕ, zero, suc, ◌+◌, ◌^◌, ◌<◌, List, [], ◌∷◌, map, Option, None, Some, nat_lt, nat_le, ◌==◌, if◌then◌else◌, slice_index_or}
+use Rattle.std.specs.Prelude.{◌≡◌, ℕ, zero, suc, ◌+◌, ◌^◌, ◌<◌, List, [], ◌∷◌, map, length, Option, None, Some, nat_lt, nat_le, ◌==◌, if◌then◌else◌, slice_index, slice_index_or}
 use Rattle.std.specs.declared.alloc.Global.{Global}
 use Rattle.std.specs.declared.vec.Vec.{Vec}
 use Rattle.std.specs.List.{All}
@@ -37,6 +37,10 @@ first_fault task (list ∷ lists) = option_or (fault_in task 0 0 list) (first_fa
 pub record Rises (list : List (ℕ × ℕ)) : Type 0 where
   pub rising : IsStrictlyIncreasing (map (λ entry. entry.0) list)
   pub inside : All (λ entry. entry.0 < 4096) list
+
+-- at the index of each entry of the list stands its position in the list
+abbrev pub ArePositions : List (ℕ × ℕ) → List ℕ → Type 0
+ArePositions list positions = (k : ℕ) → k < length list → slice_index positions (slice_index_or list k (0, 0)).0 ≡ k
 
 -- the entries, without where they lie in memory
 abbrev pub entries_of : List (Vec (ℕ × ℕ) Global) → List (List (ℕ × ℕ))

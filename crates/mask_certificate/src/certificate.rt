@@ -37,7 +37,7 @@ impl Model for Cert {
 }
 
 impl Cert {
-    ghost use Rattle.std.specs.Prelude.{◌≡◌, ◌<◌, ◌^◌, None, Some, vec_len, MatchResult};
+    ghost use Rattle.std.specs.Prelude.{◌≡◌, ◌<◌, ◌^◌, ◌↔◌, None, Some, true, vec_len, MatchResult};
     ghost use Rattle.mask_certificate.specs.Lists.{entries_of, first_fault, list_of, mask_at, Rises, IsCertificate};
 
     /// The certificate of these lists, the list at place t being that of task t. Lists that are none
@@ -80,9 +80,16 @@ impl Cert {
             Err(_) => None,
         }
     }
+
+    /// Whether both have the same lists. Takes no memory.
+    pub fn is_same(&self, other: &Cert) -> bool
+        ensures { (result ≡ true) ↔ (self.now ≡ other.now) }
+    {
+        same_lists(&self.lists, &other.lists)
+    }
 }
 
-ghost use Rattle.std.specs.Prelude.{◌≡◌, ◌<◌, ◌^◌, length, IfNone};
+ghost use Rattle.std.specs.Prelude.{◌≡◌, ◌<◌, ◌^◌, ◌↔◌, true, length, IfNone};
 ghost use Rattle.std.specs.List.{All};
 ghost use Rattle.mask_certificate.specs.Lists.{entries_of, first_fault, fault_in};
 
@@ -121,4 +128,24 @@ fn fault_of(task: u32, list: &[(u32, RegSet)]) -> Option<ListFault>
         least = entry.0 + 1;
     }
     None
+}
+
+fn same_lists(lists: &[Vec<(u32, RegSet)>], others: &[Vec<(u32, RegSet)>]) -> bool
+    ensures { (result ≡ true) ↔ (entries_of lists.now ≡ entries_of others.now) }
+{
+    if lists.len() != others.len() {
+        return false;
+    }
+    for (task, list) in lists.iter().enumerate() {
+        if !same_entries(list, &others[task]) {
+            return false;
+        }
+    }
+    true
+}
+
+fn same_entries(list: &[(u32, RegSet)], other: &[(u32, RegSet)]) -> bool
+    ensures { (result ≡ true) ↔ (list.now ≡ other.now) }
+{
+    list == other
 }

@@ -5,6 +5,8 @@
 
 pub mod certificate;
 pub mod fault;
+pub mod laws;
+pub mod masks;
 pub mod reading;
 #[cfg(test)]
 mod tests;

@@ -1,0 +1,13 @@
+//! Laws: each function does nothing, and its contract is a theorem about the definitions alone.
+
+ghost use Rattle.std.specs.Prelude.{◌≡◌, ◌↔◌, ℕ, List, Ok};
+ghost use Rattle.mask_certificate.specs.CertificateText.{Spells};
+ghost use Rattle.mask_certificate.specs.CertificateReading.{cert_parse, AreNames};
+
+/// What is read is the certificate, with one list for each task, whose text it is in one of the two
+/// spellings. So no text is read as a certificate that does not spell it, and each spelling of a
+/// certificate is read as that certificate.
+pub fn read_is_spelled()
+    ensures { (text : List ℕ) (names : List (List ℕ)) (cert : List (List (ℕ × ℕ))) → AreNames names
+        → (cert_parse text names ≡ Ok cert) ↔ Spells text names cert }
+{}

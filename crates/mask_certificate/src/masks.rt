@@ -1,0 +1,64 @@
+//! The masks of one list, each found by its index in one step.
+
+use mips_plain::number::RegSet;
+use std::marker::Model;
+
+/// The list of a task with the position of each entry at its index, so that a mask is found without a
+/// search. Takes no memory.
+#[derive(Drop)]
+pub struct Masks<'a> {
+    entries: &'a [(u32, RegSet)],
+    // At the index of an entry its position. At any other index stands any number: a position is
+    // believed only where the entry there has the index.
+    positions: [u16; 4096],
+}
+
+impl<'a> Model for Masks<'a> {
+    ghost use Rattle.std.specs.Prelude.{◌≡◌, ℕ, List, length};
+
+    ghost Value = { List (ℕ × ℕ) };
+
+    ghost use Rattle.mask_certificate.specs.Lists.{ArePositions, Rises};
+
+    ghost view = { λ m. m.entries.now };
+
+    ghost invariant = { λ m. Rises m.entries.now × ArePositions m.entries.now m.positions };
+}
+
+impl<'a> Masks<'a> {
+    ghost use Rattle.std.specs.Prelude.{◌≡◌};
+    ghost use Rattle.mask_certificate.specs.Lists.{Rises, mask_at};
+
+    /// The masks of a list of entries. The caller sees to it that it rises, as each list of a
+    /// certificate does.
+    pub fn new(entries: &'a [(u32, RegSet)]) -> Masks<'a>
+        requires { Rises entries.now }
+        ensures { result ≡ entries.now }
+    {
+        let mut positions = [0; 4096];
+        for (position, entry) in entries.iter().enumerate() {
+            positions[entry.0 as usize] = position as u16;
+        }
+        Masks { entries, positions }
+    }
+
+    /// The entries, by rising index.
+    pub fn entries(&self) -> &'a [(u32, RegSet)]
+        ensures { result.now ≡ self.now }
+    {
+        self.entries
+    }
+
+    /// The mask at an index; `None` where there is none.
+    pub fn at(&self, index: u32) -> Option<RegSet>
+        ensures { result ≡ mask_at self.now index }
+    {
+        let position = *self.positions.get(index as usize)?;
+        let entry = self.entries.get(position as usize)?;
+        if entry.0 == index {
+            Some(entry.1)
+        } else {
+            None
+        }
+    }
+}
