@@ -1,0 +1,4 @@
+pub mod Sources
+pub mod Widening
+pub mod Spread
+pub mod LeastMasks

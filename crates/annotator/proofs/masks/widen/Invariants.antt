@@ -1,0 +1,6 @@
+use Rattle.std.proofs.Common.{take}
+use Rattle.annotator.specs.Spreading.{Widened}
+use Rattle.annotator.proofs.masks.widen.Given as goal
+
+abbrev pub invariant-loop-source : goal.invariant-loop-source
+invariant-loop-source l = Widened (take l.source-index l.sources) l.mask l.initial.masks.items l.masks.items l.initial.work.items l.work.items
