@@ -1,0 +1,1 @@
+//! The worked example of the port, and each call once.
