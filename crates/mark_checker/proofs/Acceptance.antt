@@ -18,7 +18,8 @@ use Rattle.task_graph.proofs.EdgeLemmas.{edge_to}
 use Rattle.task_graph.proofs.WellFormed.{entry_inside}
 use Rattle.mask_certificate.specs.Lists.{mask_at, list_of}
 use Rattle.mark_checker.specs.Rules.{Conditions, conditions, in_mask, next_has, stops_always, masked, places}
-use Rattle.mark_checker.specs.Places.{holds_at, IsClean, IsRight, AllRight, PlaceSays}
+use Rattle.mark_checker.specs.Places.{IsClean, IsRight, AllRight, PlaceSays}
+use Rattle.mark_checker.specs.CheckerSteps.{holds_at}
 use Rattle.mark_checker.proofs.Ahead.{any_of, some_holds}
 
 -- Bools

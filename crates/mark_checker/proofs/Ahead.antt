@@ -11,7 +11,7 @@ use Rattle.task_graph.specs.declared.edges.Next.{Next}
 use Rattle.task_graph.specs.Edges.{Edge, end_of, ends_of}
 use Rattle.task_graph.specs.Neighbours.{Follows, FallsOff, is_among, is_it}
 use Rattle.task_graph.proofs.EdgeLemmas.{edge_from, edge_to}
-use Rattle.mark_checker.specs.Places.{holds_at}
+use Rattle.mark_checker.specs.CheckerSteps.{holds_at}
 
 pub bool_same : (a b : Bool) → (a ≡ true → b ≡ true) → (b ≡ true → a ≡ true) → a ≡ b
 bool_same true true f g = refl

@@ -14,7 +14,8 @@ use Rattle.mark_checker.specs.declared.finding.Rule.{Rule}
 use Rattle.mark_checker.specs.declared.finding.Rule.TheVariants.{EntryWithoutMask, NextWithoutMask, LacksDestination, LacksNext, ExceedsCreate, ForwardedInNext, ReleasedInNext, SentNotCreated, ExitNotListed, FallsOff, IndirectGoesOn, TargetNotEntry}
 use Rattle.mark_checker.specs.declared.finding.Finding.{Finding}
 use Rattle.mark_checker.specs.Rules.{Conditions, conditions, once, each, found, found_at, rules_at}
-use Rattle.mark_checker.specs.Places.{Same, IsClean, IsRight}
+use Rattle.mark_checker.specs.Places.{IsClean, IsRight}
+use Rattle.mark_checker.specs.CheckerSteps.{Same}
 
 -- a number below 2 ^ 34 without a bit below 34 is 0
 pub empty_below : (set bits : ℕ) → bits ≡ set → bits < 2 ^ 34 → ((r : ℕ) → r < 34 → has set r ≡ false) → nat_eq bits 0 ≡ true

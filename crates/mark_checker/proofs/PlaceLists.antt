@@ -13,7 +13,8 @@ use Rattle.mask_certificate.specs.Lists.{mask_at, list_of}
 use Rattle.mark_checker.specs.declared.finding.Rule.{Rule}
 use Rattle.mark_checker.specs.declared.finding.Finding.{Finding}
 use Rattle.mark_checker.specs.Rules.{Conditions, conditions, each, found, found_at, rules_at, masked, places, task_rules, rules, all_rules}
-use Rattle.mark_checker.specs.Places.{told, Same, IsClean, IsRight, AllRight, IsAccepted, begun_after, left_places}
+use Rattle.mark_checker.specs.Places.{IsClean, IsRight, AllRight, IsAccepted}
+use Rattle.mark_checker.specs.CheckerSteps.{told, Same, begun_after, left_places}
 use Rattle.mark_checker.proofs.Findings.{NoneNamed, nothing_named, same_found, same_clean, clean_nothing, right_nothing, both_empty}
 use Rattle.mark_checker.proofs.Acceptance.{some_there, sound}
 

@@ -1,6 +1,6 @@
 //! Programs that are accepted.
 
-ghost use Rattle.std.specs.Prelude.{◌≡◌, ◌↔◌, ℕ, true, Some, None, [], slice_get};
+ghost use Rattle.std.specs.Prelude.{◌≡◌, ◌↔◌, ◌<◌, ℕ, true, Some, None, [], slice_get, length};
 ghost use Rattle.std.specs.List.{flat_map};
 ghost use Rattle.task_descriptor.specs.Listing.{IsWellFormed};
 ghost use Rattle.mask_certificate.specs.Lists.{list_of};
@@ -9,6 +9,7 @@ ghost use Rattle.mark_checker.specs.Places.{IsRight, AllRight, IsAccepted};
 
 use crate::place::{begun_after, faults_at, is_clean};
 use mask_certificate::certificate::Cert;
+use mask_certificate::masks::Masks;
 use mips_plain::number::RegSet;
 use std::marker::Model;
 use task_descriptor::descriptor::Descriptor;
@@ -35,15 +36,24 @@ fn is_task_right(program: &Program, cert: &Cert, descriptor: &Descriptor, task: 
     ensures right { (result ≡ true) → AllRight program.now descriptor.now (list_of cert.now task) (places descriptor.now.entry (list_of cert.now task)) }
     ensures nothing { rules program.now cert.now task ≡ [] → result ≡ true }
 {
+    is_list_right(program, &Masks::new(cert.list(task)), descriptor)
+}
+
+/// Whether the rules find nothing at the places of one task, whose list this is.
+fn is_list_right(program: &Program, masks: &Masks<'_>, descriptor: &Descriptor) -> bool
+    requires inside { descriptor.now.entry < length program.now.code }
+    ensures right { (result ≡ true) → AllRight program.now descriptor.now masks.now (places descriptor.now.entry masks.now) }
+    ensures nothing { (task : ℕ) → flat_map (rules_at program.now descriptor.now masks.now task) (places descriptor.now.entry masks.now) ≡ [] → result ≡ true }
+{
     let entry = descriptor.entry.get();
-    let entries = cert.list(task);
+    let entries = masks.entries();
     let mut begun = false;
     for (index, mask) in entries {
         let Some(now) = begun_after(begun, *index, entry) else {
             return false;
         };
         begun = now;
-        if !is_right(program, cert, descriptor, task, *index, Some(*mask)) {
+        if !is_right(program, masks, descriptor, *index, Some(*mask)) {
             return false;
         }
     }
@@ -53,17 +63,16 @@ fn is_task_right(program: &Program, cert: &Cert, descriptor: &Descriptor, task: 
 /// Whether the rules find nothing at one place.
 fn is_right(
     program: &Program,
-    cert: &Cert,
+    masks: &Masks<'_>,
     descriptor: &Descriptor,
-    task: u32,
     index: u32,
     mask: Option<RegSet>,
 ) -> bool
-    ensures right { (result ≡ true) → IsRight program.now descriptor.now (list_of cert.now task) (index, mask) }
-    ensures nothing { rules_at program.now descriptor.now (list_of cert.now task) task (index, mask) ≡ [] → result ≡ true }
+    ensures right { (result ≡ true) → IsRight program.now descriptor.now masks.now (index, mask) }
+    ensures nothing { (task : ℕ) → rules_at program.now descriptor.now masks.now task (index, mask) ≡ [] → result ≡ true }
 {
     match program.code().get(index as usize) {
-        Some(marked) => is_clean(&faults_at(program, cert, descriptor, marked, task, index, mask)),
+        Some(marked) => is_clean(&faults_at(program, masks, descriptor, marked, index, mask)),
         None => true,
     }
 }

@@ -3,7 +3,7 @@
 ghost use Rattle.std.specs.Prelude.{◌≡◌, ◌<◌, ◌++◌, true, false, OnOk, MatchOption};
 ghost use Rattle.mips_plain.specs.Words.{has};
 ghost use Rattle.mark_checker.specs.Rules.{once, each, found};
-ghost use Rattle.mark_checker.specs.Places.{told, first_rules, last_rules};
+ghost use Rattle.mark_checker.specs.CheckerSteps.{told, first_rules, last_rules};
 
 use crate::finding::{Finding, Rule};
 use crate::place::Faults;

@@ -2,14 +2,14 @@
 
 ghost use Rattle.std.specs.Prelude.{◌≡◌, ◌∷◌, ◌++◌, ℕ, List, Some, None, IfOk, OnOk, slice_get, length};
 ghost use Rattle.std.specs.List.{flat_map, range_with_len};
-ghost use Rattle.mask_certificate.specs.Lists.{list_of};
 ghost use Rattle.mark_checker.specs.Rules.{rules_at, places, rules, all_rules};
-ghost use Rattle.mark_checker.specs.Places.{left_places};
+ghost use Rattle.mark_checker.specs.CheckerSteps.{left_places};
 
 use crate::append::append_faults;
 use crate::finding::{Finding, Findings, Verdict};
 use crate::place::{begun_after, faults_at, is_clean};
 use mask_certificate::certificate::Cert;
+use mask_certificate::masks::Masks;
 use mips_plain::number::RegSet;
 use std::alloc::{AllocError, Global};
 use task_descriptor::descriptor::Descriptor;
@@ -61,15 +61,21 @@ fn append_task(
     ensures { OnOk result (list.new.items ≡ list.old.items ++ rules program.now cert.now task) }
 {
     match program.tasks().get(task as usize) {
-        Some(descriptor) => append_places(program, cert, descriptor, task, list),
+        Some(descriptor) => append_places(
+            program,
+            &Masks::new(cert.list(task)),
+            descriptor,
+            task,
+            list,
+        ),
         None => Ok(()),
     }
 }
 
-/// Appends the findings of the places of one task.
+/// Appends the findings of the places of one task, whose list this is.
 fn append_places(
     program: &Program,
-    cert: &Cert,
+    masks: &Masks<'_>,
     descriptor: &Descriptor,
     task: u32,
     list: &mut Vec<Finding>,
@@ -77,14 +83,14 @@ fn append_places(
     ensures { OnOk result
         (list.new.items
         ≡ list.old.items
-        ++ flat_map (rules_at program.now descriptor.now (list_of cert.now task) task) (places descriptor.now.entry (list_of cert.now task))) }
+        ++ flat_map (rules_at program.now descriptor.now masks.now task) (places descriptor.now.entry masks.now)) }
 {
+    let entries = masks.entries();
     let mut begun = false;
-    let entries = cert.list(task);
     for (index, mask) in entries {
         begun = append_next(
             program,
-            cert,
+            masks,
             descriptor,
             task,
             begun,
@@ -97,7 +103,7 @@ fn append_places(
     }
     append_place(
         program,
-        cert,
+        masks,
         descriptor,
         task,
         (descriptor.entry.get(), None),
@@ -109,7 +115,7 @@ fn append_places(
 /// where it is passed over. Answers whether the task's entry is behind.
 fn append_next(
     program: &Program,
-    cert: &Cert,
+    masks: &Masks<'_>,
     descriptor: &Descriptor,
     task: u32,
     begun: bool,
@@ -118,19 +124,19 @@ fn append_next(
 ) -> Result<bool, AllocError>
     ensures { IfOk result
         (λ now. (rest : List (ℕ × ℕ))
-        → list.new.items ++ flat_map (rules_at program.now descriptor.now (list_of cert.now task) task) (left_places now descriptor.now.entry rest)
-        ≡ list.old.items ++ flat_map (rules_at program.now descriptor.now (list_of cert.now task) task) (left_places begun descriptor.now.entry (next ∷ rest))) }
+        → list.new.items ++ flat_map (rules_at program.now descriptor.now masks.now task) (left_places now descriptor.now.entry rest)
+        ≡ list.old.items ++ flat_map (rules_at program.now descriptor.now masks.now task) (left_places begun descriptor.now.entry (next ∷ rest))) }
 {
     let (index, mask) = next;
     let entry = descriptor.entry.get();
     match begun_after(begun, index, entry) {
         Some(now) => {
-            append_place(program, cert, descriptor, task, (index, Some(mask)), list)?;
+            append_place(program, masks, descriptor, task, (index, Some(mask)), list)?;
             Ok(now)
         }
         None => {
-            append_place(program, cert, descriptor, task, (entry, None), list)?;
-            append_place(program, cert, descriptor, task, (index, Some(mask)), list)?;
+            append_place(program, masks, descriptor, task, (entry, None), list)?;
+            append_place(program, masks, descriptor, task, (index, Some(mask)), list)?;
             Ok(true)
         }
     }
@@ -139,18 +145,18 @@ fn append_next(
 /// Appends the findings of one place.
 fn append_place(
     program: &Program,
-    cert: &Cert,
+    masks: &Masks<'_>,
     descriptor: &Descriptor,
     task: u32,
     place: (u32, Option<RegSet>),
     list: &mut Vec<Finding>,
 ) -> Result<(), AllocError>
-    ensures { OnOk result (list.new.items ≡ list.old.items ++ rules_at program.now descriptor.now (list_of cert.now task) task place) }
+    ensures { OnOk result (list.new.items ≡ list.old.items ++ rules_at program.now descriptor.now masks.now task place) }
 {
     let (index, mask) = place;
     match program.code().get(index as usize) {
         Some(marked) => {
-            let faults = faults_at(program, cert, descriptor, marked, task, index, mask);
+            let faults = faults_at(program, masks, descriptor, marked, index, mask);
             if is_clean(&faults) {
                 return Ok(());
             }

@@ -1,6 +1,6 @@
 //! What the rules say of one place: an instruction of a task with its mask.
 
-use mask_certificate::certificate::Cert;
+use mask_certificate::masks::Masks;
 use mips_plain::instruction::Op;
 use mips_plain::number::RegSet;
 use task_descriptor::descriptor::{Descriptor, Marked, Stop};
@@ -51,25 +51,25 @@ ghost use Rattle.mips_plain.specs.Words.{has};
 ghost use Rattle.mips_plain.specs.Instruction.{dests, released};
 ghost use Rattle.task_graph.specs.Edges.{ends_of, sends, is_indirect};
 ghost use Rattle.task_graph.specs.Soundness.{is_target, is_entry};
-ghost use Rattle.mask_certificate.specs.Lists.{mask_at, list_of};
+ghost use Rattle.mask_certificate.specs.Lists.{mask_at};
 ghost use Rattle.mark_checker.specs.Rules.{conditions, in_mask, next_has, stops_always};
-ghost use Rattle.mark_checker.specs.Places.{holds_at, told, Same, IsClean};
+ghost use Rattle.mark_checker.specs.Places.{IsClean};
+ghost use Rattle.mark_checker.specs.CheckerSteps.{holds_at, told, Same};
 
 /// What the rules say of an instruction at its index, with its mask or none.
 pub(crate) fn faults_at(
     program: &Program,
-    cert: &Cert,
+    masks: &Masks<'_>,
     descriptor: &Descriptor,
     marked: &Marked,
-    task: u32,
     index: u32,
     mask: Option<RegSet>,
 ) -> Faults
     requires { slice_get program.now.code index ≡ Some marked.now }
-    ensures { Same (told result) (conditions program.now descriptor.now (list_of cert.now task) index marked.now mask) }
+    ensures { Same (told result) (conditions program.now descriptor.now masks.now index marked.now mask) }
 {
     let inside = match &mask {
-        Some(mask) => masked_faults(program, cert, descriptor, marked, task, index, *mask),
+        Some(mask) => masked_faults(program, masks, descriptor, marked, index, *mask),
         None => maskless_faults(),
     };
     let entry = entry_faults(program, descriptor, index, mask);
@@ -128,28 +128,27 @@ fn maskless_faults() -> InsideFaults
 /// What the other rules say of an instruction with this mask.
 fn masked_faults(
     program: &Program,
-    cert: &Cert,
+    masks: &Masks<'_>,
     descriptor: &Descriptor,
     marked: &Marked,
-    task: u32,
     index: u32,
     mask: RegSet,
 ) -> InsideFaults
     requires { slice_get program.now.code index ≡ Some marked.now }
     ensures next_without_mask { result.next_without_mask
-        ≡ list_any (λ j. nat_lt j (length program.now.code) && is_none (mask_at (list_of cert.now task) j)) (ends_of false marked.now index) }
+        ≡ list_any (λ j. nat_lt j (length program.now.code) && is_none (mask_at masks.now j)) (ends_of false marked.now index) }
     ensures lacks_destination { (r : ℕ) → has result.lacks_destination r ≡ (dests marked.now.op r && not (has mask r)) }
-    ensures lacks_next { (r : ℕ) → has result.lacks_next r ≡ (next_has program.now (list_of cert.now task) marked.now index r && not (has mask r)) }
+    ensures lacks_next { (r : ℕ) → has result.lacks_next r ≡ (next_has program.now masks.now marked.now index r && not (has mask r)) }
     ensures forwarded_in_next { (r : ℕ) → has result.forwarded_in_next r
-        ≡ ((marked.now.forward && dests marked.now.op r) && next_has program.now (list_of cert.now task) marked.now index r) }
+        ≡ ((marked.now.forward && dests marked.now.op r) && next_has program.now masks.now marked.now index r) }
     ensures released_in_next { (r : ℕ) → has result.released_in_next r
-        ≡ (released marked.now.op r && next_has program.now (list_of cert.now task) marked.now index r) }
+        ≡ (released marked.now.op r && next_has program.now masks.now marked.now index r) }
     ensures sent_not_created { (r : ℕ) → has result.sent_not_created r ≡ (sends marked.now r && not (has descriptor.now.create r)) }
     ensures exit_not_listed { result.exit_not_listed ≡ list_any (λ j. not (is_target descriptor.now j)) (ends_of true marked.now index) }
     ensures falls_off { result.falls_off ≡ list_any (λ j. nat_le (length program.now.code) j) (ends_of false marked.now index) }
     ensures indirect_goes_on { result.indirect_goes_on ≡ (is_indirect marked.now.op && not (stops_always marked.now.stop)) }
 {
-    let ahead = ahead_of(program, cert, marked, task, index);
+    let ahead = ahead_of(program, masks, marked, index);
     let written = marked.op.dests();
     let forwarded = forwarded_by(marked);
     let named = released_by(&marked.op);
@@ -176,15 +175,15 @@ fn masked_faults(
 }
 
 /// What the inner successors say.
-fn ahead_of(program: &Program, cert: &Cert, marked: &Marked, task: u32, index: u32) -> Ahead
+fn ahead_of(program: &Program, masks: &Masks<'_>, marked: &Marked, index: u32) -> Ahead
     requires { slice_get program.now.code index ≡ Some marked.now }
     ensures without_mask { result.without_mask
-        ≡ list_any (λ j. nat_lt j (length program.now.code) && is_none (mask_at (list_of cert.now task) j)) (ends_of false marked.now index) }
-    ensures masks { (r : ℕ) → has result.masks r ≡ next_has program.now (list_of cert.now task) marked.now index r }
+        ≡ list_any (λ j. nat_lt j (length program.now.code) && is_none (mask_at masks.now j)) (ends_of false marked.now index) }
+    ensures masks { (r : ℕ) → has result.masks r ≡ next_has program.now masks.now marked.now index r }
 {
     let next = next_inside(program, index);
-    let first = ahead_at(cert, task, next.first);
-    let second = ahead_at(cert, task, next.second);
+    let first = ahead_at(masks, next.first);
+    let second = ahead_at(masks, next.second);
     let without_mask = first.without_mask || second.without_mask;
     Ahead {
         without_mask,
@@ -192,13 +191,13 @@ fn ahead_of(program: &Program, cert: &Cert, marked: &Marked, task: u32, index: u
     }
 }
 
-fn ahead_at(cert: &Cert, task: u32, next: Option<u32>) -> Ahead
-    ensures without_mask { result.without_mask ≡ holds_at next (λ j. is_none (mask_at (list_of cert.now task) j)) }
-    ensures masks { (r : ℕ) → has result.masks r ≡ holds_at next (λ j. in_mask (mask_at (list_of cert.now task) j) r) }
+fn ahead_at(masks: &Masks<'_>, next: Option<u32>) -> Ahead
+    ensures without_mask { result.without_mask ≡ holds_at next (λ j. is_none (mask_at masks.now j)) }
+    ensures masks { (r : ℕ) → has result.masks r ≡ holds_at next (λ j. in_mask (mask_at masks.now j) r) }
 {
     match next {
         Some(index) => {
-            let mask = cert.mask(task, index);
+            let mask = masks.at(index);
             Ahead {
                 without_mask: mask.is_none(),
                 masks: registers_of(mask),
@@ -362,7 +361,7 @@ fn is_nobody(set: RegSet) -> bool
     set.bits() == 0
 }
 
-ghost use Rattle.mark_checker.specs.Places.{begun_after as begun_after_of};
+ghost use Rattle.mark_checker.specs.CheckerSteps.{begun_after as begun_after_of};
 
 /// Whether the task's entry is behind after the next index of its list, `begun` saying whether it was
 /// before; `None` where it is passed over.

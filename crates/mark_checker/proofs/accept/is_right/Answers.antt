@@ -1,22 +1,21 @@
 use Rattle.std.proofs.Common.{◌≡◌, Some, None, sym, ◌∙◌, slice_get}
-use Rattle.mask_certificate.specs.Lists.{list_of}
 use Rattle.mark_checker.specs.Rules.{conditions}
-use Rattle.mark_checker.specs.Places.{told}
+use Rattle.mark_checker.specs.CheckerSteps.{told}
 use Rattle.mark_checker.proofs.Findings.{same_found}
 use Rattle.mark_checker.proofs.PlaceLists.{there, not_there, at_place}
 use Rattle.mark_checker.proofs.accept.is_right.Goals as goal
 
 pub returns-in-Some-clause-nothing : goal.returns-in-Some-clause-nothing
-returns-in-Some-clause-nothing c nothing =
+returns-in-Some-clause-nothing c task nothing =
     let p = c.args.program.now in
     let d = c.args.descriptor.now in
-    let es = list_of c.args.cert.now c.args.task in
+    let es = c.args.masks.now in
     let m = c.in-Some.marked.now in
     let look = c.in-Some.ensures.lookup in
     let here : slice_get p.code c.args.index ≡ Some m = there p.code c.code.result.now c.args.index m c.code.ensures.value look.3.0 look.3.1 in
-    c.is_clean.ensures.nothing c.args.task c.args.index
-    (same_found c.args.task c.args.index (told c.faults_at.result) (conditions p d es c.args.index m c.args.mask) c.faults_at.ensures
-    ∙ sym (at_place p d es c.args.task c.args.index c.args.mask m here) ∙ nothing)
+    c.is_clean.ensures.nothing task c.args.index
+    (same_found task c.args.index (told c.faults_at.result) (conditions p d es c.args.index m c.args.mask) c.faults_at.ensures
+    ∙ sym (at_place p d es task c.args.index c.args.mask m here) ∙ nothing)
 
 pub returns-in-None-clause-right : goal.returns-in-None-clause-right
 returns-in-None-clause-right c holds m is =

@@ -1,9 +1,8 @@
 use Rattle.std.proofs.Common.{◌≡◌, ◌++◌, Some, None, [], List, sym, ◌∙◌, ap, append-nil, slice_get}
 use Rattle.std.proofs.lemmas.Result.{IfOk-weaker}
-use Rattle.mask_certificate.specs.Lists.{list_of}
 use Rattle.mark_checker.specs.declared.finding.Finding.{Finding}
 use Rattle.mark_checker.specs.Rules.{conditions, rules_at}
-use Rattle.mark_checker.specs.Places.{told}
+use Rattle.mark_checker.specs.CheckerSteps.{told}
 use Rattle.mark_checker.proofs.Findings.{same_found, same_clean, clean_nothing}
 use Rattle.mark_checker.proofs.PlaceLists.{there, not_there, at_place, beside_place}
 use Rattle.mark_checker.proofs.check.append_place.Goals as goal
@@ -12,7 +11,7 @@ pub returns-then-is_clean : goal.returns-then-is_clean
 returns-then-is_clean c =
     let p = c.args.program.now in
     let d = c.args.descriptor.now in
-    let es = list_of c.args.cert.now c.args.task in
+    let es = c.args.masks.now in
     let m = c.in-Some.marked.now in
     let i = c.args.place.0 in
     let mask = c.args.place.1 in
@@ -26,7 +25,7 @@ pub returns-else-is_clean : goal.returns-else-is_clean
 returns-else-is_clean c =
     let p = c.args.program.now in
     let d = c.args.descriptor.now in
-    let es = list_of c.args.cert.now c.args.task in
+    let es = c.args.masks.now in
     let m = c.in-Some.marked.now in
     let i = c.args.place.0 in
     let mask = c.args.place.1 in
@@ -41,7 +40,7 @@ pub returns-in-None : goal.returns-in-None
 returns-in-None c =
     let p = c.args.program.now in
     let d = c.args.descriptor.now in
-    let es = list_of c.args.cert.now c.args.task in
+    let es = c.args.masks.now in
     let i = c.args.place.0 in
     let mask = c.args.place.1 in
     let gone : slice_get p.code i ≡ None = not_there p.code c.code.result.now i c.code.ensures.value c.in-None.ensures.lookup.3 in

@@ -2,7 +2,7 @@ use Rattle.std.proofs.Common.{◌≡◌, Some, Bool, ℕ, true, false, not, ◌|
 use Rattle.std.specs.List.{list_any}
 use Rattle.task_graph.specs.Edges.{ends_of}
 use Rattle.task_graph.specs.Soundness.{is_target}
-use Rattle.mark_checker.specs.Places.{holds_at}
+use Rattle.mark_checker.specs.CheckerSteps.{holds_at}
 use Rattle.mark_checker.proofs.Ahead.{any_exit}
 use Rattle.mark_checker.proofs.place.exits_unlisted.Goals as goal
 
