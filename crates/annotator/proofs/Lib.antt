@@ -2,3 +2,4 @@ pub mod Sources
 pub mod Widening
 pub mod Spread
 pub mod LeastMasks
+pub mod Decides

@@ -24,3 +24,8 @@ pub record LeastList (p : Listing) (d : Descriptor) (list : List (ℕ × ℕ)) :
 pub record IsLeast (p : Listing) (cert : List (List (ℕ × ℕ))) : Type 0 where
   pub sized : length cert ≡ length p.tasks
   pub least : (t : ℕ) (d : Descriptor) → slice_get p.tasks t ≡ Some d → LeastList p d (list_of cert t)
+
+-- Each index that has a mask in one list has one in the other, with at least its registers.
+abbrev pub IsWithin : (list other : List (ℕ × ℕ)) → Type 0
+IsWithin list other =
+    (i mask : ℕ) → mask_at list i ≡ Some mask → (wider : ℕ) × (mask_at other i ≡ Some wider) × ((r : ℕ) → has mask r ≡ true → has wider r ≡ true)

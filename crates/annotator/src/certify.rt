@@ -1,6 +1,6 @@
 //! The least certificate of a program.
 
-ghost use Rattle.std.specs.Prelude.{◌≡◌, ◌<◌, length, slice_get, IfOk, Some};
+ghost use Rattle.std.specs.Prelude.{◌≡◌, ◌<◌, length, slice_get, IfOk, OnOk, Some};
 ghost use Rattle.task_descriptor.specs.Listing.{IsWellFormed};
 ghost use Rattle.task_descriptor.specs.declared.descriptor.Descriptor.{Descriptor};
 ghost use Rattle.annotator.specs.Least.{IsLeast, LeastList};
@@ -21,7 +21,8 @@ use task_graph::members::members;
 ///
 /// `AllocError` where memory was refused.
 pub fn certify(alloc: Global, program: &Program) -> Result<Cert, AllocError>
-    ensures { IfOk result (λ cert. IsLeast program.now cert) }
+    ensures least { IfOk result (λ cert. IsLeast program.now cert) }
+    ensures well_formed { OnOk result (IsWellFormed program.now) }
 {
     let masks = least_masks(alloc, program)?;
     let count = program.tasks().len();

@@ -5,5 +5,7 @@
 #![tactic(auto)]
 
 pub mod certify;
+pub mod laws;
 mod leading;
 mod masks;
+pub mod soundness;

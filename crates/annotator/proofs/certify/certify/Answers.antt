@@ -43,8 +43,8 @@ unreachable-requires c =
     no_fault (entries_of c.loop-task.lists.items) 0 (λ t less. below_rises p c.loop-task.task t (entries_of c.loop-task.lists.items) c.loop-task.invariant end less) in
     absurd (cc (none, c.in-Err.ensures.0))
 
-pub returns : goal.returns
-returns c =
+pub returns-clause-least : goal.returns-clause-least
+returns-clause-least c =
     let p = c.args.program.now in
     let count : length c.tasks-count.result.now ≡ length p.tasks = ap (λ (ts : List Descriptor). length ts) c.tasks-count.ensures.value in
     let end : c.loop-task.task ≡ length p.tasks = omega arith in
