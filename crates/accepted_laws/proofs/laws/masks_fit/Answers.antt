@@ -1,0 +1,8 @@
+-- What acceptance says of one place.
+use Rattle.accepted_laws.proofs.Masks as masks
+use Rattle.accepted_laws.proofs.laws.masks_fit.Goals as goal
+
+pub returns : goal.returns
+returns c =
+    let a = c.args.accepted.now in
+    masks.masks_fit a (c.accepted_place.ensures a.program a.cert c.kept.ensures.formed c.kept.ensures.accepted)
