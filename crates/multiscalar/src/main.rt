@@ -1,14 +1,14 @@
-//! The program `multiscalar`: its words, its files, its output and its status. What a job is and
-//! what it writes is in `verdict_report`.
+//! The program `multiscalar`: its words, its files, its output and its status. What a job is is in
+//! `command_line`, and what it writes in `verdict_report`.
 #![tactic(auto)]
 
 ghost use Rattle.std.specs.Prelude.{◌≤◌};
 
+use command_line::jobs::{Paths, Texts};
+use command_line::words::{UsageFault, job_of};
 use std::process::ExitCode;
 use std::{env, fs, io};
-use verdict_report::command_line::{UsageFault, job_of};
 use verdict_report::files::fetch;
-use verdict_report::jobs::{Paths, Texts};
 use verdict_report::serve::{ServeFault, serve};
 
 /// The most bytes of a program text.

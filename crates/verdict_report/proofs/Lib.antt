@@ -1,2 +1,1 @@
 mod PlainRuns
-mod Predictions

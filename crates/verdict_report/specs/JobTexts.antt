@@ -1,5 +1,5 @@
 -- What a job writes of its texts, and the status (own choice).
-use Rattle.std.specs.Prelude.{◌≡◌, ℕ, Bool, true, false, List, Option, Result, Ok, Err}
+use Rattle.std.specs.Prelude.{◌≡◌, ℕ, List, Option, Result, Ok, Err}
 use Rattle.std.specs.Io.KnownBytes.{Appends}
 use Rattle.task_descriptor.specs.Listing.{Listing}
 use Rattle.annotated_asm.specs.declared.fault.AsmFault.{AsmFault}
@@ -7,9 +7,10 @@ use Rattle.annotated_asm.specs.ProgramText.{parse}
 use Rattle.canonical_text.specs.CanonicalText.{canonical_text}
 use Rattle.verdict_report.specs.OutputTexts.{Report, program_refused}
 use Rattle.verdict_report.specs.SeqText.{seq_text}
-use Rattle.verdict_report.specs.declared.jobs.Job.{Job}
-use Rattle.verdict_report.specs.declared.jobs.Job.TheVariants.{Seq, Print, Annotate, Check, Replay, Run}
-use Rattle.verdict_report.specs.declared.jobs.Texts.{Texts}
+use Rattle.verdict_report.specs.CheckText.{check_text}
+use Rattle.command_line.specs.declared.jobs.Job.{Job}
+use Rattle.command_line.specs.declared.jobs.Job.TheVariants.{Seq, Print, Annotate, Check, Replay, Run}
+use Rattle.command_line.specs.declared.jobs.Texts.{Texts}
 
 abbrev pub print_read : Result Listing AsmFault → Report
 print_read (Ok p) = record { bytes = canonical_text p; status = 0 }
@@ -19,16 +20,11 @@ print_read (Err fault) = program_refused fault
 abbrev pub print_text : List ℕ → Report
 print_text text = print_read (parse text)
 
--- the jobs that are there so far
-abbrev pub is_served : Job → Bool
-is_served (Seq budget) = true
-is_served Print = true
-is_served _ = false
-
 -- what a job may write of its texts
 abbrev pub IsReportOf : Job → Texts → Report → Type 0
 IsReportOf (Seq budget) texts report = report ≡ seq_text budget texts.program.items
 IsReportOf Print texts report = report ≡ print_text texts.program.items
+IsReportOf (Check workers) texts report = report ≡ check_text texts.program.items texts.certificate.items
 IsReportOf _ texts report = ⊥
 
 -- a job is done: a report of it was added to what the writer holds, and the status is its

@@ -1,5 +1,5 @@
-pub mod Files
-pub mod Words
 pub mod OutputTexts
 pub mod SeqText
+pub mod VerdictTexts
+pub mod CheckText
 pub mod JobTexts

@@ -1,15 +1,14 @@
-//! The program's work without its files: from the command's words to a job, from a reader to the
-//! bytes of a file, and from a job and its texts to the bytes that it writes and its status.
+//! What the program writes: from a reader to the bytes of a file, and from a job and its texts to the
+//! bytes that it writes and its status.
+//!
+//! A job is added by what it writes in `specs/`, with its line in `IsReportOf` and in `is_served`, by
+//! the module that writes it, and by its arm in `serve`.
 #![tactic(auto)]
 
-pub mod command_line;
+pub mod checking;
 pub mod files;
-pub mod help;
-pub mod jobs;
 pub mod plain_text;
-pub mod ranges;
 pub mod report;
 pub mod sequential;
 pub mod serve;
-#[cfg(test)]
-mod tests;
+pub mod verdict_text;

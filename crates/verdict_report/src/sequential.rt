@@ -3,10 +3,10 @@ ghost use Rattle.std.specs.Prelude.{◌≡◌, IfOk};
 ghost use Rattle.verdict_report.specs.SeqText.{run_report, seq_text};
 
 use crate::plain_text::{closing_status_of, write_closing, write_words};
-use crate::ranges::Budget;
 use crate::report::{Report, refused_program};
 use annotated_asm::assembler::assemble;
 use annotated_asm::fault::AsmFault;
+use command_line::ranges::Budget;
 use std::alloc::{AllocError, Global};
 use task_descriptor::program::Program;
 

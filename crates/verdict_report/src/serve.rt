@@ -1,13 +1,15 @@
 //! Doing a job: its text is built whole, and then written.
 ghost use Rattle.std.specs.Prelude.{◌≡◌, ◌≢◌, true, Err, IfOk, OnOk, OnErr};
 ghost use Rattle.std.specs.Io.KnownBytes.{Appends, Keeps};
-ghost use Rattle.verdict_report.specs.JobTexts.{IsDone, IsReportOf, is_served, print_text};
+ghost use Rattle.command_line.specs.Served.{is_served};
+ghost use Rattle.verdict_report.specs.JobTexts.{IsDone, IsReportOf, print_text};
 
-use crate::jobs::{Job, Texts};
+use crate::checking::check;
 use crate::report::{Report, refused_program};
 use crate::sequential::seq;
 use annotated_asm::assembler::assemble;
 use annotated_asm::fault::AsmFault;
+use command_line::jobs::{Job, Texts};
 use std::alloc::{AllocError, Global};
 use std::io::Write;
 use thiserror::Error;
@@ -56,6 +58,7 @@ fn report_of(alloc: Global, job: &Job, texts: &Texts) -> Result<Report, AllocErr
     match job {
         Job::Seq { budget } => seq(alloc, *budget, program),
         Job::Print => print(alloc, program),
+        Job::Check { .. } => check(alloc, program, texts.certificate.as_slice()),
         _ => unreachable!(),
     }
 }

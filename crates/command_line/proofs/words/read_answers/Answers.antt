@@ -1,8 +1,8 @@
 -- The pieces are those of the text, and an answer's range is what `Answers::new` asks for.
 use Rattle.std.proofs.Common.{◌≡◌, ◌∙◌, ◌≤◌, sym, ap, subst, map, Some, None, MatchOption, rules, arith, length, All}
-use Rattle.verdict_report.specs.Words.{answer_of, all_there}
-use Rattle.verdict_report.proofs.Predictions.{answers_of-pieces, answers_of-many, some_is, pieces-some}
-use Rattle.verdict_report.proofs.command_line.read_answers.Goals as goal
+use Rattle.command_line.specs.Words.{answer_of, all_there}
+use Rattle.command_line.proofs.Predictions.{answers_of-pieces, answers_of-many, some_is, pieces-some}
+use Rattle.command_line.proofs.words.read_answers.Goals as goal
 
 pub returns-then-len-gt-MOST_ANSWERS : goal.returns-then-len-gt-MOST_ANSWERS
 returns-then-len-gt-MOST_ANSWERS c =

@@ -6,7 +6,7 @@ use Rattle.std.proofs.lemmas.List.{map_more, length-map}
 use Rattle.std.proofs.lemmas.List.Splits.{length-slice_split}
 use Rattle.std.proofs.lemmas.Simd.{map-map}
 use Rattle.std.proofs.lemmas.Bool.{cond-true, cond-false, le-leb, lt-leb}
-use Rattle.verdict_report.specs.Words.{all_there, answer_of, answers_of}
+use Rattle.command_line.specs.Words.{all_there, answer_of, answers_of}
 
 option_map-swap : (x y : ℕ) (r : Option (List ℕ)) →
     option_map (λ xs. x ∷ xs) (option_map (λ ys. ys ++ y ∷ []) r)

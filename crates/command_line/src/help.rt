@@ -60,7 +60,10 @@ pub const CHECK_LONG: &str =
   accepted T tasks N instructions
 or one line for each finding, and then their number:
   TASK INDEX rule R $REG
-  refused COUNT";
+  refused COUNT
+A finding that is of no register has `-`. Of a text that is no certificate it writes the first fault,
+and for the faults 2 and 3 the line:
+  certificate refused: K Name LINE";
 
 /// `replay`, in one line.
 pub const REPLAY: &str = "Applies a script of events to a machine of some units";

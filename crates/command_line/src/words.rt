@@ -2,14 +2,16 @@
 ghost use Rattle.std.specs.Prelude.{◌≡◌, ◌≤◌, ◌==◌, IfOk, IfSome, MatchOption, All, map, length, vec_len, [], true};
 ghost use Rattle.std.specs.String.{string_bytes};
 ghost use Rattle.std.specs.List.{slice_split};
-ghost use Rattle.verdict_report.specs.Words.{answer_of, answers_of, all_there, prediction_of, emit_of};
-ghost use Rattle.verdict_report.specs.Files.{HasFilesOf};
-ghost use Rattle.verdict_report.specs.declared.command_line.UsageFault.TheVariants.{OutOfMemory};
-ghost use Rattle.verdict_report.specs.JobTexts.{is_served};
+ghost use Rattle.command_line.specs.Words.{answer_of, answers_of, all_there, prediction_of, emit_of};
+ghost use Rattle.command_line.specs.Files.{HasFilesOf};
+ghost use Rattle.command_line.specs.declared.words.UsageFault.TheVariants.{OutOfMemory};
+ghost use Rattle.command_line.specs.Served.{is_served};
 
 use crate::help;
 use crate::jobs::{Emit, Job, Paths, Prediction};
-use crate::ranges::{Answers, Budget, MOST_ANSWER, MOST_ANSWERS, Units, Workers};
+use crate::ranges::{
+    Answers, Budget, MOST_ANSWER, MOST_ANSWERS, MOST_BUDGET, MOST_UNITS, Units, Workers,
+};
 use clap::error::ErrorKind;
 use clap::{Arg, ArgAction, ArgMatches, Command, value_parser};
 use std::alloc::{AllocError, Global};
@@ -76,7 +78,8 @@ fn no_job(alloc: Global) -> UsageFault {
     }
 }
 
-// The whole command line. A subcommand is there once it stands here and in `read_job`.
+// The whole command line. A subcommand is there once it stands here, in `read_job` and in `is_served`
+// of specs/Served.antt.
 fn command<'a>(alloc: Global) -> Result<Command<'a>, AllocError> {
     Command::new(alloc, "multiscalar")
         .about(help::PROGRAM)
@@ -84,7 +87,8 @@ fn command<'a>(alloc: Global) -> Result<Command<'a>, AllocError> {
         .after_help(help::STATUS)
         .subcommand_required(true)
         .subcommand(seq(alloc)?)?
-        .subcommand(print(alloc)?)
+        .subcommand(print(alloc)?)?
+        .subcommand(check(alloc)?)
 }
 
 // The job of a subcommand; `None` where there is none of that name.
@@ -99,106 +103,104 @@ fn read_job(
     match name {
         "seq" => read_seq(alloc, values),
         "print" => read_print(alloc, values),
+        "check" => read_check(alloc, values),
         _ => Ok(None),
     }
 }
 
-fn program<'a>(alloc: Global) -> Arg<'a> {
-    Arg::new(alloc, "program")
-        .value_name("PROGRAM")
-        .help("The program text")
+// A file that the command line has to name.
+fn file<'a>(alloc: Global, id: &'a str, name: &'a str, text: &'a str) -> Arg<'a> {
+    Arg::new(alloc, id)
+        .value_name(name)
+        .help(text)
         .required(true)
         .action(ArgAction::Set)
+}
+
+// An option with a word for its value, and the word that it has where it is not given.
+fn word<'a>(
+    alloc: Global,
+    id: &'a str,
+    name: &'a str,
+    text: &'a str,
+    otherwise: &'a str,
+) -> Arg<'a> {
+    Arg::new(alloc, id)
+        .long(id)
+        .value_name(name)
+        .help(text)
+        .action(ArgAction::Set)
+        .default_value(otherwise)
+}
+
+// An option with a number for its value, from 1.
+fn number<'a>(alloc: Global, id: &'a str, text: &'a str, most: u32, otherwise: &'a str) -> Arg<'a> {
+    let range = value_parser!(u32).range(1..=i64::from(most));
+    word(alloc, id, "N", text, otherwise).value_parser(range)
+}
+
+fn program<'a>(alloc: Global) -> Arg<'a> {
+    file(alloc, "program", "PROGRAM", "The program text")
 }
 
 fn certificate<'a>(alloc: Global) -> Arg<'a> {
-    Arg::new(alloc, "certificate")
-        .value_name("CERT")
-        .help("The certificate of the program")
-        .required(true)
-        .action(ArgAction::Set)
+    file(
+        alloc,
+        "certificate",
+        "CERT",
+        "The certificate of the program",
+    )
 }
 
 fn script<'a>(alloc: Global) -> Arg<'a> {
-    Arg::new(alloc, "script")
-        .value_name("SCRIPT")
-        .help("The events, one on a line")
-        .required(true)
-        .action(ArgAction::Set)
+    file(alloc, "script", "SCRIPT", "The events, one on a line")
 }
 
 fn budget<'a>(alloc: Global, text: &'a str) -> Arg<'a> {
-    Arg::new(alloc, "budget")
-        .long("budget")
-        .value_name("N")
-        .help(text)
-        .action(ArgAction::Set)
-        .value_parser(value_parser!(u32).range(1..=1_000_000))
-        .default_value("1000000")
+    number(alloc, "budget", text, MOST_BUDGET, "1000000")
 }
 
 fn units<'a>(alloc: Global) -> Arg<'a> {
-    Arg::new(alloc, "units")
-        .long("units")
-        .value_name("N")
-        .help("How many units the machine has, 1 to 16")
-        .action(ArgAction::Set)
-        .value_parser(value_parser!(u32).range(1..=16))
-        .default_value("4")
+    let text = "How many units the machine has, 1 to 16";
+    number(alloc, "units", text, MOST_UNITS, "4")
 }
 
 fn workers<'a>(alloc: Global) -> Arg<'a> {
-    Arg::new(alloc, "workers")
-        .long("workers")
-        .value_name("N")
-        .help("How many threads share the check, 1 to 16")
-        .action(ArgAction::Set)
-        .value_parser(value_parser!(u32).range(1..=16))
-        .default_value("1")
+    let text = "How many threads share the check, 1 to 16";
+    number(alloc, "workers", text, MOST_UNITS, "1")
+}
+
+// A subcommand with no arguments yet.
+fn subcommand<'a>(alloc: Global, name: &'a str, text: &'a str, long: &'a str) -> Command<'a> {
+    Command::new(alloc, name).about(text).long_about(long)
 }
 
 fn seq<'a>(alloc: Global) -> Result<Command<'a>, AllocError> {
-    Command::new(alloc, "seq")
-        .about(help::SEQ)
-        .long_about(help::SEQ_LONG)
+    subcommand(alloc, "seq", help::SEQ, help::SEQ_LONG)
         .arg(program(alloc))?
         .arg(budget(alloc, "The most instructions, 1 to 1000000"))
 }
 
 fn print<'a>(alloc: Global) -> Result<Command<'a>, AllocError> {
-    Command::new(alloc, "print")
-        .about(help::PRINT)
-        .long_about(help::PRINT_LONG)
-        .arg(program(alloc))
+    subcommand(alloc, "print", help::PRINT, help::PRINT_LONG).arg(program(alloc))
 }
 
 fn annotate<'a>(alloc: Global) -> Result<Command<'a>, AllocError> {
-    let emit = Arg::new(alloc, "emit")
-        .long("emit")
-        .value_name("WHAT")
-        .help(help::EMIT)
-        .action(ArgAction::Set)
-        .default_value("text");
-    Command::new(alloc, "annotate")
-        .about(help::ANNOTATE)
-        .long_about(help::ANNOTATE_LONG)
+    let emit = word(alloc, "emit", "WHAT", help::EMIT, "text");
+    subcommand(alloc, "annotate", help::ANNOTATE, help::ANNOTATE_LONG)
         .arg(program(alloc))?
         .arg(emit)
 }
 
 fn check<'a>(alloc: Global) -> Result<Command<'a>, AllocError> {
-    Command::new(alloc, "check")
-        .about(help::CHECK)
-        .long_about(help::CHECK_LONG)
+    subcommand(alloc, "check", help::CHECK, help::CHECK_LONG)
         .arg(program(alloc))?
         .arg(certificate(alloc))?
         .arg(workers(alloc))
 }
 
 fn replay<'a>(alloc: Global) -> Result<Command<'a>, AllocError> {
-    Command::new(alloc, "replay")
-        .about(help::REPLAY)
-        .long_about(help::REPLAY_LONG)
+    subcommand(alloc, "replay", help::REPLAY, help::REPLAY_LONG)
         .arg(program(alloc))?
         .arg(certificate(alloc))?
         .arg(script(alloc))?
@@ -206,15 +208,8 @@ fn replay<'a>(alloc: Global) -> Result<Command<'a>, AllocError> {
 }
 
 fn run<'a>(alloc: Global) -> Result<Command<'a>, AllocError> {
-    let predict = Arg::new(alloc, "predict")
-        .long("predict")
-        .value_name("HOW")
-        .help(help::PREDICT)
-        .action(ArgAction::Set)
-        .default_value("first");
-    Command::new(alloc, "run")
-        .about(help::RUN)
-        .long_about(help::RUN_LONG)
+    let predict = word(alloc, "predict", "HOW", help::PREDICT, "first");
+    subcommand(alloc, "run", help::RUN, help::RUN_LONG)
         .arg(program(alloc))?
         .arg(certificate(alloc))?
         .arg(units(alloc))?
@@ -289,6 +284,7 @@ fn read_annotate(alloc: Global, values: &ArgMatches<'_>) -> Result<Option<(Job, 
 
 fn read_check(alloc: Global, values: &ArgMatches<'_>) -> Result<Option<(Job, Paths)>, UsageFault>
     ensures files { IfOk result (λ r. IfSome r (λ job. HasFilesOf job.0 job.1)) }
+    ensures served { IfOk result (λ r. IfSome r (λ job. is_served job.0 ≡ true)) }
 {
     let Some(workers) = read_workers(values) else {
         return Ok(None);

@@ -1,7 +1,7 @@
 -- The numbers so far are those of the pieces so far.
 use Rattle.std.proofs.Common.{◌≡◌, ◌≤◌, Some, map, take, vec_len, All}
-use Rattle.verdict_report.specs.Words.{answer_of, all_there}
-use Rattle.verdict_report.proofs.command_line.read_pieces.Given as goal
+use Rattle.command_line.specs.Words.{answer_of, all_there}
+use Rattle.command_line.proofs.words.read_pieces.Given as goal
 
 abbrev pub invariant-loop-piece : goal.invariant-loop-piece
 invariant-loop-piece l =

@@ -1,7 +1,7 @@
 use Rattle.std.proofs.Common.{◌∙◌, sym, ap, Some, rules}
-use Rattle.verdict_report.specs.Words.{answer_of}
-use Rattle.verdict_report.proofs.Predictions.{all_there-more, all_there-missing}
-use Rattle.verdict_report.proofs.command_line.read_pieces.Goals as goal
+use Rattle.command_line.specs.Words.{answer_of}
+use Rattle.command_line.proofs.Predictions.{all_there-more, all_there-missing}
+use Rattle.command_line.proofs.words.read_pieces.Goals as goal
 
 pub returns-in-None-clause-value : goal.returns-in-None-clause-value
 returns-in-None-clause-value c =

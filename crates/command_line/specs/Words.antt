@@ -4,10 +4,10 @@ use Rattle.std.specs.Char.{is_ascii_digit}
 use Rattle.std.specs.Option.{option_map}
 use Rattle.std.specs.List.{slice_split}
 use Rattle.std.specs.Str.{bytes_eq}
-use Rattle.verdict_report.specs.declared.jobs.Emit.{Emit}
-use Rattle.verdict_report.specs.declared.jobs.Emit.TheVariants.{Text, Cert, Keep}
-use Rattle.verdict_report.specs.declared.jobs.Prediction.{Prediction}
-use Rattle.verdict_report.specs.declared.jobs.Prediction.TheVariants.{First, Last, List as Answers}
+use Rattle.command_line.specs.declared.jobs.Emit.{Emit}
+use Rattle.command_line.specs.declared.jobs.Emit.TheVariants.{Text, Cert, Keep}
+use Rattle.command_line.specs.declared.jobs.Prediction.{Prediction}
+use Rattle.command_line.specs.declared.jobs.Prediction.TheVariants.{First, Last, List as Answers}
 
 -- a number 0..=15, written with one or two decimal digits
 abbrev pub answer_of : List ℕ → Option ℕ

@@ -1,0 +1,11 @@
+-- Which jobs the program does so far.
+use Rattle.std.specs.Prelude.{Bool, true, false}
+use Rattle.command_line.specs.declared.jobs.Job.{Job}
+use Rattle.command_line.specs.declared.jobs.Job.TheVariants.{Seq, Print, Annotate, Check, Replay, Run}
+
+-- `job_of` answers no other job, and what each of these writes is in the crate `verdict_report`
+abbrev pub is_served : Job → Bool
+is_served (Seq budget) = true
+is_served Print = true
+is_served (Check workers) = true
+is_served _ = false

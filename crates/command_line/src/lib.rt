@@ -1,0 +1,7 @@
+//! From the words of a command line to a job and the names of its files.
+#![tactic(auto)]
+
+pub mod help;
+pub mod jobs;
+pub mod ranges;
+pub mod words;
