@@ -1,19 +1,25 @@
 //! One run of a job, as the program does it, but for its files.
 
+use command_line::jobs::Texts;
+use command_line::words::job_of;
 use std::alloc::{AllocError, Global};
 use std::process::Abort;
 use std::test::Fail;
-use verdict_report::command_line::job_of;
-use verdict_report::jobs::Texts;
 use verdict_report::serve::serve;
 
-/// What the words, split at blanks, write of a program text, and the status.
-pub fn answer(alloc: Global, line: &str, program: &[u8]) -> Result<(Vec<u8>, u8), Fail> {
+/// What the words, split at blanks, write of a program text and of a certificate, which is empty where
+/// the job has none, and the status.
+pub fn answer(
+    alloc: Global,
+    line: &str,
+    program: &[u8],
+    certificate: &[u8],
+) -> Result<(Vec<u8>, u8), Fail> {
     let words = words_of(alloc, line)?;
     let (job, _) = job_of(alloc, words.as_slice())?;
     let texts = Texts {
         program: program.to_vec(alloc)?,
-        certificate: Vec::new(alloc),
+        certificate: certificate.to_vec(alloc)?,
         script: Vec::new(alloc),
     };
     let mut written = Vec::new(alloc);
@@ -21,8 +27,8 @@ pub fn answer(alloc: Global, line: &str, program: &[u8]) -> Result<(Vec<u8>, u8)
     Ok((written, status))
 }
 
-// The words of a command line, with the program's own name first.
-fn words_of(alloc: Global, line: &str) -> Result<Vec<String>, AllocError> {
+/// The words of a command line, split at blanks, with the program's own name first.
+pub fn words_of(alloc: Global, line: &str) -> Result<Vec<String>, AllocError> {
     let mut words = vec![in alloc; String::from_str(alloc, "multiscalar")?]?;
     for word in line.split(' ') {
         words.push(String::from_str(alloc, word)?)?;
@@ -39,7 +45,20 @@ pub fn expect(
     expected: &[u8],
     status: u8,
 ) -> Result<(), Fail> {
-    let (written, answered) = answer(alloc, line, program)?;
+    expect_certified(rt, alloc, line, program, b"".as_slice(), expected, status)
+}
+
+/// Asserts what the words write of a program text and its certificate, and the status.
+pub fn expect_certified(
+    rt: &impl Abort,
+    alloc: Global,
+    line: &str,
+    program: &[u8],
+    certificate: &[u8],
+    expected: &[u8],
+    status: u8,
+) -> Result<(), Fail> {
+    let (written, answered) = answer(alloc, line, program, certificate)?;
     assert!(rt; written.as_slice() == expected, "{line}");
     assert_eq!(rt; answered, status, "{line}");
     Ok(())

@@ -6,6 +6,14 @@
 #[cfg(test)]
 mod answers;
 #[cfg(test)]
+mod calls;
+#[cfg(test)]
+mod certificates;
+#[cfg(test)]
+mod check;
+#[cfg(test)]
+mod files;
+#[cfg(test)]
 mod limits;
 #[cfg(test)]
 mod print;
@@ -13,3 +21,5 @@ mod print;
 mod programs;
 #[cfg(test)]
 mod seq;
+#[cfg(test)]
+mod words;

@@ -75,7 +75,7 @@ fn expect_too_many(rt: &impl Abort, alloc: Global, program: &str) -> Result<(), 
 fn prints_the_largest_program(rt: HostRuntime) -> Result<(), Fail> {
     let alloc = rt.alloc();
     let program = program_of(alloc, MOST)?;
-    let (printed, status) = answer(alloc, "print a.s", program.as_bytes())?;
+    let (printed, status) = answer(alloc, "print a.s", program.as_bytes(), b"".as_slice())?;
     assert_eq!(rt; status, 0);
     expect(
         &rt,

@@ -1,4 +1,4 @@
-//! The program texts that several tests share.
+//! The program texts and certificates that several tests share.
 
 /// Adds 1 to $8 and $8 to $9 until $8 is 4, one task for each round, and puts out $9; in canonical
 /// text.
@@ -76,4 +76,101 @@ lw $9,0($9) !f
 lw $10,1($9) !f !s
 C: out $8
 halt
+";
+
+/// Two tasks, of which the first releases a register on one of its two ways.
+pub const RELEASE: &str = ".task A create=$8,$9 targets=B
+.task B create=- targets=-
+A: addiu $9,$0,5 !f
+bne $9,$0,S
+addiu $8,$0,1 !f
+j B !s
+S: release $8 !s
+B: out $8
+halt
+";
+
+/// Three tasks with five faults.
+pub const FIVE_FINDINGS: &str = ".task A create=- targets=B
+.task B create=$9 targets=D
+.task C create=- targets=-
+A: addiu $8,$0,1 !f !s
+B: addiu $9,$0,2 !s
+C: out $9
+D: halt
+";
+
+/// The certificate of `COUNT`.
+pub const COUNT_CERTIFICATE: &str = "cert 1
+task A
+0 00000700
+1 00000600
+2 00000400
+3 00000000
+task B
+4 00000000
+5 00000000
+";
+
+/// The same with masks of 16 digits.
+pub const COUNT_CERTIFICATE_WIDE: &str = "cert 2
+task A
+0 0000000000000700
+1 0000000000000600
+2 0000000000000400
+3 0000000000000000
+task B
+4 0000000000000000
+5 0000000000000000
+";
+
+/// The certificate of `RELEASE`.
+pub const RELEASE_CERTIFICATE: &str = "cert 1
+task A
+0 00000300
+1 00000100
+2 00000100
+3 00000000
+4 00000000
+task B
+5 00000000
+6 00000000
+";
+
+/// A certificate for `FIVE_FINDINGS`.
+pub const FIVE_FINDINGS_CERTIFICATE: &str = "cert 1
+task A
+0 00000100
+task B
+1 00000200
+task C
+2 00000000
+";
+
+/// The certificate of `PRODUCT`; HI and LO are bits 32 and 33.
+pub const PRODUCT_CERTIFICATE: &str = "cert 2
+task A
+0 0000000300000100
+1 0000000300000000
+task B
+2 0000000000000200
+3 0000000000000200
+4 0000000000000200
+5 0000000000000000
+6 0000000000000000
+";
+
+/// The certificate of `READ_ONLY`.
+pub const READ_ONLY_CERTIFICATE: &str = "cert 1
+task A
+0 00000100
+1 00000000
+task B
+2 00000600
+3 00000600
+4 00000600
+5 00000400
+task C
+6 00000000
+7 00000000
 ";
