@@ -71,7 +71,8 @@ with_written u words = record u { local = λ r. option_or (words r) (u.local r) 
 abbrev pub with_sent : Active → (ℕ → Bool) → Active
 with_sent u set = record u { sent = λ r. option_or (u.sent r) (if set r then value u r else None) }
 
--- a unit stops over an exit edge, and else goes on at the next index
+-- A unit stops over an exit edge, and else goes on at the next index. An inner edge without an index, of
+-- a jump to a register that does not stop always, is in no sound program; the unit then stops too.
 abbrev pub place_after : (leaving : Bool) → Option ℕ → (next : ℕ) → Spot
 place_after true index next = Stopped next
 place_after false (Some index) next = Inside index

@@ -11,17 +11,18 @@ pub enum Event {
     Assign(u32),
     /// The unit at position k executes one instruction.
     Exec(u32),
-    /// The unit at position k takes this register from the unit before it.
+    /// The unit at position k, which is not the head, takes this register from the unit before it.
     Transfer(u32, Reg),
     /// The stopped unit at position k sends this register of its create mask.
     Drain(u32, Reg),
-    /// The unit at position k has stopped elsewhere than the next unit begins: all behind it go.
+    /// The unit at position k has stopped, and the next unit begins elsewhere: all behind k go.
     Squash(u32),
-    /// The head hands its registers and reads over, and goes.
+    /// The head, stopped at a listed exit with its create mask sent, hands its registers and reads over,
+    /// and goes.
     Retire,
     /// The head has stopped at an address that is not listed: the run ends.
     Fault,
-    /// The unit at position k and all behind it go.
+    /// The unit at position k, which is not the head, and all behind it go.
     Drop(u32),
 }
 
@@ -31,7 +32,7 @@ pub enum Event {
 pub struct Commit {
     /// The number of the task.
     pub task: u32,
-    /// The address behind its exit.
+    /// The address at which it stopped, in bytes: that of the next instruction of the run.
     pub exit: u32,
     /// How many instructions it executed.
     pub count: u32,
@@ -66,25 +67,28 @@ pub enum Refused {
     Ended,
     /// 2: no unit is free.
     NoUnit,
-    /// 3: there is no such task, no unit at that position, or the register is not of the task.
+    /// 3: there is no such task, or no unit at a position that the event looks at: the head for Retire
+    /// and Fault, k + 1 for Squash, else k, which for Transfer and Drop must not be 0; or the register
+    /// that a Drain names is not in the create mask.
     NoSuch,
-    /// 4: the task may not follow there.
+    /// 4: the task may not follow the tail, or on an empty queue does not begin at the next address.
     NotATarget,
     /// 5: the unit has stopped.
     Stopped,
     /// 6: this register has no value yet; it is the least such register.
     Waiting(Reg),
-    /// 7: the instruction waits until the unit is the head.
+    /// 7: the instruction is a store, `out`, `halt` or a load that is not of read-only data, and waits until
+    /// the unit is the head.
     NotHead,
-    /// 8: the unit has not stopped.
+    /// 8: the unit, for Retire and Fault the head, has not stopped.
     NotStopped,
-    /// 9: the register has arrived, or has been sent.
+    /// 9: the register of a Transfer has arrived, or that of a Drain has been sent.
     AlreadyThere,
-    /// 10: the register is not there to be taken or sent.
+    /// 10: this register of a Transfer is not passed on yet, or that of a Drain has no value.
     NotYet(Reg),
     /// 11: the next unit begins where this one stopped.
     NoMismatch,
-    /// 12: this register of the create mask is not sent yet; it is the least such register.
+    /// 12: this register of the head's create mask is not sent yet; it is the least such register.
     Unfinished(Reg),
     /// 13: the next unit begins elsewhere.
     Mismatch,

@@ -3,16 +3,17 @@
 
 ghost use Rattle.machine_model.specs.Laws.{Headline, HowARunEnds, ReplayCut, AnswerIsNext, NextIsAfter, ReplayIsReplays, NeverStuck, EndedHasNone, EventsGrow, EventsCount, BurstsAreEvents, PlacesAreValid, PlacesBeginValid, PlacesStayValid, SentRegistersStay};
 
-/// After every list of events that a sound program's machine allows, with wrong predictions,
-/// squashes, drops and tasks assigned anew among them: what the retired tasks read is what the plain
-/// machine's first c instructions read, each retired exit is listed, output and memory are the plain
-/// machine's after h instructions, and so is each register of the head.
+/// After every list of events that a sound program's machine allows, whatever the number of units, with
+/// wrong predictions, squashes, drops and tasks assigned anew among them: what the retired tasks read is
+/// what the plain machine's first c instructions read, and these are c; each retired exit is listed;
+/// output and memory are the plain machine's after h instructions, and so is each register of the head.
 pub fn headline()
     ensures { Headline }
 {}
 
-/// The run is Halted or Trapped only where the plain machine is so after h instructions, and Unlisted
-/// at an address only where the plain machine, still running, is about to fetch there.
+/// For a sound program the run is Halted or Trapped only where the plain machine is so after h
+/// instructions. It is Unlisted at an address only where the plain machine, still running, is about to
+/// fetch there, and the head's task does not list it. While the run goes on, so does the plain machine.
 pub fn how_a_run_ends()
     ensures { HowARunEnds }
 {}
@@ -22,7 +23,8 @@ pub fn replays_join()
     ensures { ReplayCut }
 {}
 
-/// The answer to an event is Ok exactly where the machine step allows it and the history has room.
+/// For a well-formed program the answer to an event is Ok exactly where the machine step allows it and
+/// the history has room.
 pub fn answer_is_next()
     ensures { AnswerIsNext }
 {}
@@ -32,12 +34,13 @@ pub fn next_is_after()
     ensures { NextIsAfter }
 {}
 
-/// The replay as a function and the replay as a relation are one.
+/// For a well-formed program the replay as a function and the replay as a relation are one.
 pub fn replay_is_replays()
     ensures { ReplayIsReplays }
 {}
 
-/// While the run goes on there is a head event, and the machine step allows it.
+/// With one unit or more, while the run of a sound program goes on there is a head event, and the machine
+/// step allows it.
 pub fn never_stuck()
     ensures { NeverStuck }
 {}
@@ -53,7 +56,8 @@ pub fn events_grow()
     ensures { EventsGrow }
 {}
 
-/// How many tasks have retired and how many units are active follows from the events alone.
+/// How many tasks have retired and how many units are active after an event follows from the event and
+/// these numbers before it.
 pub fn events_count()
     ensures { EventsCount }
 {}
@@ -80,8 +84,9 @@ pub fn places_stay_valid()
     ensures { PlacesStayValid }
 {}
 
-/// What a unit keeps of its sent registers: where none of them is in the mask of the unit's place,
-/// that holds after each Exec too, and each keeps its value.
+/// What a unit keeps of its sent registers: where the masks fit the place's instruction and no register
+/// that was sent is in the mask of the place, that holds after each Exec too, and each such register keeps
+/// its value.
 pub fn sent_registers_stay()
     ensures { SentRegistersStay }
 {}
