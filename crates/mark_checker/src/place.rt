@@ -5,7 +5,7 @@ use mips_plain::instruction::Op;
 use mips_plain::number::RegSet;
 use task_descriptor::descriptor::{Descriptor, Marked, Stop};
 use task_descriptor::program::Program;
-use task_graph::edges::{exits_of, next_inside};
+use task_graph::edges::{Next, exits_of, next_inside};
 
 /// What the rules find at one place.
 #[derive(Clone, Copy)]
@@ -57,6 +57,7 @@ ghost use Rattle.mark_checker.specs.Places.{IsClean};
 ghost use Rattle.mark_checker.specs.CheckerSteps.{holds_at, told, Same};
 
 /// What the rules say of an instruction at its index, with its mask or none.
+#[inline]
 pub(crate) fn faults_at(
     program: &Program,
     masks: &Masks<'_>,
@@ -77,6 +78,7 @@ pub(crate) fn faults_at(
 }
 
 /// What the rules of the entry say of a place.
+#[inline]
 fn entry_faults(
     program: &Program,
     descriptor: &Descriptor,
@@ -126,6 +128,7 @@ fn maskless_faults() -> InsideFaults
 }
 
 /// What the other rules say of an instruction with this mask.
+#[inline]
 fn masked_faults(
     program: &Program,
     masks: &Masks<'_>,
@@ -149,8 +152,9 @@ fn masked_faults(
     ensures indirect_goes_on { result.indirect_goes_on ≡ (is_indirect marked.now.op && not (stops_always marked.now.stop)) }
 {
     let ahead = ahead_of(program, masks, marked, index);
+    let exits = exits_of(program, index);
     let written = marked.op.dests();
-    let forwarded = forwarded_by(marked);
+    let forwarded = forwarded_by(marked, written);
     let named = released_by(&marked.op);
     let sent = forwarded.union(named);
     let lacks_destination = written.minus(mask);
@@ -158,8 +162,7 @@ fn masked_faults(
     let forwarded_in_next = common(forwarded, ahead.masks);
     let released_in_next = common(named, ahead.masks);
     let sent_not_created = sent.minus(descriptor.create);
-    let exit_not_listed = exits_unlisted(program, descriptor, marked, index);
-    let falls_off = leads_beyond(program, marked, index);
+    let exit_not_listed = exits_unlisted(descriptor, exits.direct);
     let indirect_goes_on = goes_on_indirectly(marked);
     InsideFaults {
         next_without_mask: ahead.without_mask,
@@ -169,12 +172,13 @@ fn masked_faults(
         released_in_next,
         sent_not_created,
         exit_not_listed,
-        falls_off,
+        falls_off: exits.falls_off,
         indirect_goes_on,
     }
 }
 
 /// What the inner successors say.
+#[inline]
 fn ahead_of(program: &Program, masks: &Masks<'_>, marked: &Marked, index: u32) -> Ahead
     requires { slice_get program.now.code index ≡ Some marked.now }
     ensures without_mask { result.without_mask
@@ -191,6 +195,7 @@ fn ahead_of(program: &Program, masks: &Masks<'_>, marked: &Marked, index: u32) -
     }
 }
 
+#[inline]
 fn ahead_at(masks: &Masks<'_>, next: Option<u32>) -> Ahead
     ensures without_mask { result.without_mask ≡ holds_at next (λ j. is_none (mask_at masks.now j)) }
     ensures masks { (r : ℕ) → has result.masks r ≡ holds_at next (λ j. in_mask (mask_at masks.now j) r) }
@@ -210,23 +215,13 @@ fn ahead_at(masks: &Masks<'_>, next: Option<u32>) -> Ahead
     }
 }
 
-/// Whether a direct exit is not listed.
-fn exits_unlisted(program: &Program, descriptor: &Descriptor, marked: &Marked, index: u32) -> bool
-    requires { slice_get program.now.code index ≡ Some marked.now }
-    ensures { result ≡ list_any (λ j. not (is_target descriptor.now j)) (ends_of true marked.now index) }
+/// Whether one of the exits is not listed.
+fn exits_unlisted(descriptor: &Descriptor, exits: Next) -> bool
+    ensures { result ≡ (holds_at exits.first (λ j. not (is_target descriptor.now j)) || holds_at exits.second (λ j. not (is_target descriptor.now j))) }
 {
-    let exits = exits_of(program, index);
-    let first = is_unlisted(descriptor, exits.direct.first);
-    let second = is_unlisted(descriptor, exits.direct.second);
+    let first = is_unlisted(descriptor, exits.first);
+    let second = is_unlisted(descriptor, exits.second);
     first || second
-}
-
-/// Whether an inner edge leads to no instruction.
-fn leads_beyond(program: &Program, marked: &Marked, index: u32) -> bool
-    requires { slice_get program.now.code index ≡ Some marked.now }
-    ensures { result ≡ list_any (λ j. nat_le (length program.now.code) j) (ends_of false marked.now index) }
-{
-    exits_of(program, index).falls_off
 }
 
 fn is_unlisted(descriptor: &Descriptor, exit: Option<u32>) -> bool
@@ -275,12 +270,13 @@ fn registers_of(mask: Option<RegSet>) -> RegSet
     }
 }
 
-/// The registers that the instruction forwards.
-fn forwarded_by(marked: &Marked) -> RegSet
+/// The registers that the instruction forwards, where these are the ones that it writes.
+fn forwarded_by(marked: &Marked, written: RegSet) -> RegSet
+    requires { (r : ℕ) → has written r ≡ dests marked.now.op r }
     ensures { (r : ℕ) → has result r ≡ (marked.now.forward && dests marked.now.op r) }
 {
     if marked.forward {
-        marked.op.dests()
+        written
     } else {
         RegSet::empty()
     }
@@ -317,6 +313,7 @@ ghost use Rattle.std.specs.Prelude.{◌^◌, []};
 ghost use Rattle.mark_checker.specs.Rules.{found};
 
 /// Whether the rules find nothing.
+#[inline]
 pub(crate) fn is_clean(faults: &Faults) -> bool
     ensures clean { (result ≡ true) → IsClean (told faults.now) }
     ensures nothing { (t i : ℕ) → found t i (told faults.now) ≡ [] → result ≡ true }

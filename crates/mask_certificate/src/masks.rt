@@ -50,6 +50,7 @@ impl<'a> Masks<'a> {
     }
 
     /// The mask at an index; `None` where there is none.
+    #[inline]
     pub fn at(&self, index: u32) -> Option<RegSet>
         ensures { result ≡ mask_at self.now index }
     {
