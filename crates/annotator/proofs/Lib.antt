@@ -3,3 +3,5 @@ pub mod Widening
 pub mod Spread
 pub mod LeastMasks
 pub mod Decides
+pub mod MarkLemmas
+pub mod Remarked

@@ -1,2 +1,4 @@
 pub mod Least
+pub mod Proposed
 pub mod Spreading
+pub mod Marking

@@ -25,10 +25,23 @@ pub fn certify(alloc: Global, program: &Program) -> Result<Cert, AllocError>
     ensures well_formed { OnOk result (IsWellFormed program.now) }
 {
     let masks = least_masks(alloc, program)?;
+    certificate(alloc, program, &masks)
+}
+
+/// The certificate with these masks.
+pub(crate) fn certificate(
+    alloc: Global,
+    program: &Program,
+    masks: &[RegSet],
+) -> Result<Cert, AllocError>
+    requires { AreExact program.now masks.now }
+    ensures least { IfOk result (λ cert. IsLeast program.now cert) }
+    ensures well_formed { OnOk result (IsWellFormed program.now) }
+{
     let count = program.tasks().len();
     let mut lists = Vec::with_capacity(alloc, count)?;
     for task in 0..count {
-        lists.push(list_of_task(alloc, program, &masks, task as u32)?)?;
+        lists.push(list_of_task(alloc, program, masks, task as u32)?)?;
     }
     match Cert::build(lists) {
         Ok(cert) => Ok(cert),

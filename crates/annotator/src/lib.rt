@@ -7,5 +7,7 @@
 pub mod certify;
 pub mod laws;
 mod leading;
+mod marks;
 mod masks;
+pub mod propose;
 pub mod soundness;

@@ -9,14 +9,14 @@ use Rattle.mask_certificate.specs.Lists.{entries_of, first_fault}
 use Rattle.annotator.specs.Least.{IsLeast}
 use Rattle.annotator.specs.Spreading.{AreExact}
 use Rattle.annotator.proofs.LeastMasks.{below_none, below_more, below_rises, below_whole, no_fault}
-use Rattle.annotator.proofs.certify.certify.Goals as goal
+use Rattle.annotator.proofs.certify.certificate.Goals as goal
 
 pub loop-task-init : goal.loop-task-init
 loop-task-init c = below_none c.args.program.now (entries_of c.in_ok-lists.lists.items) (ap (λ (xs : List (Vec (ℕ × ℕ) Global)). entries_of xs) c.in_ok-lists.ensures.items)
 
 pub list_of_task-requires : goal.list_of_task-requires
 list_of_task-requires c = record {
-  masks = subst (λ (ms : List ℕ). AreExact c.args.program.now ms) (sym c.deref.ensures.value) c.in_ok-masks.ensures;
+  masks = c.requires;
   well_formed = c.tasks-count.ensures.well_formed;
   there = subst (λ (ts : List Descriptor). c.loop-task.task < length ts) c.tasks-count.ensures.value c.loop-task-test.true;
 }

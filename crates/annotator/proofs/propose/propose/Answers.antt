@@ -1,0 +1,23 @@
+use Rattle.std.proofs.Common.{◌≡◌, ℕ, Bool, List, length, sym, ◌∙◌, ap, subst}
+use Rattle.task_descriptor.specs.Listing.{Listing, IsWellFormed}
+use Rattle.annotator.specs.Least.{IsLeast}
+use Rattle.annotator.specs.Proposed.{IsProposed}
+use Rattle.annotator.specs.Marking.{AreForwards, AreCreates, with_marks}
+use Rattle.annotator.proofs.Remarked.{marks_well_formed, proposed, least_stays}
+use Rattle.annotator.proofs.propose.propose.Goals as goal
+
+pub marked-requires-clause-well_formed : goal.marked-requires-clause-well_formed
+marked-requires-clause-well_formed c =
+    let p = c.args.program in
+    marks_well_formed p c.deref.result.now c.deref-in-Ok.result.now c.in-Ok.ensures.well_formed
+    (subst (λ (bits : List Bool). AreForwards p (length p.code) bits) (sym c.deref.ensures.value) c.in-Ok.ensures.forwards)
+    (subst (λ (sets : List ℕ). AreCreates p (length p.tasks) sets) (sym c.deref-in-Ok.ensures.value) c.in-Ok.ensures.creates)
+
+pub returns-in-Ok : goal.returns-in-Ok
+returns-in-Ok c =
+    let p = c.args.program in
+    let forwards : AreForwards p (length p.code) c.deref.result.now = subst (λ (bits : List Bool). AreForwards p (length p.code) bits) (sym c.deref.ensures.value) c.in-Ok.ensures.forwards in
+    let creates : AreCreates p (length p.tasks) c.deref-in-Ok.result.now = subst (λ (sets : List ℕ). AreCreates p (length p.tasks) sets) (sym c.deref-in-Ok.ensures.value) c.in-Ok.ensures.creates in (
+      subst (λ (q : Listing). IsProposed p q) (sym c.marked.ensures) (proposed p c.deref.result.now c.deref-in-Ok.result.now forwards creates),
+      subst (λ (q : Listing). IsLeast q c.in-Ok.found.cert) (sym c.marked.ensures) (least_stays p c.deref.result.now c.deref-in-Ok.result.now c.in-Ok.found.cert forwards creates c.in-Ok.ensures.cert),
+    )

@@ -1,0 +1,140 @@
+//! The marks to propose: which instructions carry a forward bit, and what the tasks create.
+
+ghost use Rattle.std.specs.Prelude.{◌≡◌, ℕ, ◌<◌, ◌||◌, ◌↔◌, true, length, IfOk, Some, slice_get, slice_index};
+ghost use Rattle.std.specs.List.{All, list_any};
+ghost use Rattle.mips_plain.specs.Words.{has};
+ghost use Rattle.task_descriptor.specs.Listing.{IsWellFormed, registers};
+ghost use Rattle.task_descriptor.specs.declared.descriptor.Marked.{Marked};
+ghost use Rattle.mark_checker.specs.Places.{holds_at};
+ghost use Rattle.annotator.specs.Least.{IsLeast};
+ghost use Rattle.annotator.specs.Proposed.{produces as produces_of, WritesLast};
+ghost use Rattle.annotator.specs.Spreading.{AreExact};
+ghost use Rattle.annotator.specs.Marking.{WrittenBehind, indices_of, AreMarked, AreMembers, ProducedAt, AreCreates, AreForwards};
+
+use mask_certificate::certificate::Cert;
+use mips_plain::instruction::Op;
+use mips_plain::number::RegSet;
+use std::alloc::{AllocError, Global};
+use task_descriptor::descriptor::Marked;
+use task_descriptor::program::Program;
+use task_graph::edges::next_inside;
+
+/// A mark for each instruction that is a member of some task.
+pub(crate) fn members_of_any(alloc: Global, program: &Program, cert: &Cert) -> Result<Vec<bool>, AllocError>
+    requires { IsLeast program.now cert.now }
+    ensures { IfOk result (λ v. AreMembers program.now (length program.now.tasks) v.items) }
+{
+    let mut marks = vec![in alloc; false; program.code().len()]?;
+    for task in 0..program.tasks().len() {
+        mark_all(cert.list(task as u32), &mut marks);
+    }
+    Ok(marks)
+}
+
+/// Sets the marks of the indices of a list.
+fn mark_all(list: &[(u32, RegSet)], marks: &mut [bool])
+    requires { All (λ entry. entry.0 < length marks.old) list.now }
+    ensures { AreMarked (indices_of list.now) marks.old marks.new }
+{
+    for (index, _) in list {
+        marks[*index as usize] = true;
+    }
+}
+
+/// The forward bit to propose for each instruction.
+pub(crate) fn forward_bits(
+    alloc: Global,
+    program: &Program,
+    masks: &[RegSet],
+    members: &[bool],
+) -> Result<Vec<bool>, AllocError>
+    requires masks { AreExact program.now masks.now }
+    requires members { AreMembers program.now (length program.now.tasks) members.now }
+    ensures { IfOk result (λ v. AreForwards program.now (length program.now.code) v.items) }
+{
+    let code = program.code();
+    let mut bits = Vec::with_capacity(alloc, code.len())?;
+    for (i, marked) in code.iter().enumerate() {
+        let bit = if members[i] {
+            writes_last(program, masks, &marked.op, i as u32)
+        } else {
+            marked.forward
+        };
+        bits.push(bit)?;
+    }
+    Ok(bits)
+}
+
+/// Whether the instruction has a destination, and none of them may be written again behind it.
+fn writes_last(program: &Program, masks: &[RegSet], op: &Op, i: u32) -> bool
+    requires masks { AreExact program.now masks.now }
+    requires there { i < length program.now.code }
+    ensures { (result ≡ true) ↔ WritesLast program.now i op.now }
+{
+    let written = op.dests();
+    let again = written_behind(program, masks, i);
+    has_member(written) && written.is_subset(written.minus(again))
+}
+
+/// Whether the set has a register.
+fn has_member(set: RegSet) -> bool
+    ensures { result ≡ list_any (has set) registers }
+{
+    set.bits() != 0
+}
+
+/// The registers that paths from the inner successors of the instruction may write.
+fn written_behind(program: &Program, masks: &[RegSet], i: u32) -> RegSet
+    requires masks { AreExact program.now masks.now }
+    requires there { i < length program.now.code }
+    ensures { (r : ℕ) → (has result r ≡ true) ↔ WrittenBehind program.now i r }
+{
+    let next = next_inside(program, i);
+    mask_of(masks, next.first).union(mask_of(masks, next.second))
+}
+
+/// The mask of an index, if there is one.
+fn mask_of(masks: &[RegSet], index: Option<u32>) -> RegSet
+    requires { (j : ℕ) → index ≡ Some j → j < length masks.now }
+    ensures { (r : ℕ) → has result r ≡ holds_at index (λ j. has (slice_index masks.now j) r) }
+{
+    match index {
+        Some(j) => masks[j as usize],
+        None => RegSet::empty(),
+    }
+}
+
+/// The create mask to propose for each task.
+pub(crate) fn create_masks(alloc: Global, program: &Program, cert: &Cert) -> Result<Vec<RegSet>, AllocError>
+    requires { IsLeast program.now cert.now }
+    ensures { IfOk result (λ v. AreCreates program.now (length program.now.tasks) v.items) }
+{
+    let count = program.tasks().len();
+    let mut sets = Vec::with_capacity(alloc, count)?;
+    for task in 0..count {
+        sets.push(produced_at(program.code(), cert.list(task as u32)))?;
+    }
+    Ok(sets)
+}
+
+/// The registers that the instructions of a list write or release.
+fn produced_at(code: &[Marked], list: &[(u32, RegSet)]) -> RegSet
+    requires { All (λ entry. entry.0 < length code.now) list.now }
+    ensures { (r : ℕ) → (has result r ≡ true) ↔ ProducedAt code.now (indices_of list.now) r }
+{
+    let mut set = RegSet::empty();
+    for (index, _) in list {
+        set = set.union(produces(&code[*index as usize].op));
+    }
+    set
+}
+
+/// The registers that an instruction writes or releases.
+fn produces(op: &Op) -> RegSet
+    ensures { (r : ℕ) → has result r ≡ produces_of op.now r }
+{
+    match op {
+        Op::Release(set) => *set,
+        _ => op.dests(),
+    }
+}
