@@ -4,7 +4,8 @@ use Rattle.std.specs.Prelude.{Contains, filter}
 use Rattle.std.specs.List.{range_with_len}
 use Rattle.std.specs.List.Sorted.{IsStrictlyIncreasing}
 use Rattle.task_descriptor.specs.Listing.{Listing}
-use Rattle.task_graph.specs.Members.{Reaches, is_marked}
+use Rattle.task_graph.specs.Members.{Reaches}
+use Rattle.task_graph.specs.SearchSteps.{is_marked}
 use Rattle.task_graph.proofs.Searches.{marked_within}
 use Rattle.std.proofs.lemmas.Bool.{cases_Bool, cases_lt}
 use Rattle.std.proofs.lemmas.List.Elements.{filter-append, Contains-append_left, Contains-push, Contains-push_cases}

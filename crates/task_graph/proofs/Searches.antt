@@ -11,7 +11,8 @@ use Rattle.task_descriptor.specs.Listing.{Listing}
 use Rattle.task_graph.specs.declared.edges.Next.{Next}
 use Rattle.task_graph.specs.Edges.{Edge, Path, stay, onward}
 use Rattle.task_graph.specs.Neighbours.{Follows, is_among, is_it}
-use Rattle.task_graph.specs.Members.{Reaches, is_marked, mark_of, work_of}
+use Rattle.task_graph.specs.Members.{Reaches}
+use Rattle.task_graph.specs.SearchSteps.{is_marked, mark_of, work_of}
 
 pub record Search (p : Listing) (entry : ℕ) (marks : List Bool) (work : List ℕ) (busy : Option ℕ) : Type 0 where
   pub sized : length marks ≡ length p.code

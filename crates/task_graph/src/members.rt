@@ -4,7 +4,8 @@ ghost use Rattle.std.specs.Prelude.{◌≡◌, ℕ, ◌<◌, ◌≤◌, ◌↔�
 ghost use Rattle.std.specs.List.Sorted.{IsStrictlyIncreasing};
 ghost use Rattle.std.specs.List.{range_with_len};
 ghost use Rattle.task_descriptor.specs.declared.descriptor.Descriptor.{Descriptor};
-ghost use Rattle.task_graph.specs.Members.{Reaches, is_marked, mark_of, work_of};
+ghost use Rattle.task_graph.specs.Members.{Reaches};
+ghost use Rattle.task_graph.specs.SearchSteps.{is_marked, mark_of, work_of};
 
 use crate::edges::next_inside;
 use std::alloc::{AllocError, Global};

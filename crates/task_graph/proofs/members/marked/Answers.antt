@@ -1,6 +1,6 @@
 use Rattle.std.proofs.Common.{◌≡◌, true, false, filter, ◌∙◌, ap, sym}
 use Rattle.std.specs.List.{range_with_len}
-use Rattle.task_graph.specs.Members.{is_marked}
+use Rattle.task_graph.specs.SearchSteps.{is_marked}
 use Rattle.task_graph.proofs.Listed.{takes_one, takes_none}
 use Rattle.task_graph.proofs.members.marked.Goals as goal
 use Rattle.task_graph.proofs.members.marked.Goals.{then-mark+in_ok-push, else-mark}

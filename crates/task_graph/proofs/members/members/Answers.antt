@@ -2,7 +2,8 @@ use Rattle.std.proofs.Common.{◌≡◌, ◌<◌, ◌↔◌, ◌≤◌, ℕ, Boo
 use Rattle.std.proofs.lemmas.Result.{IfOk-weaker}
 use Rattle.std.proofs.lemmas.Option.{slice_get_past, slice_get-get_or}
 use Rattle.task_descriptor.specs.declared.descriptor.Descriptor.{Descriptor}
-use Rattle.task_graph.specs.Members.{Reaches, is_marked}
+use Rattle.task_graph.specs.Members.{Reaches}
+use Rattle.task_graph.specs.SearchSteps.{is_marked}
 use Rattle.std.specs.List.Sorted.{IsStrictlyIncreasing}
 use Rattle.task_graph.proofs.Listed.{lists_exactly, rises}
 use Rattle.task_graph.proofs.members.members.Goals as goal

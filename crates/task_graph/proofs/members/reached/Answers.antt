@@ -1,6 +1,7 @@
 use Rattle.std.proofs.Common.{◌≡◌, ◌<◌, ℕ, true, None, Some, List, [], ◌++◌, ◌-◌, length, take, replicate, false, rules, sym, ◌∙◌, ap, subst, arith}
 use Rattle.task_descriptor.specs.declared.descriptor.Marked.{Marked}
-use Rattle.task_graph.specs.Members.{Reaches, is_marked}
+use Rattle.task_graph.specs.Members.{Reaches}
+use Rattle.task_graph.specs.SearchSteps.{is_marked}
 use Rattle.task_graph.proofs.Searches.{Search, begins_at, goes_on, stays_begun, less_to_do, marked_within, first_within, second_within, length-mark_of, taken_marked, search_ends}
 use Rattle.task_graph.proofs.members.reached.Goals as goal
 

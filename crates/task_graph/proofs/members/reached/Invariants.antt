@@ -1,5 +1,5 @@
 use Rattle.std.proofs.Common.{◌≡◌, true, None}
-use Rattle.task_graph.specs.Members.{is_marked}
+use Rattle.task_graph.specs.SearchSteps.{is_marked}
 use Rattle.task_graph.proofs.Searches.{Search, left_to_do}
 use Rattle.task_graph.proofs.members.reached.Given as goal
 
