@@ -19,7 +19,8 @@ use Rattle.task_graph.proofs.EdgeLemmas.{edge_from}
 use Rattle.task_graph.proofs.WellFormed.{entry_inside}
 use Rattle.mask_certificate.specs.Lists.{mask_at, list_of, Rises}
 use Rattle.mark_checker.specs.Rules.{conditions, in_mask, next_has, stops_always, masked, places}
-use Rattle.mark_checker.specs.Places.{holds_at, IsClean, IsRight, AllRight, IsAccepted, PlaceSays}
+use Rattle.mark_checker.specs.CheckerSteps.{holds_at}
+use Rattle.mark_checker.specs.Places.{IsClean, IsRight, AllRight, IsAccepted, PlaceSays}
 use Rattle.mark_checker.proofs.Ahead.{any_of, holds_some}
 use Rattle.mark_checker.proofs.Acceptance.{place_says, entry_says}
 use Rattle.mark_checker.proofs.PlaceLists.{accepted}

@@ -17,10 +17,11 @@ use Rattle.task_descriptor.specs.declared.descriptor.Marked.{Marked}
 use Rattle.task_descriptor.specs.declared.descriptor.Descriptor.{Descriptor}
 use Rattle.task_graph.specs.declared.edges.Next.{Next}
 use Rattle.task_graph.specs.Edges.{Edge, Path, stay, onward, MayWrite}
-use Rattle.task_graph.specs.Members.{Reaches, is_marked}
+use Rattle.task_graph.specs.Members.{Reaches}
+use Rattle.task_graph.specs.SearchSteps.{is_marked}
 use Rattle.task_graph.specs.Neighbours.{Follows, is_among, is_it}
 use Rattle.mask_certificate.specs.Lists.{list_of, mask_at}
-use Rattle.mark_checker.specs.Places.{holds_at}
+use Rattle.mark_checker.specs.CheckerSteps.{holds_at}
 use Rattle.mark_checker.proofs.Ahead.{holds_some, some_holds}
 use Rattle.annotator.specs.Least.{LeastList, IsLeast}
 use Rattle.annotator.specs.Proposed.{produces, Produces, IsMember, WritesLast}

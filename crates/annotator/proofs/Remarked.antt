@@ -19,7 +19,8 @@ use Rattle.task_descriptor.specs.declared.descriptor.Marked.{Marked}
 use Rattle.task_descriptor.specs.declared.descriptor.Descriptor.{Descriptor}
 use Rattle.task_descriptor.specs.declared.program.BuildFault.{BuildFault}
 use Rattle.task_graph.specs.Edges.{Edge, edge, leaves, Path, stay, onward, MayWrite}
-use Rattle.task_graph.specs.Members.{Reaches, is_marked}
+use Rattle.task_graph.specs.Members.{Reaches}
+use Rattle.task_graph.specs.SearchSteps.{is_marked}
 use Rattle.mask_certificate.specs.Lists.{list_of}
 use Rattle.annotator.specs.Least.{LeastList, IsLeast}
 use Rattle.annotator.specs.Proposed.{Produces, IsMember, WritesLast, IsRemarked, IsRedescribed, IsProposed, produces}

@@ -4,7 +4,7 @@ use Rattle.mips_plain.specs.Words.{has}
 use Rattle.task_descriptor.specs.Listing.{Listing, has_destination}
 use Rattle.task_descriptor.specs.declared.descriptor.Marked.{Marked}
 use Rattle.task_descriptor.specs.declared.descriptor.Descriptor.{Descriptor}
-use Rattle.task_graph.specs.Members.{is_marked}
+use Rattle.task_graph.specs.SearchSteps.{is_marked}
 use Rattle.task_graph.specs.Edges.{MayWrite}
 use Rattle.task_graph.specs.Neighbours.{Follows}
 use Rattle.annotator.specs.Proposed.{produces, Produces, IsMember, WritesLast}

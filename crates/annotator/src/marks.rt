@@ -5,7 +5,7 @@ ghost use Rattle.std.specs.List.{All, list_any};
 ghost use Rattle.mips_plain.specs.Words.{has};
 ghost use Rattle.task_descriptor.specs.Listing.{IsWellFormed, registers};
 ghost use Rattle.task_descriptor.specs.declared.descriptor.Marked.{Marked};
-ghost use Rattle.mark_checker.specs.Places.{holds_at};
+ghost use Rattle.mark_checker.specs.CheckerSteps.{holds_at};
 ghost use Rattle.annotator.specs.Least.{IsLeast};
 ghost use Rattle.annotator.specs.Proposed.{produces as produces_of, WritesLast};
 ghost use Rattle.annotator.specs.Spreading.{AreExact};
