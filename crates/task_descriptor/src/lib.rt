@@ -9,5 +9,6 @@ pub mod name;
 pub mod places;
 pub mod program;
 mod registers;
+mod same;
 #[cfg(test)]
 mod tests;

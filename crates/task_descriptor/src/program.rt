@@ -3,6 +3,7 @@
 use crate::check::fault_of;
 use crate::descriptor::{Descriptor, Marked};
 use crate::registers::name_registers;
+use crate::same::{are_same_tasks, is_same_code};
 use mips_plain::instruction::Op;
 use mips_plain::number::Place;
 use mips_plain::outcome::OutOfMemory;
@@ -89,7 +90,7 @@ impl Model for Program {
 }
 
 impl Program {
-    ghost use Rattle.std.specs.Prelude.{◌≡◌, ◌+◌, ◌*◌, ◌<◌, Some, IfOk, MatchResult, map, position, ◌==◌, option_copied, slice_get};
+    ghost use Rattle.std.specs.Prelude.{◌≡◌, ◌↔◌, ◌+◌, ◌*◌, ◌<◌, Some, IsTrue, IfOk, MatchResult, map, position, ◌==◌, option_copied, slice_get};
     ghost use Rattle.mips_plain.specs.Words.{address};
     ghost use Rattle.mips_plain.specs.PlainView.{IsAfter};
     ghost use Rattle.task_descriptor.specs.Listing.{Listing, IsWellFormed, build_fault, listing_of, instruction_at, input};
@@ -161,6 +162,20 @@ impl Program {
         ensures well_formed { IsWellFormed self.now }
     {
         self.start
+    }
+
+    /// Whether the two are the same program: the same instructions with their marks, the same bytes, the
+    /// same tasks in the same order, the same start. Takes no memory.
+    pub fn is_same(&self, other: &Program) -> bool
+        ensures { IsTrue result ↔ (self.now ≡ other.now) }
+    {
+        if self.bytes != other.bytes || self.fixed != other.fixed || self.start != other.start {
+            return false;
+        }
+        if !is_same_code(&self.code, &other.code) {
+            return false;
+        }
+        are_same_tasks(&self.tasks, &other.tasks)
     }
 
     /// The plain machine at the program's start: it takes the instructions without their marks, and no
