@@ -13,7 +13,7 @@ use Rattle.mips_plain.specs.Instruction.{dests, released, general}
 use Rattle.mips_plain.specs.declared.instruction.MoveToKind.TheVariants.{Mthi, Mtlo}
 use Rattle.mips_plain.specs.declared.instruction.Op.{Op}
 use Rattle.mips_plain.specs.declared.instruction.Op.TheVariants.{Three, ShiftBy, ShiftVar, Imm, Logic, Lui, Mult, MoveFrom, MoveTo, Load, Store, BranchTwo, BranchOne, Jump, JumpLink, JumpReg, JumpLinkReg, Out, Release, Halt}
-use Rattle.task_descriptor.specs.Listing.{Listing, IsWellFormed, is_too_many, has_no_task, has_bad_entry, collide, has_duplicate, has_bad_mask, is_bad_mark, has_destination, stop_fits, release_fits, starts_at_no_entry, mark_fault, registers}
+use Rattle.task_descriptor.specs.Listing.{Listing, IsWellFormed, is_too_many, has_no_task, has_bad_entry, collide, has_duplicate, has_bad_mask, is_bad_mark, has_destination, stop_fits, release_fits, starts_at_no_entry, mark_fault, registers, build_fault}
 use Rattle.task_descriptor.specs.WellFormed.{passes}
 use Rattle.task_descriptor.specs.declared.descriptor.Marked.{Marked}
 use Rattle.task_descriptor.specs.declared.descriptor.Descriptor.{Descriptor}
@@ -239,11 +239,11 @@ zero_never p d well w = elim (or_cases (dests w.at.op 0) (released w.at.op 0) w.
     release_part : (m : Marked) → is_bad_mark m ≡ false → not (release_fits m.op) ≡ false
     release_part m good = (or_parts (m.forward && not (has_destination m.op) || not (stop_fits m.stop m.op)) (not (release_fits m.op)) good).1
 
-well_again : (p : Listing) (code : List Marked) (tasks : List Descriptor) → IsWellFormed p → length code ≡ length p.code → length tasks ≡ length p.tasks
+passes_again : (p : Listing) (code : List Marked) (tasks : List Descriptor) → IsWellFormed p → length code ≡ length p.code → length tasks ≡ length p.tasks
     → ((test : Descriptor → Bool) → ((d : Descriptor) (c : ℕ) → test (creating d c) ≡ test d) → list_any test tasks ≡ list_any test p.tasks)
     → has_no_task tasks ≡ has_no_task p.tasks → has_duplicate tasks ≡ has_duplicate p.tasks → has_bad_mask tasks ≡ false → position is_bad_mark code ≡ None
-    → IsWellFormed (record p { code = code; tasks = tasks })
-well_again p code tasks well code_sized tasks_sized any none duplicate masks marks =
+    → build_fault (record p { code = code; tasks = tasks }) ≡ None
+passes_again p code tasks well code_sized tasks_sized any none duplicate masks marks =
     let was = passes p well in
     let q : Listing = record p { code = code; tasks = tasks } in
     let many : is_too_many q ≡ false =
@@ -259,10 +259,10 @@ well_again p code tasks well code_sized tasks_sized any none duplicate masks mar
     ∙ cond-false (has_bad_mask tasks) _ _ masks
     ∙ (λ k. mark_fault (marks k) (starts k))
 
-pub marks_well_formed : (p : Listing) (forwards : List Bool) (creates : List ℕ) → IsWellFormed p → AreForwards p (length p.code) forwards → AreCreates p (length p.tasks) creates
-    → IsWellFormed (with_marks p forwards creates)
-marks_well_formed p forwards creates well f c =
-    well_again p (with_forwards p.code forwards) (with_creates p.tasks creates) well (length-with_forwards p.code forwards) (length-with_creates p.tasks creates)
+pub marks_pass : (p : Listing) (forwards : List Bool) (creates : List ℕ) → IsWellFormed p → AreForwards p (length p.code) forwards → AreCreates p (length p.tasks) creates
+    → build_fault (with_marks p forwards creates) ≡ None
+marks_pass p forwards creates well f c =
+    passes_again p (with_forwards p.code forwards) (with_creates p.tasks creates) well (length-with_forwards p.code forwards) (length-with_creates p.tasks creates)
     (λ test same. any_kept test p.tasks creates same) (no_task_kept p.tasks creates) (duplicate_kept p.tasks creates)
     (none_of (λ (t : Descriptor). has t.create 0) (with_creates p.tasks creates) (λ t d there. no_zero t d there))
     (nowhere is_bad_mark (with_forwards p.code forwards) (λ i m there. good i m there))

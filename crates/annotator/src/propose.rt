@@ -1,7 +1,7 @@
 //! Proposes marks for a program.
 
-ghost use Rattle.std.specs.Prelude.{◌≡◌, length, MatchResult, IfOk};
-ghost use Rattle.task_descriptor.specs.Listing.{IsWellFormed};
+ghost use Rattle.std.specs.Prelude.{◌≡◌, None, length, MatchResult, IfOk};
+ghost use Rattle.task_descriptor.specs.Listing.{IsWellFormed, build_fault};
 ghost use Rattle.annotator.specs.Least.{IsLeast};
 ghost use Rattle.annotator.specs.Proposed.{IsProposed};
 ghost use Rattle.annotator.specs.Marking.{AreCreates, AreForwards, with_forwards, with_creates, with_marks};
@@ -82,7 +82,7 @@ fn find_marks(alloc: Global, program: &Program) -> Result<Found, AllocError>
 fn marked(program: Program, forwards: &[bool], creates: &[RegSet]) -> Program
     requires forwards { length forwards.now ≡ length program.code }
     requires creates { length creates.now ≡ length program.tasks }
-    requires well_formed { IsWellFormed (with_marks program forwards.now creates.now) }
+    requires passes { build_fault (with_marks program forwards.now creates.now) ≡ None }
     ensures { result ≡ with_marks program forwards.now creates.now }
 {
     let mut parts = program.parts();

@@ -3,13 +3,13 @@ use Rattle.task_descriptor.specs.Listing.{Listing, IsWellFormed}
 use Rattle.annotator.specs.Least.{IsLeast}
 use Rattle.annotator.specs.Proposed.{IsProposed}
 use Rattle.annotator.specs.Marking.{AreForwards, AreCreates, with_marks}
-use Rattle.annotator.proofs.Remarked.{marks_well_formed, proposed, least_stays}
+use Rattle.annotator.proofs.Remarked.{marks_pass, proposed, least_stays}
 use Rattle.annotator.proofs.propose.propose.Goals as goal
 
-pub marked-requires-clause-well_formed : goal.marked-requires-clause-well_formed
-marked-requires-clause-well_formed c =
+pub marked-requires-clause-passes : goal.marked-requires-clause-passes
+marked-requires-clause-passes c =
     let p = c.args.program in
-    marks_well_formed p c.deref.result.now c.deref-in-Ok.result.now c.in-Ok.ensures.well_formed
+    marks_pass p c.deref.result.now c.deref-in-Ok.result.now c.in-Ok.ensures.well_formed
     (subst (λ (bits : List Bool). AreForwards p (length p.code) bits) (sym c.deref.ensures.value) c.in-Ok.ensures.forwards)
     (subst (λ (sets : List ℕ). AreCreates p (length p.tasks) sets) (sym c.deref-in-Ok.ensures.value) c.in-Ok.ensures.creates)
 
