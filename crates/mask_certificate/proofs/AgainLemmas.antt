@@ -29,7 +29,7 @@ use Rattle.mask_certificate.proofs.NameLemmas.{judged_named}
 use Rattle.mask_certificate.proofs.Rising.{option_or_none, rises_alone}
 
 -- no byte passes a test
-abbrev Clean : (ℕ → Bool) → List ℕ → Type 0
+abbrev pub Clean : (ℕ → Bool) → List ℕ → Type 0
 Clean p xs = AllByRecursion (λ x. p x ≡ false) xs
 
 clean_append : (p : ℕ → Bool) (xs ys : List ℕ) → Clean p xs → Clean p ys → Clean p (xs ++ ys)
@@ -38,7 +38,7 @@ clean_append p (x ∷ xs) ys a b = (a.0, clean_append p xs ys a.1 b)
 
 -- ---- where a list is cut
 
-cut_at : (p : ℕ → Bool) (xs : List ℕ) (y : ℕ) (ys : List ℕ) → Clean p xs → p y ≡ true → position_or_len p (xs ++ y ∷ ys) ≡ length xs
+pub cut_at : (p : ℕ → Bool) (xs : List ℕ) (y : ℕ) (ys : List ℕ) → Clean p xs → p y ≡ true → position_or_len p (xs ++ y ∷ ys) ≡ length xs
 cut_at p [] y ys clean at = ap (λ b. cond (not b) (1 + position_or_len p ys) 0) at
 cut_at p (x ∷ xs) y ys clean at =
     let rest = cut_at p xs y ys clean.1 at in
@@ -77,7 +77,7 @@ no_zero_first (suc n) small =
     let first : 48 < get_or (decimal (suc n)) 0 0 = first_decimal (suc n) some small in
     and_left _ _ (ne_eqb (get_or (decimal (suc n)) 0 0) 48 (λ (e : get_or (decimal (suc n)) 0 0 ≡ 48). omega arith))
 
-index_read : (n : ℕ) → n < 100000 → (index_in (decimal n) ≡ Some n) × Clean is_space (decimal n) × Clean is_newline (decimal n)
+pub index_read : (n : ℕ) → n < 100000 → (index_in (decimal n) ≡ Some n) × Clean is_space (decimal n) × Clean is_newline (decimal n)
 index_read n few =
     let small : n < 2 ^ 64 = omega arith in
     let numeral = decimal_is_IsNumeral n small in
@@ -105,13 +105,13 @@ digits_value_after-append : (radix n : ℕ) (xs ys : List ℕ) → digits_value_
 digits_value_after-append radix n [] ys = refl
 digits_value_after-append radix n (x ∷ xs) ys = digits_value_after-append radix (n * radix + digit_value x) xs ys
 
-record IsHexadecimal (k n : ℕ) (ds : List ℕ) : Type 0 where
-  long : length ds ≡ k
-  digits : list_all is_mask_digit ds ≡ true
-  clean : Clean is_newline ds
-  value : n < 16 ^ k → digits_value 16 ds ≡ n
+pub record IsHexadecimal (k n : ℕ) (ds : List ℕ) : Type 0 where
+  pub long : length ds ≡ k
+  pub digits : list_all is_mask_digit ds ≡ true
+  pub clean : Clean is_newline ds
+  pub value : n < 16 ^ k → digits_value 16 ds ≡ n
 
-hexadecimal_read : (k n : ℕ) → IsHexadecimal k n (hexadecimal k n)
+pub hexadecimal_read : (k n : ℕ) → IsHexadecimal k n (hexadecimal k n)
 hexadecimal_read zero n = record { long = refl; digits = refl; clean = tt; value = λ small. omega arith }
 hexadecimal_read (suc k) n =
     let front = hexadecimal_read k (n / 16) in
@@ -131,7 +131,7 @@ hexadecimal_read (suc k) n =
           ∙ omega arith;
     }
 
-mask_read : (spelling : Spelling) (n : ℕ) → n < 2 ^ 34 → n < 16 ^ mask_digits spelling → mask_in spelling (hexadecimal (mask_digits spelling) n) ≡ Some n
+pub mask_read : (spelling : Spelling) (n : ℕ) → n < 2 ^ 34 → n < 16 ^ mask_digits spelling → mask_in spelling (hexadecimal (mask_digits spelling) n) ≡ Some n
 mask_read spelling n small short =
     let ds = hexadecimal (mask_digits spelling) n in
     let hex = hexadecimal_read (mask_digits spelling) n in
@@ -148,7 +148,7 @@ line_read spelling line more clean =
 
 -- an entry that has a text
 abbrev pub Fits : Spelling → ℕ × ℕ → Type 0
-Fits spelling entry = (entry.0 < 4096) × (entry.1 < 2 ^ 34) × (entry.1 < 16 ^ mask_digits spelling)
+Fits spelling entry = (entry.0 < 100000) × (entry.1 < 2 ^ 34) × (entry.1 < 16 ^ mask_digits spelling)
 
 entry_judged : (spelling : Spelling) (entry : ℕ × ℕ) → Fits spelling entry → judged spelling (decimal entry.0 ++ 32 ∷ hexadecimal (mask_digits spelling) entry.1) ≡ entry_line entry
 entry_judged spelling entry fits =
@@ -162,7 +162,7 @@ entry_judged spelling entry fits =
     ∙ ap (both (Some entry.0)) (mask_read spelling entry.1 fits.1 fits.2) in
     ap (λ o. judged_by o (name_in line)) is
 
-entry_read : (spelling : Spelling) (entry : ℕ × ℕ) (more : List ℕ) → Fits spelling entry → lines_in spelling (entry_text spelling entry ++ more) ≡ entry_line entry ∷ lines_in spelling more
+pub entry_read : (spelling : Spelling) (entry : ℕ × ℕ) (more : List ℕ) → Fits spelling entry → lines_in spelling (entry_text spelling entry ++ more) ≡ entry_line entry ∷ lines_in spelling more
 entry_read spelling entry more fits =
     let index = index_read entry.0 (omega (arith, fits.0)) in
     let mask = hexadecimal (mask_digits spelling) entry.1 in
@@ -264,7 +264,7 @@ abbrev pub Within : Spelling → ℕ × ℕ → Type 0
 Within spelling entry = entry.1 < 16 ^ mask_digits spelling
 
 fits_from : (spelling : Spelling) (list : List (ℕ × ℕ)) → Rises list → All (λ entry. entry.1 < 2 ^ 34) list → All (Within spelling) list → AllByRecursion (Fits spelling) list
-fits_from spelling list rises masks within = recursion_from_All (Fits spelling) list (λ k d less. (rises.inside k d less, masks k d less, within k d less))
+fits_from spelling list rises masks within = recursion_from_All (Fits spelling) list (λ k d less. (let small : (get_or list k d).0 < 4096 = rises.inside k d less in omega arith, masks k d less, within k d less))
 
 lists_fit : (spelling : Spelling) (lists : List (List (ℕ × ℕ))) (task : ℕ) → first_fault task lists ≡ None → AllByRecursion (All (λ entry. entry.1 < 2 ^ 34)) lists → AllByRecursion (All (Within spelling)) lists
     → AllByRecursion (AllByRecursion (Fits spelling)) lists

@@ -6,3 +6,4 @@ pub mod NameLemmas
 pub mod WriteLemmas
 pub mod AgainLemmas
 pub mod SpelledLemmas
+pub mod NextEntry

@@ -26,6 +26,7 @@ use Rattle.mask_certificate.specs.declared.fault.CertFault.TheVariants.{Shape}
 use Rattle.mask_certificate.specs.declared.fault.Spelling.{Spelling}
 use Rattle.mask_certificate.specs.declared.fault.Spelling.TheVariants.{Narrow, Wide}
 use Rattle.mask_certificate.specs.Lists.{first_fault}
+use Rattle.mask_certificate.proofs.AgainLemmas.{Fits}
 use Rattle.mask_certificate.specs.CertificateText.{hexadecimal, entry_text, task_text, tasks_text, mask_digits, first_line, spelled, Spells}
 use Rattle.mask_certificate.specs.CertificateReading.{◌>>=◌, is_newline, is_space, is_index, index_in, is_mask_digit, is_mask, mask_in, both, entry_in, name_in, Judged, entry_line, task_line, no_line, judged, judged_by, lines_of, lines_in, entries_in, opens, misplaced, behind_task_line, lists_at, rising, spelling_of, parse_by, cert_parse}
 
@@ -61,7 +62,7 @@ own : IsNumeralModel (AllDigits 10) (digits_value 10)
 own = record { to = λ ds h. h; from = λ ds h. h; same = λ ds h. refl }
 
 -- the digits of an index are those that its number has
-index_spelled : (ds : List ℕ) (n : ℕ) → index_in ds ≡ Some n → ds ≡ decimal n
+pub index_spelled : (ds : List ℕ) (n : ℕ) → index_in ds ≡ Some n → (ds ≡ decimal n) × (n < 100000)
 index_spelled ds n e =
     let found = cond_some (is_index ds) (digits_value 10 ds) n e in
     let front = and_parts (leb 1 (length ds)) (leb (length ds) 5 && (not (eqb (get_or ds 0 0) 48 && ltb 1 (length ds)) && list_all is_ascii_digit ds)) found.0 in
@@ -75,7 +76,7 @@ index_spelled ds n e =
     let digits = are_digits ds parts.2 in
     let below : digits_value 10 ds < 10 ^ length ds = digits_value-lt 10 ds digits in
     let most : 10 ^ length ds ≤ 10 ^ 5 = pow-le-pow_right (lit< tt) few in
-    sym (decimal-digits_value own ds digits some alone (omega arith)) ∙ ap decimal found.1
+    (sym (decimal-digits_value own ds digits some alone (omega arith)) ∙ ap decimal found.1, omega (arith, found.1))
 
 -- ---- hexadecimal digits
 
@@ -126,12 +127,12 @@ hexadecimal_spelled (suc k) ds long pass =
       small = omega arith;
     }
 
-record IsMaskText (spelling : Spelling) (n : ℕ) (ds : List ℕ) : Type 0 where
-  same : ds ≡ hexadecimal (mask_digits spelling) n
-  registers : n < 2 ^ 34
-  within : n < 16 ^ mask_digits spelling
+pub record IsMaskText (spelling : Spelling) (n : ℕ) (ds : List ℕ) : Type 0 where
+  pub same : ds ≡ hexadecimal (mask_digits spelling) n
+  pub registers : n < 2 ^ 34
+  pub within : n < 16 ^ mask_digits spelling
 
-mask_spelled : (spelling : Spelling) (ds : List ℕ) (n : ℕ) → mask_in spelling ds ≡ Some n → IsMaskText spelling n ds
+pub mask_spelled : (spelling : Spelling) (ds : List ℕ) (n : ℕ) → mask_in spelling ds ≡ Some n → IsMaskText spelling n ds
 mask_spelled spelling ds n e =
     let found = cond_some (is_mask spelling ds) (digits_value 16 ds) n e in
     let parts = three_parts (eqb (length ds) (mask_digits spelling)) (list_all is_mask_digit ds) (ltb (digits_value 16 ds) (2 ^ 34)) found.0 in
@@ -197,12 +198,19 @@ entry_spelled spelling line entry e =
     let whole : line ≡ decimal entry.0 ++ (32 ∷ hexadecimal (mask_digits spelling) entry.1) =
     split_at_first is_space line 0 there
     ∙ ap (λ (c : ℕ). before ++ (c ∷ after)) (eqb-true _ 32 (passes_at_first is_space line 0 there))
-    ∙ ap (λ (b : List ℕ). b ++ (32 ∷ after)) (index_spelled before entry.0 parts.0)
+    ∙ ap (λ (b : List ℕ). b ++ (32 ∷ after)) (index_spelled before entry.0 parts.0).0
     ∙ ap (λ (a : List ℕ). decimal entry.0 ++ (32 ∷ a)) mask.same in
     record {
       text = ap (λ (t : List ℕ). t ++ 10 ∷ []) whole ∙ append_assoc (decimal entry.0) (32 ∷ hexadecimal (mask_digits spelling) entry.1) (10 ∷ []);
       bounds = (mask.registers, mask.within);
     }
+
+-- the same, with bounds on both parts
+pub entry_fits : (spelling : Spelling) (line : List ℕ) (entry : ℕ × ℕ) → entry_in spelling line ≡ Some entry → (line ++ 10 ∷ [] ≡ entry_text spelling entry) × Fits spelling entry
+entry_fits spelling line entry e =
+    let spelled_so = entry_spelled spelling line entry e in
+    let parts = both_some (index_in (before_first is_space line)) (mask_in spelling (after_first is_space line)) entry e in
+    (spelled_so.text, ((index_spelled (before_first is_space line) entry.0 parts.0).1, spelled_so.bounds.0, spelled_so.bounds.1))
 
 name_spelled : (line name : List ℕ) → name_in line ≡ Some name → line ≡ codes "task " ++ name
 name_spelled line name e =

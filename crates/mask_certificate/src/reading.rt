@@ -1,11 +1,11 @@
 //! Reading the text of a certificate.
 
-ghost use Rattle.std.specs.Prelude.{◌≡◌, ◌+◌, ◌^◌, ◌<◌, ◌≤◌, List, [], ◌∷◌, length, drop, map, Some, None, Ok, Err, MatchOption, MatchResult, IfSome, IfOk, SomeIff, IsTrue, OnOk, OnSome, ◌==◌, ◌⊎◌, vec_len};
+ghost use Rattle.std.specs.Prelude.{◌≡◌, ◌+◌, ◌^◌, ◌<◌, ◌≤◌, ◌↔◌, List, [], ◌∷◌, true, length, drop, map, slice_index, Some, None, Ok, Err, MatchOption, MatchResult, IfSome, IfOk, SomeIff, IsTrue, OnOk, OnSome, ◌==◌, ◌⊎◌, vec_len};
 ghost use Rattle.std.specs.List.{slice_split, position};
 ghost use Rattle.std.specs.Option.{option_copied};
 ghost use Rattle.mask_certificate.specs.declared.fault.Spelling.{Spelling};
 ghost use Rattle.mask_certificate.specs.Lists.{entries_of};
-ghost use Rattle.mask_certificate.specs.CertificateReading.{index_in, mask_in, entry_in, name_in, judged, lines_in, entries_in, behind_task_line, at_end, lists_at, spelling_of, mask_digit, Gives, cert_parse, names_of, names_in, is_newline, entry_line};
+ghost use Rattle.mask_certificate.specs.CertificateReading.{index_in, mask_in, name_in, lines_in, entries_in, behind_task_line, at_end, lists_at, spelling_of, mask_digit, Gives, cert_parse, names_of, names_in, is_newline, entry_line};
 
 use crate::certificate::Cert;
 use crate::fault::{CertFault, Spelling};
@@ -81,13 +81,11 @@ fn mask_of(spelling: Spelling, digits: &[u8]) -> Option<RegSet>
     RegSet::from_bits(mask)
 }
 
-fn entry_of(spelling: Spelling, line: &[u8]) -> Option<(u32, RegSet)>
-    ensures { result ≡ entry_in spelling line.now }
+/// Whether an LF stands at this place.
+fn has_newline(text: &[u8], place: usize) -> bool
+    ensures { (result ≡ true) ↔ ((place < length text.now) × (slice_index text.now place ≡ 10)) }
 {
-    let space = place_of(b' ', line)?;
-    let index = index_of(&line[..space])?;
-    let mask = mask_of(spelling, &line[space + 1..])?;
-    Some((index, mask))
+    place < text.len() && text[place] == b'\n'
 }
 
 fn name_of(line: &[u8]) -> Option<&[u8]>
@@ -122,9 +120,15 @@ fn next_entry(spelling: Spelling, text: &[u8]) -> Option<((u32, RegSet), &[u8])>
         (λ found. lines_in spelling text.now ≡ entry_line found.0 ∷ lines_in spelling found.1.now) }
     ensures shorter { IfSome result (λ found. length found.1.now < length text.now) }
 {
-    let (line, rest) = next_line(text)?;
-    let entry = entry_of(spelling, line)?;
-    Some((entry, rest))
+    // A mask's digits are as many as the spelling says, so the line's end is not looked for.
+    let space = place_of(b' ', text)?;
+    let end = space + 1 + spelling.mask_digits();
+    if !has_newline(text, end) {
+        return None;
+    }
+    let index = index_of(&text[..space])?;
+    let mask = mask_of(spelling, &text[space + 1..end])?;
+    Some(((index, mask), &text[end + 1..]))
 }
 
 /// The entries of the lines in front of the first that is none, and the text from that line on.
