@@ -1,12 +1,11 @@
 -- What is spelled is read again: each line is cut where it was ended, and is what it was spelled from.
-use Rattle.std.proofs.Common.{◌≡◌, ℕ, zero, suc, ◌+◌, ◌-◌, ◌*◌, ◌/◌, ◌%◌, ◌^◌, ◌<◌, ◌≤◌, Bool, true, false, cond, not, ◌&&◌, eqb, ltb, leb, List, [], ◌∷◌, ◌++◌, map, length, get_or, take, drop, Option, Some, None, Result, Ok, Err, refl, sym, ◌∙◌, ap, subst, arith, append_assoc, lit<}
+use Rattle.std.proofs.Common.{◌≡◌, ℕ, zero, suc, ◌+◌, ◌*◌, ◌/◌, ◌%◌, ◌^◌, ◌<◌, Bool, true, false, cond, not, ◌&&◌, eqb, ltb, leb, List, [], ◌∷◌, ◌++◌, map, length, get_or, take, drop, Option, Some, None, Result, Ok, Err, refl, sym, ◌∙◌, ap, arith, append_assoc, lit<}
 use Rattle.std.specs.Prelude.{codes, slice_get, is_none}
 use Rattle.std.specs.Char.{is_ascii_digit, digit_value, digit_char}
 use Rattle.std.specs.Fmt.{decimal}
-use Rattle.std.specs.List.{list_all, flat_map, All, AllByRecursion, slice_split, before_first, after_first, position_or_len}
-use Rattle.std.specs.Str.{bytes_eq}
+use Rattle.std.specs.List.{list_all, flat_map, All, AllByRecursion, before_first, after_first, position_or_len}
 use Rattle.std.specs.Str.Parse.{AllDigits, digits_value, digits_value_after}
-use Rattle.std.proofs.lemmas.Bool.{agree_below, agree_below_at, and_from, and_parts, and_left, and_right, not_from_false, le-leb, lt-ltb, le-ltb, ne_eqb, eq-eqb, cond-true, cond-false, false≢true}
+use Rattle.std.proofs.lemmas.Bool.{agree_below_at, and_from, and_parts, and_left, and_right, not_from_false, le-leb, lt-ltb, le-ltb, ne_eqb, eq-eqb, cond-true, false≢true}
 use Rattle.std.proofs.lemmas.Fmt.{decimal_is_IsNumeral, length-decimal-le, decimal_nonempty, first_decimal, decimal_digit}
 use Rattle.std.proofs.lemmas.List.{take_at, drop_at, drop-drop, length-append, length-map}
 use Rattle.std.proofs.lemmas.List.Elements.{All-from_recursion, recursion_from_All}
@@ -17,13 +16,13 @@ use Rattle.std.proofs.lemmas.Str.Parse.{digit_from_value}
 use Rattle.std.proofs.Math.Nat.{pow-suc}
 use Rattle.task_descriptor.specs.Names.{is_name, continues_name, begins}
 use Rattle.mask_certificate.specs.declared.fault.CertFault.{CertFault}
-use Rattle.mask_certificate.specs.declared.fault.CertFault.TheVariants.{Header, TaskName, Shape}
+use Rattle.mask_certificate.specs.declared.fault.CertFault.TheVariants.{TaskName, Shape}
 use Rattle.mask_certificate.specs.declared.fault.Spelling.{Spelling}
 use Rattle.mask_certificate.specs.declared.fault.Spelling.TheVariants.{Narrow, Wide}
 use Rattle.mask_certificate.specs.declared.certificate.ListFault.{ListFault}
 use Rattle.mask_certificate.specs.Lists.{first_fault, fault_in, Rises, IsCertificate}
 use Rattle.mask_certificate.specs.CertificateText.{hexadecimal, entry_text, task_text, tasks_text, cert_text, mask_digits, spelled}
-use Rattle.mask_certificate.specs.CertificateReading.{◌>>=◌, is_newline, is_space, is_index, index_in, is_mask_digit, is_mask, mask_in, both, entry_in, name_in, Judged, entry_line, task_line, judged, judged_by, lines_of, lines_in, entries_in, behind_task_line, lists_at, rising, cert_parse, AreNames}
+use Rattle.mask_certificate.specs.CertificateReading.{◌>>=◌, is_newline, is_space, is_index, index_in, is_mask_digit, is_mask, mask_in, both, entry_in, name_in, Judged, entry_line, task_line, judged, judged_by, lines_in, entries_in, lists_at, rising, cert_parse, AreNames}
 use Rattle.mask_certificate.proofs.LineLemmas.{lines_more}
 use Rattle.mask_certificate.proofs.NameLemmas.{judged_named}
 use Rattle.mask_certificate.proofs.Rising.{option_or_none, rises_alone}

@@ -1,13 +1,13 @@
 -- A loop over digits, which keeps the number so far and stops at a byte that is no digit.
-use Rattle.std.proofs.Common.{◌≡◌, ℕ, zero, suc, ◌+◌, ◌-◌, ◌*◌, ◌^◌, ◌<◌, ◌≤◌, Bool, true, false, cond, not, ◌&&◌, eqb, ltb, leb, List, [], ◌∷◌, length, get_or, drop, Option, Some, None, refl, sym, ◌∙◌, ap, arith, ⊎_elim, lit<}
+use Rattle.std.proofs.Common.{◌≡◌, ℕ, ◌+◌, ◌*◌, ◌^◌, ◌<◌, ◌≤◌, Bool, true, false, cond, ◌&&◌, eqb, ltb, leb, List, [], ◌∷◌, length, get_or, drop, Option, Some, None, refl, sym, ◌∙◌, ap, arith, ⊎_elim, lit<}
 use Rattle.std.specs.Char.{is_ascii_digit, digit_value}
 use Rattle.std.specs.List.{list_all}
 use Rattle.std.specs.Str.Parse.{digits_value, digits_value_after}
-use Rattle.std.proofs.lemmas.Bool.{agree_below, agree_below_at, eqb-true, cond-true, cond-false, le-leb, lt-leb, lt-ltb, le-ltb, eq-eqb, ne_eqb, and_left, and_right, and_from, not_from_false, cases_lt, leb-true, ltb-true, true_from_ne_false, false_from_ne_true, true≢false}
+use Rattle.std.proofs.lemmas.Bool.{agree_below_at, eqb-true, cond-true, cond-false, le-leb, lt-ltb, le-ltb, eq-eqb, ne_eqb, and_left, and_right, and_from, not_from_false, cases_lt, leb-true, ltb-true, true_from_ne_false, false_from_ne_true, true≢false}
 use Rattle.std.proofs.lemmas.List.{at_drop_more, at_drop_all}
-use Rattle.std.proofs.Math.Nat.{pow-le-pow_right, mul-le-mul}
+use Rattle.std.proofs.Math.Nat.{pow-le-pow_right}
 use Rattle.std.proofs.lemmas.Option.{cond_some}
-use Rattle.std.specs.Prelude.{slice_index, IsSome, IfSome, ◌↔◌}
+use Rattle.std.specs.Prelude.{IsSome, IfSome, ◌↔◌}
 use Rattle.mask_certificate.specs.declared.fault.Spelling.{Spelling}
 use Rattle.mask_certificate.specs.CertificateText.{mask_digits}
 use Rattle.mask_certificate.specs.declared.reading.TheConstants.{MASK_DIGITS}

@@ -1,12 +1,12 @@
 -- Where a text is cut: at the first space of a line, and at the first LF of a text, which ends its first line.
-use Rattle.std.proofs.Common.{◌≡◌, ℕ, zero, suc, ◌+◌, ◌-◌, ◌<◌, ◌≤◌, Bool, true, false, cond, not, ◌&&◌, eqb, ltb, List, [], ◌∷◌, ◌++◌, length, get_or, take, drop, Option, Some, None, refl, sym, ◌∙◌, ap, subst, arith}
-use Rattle.std.specs.List.{slice_split, onto_first, before_first, after_first, position, position_or_len, prefix_len}
-use Rattle.std.proofs.lemmas.Bool.{ltb-true, ltb-false, cond-true, cond-false, true≢false}
-use Rattle.std.proofs.lemmas.List.{take_rest, drop_all, append_assoc, drop-drop, length_push}
+use Rattle.std.proofs.Common.{◌≡◌, ℕ, ◌+◌, ◌-◌, ◌<◌, ◌≤◌, Bool, true, false, cond, not, eqb, ltb, List, [], ◌∷◌, ◌++◌, length, take, drop, Option, Some, None, refl, sym, ◌∙◌, ap, subst, arith}
+use Rattle.std.specs.List.{slice_split, onto_first, before_first, after_first, position, position_or_len}
+use Rattle.std.proofs.lemmas.Bool.{ltb-true, ltb-false}
+use Rattle.std.proofs.lemmas.List.{take_rest, append_assoc, drop-drop, length_push}
 use Rattle.std.proofs.lemmas.List.Splits.{slice_split_first}
 use Rattle.std.proofs.lemmas.Option.{cond_some}
 use Rattle.mask_certificate.specs.declared.fault.Spelling.{Spelling}
-use Rattle.mask_certificate.specs.CertificateReading.{is_newline, is_space, Judged, entry_line, task_line, no_line, judged, judged_by, entry_in, name_in, index_in, mask_in, both, lines_of, lines_in, entries_in}
+use Rattle.mask_certificate.specs.CertificateReading.{is_newline, Judged, entry_line, no_line, judged, judged_by, entry_in, name_in, lines_of, lines_in, entries_in}
 
 module _ (p : ℕ → Bool) where
   -- the first place that passes
@@ -27,11 +27,6 @@ module _ (p : ℕ → Bool) where
 
   pub after_at : (xs : List ℕ) (k : ℕ) → position p xs ≡ Some k → after_first p xs ≡ take (length xs - (k + 1)) (drop (k + 1) xs)
   after_at xs k e = ap (λ n. drop (n + 1) xs) (found_at xs k e).0 ∙ sym (take_rest xs (k + 1))
-
-  pub after_nowhere : (xs : List ℕ) → position p xs ≡ None → after_first p xs ≡ []
-  after_nowhere xs e =
-      let past = found_nowhere xs e in
-      drop_all (position_or_len p xs + 1) xs (omega arith)
 
   -- a text is cut at the first place that passes
   pub split_at : (xs : List ℕ) (k : ℕ) → position p xs ≡ Some k → slice_split p xs ≡ take k xs ∷ slice_split p (take (length xs - (k + 1)) (drop (k + 1) xs))
@@ -97,31 +92,6 @@ other_entries (Some name) lines = refl
 pub no_entries_other : (spelling : Spelling) (text line rest : List ℕ) → slice_split is_newline text ≡ line ∷ slice_split is_newline rest → entry_in spelling line ≡ None → entries_in (lines_in spelling text) ≡ []
 no_entries_other spelling text line rest e other =
     ap entries_in (lines_more spelling text line rest e) ∙ ap (λ o. entries_in (judged_by o (name_in line) ∷ lines_in spelling rest)) other ∙ other_entries (name_in line) (lines_in spelling rest)
-
--- a first line that is an entry
-pub entry_more : (spelling : Spelling) (text line rest : List ℕ) (entry : ℕ × ℕ) → slice_split is_newline text ≡ line ∷ slice_split is_newline rest → entry_in spelling line ≡ Some entry
-    → lines_in spelling text ≡ entry_line entry ∷ lines_in spelling rest
-entry_more spelling text line rest entry e is = lines_more spelling text line rest e ∙ ap (λ o. judged_by o (name_in line) ∷ lines_in spelling rest) is
-
--- ---- the parts of an entry
-
-both_none : (index : Option ℕ) → both index None ≡ None
-both_none None = refl
-both_none (Some n) = refl
-
-pub entry_no_space : (spelling : Spelling) (line : List ℕ) → position is_space line ≡ None → mask_in spelling [] ≡ None → None ≡ entry_in spelling line
-entry_no_space spelling line e short = sym (ap (λ (q : List ℕ). both (index_in (before_first is_space line)) (mask_in spelling q)) (after_nowhere is_space line e)
-    ∙ ap (both (index_in (before_first is_space line))) short ∙ both_none _)
-
-pub entry_parts : (spelling : Spelling) (line : List ℕ) (k : ℕ) (index mask : Option ℕ) → position is_space line ≡ Some k → index ≡ index_in (take k line) → mask ≡ mask_in spelling (take (length line - (k + 1)) (drop (k + 1) line))
-    → entry_in spelling line ≡ both index mask
-entry_parts spelling line k index mask e i m =
-    ap (λ (q : List ℕ). both (index_in q) (mask_in spelling (after_first is_space line))) (before_at is_space line k e)
-    ∙ ap (λ (q : List ℕ). both (index_in (take k line)) (mask_in spelling q)) (after_at is_space line k e)
-    ∙ ap (λ o. both o (mask_in spelling (take (length line - (k + 1)) (drop (k + 1) line)))) (sym i) ∙ ap (both index) (sym m)
-
-pub entry_no_index : (spelling : Spelling) (line : List ℕ) (k : ℕ) → position is_space line ≡ Some k → index_in (take k line) ≡ None → None ≡ entry_in spelling line
-entry_no_index spelling line k e none = sym (entry_parts spelling line k None _ e (sym none) refl)
 
 -- ---- the entries of a list, one after another
 

@@ -1,11 +1,8 @@
 -- Reading lists one after the other, as a loop over the tasks does.
-use Rattle.std.proofs.Common.{◌≡◌, ℕ, zero, suc, ◌+◌, ◌-◌, ◌<◌, ◌≤◌, Bool, true, false, cond, ◌&&◌, eqb, List, [], ◌∷◌, ◌++◌, map, length, get_or, take, drop, Option, Some, None, Result, Ok, Err, refl, sym, ◌∙◌, ap, subst, arith, append_assoc}
-use Rattle.std.proofs.lemmas.Bool.{cond-false, cond-true, eqb-true, and_parts, and_left, and_right, cases_Bool}
-use Rattle.std.proofs.lemmas.List.{append-nil, at_drop_more, at_drop_all}
+use Rattle.std.proofs.Common.{◌≡◌, ℕ, ◌+◌, List, [], ◌∷◌, ◌++◌, length, drop, Result, Ok, Err, refl, sym, ◌∙◌, ap, arith, append_assoc}
 use Rattle.mask_certificate.specs.declared.fault.CertFault.{CertFault}
 use Rattle.mask_certificate.specs.declared.fault.CertFault.TheVariants.{Header, Line, TaskName, MissingTask, Shape, OutOfMemory}
-use Rattle.mask_certificate.specs.declared.fault.Spelling.{Spelling}
-use Rattle.mask_certificate.specs.CertificateReading.{◌>>=◌, Fails, Judged, entries_in, behind_task_line, at_end, lists_at}
+use Rattle.mask_certificate.specs.CertificateReading.{◌>>=◌, Fails, Judged, entries_in, behind_task_line, lists_at}
 
 -- what was read before, and what is still read
 abbrev pub with_front : List (List (ℕ × ℕ)) → Result (List (List (ℕ × ℕ))) CertFault → Result (List (List (ℕ × ℕ))) CertFault

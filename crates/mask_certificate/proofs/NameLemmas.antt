@@ -1,18 +1,17 @@
 -- A `task` line is no entry, since it begins with no digit.
-use Rattle.std.proofs.Common.{◌≡◌, ℕ, zero, suc, ◌+◌, ◌<◌, ◌≤◌, Bool, true, false, cond, not, ◌&&◌, eqb, leb, ltb, List, [], ◌∷◌, length, get_or, take, drop, Option, Some, None, Result, Ok, Err, refl, sym, ◌∙◌, ap, subst, arith, nat_eq}
+use Rattle.std.proofs.Common.{◌≡◌, ℕ, ◌<◌, Bool, true, false, cond, not, ◌&&◌, eqb, leb, ltb, List, [], ◌∷◌, length, get_or, take, drop, Option, Some, None, Ok, Err, refl, sym, ◌∙◌, ap, subst, arith, nat_eq}
 use Rattle.std.specs.Prelude.{codes}
 use Rattle.std.specs.Char.{is_ascii_digit}
 use Rattle.std.specs.List.{list_all, before_first, after_first, position_or_len, slice_split, starts_with}
 use Rattle.std.specs.Str.{bytes_eq}
 use Rattle.std.specs.Str.Parse.{digits_value}
-use Rattle.std.proofs.lemmas.Bool.{and_parts, and_left, and_right, cond-false, cond-true, eqb-true}
-use Rattle.std.proofs.lemmas.List.{get_or-take, length-take, nil_from_length}
+use Rattle.std.proofs.lemmas.Bool.{and_parts, and_left, cond-false, cond-true, eqb-true}
+use Rattle.std.proofs.lemmas.List.{get_or-take, length-take}
 use Rattle.std.proofs.lemmas.Option.{cond_some}
 use Rattle.task_descriptor.specs.Names.{is_name}
-use Rattle.mask_certificate.specs.declared.fault.CertFault.{CertFault}
-use Rattle.mask_certificate.specs.declared.fault.CertFault.TheVariants.{Line, TaskName, MissingTask}
+use Rattle.mask_certificate.specs.declared.fault.CertFault.TheVariants.{Line, TaskName}
 use Rattle.mask_certificate.specs.declared.fault.Spelling.{Spelling}
-use Rattle.mask_certificate.specs.CertificateReading.{is_newline, is_space, is_index, index_in, mask_in, both, entry_in, name_in, Judged, entry_line, task_line, no_line, judged, judged_by, lines_in, opens, misplaced, behind_task_line, at_end}
+use Rattle.mask_certificate.specs.CertificateReading.{is_newline, is_space, is_index, mask_in, both, entry_in, name_in, task_line, judged, judged_by, lines_in, opens, misplaced, behind_task_line, at_end}
 use Rattle.mask_certificate.proofs.LineLemmas.{lines_more}
 
 fourth_fails : (a b c d e : Bool) → d ≡ false → (a && (b && (c && (d && e)))) ≡ false

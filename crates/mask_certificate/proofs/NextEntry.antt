@@ -1,16 +1,16 @@
 -- An entry at the front of a text is found by its parts: its space, the LF at a known distance, its index
 -- and its mask. Where one of them is missing, the first line is no entry.
-use Rattle.std.proofs.Common.{◌≡◌, ℕ, suc, ◌+◌, ◌-◌, ◌^◌, ◌<◌, ◌≤◌, Bool, true, false, cond, eqb, ltb, List, [], ◌∷◌, ◌++◌, length, get_or, take, drop, Option, Some, None, refl, sym, ◌∙◌, ap, subst, arith, append_assoc, add-one, drop-cons}
+use Rattle.std.proofs.Common.{◌≡◌, ℕ, suc, ◌+◌, ◌-◌, ◌<◌, Bool, true, ltb, List, [], ◌∷◌, ◌++◌, length, get_or, take, drop, Option, Some, None, refl, sym, ◌∙◌, ap, subst, arith, append_assoc, add-one, drop-cons}
 use Rattle.std.specs.Fmt.{decimal}
-use Rattle.std.specs.List.{position, position_or_len, before_first, after_first, slice_split}
+use Rattle.std.specs.List.{position, position_or_len, before_first, after_first}
 use Rattle.std.proofs.lemmas.Bool.{eqb-true, ltb-true, lt-ltb, cond-true}
 use Rattle.std.proofs.lemmas.List.{take_at, drop_at, drop-drop, take-append-drop, length-append, get_or-drop, take_rest}
 use Rattle.std.proofs.lemmas.List.Sums.{split_at_first, passes_at_first}
 use Rattle.std.proofs.lemmas.Option.{cond_some}
 use Rattle.mask_certificate.specs.declared.fault.Spelling.{Spelling}
 use Rattle.mask_certificate.specs.CertificateText.{hexadecimal, entry_text, mask_digits}
-use Rattle.mask_certificate.specs.CertificateReading.{is_newline, is_space, index_in, mask_in, entry_in, Judged, entry_line, lines_in, entries_in}
-use Rattle.mask_certificate.proofs.LineLemmas.{before_at, split_at, split_nowhere, no_entries_last, no_entries_other}
+use Rattle.mask_certificate.specs.CertificateReading.{is_newline, is_space, index_in, mask_in, entry_in, entry_line, lines_in, entries_in}
+use Rattle.mask_certificate.proofs.LineLemmas.{split_at, split_nowhere, no_entries_last, no_entries_other}
 use Rattle.mask_certificate.proofs.AgainLemmas.{Fits, index_read, mask_read, hexadecimal_read, entry_read, cut_at}
 use Rattle.mask_certificate.proofs.SpelledLemmas.{index_spelled, mask_spelled, entry_fits}
 

@@ -1,12 +1,11 @@
 -- What is read is spelled: each line is put together again from what it was judged to be, and the lines
 -- from the lists that were read.
-use Rattle.std.proofs.Common.{◌≡◌, ℕ, zero, suc, ◌+◌, ◌-◌, ◌*◌, ◌/◌, ◌%◌, ◌^◌, ◌<◌, ◌≤◌, ◌⊎◌, Bool, true, false, cond, not, ◌&&◌, ◌||◌, eqb, ltb, leb, List, [], ◌∷◌, ◌++◌, map, length, get_or, take, drop, Option, Some, None, Result, Ok, Err, refl, sym, ◌∙◌, ap, subst, arith, append_assoc, lit<, inl, inr, nat_eq}
+use Rattle.std.proofs.Common.{◌≡◌, ℕ, zero, suc, ◌+◌, ◌-◌, ◌*◌, ◌/◌, ◌%◌, ◌^◌, ◌<◌, ◌≤◌, Bool, true, false, cond, not, ◌&&◌, ◌||◌, eqb, ltb, leb, List, [], ◌∷◌, ◌++◌, map, length, get_or, take, drop, Option, Some, None, Result, Ok, Err, refl, sym, ◌∙◌, ap, subst, arith, append_assoc, lit<, inl, inr, nat_eq}
 use Rattle.std.specs.Prelude.{codes, is_none}
 use Rattle.std.specs.Char.{is_ascii_digit, digit_value, digit_char}
 use Rattle.std.specs.Fmt.{decimal}
 use Rattle.std.specs.Int.{is_in_range}
 use Rattle.std.specs.List.{list_all, flat_map, All, AllByRecursion, slice_split, before_first, after_first, position_or_len, join_with_byte, starts_with}
-use Rattle.std.specs.Str.{bytes_eq}
 use Rattle.std.specs.Str.Parse.{AllDigits, digits_value}
 use Rattle.std.proofs.lemmas.Bool.{agree_below_at, and_from, and_parts, or_cases, leb-true, ltb-true, eqb-true, le-ltb, lt-ltb, eq-eqb, cond-true, cond-false, cases_lt}
 use Rattle.std.proofs.lemmas.Fmt.{decimal-digits_value}
@@ -27,8 +26,8 @@ use Rattle.mask_certificate.specs.declared.fault.Spelling.{Spelling}
 use Rattle.mask_certificate.specs.declared.fault.Spelling.TheVariants.{Narrow, Wide}
 use Rattle.mask_certificate.specs.Lists.{first_fault}
 use Rattle.mask_certificate.proofs.AgainLemmas.{Fits}
-use Rattle.mask_certificate.specs.CertificateText.{hexadecimal, entry_text, task_text, tasks_text, mask_digits, first_line, spelled, Spells}
-use Rattle.mask_certificate.specs.CertificateReading.{◌>>=◌, is_newline, is_space, is_index, index_in, is_mask_digit, is_mask, mask_in, both, entry_in, name_in, Judged, entry_line, task_line, no_line, judged, judged_by, lines_of, lines_in, entries_in, opens, misplaced, behind_task_line, lists_at, rising, spelling_of, parse_by, cert_parse}
+use Rattle.mask_certificate.specs.CertificateText.{hexadecimal, entry_text, tasks_text, mask_digits, first_line, Spells}
+use Rattle.mask_certificate.specs.CertificateReading.{◌>>=◌, is_newline, is_space, is_index, index_in, is_mask_digit, is_mask, mask_in, both, entry_in, name_in, Judged, entry_line, task_line, no_line, judged, judged_by, lines_of, lines_in, entries_in, opens, misplaced, lists_at, rising, spelling_of, parse_by, cert_parse}
 
 -- ---- conjunctions
 

@@ -1,7 +1,7 @@
 -- Reading the text of a certificate: the certificate whose text it is in one of the two spellings, or
 -- the first fault. A fault of the first line comes first, then the first line with a fault of its own,
 -- then a task without a line, then lists that do not rise.
-use Rattle.std.specs.Prelude.{◌≡◌, ℕ, ◌+◌, ◌^◌, Bool, true, false, ◌&&◌, ◌||◌, not, List, [], ◌∷◌, ◌++◌, length, map, drop, Option, None, Some, is_none, Result, Ok, Err, nat_eq, nat_lt, nat_le, ◌==◌, if◌then◌else◌, slice_index, codes}
+use Rattle.std.specs.Prelude.{◌≡◌, ℕ, ◌+◌, ◌^◌, Bool, true, false, ◌&&◌, ◌||◌, not, List, [], ◌∷◌, length, map, drop, Option, None, Some, is_none, Result, Ok, Err, nat_eq, nat_lt, nat_le, ◌==◌, if◌then◌else◌, slice_index, codes}
 use Rattle.std.specs.Char.{is_ascii_digit, digit_value}
 use Rattle.std.specs.Int.{is_in_range}
 use Rattle.std.specs.List.{list_all, All, before_first, after_first, slice_split, starts_with}

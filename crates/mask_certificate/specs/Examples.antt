@@ -1,5 +1,5 @@
 -- Worked examples, computed by the checker.
-use Rattle.std.specs.Prelude.{◌≡◌, ℕ, List, [], ◌∷◌, ◌++◌, Result, Ok, Err, codes}
+use Rattle.std.specs.Prelude.{◌≡◌, ℕ, List, [], ◌∷◌, ◌++◌, Ok, Err, codes}
 use Rattle.std.proofs.Common.{refl}
 use Rattle.std.specs.Fmt.{digits}
 use Rattle.mask_certificate.specs.declared.fault.CertFault.TheVariants.{Header, Line, TaskName, MissingTask, Shape}

@@ -1,5 +1,5 @@
 -- One entry more is passed.
-use Rattle.std.proofs.Common.{◌<◌, ◌^◌, ◌≡◌, ℕ, sym, ap, ◌∙◌, subst, arith, refl}
+use Rattle.std.proofs.Common.{◌<◌, ◌^◌, ℕ, subst, arith}
 use Rattle.std.specs.List.{All}
 use Rattle.std.proofs.lemmas.List.{take_all}
 use Rattle.mask_certificate.proofs.Rising.{fault_more, masks_more}

@@ -1,5 +1,5 @@
 -- Slices are compared entry by entry.
-use Rattle.std.proofs.Common.{◌≡◌, ℕ, Bool, true, ◌&&◌, eqb, ap, Decides}
+use Rattle.std.proofs.Common.{◌≡◌, ℕ, ◌&&◌, eqb, ap, Decides}
 use Rattle.std.proofs.lemmas.Bool.{and_parts, and_from, eqb-true, eq-eqb}
 use Rattle.std.proofs.lemmas.Slice.Eq.{slice_eq-Decides}
 use Rattle.mask_certificate.proofs.certificate.same_entries.Goals as goal

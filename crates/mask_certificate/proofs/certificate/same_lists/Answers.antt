@@ -1,7 +1,6 @@
 -- Lists that differ at one place differ.
-use Rattle.std.proofs.Common.{◌≡◌, ◌<◌, true, false, not, [], ◌∙◌, sym, ap, arith, length, get_or}
+use Rattle.std.proofs.Common.{◌≡◌, ◌<◌, true, [], ◌∙◌, sym, ap, arith, length, get_or}
 use Rattle.std.proofs.lemmas.List.{get_or-map}
-use Rattle.mask_certificate.specs.Lists.{entries_of}
 use Rattle.mask_certificate.proofs.certificate.same_lists.Goals as goal
 
 pub returns-then-not-same_entries : goal.returns-then-not-same_entries

@@ -1,5 +1,5 @@
 -- What the first line is, by its name.
-use Rattle.std.proofs.Common.{◌≡◌, Bool, true, false, not, List, ℕ, sym, ◌∙◌, ap}
+use Rattle.std.proofs.Common.{◌≡◌, true, false, sym, ◌∙◌, ap}
 use Rattle.std.specs.Str.{bytes_eq}
 use Rattle.std.proofs.lemmas.Bool.{not-true, not-false}
 use Rattle.mask_certificate.proofs.NameLemmas.{behind_right, behind_other, behind_none}

@@ -1,5 +1,5 @@
 -- One entry more stands in the list, and one line less is left.
-use Rattle.std.proofs.Common.{ap, subst, length, ◌++◌, ◌∷◌, [], ◌≡◌, arith}
+use Rattle.std.proofs.Common.{arith}
 use Rattle.std.proofs.lemmas.List.{length_push}
 use Rattle.mask_certificate.specs.CertificateReading.{lines_in, entries_in}
 use Rattle.mask_certificate.proofs.LineLemmas.{entries_push, left_push}

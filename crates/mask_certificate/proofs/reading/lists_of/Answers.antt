@@ -1,5 +1,5 @@
 -- One list more stands before what is left.
-use Rattle.std.proofs.Common.{◌≡◌, ℕ, ◌+◌, List, ◌∷◌, ◌++◌, [], length, get_or, drop, ap, sym, ◌∙◌, subst, arith, vec_len}
+use Rattle.std.proofs.Common.{◌≡◌, ℕ, ◌+◌, List, ◌∷◌, length, drop, ap, sym, ◌∙◌, arith}
 use Rattle.std.proofs.lemmas.List.{at_drop_more, map_push}
 use Rattle.mask_certificate.specs.Lists.{entries_of}
 use Rattle.mask_certificate.specs.CertificateReading.{lines_in, lists_at, names_in}

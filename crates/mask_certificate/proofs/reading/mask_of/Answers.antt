@@ -1,5 +1,5 @@
 -- The loop's number is the mask, where it has no bit above 33.
-use Rattle.std.proofs.Common.{◌≡◌, ℕ, ◌<◌, ◌^◌, length, get_or, cond, ltb, Option, Some, None, sym, ◌∙◌, arith}
+use Rattle.std.proofs.Common.{◌≡◌, ◌<◌, get_or, Some, sym, ◌∙◌, arith}
 use Rattle.mask_certificate.specs.CertificateReading.{is_mask_digit, mask_digit}
 use Rattle.mask_certificate.proofs.Digits.{number_after, digit_all, digit_small, mask_fits, mask_done, from_bits_is}
 use Rattle.mask_certificate.proofs.reading.mask_of.Goals as goal

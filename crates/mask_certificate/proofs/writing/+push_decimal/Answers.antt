@@ -1,5 +1,5 @@
 -- The last digit stands behind those of the tens.
-use Rattle.std.proofs.Common.{◌≡◌, ◌∙◌, ap, arith, refl}
+use Rattle.std.proofs.Common.{◌∙◌, ap, arith, refl}
 use Rattle.mask_certificate.proofs.WriteLemmas.{decimal_more, decimal_one}
 use Rattle.mask_certificate.proofs.writing.+push_decimal.Goals as goal
 use Rattle.mask_certificate.proofs.writing.+push_decimal.Goals.{then-number-ge10+in_ok-push_decimal, else-number-ge10}

@@ -1,5 +1,5 @@
 -- The four pieces of an entry, joined.
-use Rattle.std.proofs.Common.{◌≡◌, ℕ, List, [], ◌∷◌, ◌++◌, ap, ◌∙◌}
+use Rattle.std.proofs.Common.{ℕ, List, [], ◌∷◌, ◌++◌, ap, ◌∙◌}
 use Rattle.std.specs.Fmt.{decimal}
 use Rattle.mask_certificate.specs.CertificateText.{hexadecimal}
 use Rattle.mask_certificate.proofs.WriteLemmas.{entry_joined}

@@ -1,9 +1,7 @@
 -- The entries written so far stand behind the `task` line.
-use Rattle.std.proofs.Common.{◌≡◌, ◌∷◌, ◌++◌, take}
-use Rattle.std.specs.Prelude.{codes}
-use Rattle.std.specs.List.{flat_map}
+use Rattle.std.proofs.Common.{◌≡◌, ◌++◌, take}
 use Rattle.mask_certificate.specs.declared.fault.Spelling.TheVariants.{Wide}
-use Rattle.mask_certificate.specs.CertificateText.{entry_text, task_text}
+use Rattle.mask_certificate.specs.CertificateText.{task_text}
 use Rattle.mask_certificate.proofs.writing.push_task.Given as goal
 
 abbrev pub invariant-loop-entry : goal.invariant-loop-entry

@@ -1,8 +1,8 @@
 -- The closure gives an entry's index, and the list rises.
-use Rattle.std.proofs.Common.{◌≡◌, ℕ, get_or, sym, ◌∙◌, ap, rules, Some, Ok, Err}
+use Rattle.std.proofs.Common.{ℕ, sym, ◌∙◌, ap, rules, Some, Ok, Err}
 use Rattle.std.proofs.lemmas.List.{get_or_default}
 use Rattle.std.proofs.lemmas.List.Sorted.{answers_always}
-use Rattle.mask_certificate.specs.Lists.{list_of, mask_at}
+use Rattle.mask_certificate.specs.Lists.{mask_at}
 use Rattle.mask_certificate.proofs.Rising.{searched}
 use Rattle.mask_certificate.proofs.certificate.Cert.mask.Goals as goal
 

@@ -1,5 +1,5 @@
 -- The position at the index is that of the index's entry, if there is one.
-use Rattle.std.proofs.Common.{◌≡◌, ℕ, ◌<◌, ◌≤◌, List, Some, sym, ◌∙◌, ap, arith, get_or, length}
+use Rattle.std.proofs.Common.{ℕ, ◌<◌, List, Some, sym, ◌∙◌, ap, arith, length}
 use Rattle.mask_certificate.specs.Lists.{mask_at}
 use Rattle.mask_certificate.proofs.Rising.{mask_beyond, mask_there, mask_absent}
 use Rattle.mask_certificate.proofs.masks.Masks.at.Goals as goal
