@@ -1,10 +1,9 @@
 -- Acceptance is soundness. Where every place of a task is right, masks only shrink along inner edges:
 -- so what is written on the way is in the entry's mask, and what was sent is in no later mask.
-use Rattle.std.proofs.Common.{◌≡◌, ℕ, ◌<◌, ◌≤◌, ◌⊎◌, Bool, true, false, not, ◌&&◌, ◌||◌, nat_eq, nat_lt, nat_le, if◌then◌else◌, Option, Some, None, List, [], ◌∷◌, length, slice_get, refl, sym, ◌∙◌, ap, subst, inl, inr, arith, suc, zero}
+use Rattle.std.proofs.Common.{◌≡◌, ℕ, ◌<◌, Bool, true, false, not, ◌&&◌, nat_eq, nat_lt, nat_le, if◌then◌else◌, Option, Some, None, List, [], ◌∷◌, length, slice_get, refl, sym, ◌∙◌, ap, subst, inl, inr, arith, suc, zero}
 use Rattle.std.specs.Prelude.{is_none}
 use Rattle.std.specs.List.{list_any}
-use Rattle.std.proofs.lemmas.Bool.{or_cases, or_left, or_right, and_from, lt-ltb, ltb-true, leb-false, eqb-true, eq-eqb, false_from_ne_true, not-false, or_parts}
-use Rattle.std.proofs.lemmas.Option.{slice_get_within}
+use Rattle.std.proofs.lemmas.Bool.{or_cases, or_left, or_right, and_from, lt-ltb, leb-false, eqb-true, eq-eqb, false_from_ne_true, not-false, or_parts}
 use Rattle.mips_plain.specs.Words.{has}
 use Rattle.mips_plain.specs.Instruction.{dests, released}
 use Rattle.task_descriptor.specs.Listing.{Listing, IsWellFormed}
@@ -12,12 +11,12 @@ use Rattle.task_descriptor.specs.declared.descriptor.Marked.{Marked}
 use Rattle.task_descriptor.specs.declared.descriptor.Descriptor.{Descriptor}
 use Rattle.task_descriptor.specs.declared.descriptor.Stop.{Stop}
 use Rattle.task_descriptor.specs.declared.descriptor.Stop.TheVariants as stop
-use Rattle.task_graph.specs.Edges.{Edge, Path, stay, onward, MayWrite, end_of, ends_of, sends, is_indirect}
+use Rattle.task_graph.specs.Edges.{Edge, Path, stay, onward, end_of, ends_of, sends, is_indirect}
 use Rattle.task_graph.specs.Soundness.{is_target, is_entry, SoundTask, Sound}
 use Rattle.task_graph.proofs.EdgeLemmas.{edge_to}
 use Rattle.task_graph.proofs.WellFormed.{entry_inside}
 use Rattle.mask_certificate.specs.Lists.{mask_at, list_of}
-use Rattle.mark_checker.specs.Rules.{Conditions, conditions, in_mask, next_has, stops_always, masked, places}
+use Rattle.mark_checker.specs.Rules.{conditions, in_mask, next_has, stops_always, masked, places}
 use Rattle.mark_checker.specs.Places.{IsClean, IsRight, AllRight, PlaceSays}
 use Rattle.mark_checker.specs.CheckerSteps.{holds_at}
 use Rattle.mark_checker.proofs.Ahead.{any_of, some_holds}

@@ -1,21 +1,20 @@
 -- The places of a task one after another: what is left of them after each entry of the list.
-use Rattle.std.proofs.Common.{◌≡◌, ℕ, ◌+◌, ◌<◌, ◌≤◌, Bool, true, false, ◌&&◌, nat_eq, nat_lt, cond, if◌then◌else◌, Option, Some, None, List, [], ◌∷◌, ◌++◌, length, get_or, drop, slice_get, refl, sym, ◌∙◌, ap, subst, arith, suc, zero, inl, inr, append_assoc, append-nil, add-one, drop-cons}
+use Rattle.std.proofs.Common.{◌≡◌, ℕ, ◌+◌, ◌<◌, ◌≤◌, Bool, true, false, ◌&&◌, nat_eq, nat_lt, if◌then◌else◌, Option, Some, None, List, [], ◌∷◌, ◌++◌, length, get_or, drop, slice_get, refl, sym, ◌∙◌, ap, subst, arith, suc, zero, inl, inr, append_assoc, append-nil, add-one, drop-cons}
 use Rattle.std.specs.Prelude.{map, filter}
 use Rattle.std.specs.List.{flat_map, range_with_len}
-use Rattle.std.proofs.lemmas.Bool.{eq-eqb, cases_eq, cases_lt}
+use Rattle.std.proofs.lemmas.Bool.{eq-eqb, cases_eq}
 use Rattle.std.proofs.lemmas.Option.{slice_get-get_or, slice_get_past, slice_get_within}
 use Rattle.task_descriptor.specs.Listing.{Listing, IsWellFormed}
 use Rattle.task_descriptor.specs.declared.descriptor.Marked.{Marked}
 use Rattle.task_descriptor.specs.declared.descriptor.Descriptor.{Descriptor}
-use Rattle.task_graph.proofs.WellFormed.{entry_inside}
 use Rattle.task_graph.proofs.Listed.{takes_one, takes_none}
-use Rattle.mask_certificate.specs.Lists.{mask_at, list_of}
+use Rattle.mask_certificate.specs.Lists.{list_of}
 use Rattle.mark_checker.specs.declared.finding.Rule.{Rule}
 use Rattle.mark_checker.specs.declared.finding.Finding.{Finding}
-use Rattle.mark_checker.specs.Rules.{Conditions, conditions, each, found, found_at, rules_at, masked, places, task_rules, rules, all_rules}
-use Rattle.mark_checker.specs.Places.{IsClean, IsRight, AllRight, IsAccepted}
-use Rattle.mark_checker.specs.CheckerSteps.{told, Same, begun_after, left_places}
-use Rattle.mark_checker.proofs.Findings.{NoneNamed, nothing_named, same_found, same_clean, clean_nothing, right_nothing, both_empty}
+use Rattle.mark_checker.specs.Rules.{conditions, each, found, found_at, rules_at, masked, places, task_rules, rules}
+use Rattle.mark_checker.specs.Places.{IsRight, AllRight, IsAccepted}
+use Rattle.mark_checker.specs.CheckerSteps.{begun_after, left_places}
+use Rattle.mark_checker.proofs.Findings.{NoneNamed, nothing_named, right_nothing, both_empty}
 use Rattle.mark_checker.proofs.Acceptance.{some_there, sound}
 
 -- an element that was read

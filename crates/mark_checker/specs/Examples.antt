@@ -1,5 +1,5 @@
 -- Worked examples of the rules, computed by the check.
-use Rattle.std.specs.Prelude.{◌≡◌, ℕ, List, [], ◌∷◌, pos, Some, None}
+use Rattle.std.specs.Prelude.{◌≡◌, ℕ, [], ◌∷◌, pos, Some, None}
 use Rattle.std.proofs.Common.{refl}
 use Rattle.mips_plain.specs.declared.instruction.ThreeKind.TheVariants.{Addu}
 use Rattle.mips_plain.specs.declared.instruction.ImmKind.TheVariants.{Addiu, Slti}

@@ -1,14 +1,11 @@
 -- What it means that a place is right, and what an accepted program and its certificate keep.
-use Rattle.std.specs.Prelude.{◌≡◌, ℕ, ◌<◌, nat_eq, nat_lt, if◌then◌else◌, length, Bool, true, false, List, [], ◌∷◌, ◌++◌, slice_get, Option, Some, None}
+use Rattle.std.specs.Prelude.{◌≡◌, ℕ, ◌<◌, length, true, false, List, [], ◌∷◌, slice_get, Option, Some}
 use Rattle.mips_plain.specs.Words.{has}
 use Rattle.task_descriptor.specs.Listing.{Listing}
 use Rattle.task_descriptor.specs.declared.descriptor.Marked.{Marked}
 use Rattle.task_descriptor.specs.declared.descriptor.Descriptor.{Descriptor}
 use Rattle.mask_certificate.specs.Lists.{mask_at, list_of}
-use Rattle.mark_checker.specs.declared.place.Faults.{Faults}
-use Rattle.mark_checker.specs.declared.finding.Rule.TheVariants.{EntryWithoutMask, NextWithoutMask, LacksDestination, LacksNext, ExceedsCreate, ForwardedInNext, ReleasedInNext, SentNotCreated, ExitNotListed, FallsOff, IndirectGoesOn, TargetNotEntry}
-use Rattle.mark_checker.specs.declared.finding.Finding.{Finding}
-use Rattle.mark_checker.specs.Rules.{Conditions, conditions, once, each, masked, places, all_rules}
+use Rattle.mark_checker.specs.Rules.{Conditions, conditions, places, all_rules}
 use Rattle.mips_plain.specs.Instruction.{dests}
 use Rattle.task_graph.specs.Edges.{Edge, Path, sends}
 use Rattle.task_graph.specs.Soundness.{Sound}

@@ -5,7 +5,7 @@
 -- what is sent (forwarded or released) is in no later mask, and that exits are listed. The marks are
 -- those of Sohi, Breach, Vijaykumar, "Multiscalar Processors", ISCA 1995, section 2.2; masks as
 -- a certificate, and the twelve rules, are this project's own.
-use Rattle.std.specs.Prelude.{◌≡◌, ℕ, Bool, true, false, not, ◌&&◌, if◌then◌else◌, nat_eq, nat_lt, nat_le, is_some, is_none, List, [], ◌∷◌, ◌++◌, length, map, filter, slice_get, Option, Some, None}
+use Rattle.std.specs.Prelude.{ℕ, Bool, true, false, not, ◌&&◌, if◌then◌else◌, nat_eq, nat_lt, nat_le, is_some, is_none, List, [], ◌∷◌, ◌++◌, length, map, filter, slice_get, Option, Some, None}
 use Rattle.std.specs.List.{list_any, flat_map, range_with_len}
 use Rattle.mips_plain.specs.Words.{has}
 use Rattle.mips_plain.specs.Instruction.{dests, released}

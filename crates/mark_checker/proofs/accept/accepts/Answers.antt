@@ -1,4 +1,4 @@
-use Rattle.std.proofs.Common.{◌≡◌, ◌<◌, ◌≤◌, ◌+◌, ℕ, Bool, Some, None, true, false, not, [], List, refl, sym, ◌∙◌, ap, subst, arith, length, slice_get, inl, inr, rules as all}
+use Rattle.std.proofs.Common.{◌≡◌, ◌<◌, ℕ, Some, true, List, refl, sym, ap, subst, arith, length, slice_get, inl, inr, rules as all}
 use Rattle.std.proofs.lemmas.Bool.{not-false, cases_lt}
 use Rattle.std.proofs.lemmas.Option.{slice_get_read}
 use Rattle.task_descriptor.specs.declared.descriptor.Descriptor.{Descriptor}

@@ -1,5 +1,5 @@
-use Rattle.std.proofs.Common.{◌≡◌, ◌<◌, ◌+◌, ℕ, Bool, Some, None, true, false, not, [], List, sym, ◌∙◌, ap, arith, length, rules}
-use Rattle.std.proofs.lemmas.Bool.{not-false, not-true}
+use Rattle.std.proofs.Common.{◌≡◌, Some, None, true, sym, ◌∙◌, ap, arith, rules}
+use Rattle.std.proofs.lemmas.Bool.{not-false}
 use Rattle.mark_checker.specs.CheckerSteps.{begun_after}
 use Rattle.mark_checker.proofs.PlaceLists.{right_step, nothing_step, nothing_passed, ends_begun}
 use Rattle.mark_checker.proofs.accept.is_list_right.Goals as goal

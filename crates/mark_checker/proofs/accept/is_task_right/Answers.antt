@@ -1,5 +1,5 @@
 -- The list is that of the task, and the entry is an instruction.
-use Rattle.std.proofs.Common.{◌≡◌, ℕ, List, [], true, sym, ◌∙◌, ap, subst}
+use Rattle.std.proofs.Common.{◌≡◌, ℕ, List, sym, ◌∙◌, ap, subst}
 use Rattle.std.specs.List.{flat_map}
 use Rattle.task_graph.proofs.WellFormed.{entry_inside}
 use Rattle.mask_certificate.specs.Lists.{list_of}

@@ -1,6 +1,3 @@
-use Rattle.std.proofs.Common.{◌≡◌, ◌++◌, List, ◌∙◌, ap}
-use Rattle.mark_checker.specs.declared.finding.Finding.{Finding}
-use Rattle.mark_checker.specs.Rules.{rules}
 use Rattle.mark_checker.proofs.PlaceLists.{one_task_more}
 use Rattle.mark_checker.proofs.check.verdict.Goals as goal
 

@@ -1,4 +1,4 @@
-use Rattle.std.proofs.Common.{◌≡◌, Some, Bool, ℕ, true, false, ◌||◌, ◌∙◌, ap, sym}
+use Rattle.std.proofs.Common.{◌≡◌, Bool, ℕ, ◌||◌, ◌∙◌, ap, sym}
 use Rattle.std.specs.Prelude.{is_none}
 use Rattle.mask_certificate.specs.Lists.{mask_at}
 use Rattle.mark_checker.specs.Rules.{in_mask}

@@ -1,4 +1,4 @@
-use Rattle.std.proofs.Common.{◌≡◌, ◌==◌, ◌∙◌, ap, nat_eq}
+use Rattle.std.proofs.Common.{◌==◌, ◌∙◌, ap, nat_eq}
 use Rattle.std.specs.Prelude.{is_some}
 use Rattle.task_descriptor.specs.declared.descriptor.Descriptor.{Descriptor}
 use Rattle.mark_checker.proofs.Ahead.{is_some_position, same_test, eq_turned}

@@ -1,4 +1,4 @@
-use Rattle.std.proofs.Common.{◌≡◌, true, false, not, ◌∙◌, ap, Bool}
+use Rattle.std.proofs.Common.{not, ◌∙◌, ap}
 use Rattle.mark_checker.specs.CheckerSteps.{told}
 use Rattle.mark_checker.proofs.Findings.{nothing_named, no_flag, no_register}
 use Rattle.mark_checker.proofs.place.is_clean.Goals as goal

@@ -1,4 +1,3 @@
-use Rattle.std.proofs.Common.{◌≡◌, ℕ, ◌<◌, ◌^◌, subst, sym, ◌∙◌}
 use Rattle.mark_checker.proofs.Findings.{empty_below}
 use Rattle.mark_checker.proofs.place.is_nobody.Goals as goal
 

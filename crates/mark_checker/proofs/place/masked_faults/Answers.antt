@@ -1,5 +1,5 @@
 -- The exits that the code has are those of the instruction's edges.
-use Rattle.std.proofs.Common.{◌≡◌, Bool, ℕ, not, ◌∙◌}
+use Rattle.std.proofs.Common.{Bool, ℕ, not, ◌∙◌}
 use Rattle.task_graph.specs.Soundness.{is_target}
 use Rattle.mark_checker.proofs.Ahead.{any_exit, any_beyond}
 use Rattle.mark_checker.proofs.place.masked_faults.Goals as goal
