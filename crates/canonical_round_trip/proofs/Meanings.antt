@@ -1,0 +1,294 @@
+-- The tokens of an instruction mean that instruction.
+use Rattle.std.proofs.Common.{◌≡◌, ℕ, ◌+◌, ◌<◌, ◌≤◌, ◌^◌, List, [], ◌∷◌, ◌++◌, Bool, true, false, cond, Option, Some, None, Result, Ok, Err, map, arith, refl, ap, sym, ◌∙◌}
+use Rattle.std.specs.Prelude.{◌==◌, ◌||◌, ℤ, pos, negsuc, find, filter, IfSome, codes, nat_lt, nat_le, reverse, length}
+use Rattle.std.specs.List.{AllByRecursion as All, list_all, list_any}
+use Rattle.std.proofs.lemmas.Bool.{lt-ltb, le-leb, cond-true, false≢true, and_parts}
+use Rattle.mips_plain.specs.declared.instruction.ThreeKind.{ThreeKind}
+use Rattle.mips_plain.specs.declared.instruction.ThreeKind.TheVariants.{Addu, Subu, And, Or, Xor, Nor, Slt, Sltu}
+use Rattle.mips_plain.specs.declared.instruction.ShiftByKind.{ShiftByKind}
+use Rattle.mips_plain.specs.declared.instruction.ShiftByKind.TheVariants.{Sll, Srl, Sra}
+use Rattle.mips_plain.specs.declared.instruction.ShiftVarKind.{ShiftVarKind}
+use Rattle.mips_plain.specs.declared.instruction.ShiftVarKind.TheVariants.{Sllv, Srlv, Srav}
+use Rattle.mips_plain.specs.declared.instruction.ImmKind.{ImmKind}
+use Rattle.mips_plain.specs.declared.instruction.ImmKind.TheVariants.{Addiu, Slti, Sltiu}
+use Rattle.mips_plain.specs.declared.instruction.LogicKind.{LogicKind}
+use Rattle.mips_plain.specs.declared.instruction.LogicKind.TheVariants.{Andi, Ori, Xori}
+use Rattle.mips_plain.specs.declared.instruction.MultKind.{MultKind}
+use Rattle.mips_plain.specs.declared.instruction.MultKind.TheVariants as mult
+use Rattle.mips_plain.specs.declared.instruction.MoveFromKind.{MoveFromKind}
+use Rattle.mips_plain.specs.declared.instruction.MoveFromKind.TheVariants.{Mfhi, Mflo}
+use Rattle.mips_plain.specs.declared.instruction.MoveToKind.{MoveToKind}
+use Rattle.mips_plain.specs.declared.instruction.MoveToKind.TheVariants.{Mthi, Mtlo}
+use Rattle.mips_plain.specs.declared.instruction.LoadKind.{LoadKind}
+use Rattle.mips_plain.specs.declared.instruction.LoadKind.TheVariants.{Lw, Lh, Lhu, Lb, Lbu}
+use Rattle.mips_plain.specs.declared.instruction.StoreKind.{StoreKind}
+use Rattle.mips_plain.specs.declared.instruction.StoreKind.TheVariants.{Sw, Sh, Sb}
+use Rattle.mips_plain.specs.declared.instruction.BranchTwoKind.{BranchTwoKind}
+use Rattle.mips_plain.specs.declared.instruction.BranchTwoKind.TheVariants.{Beq, Bne}
+use Rattle.mips_plain.specs.declared.instruction.BranchOneKind.{BranchOneKind}
+use Rattle.mips_plain.specs.declared.instruction.BranchOneKind.TheVariants.{Blez, Bgtz, Bltz, Bgez}
+use Rattle.mips_plain.specs.declared.instruction.Op.{Op}
+use Rattle.mips_plain.specs.declared.instruction.Op.TheVariants.{Three, ShiftBy, ShiftVar, Imm, Logic, Lui, Mult, MoveFrom, MoveTo, Load, Store, BranchTwo, BranchOne, Jump, JumpLink, JumpReg, JumpLinkReg, Out, Release, Halt}
+use Rattle.task_descriptor.specs.declared.descriptor.Descriptor.{Descriptor}
+use Rattle.task_descriptor.specs.declared.descriptor.Stop.{Stop}
+use Rattle.task_descriptor.specs.declared.descriptor.Stop.TheVariants as stop
+use Rattle.program_tokens.specs.declared.token.Token.{Token}
+use Rattle.program_tokens.specs.declared.token.Token.TheVariants as token
+use Rattle.program_tokens.specs.declared.token.Number.TheVariants.{Small}
+use Rattle.canonical_text.specs.CanonicalText.{members, three_name, shift_by_name, shift_var_name, imm_name, logic_name, mult_name, move_from_name, move_to_name, load_name, store_name, branch_two_name, branch_one_name}
+use Rattle.annotated_asm.specs.Steps.{◌>>=◌}
+use Rattle.annotated_asm.specs.Operands.{operands_of, operand_at, base_at, after_one, after_two}
+use Rattle.annotated_asm.specs.Mnemonics.{mnemonic_named, mnemonics}
+use Rattle.annotated_asm.specs.Rows.{three, shift_by, shift_var, imm, logic, lui, mult as mult_of, move_from, move_to, load, store, branch_two, branch_one, jump, jump_link, jump_reg, jump_link_reg, out, halt}
+use Rattle.annotated_asm.specs.Statements.{registers_at, release_of, unmarked, of_mnemonic, no_marks, instruction_of}
+use Rattle.annotated_asm.specs.declared.fault.LineFault.{LineFault}
+use Rattle.annotated_asm.specs.declared.mnemonic.Mnemonic.{Mnemonic}
+use Rattle.annotated_asm.specs.declared.mnemonic.Mnemonic.TheVariants as mnemonic
+use Rattle.annotated_asm.specs.declared.statement.Section.TheVariants as section
+use Rattle.annotated_asm.specs.declared.statement.Target.{Target}
+use Rattle.annotated_asm.specs.declared.statement.Target.TheVariants as target
+use Rattle.annotated_asm.specs.declared.statement.Instruction.{Instruction}
+use Rattle.annotated_asm.specs.declared.statement.Instruction.TheVariants as instruction
+use Rattle.annotated_asm.specs.declared.statement.Statement.{Statement}
+use Rattle.annotated_asm.specs.declared.statement.Statement.TheVariants as statement
+use Rattle.annotated_asm.specs.Ranges.{signed_half}
+use Rattle.annotated_asm.specs.Statements.{with_registers, registers_of}
+use Rattle.annotated_asm.specs.declared.fault.LineFault.TheVariants as fault
+use Rattle.std.proofs.lemmas.List.{append-nil}
+use Rattle.mips_plain.specs.Words.{has}
+use Rattle.task_descriptor.specs.Listing.{release_fits, registers}
+use Rattle.canonical_round_trip.proofs.SetTexts.{members_back, registers_back}
+use Rattle.canonical_round_trip.specs.Ranges.{IsHalf, IsInRange}
+use Rattle.canonical_round_trip.proofs.Operations.{comma_tokens, register_tokens, place_token_named, reg, num, base_tokens, op_tokens}
+
+-- a place by name where a task begins there
+abbrev pub target_named : Option Descriptor → ℕ → Target
+target_named (Some task) place = target.Label task.name
+target_named None place = target.Index place
+
+abbrev pub target_of : List Descriptor → ℕ → Target
+target_of tasks place = target_named (find (λ t. t.entry == place) tasks) place
+
+-- an instruction as its text has it
+abbrev pub written : List Descriptor → Op → Instruction
+written tasks (BranchTwo k rs rt place) = instruction.BranchTwo k rs rt (target_of tasks place)
+written tasks (BranchOne k rs place) = instruction.BranchOne k rs (target_of tasks place)
+written tasks (Jump place) = instruction.Jump (target_of tasks place)
+written tasks (JumpLink place) = instruction.JumpLink (target_of tasks place)
+written tasks o = instruction.One o
+
+-- Names.
+
+three_found : (k : ThreeKind) → mnemonic_named (three_name k) mnemonics ≡ Some (mnemonic.Three k)
+three_found Addu = refl
+three_found Subu = refl
+three_found And = refl
+three_found Or = refl
+three_found Xor = refl
+three_found Nor = refl
+three_found Slt = refl
+three_found Sltu = refl
+
+shift_by_found : (k : ShiftByKind) → mnemonic_named (shift_by_name k) mnemonics ≡ Some (mnemonic.ShiftBy k)
+shift_by_found Sll = refl
+shift_by_found Srl = refl
+shift_by_found Sra = refl
+
+shift_var_found : (k : ShiftVarKind) → mnemonic_named (shift_var_name k) mnemonics ≡ Some (mnemonic.ShiftVar k)
+shift_var_found Sllv = refl
+shift_var_found Srlv = refl
+shift_var_found Srav = refl
+
+imm_found : (k : ImmKind) → mnemonic_named (imm_name k) mnemonics ≡ Some (mnemonic.Imm k)
+imm_found Addiu = refl
+imm_found Slti = refl
+imm_found Sltiu = refl
+
+logic_found : (k : LogicKind) → mnemonic_named (logic_name k) mnemonics ≡ Some (mnemonic.Logic k)
+logic_found Andi = refl
+logic_found Ori = refl
+logic_found Xori = refl
+
+mult_found : (k : MultKind) → mnemonic_named (mult_name k) mnemonics ≡ Some (mnemonic.Mult k)
+mult_found mult.Mult = refl
+mult_found mult.Multu = refl
+
+move_from_found : (k : MoveFromKind) → mnemonic_named (move_from_name k) mnemonics ≡ Some (mnemonic.MoveFrom k)
+move_from_found Mfhi = refl
+move_from_found Mflo = refl
+
+move_to_found : (k : MoveToKind) → mnemonic_named (move_to_name k) mnemonics ≡ Some (mnemonic.MoveTo k)
+move_to_found Mthi = refl
+move_to_found Mtlo = refl
+
+load_found : (k : LoadKind) → mnemonic_named (load_name k) mnemonics ≡ Some (mnemonic.Load k)
+load_found Lw = refl
+load_found Lh = refl
+load_found Lhu = refl
+load_found Lb = refl
+load_found Lbu = refl
+
+store_found : (k : StoreKind) → mnemonic_named (store_name k) mnemonics ≡ Some (mnemonic.Store k)
+store_found Sw = refl
+store_found Sh = refl
+store_found Sb = refl
+
+branch_two_found : (k : BranchTwoKind) → mnemonic_named (branch_two_name k) mnemonics ≡ Some (mnemonic.BranchTwo k)
+branch_two_found Beq = refl
+branch_two_found Bne = refl
+
+branch_one_found : (k : BranchOneKind) → mnemonic_named (branch_one_name k) mnemonics ≡ Some (mnemonic.BranchOne k)
+branch_one_found Blez = refl
+branch_one_found Bgtz = refl
+branch_one_found Bltz = refl
+branch_one_found Bgez = refl
+
+-- an instruction's name gives its row
+from_row : (name : List ℕ) (m : Mnemonic) (operands : List Token) (i : Instruction) → mnemonic_named name mnemonics ≡ Some m
+    → instruction_of m operands ≡ Ok i → unmarked section.Text (token.Name name ∷ operands) ≡ Ok (statement.Code i no_marks)
+from_row name m operands i found row =
+    ap (λ (o : Option Mnemonic). of_mnemonic o operands) found ∙ ap (λ (r : Result Instruction LineFault). r >>= λ i. Ok (statement.Code i no_marks)) row
+
+-- Operands in range.
+
+three_row : (k : ThreeKind) (rd rs rt : ℕ) → nat_lt rd 32 ≡ true → nat_lt rs 32 ≡ true → nat_lt rt 32 ≡ true → instruction_of (mnemonic.Three k) (comma_tokens (reg rd ∷ reg rs ∷ reg rt ∷ [])) ≡ Ok (instruction.One (Three k rd rs rt))
+unfolding operands_of operand_at base_at after_one after_two three
+three_row k rd rs rt a b c = rw (a, b, c) refl
+
+shift_by_row : (k : ShiftByKind) (rd rt n : ℕ) → nat_lt rd 32 ≡ true → nat_lt rt 32 ≡ true → nat_le n 31 ≡ true → instruction_of (mnemonic.ShiftBy k) (comma_tokens (reg rd ∷ reg rt ∷ num (pos n) ∷ [])) ≡ Ok (instruction.One (ShiftBy k rd rt n))
+unfolding operands_of operand_at base_at after_one after_two shift_by
+shift_by_row k rd rt n a b c = rw (a, b, c) refl
+
+shift_var_row : (k : ShiftVarKind) (rd rt rs : ℕ) → nat_lt rd 32 ≡ true → nat_lt rt 32 ≡ true → nat_lt rs 32 ≡ true → instruction_of (mnemonic.ShiftVar k) (comma_tokens (reg rd ∷ reg rt ∷ reg rs ∷ [])) ≡ Ok (instruction.One (ShiftVar k rd rt rs))
+unfolding operands_of operand_at base_at after_one after_two shift_var
+shift_var_row k rd rt rs a b c = rw (a, b, c) refl
+
+imm_row : (k : ImmKind) (rt rs : ℕ) (n : ℤ) → nat_lt rt 32 ≡ true → nat_lt rs 32 ≡ true → signed_half (Small n) ≡ Ok n → instruction_of (mnemonic.Imm k) (comma_tokens (reg rt ∷ reg rs ∷ num n ∷ [])) ≡ Ok (instruction.One (Imm k rt rs n))
+unfolding operands_of operand_at base_at after_one after_two imm
+imm_row k rt rs n a b c = rw (a, b, c) refl
+
+logic_row : (k : LogicKind) (rt rs n : ℕ) → nat_lt rt 32 ≡ true → nat_lt rs 32 ≡ true → nat_le n 65535 ≡ true → instruction_of (mnemonic.Logic k) (comma_tokens (reg rt ∷ reg rs ∷ num (pos n) ∷ [])) ≡ Ok (instruction.One (Logic k rt rs n))
+unfolding operands_of operand_at base_at after_one after_two logic
+logic_row k rt rs n a b c = rw (a, b, c) refl
+
+lui_row : (rt n : ℕ) → nat_lt rt 32 ≡ true → nat_le n 65535 ≡ true → instruction_of mnemonic.Lui (comma_tokens (reg rt ∷ num (pos n) ∷ [])) ≡ Ok (instruction.One (Lui rt n))
+unfolding operands_of operand_at base_at after_one after_two lui
+lui_row rt n a b = rw (a, b) refl
+
+mult_row : (k : MultKind) (rs rt : ℕ) → nat_lt rs 32 ≡ true → nat_lt rt 32 ≡ true → instruction_of (mnemonic.Mult k) (comma_tokens (reg rs ∷ reg rt ∷ [])) ≡ Ok (instruction.One (Mult k rs rt))
+unfolding operands_of operand_at base_at after_one after_two mult_of
+mult_row k rs rt a b = rw (a, b) refl
+
+move_from_row : (k : MoveFromKind) (rd : ℕ) → nat_lt rd 32 ≡ true → instruction_of (mnemonic.MoveFrom k) (comma_tokens (reg rd ∷ [])) ≡ Ok (instruction.One (MoveFrom k rd))
+unfolding operands_of operand_at base_at after_one after_two move_from
+move_from_row k rd a = rw (a) refl
+
+move_to_row : (k : MoveToKind) (rs : ℕ) → nat_lt rs 32 ≡ true → instruction_of (mnemonic.MoveTo k) (comma_tokens (reg rs ∷ [])) ≡ Ok (instruction.One (MoveTo k rs))
+unfolding operands_of operand_at base_at after_one after_two move_to
+move_to_row k rs a = rw (a) refl
+
+load_row : (k : LoadKind) (rt base : ℕ) (n : ℤ) → nat_lt rt 32 ≡ true → nat_lt base 32 ≡ true → signed_half (Small n) ≡ Ok n → instruction_of (mnemonic.Load k) (comma_tokens (reg rt ∷ base_tokens n base ∷ [])) ≡ Ok (instruction.One (Load k rt base n))
+unfolding operands_of operand_at base_at after_one after_two load
+load_row k rt base n a b c = rw (a, b, c) refl
+
+store_row : (k : StoreKind) (rt base : ℕ) (n : ℤ) → nat_lt rt 32 ≡ true → nat_lt base 32 ≡ true → signed_half (Small n) ≡ Ok n → instruction_of (mnemonic.Store k) (comma_tokens (reg rt ∷ base_tokens n base ∷ [])) ≡ Ok (instruction.One (Store k rt base n))
+unfolding operands_of operand_at base_at after_one after_two store
+store_row k rt base n a b c = rw (a, b, c) refl
+
+branch_two_row : (k : BranchTwoKind) (rs rt : ℕ) (at : Option Descriptor) (place : ℕ) → nat_lt rs 32 ≡ true → nat_lt rt 32 ≡ true → nat_le place 4096 ≡ true → instruction_of (mnemonic.BranchTwo k) (comma_tokens (reg rs ∷ reg rt ∷ (place_token_named at place ∷ []) ∷ [])) ≡ Ok (instruction.BranchTwo k rs rt (target_named at place))
+unfolding operands_of operand_at base_at after_one after_two branch_two
+branch_two_row k rs rt (Some task) place a b h = rw (a, b) refl
+branch_two_row k rs rt None place a b h = rw (a, b, h) refl
+
+branch_one_row : (k : BranchOneKind) (rs : ℕ) (at : Option Descriptor) (place : ℕ) → nat_lt rs 32 ≡ true → nat_le place 4096 ≡ true → instruction_of (mnemonic.BranchOne k) (comma_tokens (reg rs ∷ (place_token_named at place ∷ []) ∷ [])) ≡ Ok (instruction.BranchOne k rs (target_named at place))
+unfolding operands_of operand_at base_at after_one after_two branch_one
+branch_one_row k rs (Some task) place a h = rw (a) refl
+branch_one_row k rs None place a h = rw (a, h) refl
+
+jump_row : (at : Option Descriptor) (place : ℕ) → nat_le place 4096 ≡ true → instruction_of mnemonic.Jump (comma_tokens ((place_token_named at place ∷ []) ∷ [])) ≡ Ok (instruction.Jump (target_named at place))
+unfolding operands_of operand_at base_at after_one after_two jump
+jump_row (Some task) place h = refl
+jump_row None place h = rw (h) refl
+
+jump_link_row : (at : Option Descriptor) (place : ℕ) → nat_le place 4096 ≡ true → instruction_of mnemonic.JumpLink (comma_tokens ((place_token_named at place ∷ []) ∷ [])) ≡ Ok (instruction.JumpLink (target_named at place))
+unfolding operands_of operand_at base_at after_one after_two jump_link
+jump_link_row (Some task) place h = refl
+jump_link_row None place h = rw (h) refl
+
+jump_reg_row : (rs : ℕ) → nat_lt rs 32 ≡ true → instruction_of mnemonic.JumpReg (comma_tokens (reg rs ∷ [])) ≡ Ok (instruction.One (JumpReg rs))
+unfolding operands_of operand_at base_at after_one after_two jump_reg
+jump_reg_row rs a = rw (a) refl
+
+jump_link_reg_row : (rd rs : ℕ) → nat_lt rd 32 ≡ true → nat_lt rs 32 ≡ true → instruction_of mnemonic.JumpLinkReg (comma_tokens (reg rd ∷ reg rs ∷ [])) ≡ Ok (instruction.One (JumpLinkReg rd rs))
+unfolding operands_of operand_at base_at after_one after_two jump_link_reg
+jump_link_reg_row rd rs a b = rw (a, b) refl
+
+out_row : (rs : ℕ) → nat_lt rs 32 ≡ true → instruction_of mnemonic.Out (comma_tokens (reg rs ∷ [])) ≡ Ok (instruction.One (Out rs))
+unfolding operands_of operand_at base_at after_one after_two out
+out_row rs a = rw (a) refl
+
+halt_row : instruction_of mnemonic.Halt [] ≡ Ok (instruction.One Halt)
+unfolding operands_of halt
+halt_row = refl
+
+abbrev pub is_empty : List ℕ → Bool
+is_empty [] = true
+is_empty (r ∷ rs) = false
+
+release_row : (rs : List ℕ) (set : ℕ) → is_empty rs ≡ false → with_registers 0 rs ≡ set
+    → instruction_of mnemonic.Release (comma_tokens (register_tokens rs)) ≡ Ok (instruction.One (Release set))
+unfolding release_of registers_at
+release_row [] set some is = absurd (false≢true (sym some))
+release_row (r ∷ rs) set some is =
+    let back : registers_of (comma_tokens (register_tokens (r ∷ rs))) ≡ Ok (r ∷ rs, []) =
+    ap registers_of (sym (append-nil (comma_tokens (register_tokens (r ∷ rs))))) ∙ registers_back r rs [] refl in
+    rw back (ap (λ s. Ok (instruction.One (Release s))) is)
+
+some_filtered : (test : ℕ → Bool) (xs : List ℕ) → list_any test xs ≡ true → is_empty (filter test xs) ≡ false
+some_filtered test [] h = absurd (false≢true h)
+some_filtered test (x ∷ xs) h =
+    (elim (test x) as (λ b. (b || list_any test xs) ≡ true → is_empty (cond b (x ∷ filter test xs) (filter test xs)) ≡ false) [
+      | true ↦ λ _. refl
+      | false ↦ λ e. some_filtered test xs e
+    ]) h
+
+some_member : (set : ℕ) → release_fits (Release set) ≡ true → is_empty (members set) ≡ false
+unfolding members
+some_member set h = some_filtered (has set) registers (and_parts (list_any (has set) registers) _ h).0
+
+-- The ranges, as the rows test them.
+
+below : (r : ℕ) → r < 32 → nat_lt r 32 ≡ true
+below r h = lt-ltb r 32 h
+
+at_most : (high n : ℕ) → n ≤ high → nat_le n high ≡ true
+at_most high n h = le-leb n high h
+
+half : (n : ℤ) → IsHalf n → signed_half (Small n) ≡ Ok n
+half (pos n) h = cond-true (nat_lt n (2 ^ 15)) (Ok (pos n)) (Err fault.Number) (lt-ltb n (2 ^ 15) h)
+half (negsuc n) h = cond-true (nat_lt n (2 ^ 15)) (Ok (negsuc n)) (Err fault.Number) (lt-ltb n (2 ^ 15) h)
+
+abbrev Means : List Descriptor → Op → Type 0
+Means tasks o = unmarked section.Text (op_tokens tasks o) ≡ Ok (statement.Code (written tasks o) no_marks)
+
+pub op_means : (tasks : List Descriptor) (o : Op) → IsInRange o → release_fits o ≡ true → Means tasks o
+op_means tasks (Three k rd rs rt) h f = from_row (three_name k) _ _ _ (three_found k) (three_row k rd rs rt (below rd h.0) (below rs h.1) (below rt h.2))
+op_means tasks (ShiftBy k rd rt n) h f = from_row (shift_by_name k) _ _ _ (shift_by_found k) (shift_by_row k rd rt n (below rd h.0) (below rt h.1) (at_most 31 n (omega arith)))
+op_means tasks (ShiftVar k rd rt rs) h f = from_row (shift_var_name k) _ _ _ (shift_var_found k) (shift_var_row k rd rt rs (below rd h.0) (below rt h.1) (below rs h.2))
+op_means tasks (Imm k rt rs n) h f = from_row (imm_name k) _ _ _ (imm_found k) (imm_row k rt rs n (below rt h.0) (below rs h.1) (half n h.2))
+op_means tasks (Logic k rt rs n) h f = from_row (logic_name k) _ _ _ (logic_found k) (logic_row k rt rs n (below rt h.0) (below rs h.1) (at_most 65535 n (omega arith)))
+op_means tasks (Lui rt n) h f = from_row (codes "lui") _ _ _ refl (lui_row rt n (below rt h.0) (at_most 65535 n (omega arith)))
+op_means tasks (Mult k rs rt) h f = from_row (mult_name k) _ _ _ (mult_found k) (mult_row k rs rt (below rs h.0) (below rt h.1))
+op_means tasks (MoveFrom k rd) h f = from_row (move_from_name k) _ _ _ (move_from_found k) (move_from_row k rd (below rd h))
+op_means tasks (MoveTo k rs) h f = from_row (move_to_name k) _ _ _ (move_to_found k) (move_to_row k rs (below rs h))
+op_means tasks (Load k rt base n) h f = from_row (load_name k) _ _ _ (load_found k) (load_row k rt base n (below rt h.0) (below base h.1) (half n h.2))
+op_means tasks (Store k rt base n) h f = from_row (store_name k) _ _ _ (store_found k) (store_row k rt base n (below rt h.0) (below base h.1) (half n h.2))
+op_means tasks (BranchTwo k rs rt place) h f = from_row (branch_two_name k) _ _ _ (branch_two_found k) (branch_two_row k rs rt (find (λ t. t.entry == place) tasks) place (below rs h.0) (below rt h.1) (at_most 4096 place h.2))
+op_means tasks (BranchOne k rs place) h f = from_row (branch_one_name k) _ _ _ (branch_one_found k) (branch_one_row k rs (find (λ t. t.entry == place) tasks) place (below rs h.0) (at_most 4096 place h.1))
+op_means tasks (Jump place) h f = from_row (codes "j") _ _ _ refl (jump_row (find (λ t. t.entry == place) tasks) place (at_most 4096 place h))
+op_means tasks (JumpLink place) h f = from_row (codes "jal") _ _ _ refl (jump_link_row (find (λ t. t.entry == place) tasks) place (at_most 4096 place h))
+op_means tasks (JumpReg rs) h f = from_row (codes "jr") _ _ _ refl (jump_reg_row rs (below rs h))
+op_means tasks (JumpLinkReg rd rs) h f = from_row (codes "jalr") _ _ _ refl (jump_link_reg_row rd rs (below rd h.0) (below rs h.1))
+op_means tasks (Out rs) h f = from_row (codes "out") _ _ _ refl (out_row rs (below rs h))
+op_means tasks (Release set) h f = from_row (codes "release") _ _ _ refl (release_row (members set) set (some_member set f) (members_back set h))
+op_means tasks Halt h f = from_row (codes "halt") _ _ _ refl halt_row
