@@ -7,5 +7,6 @@ use Rattle.command_line.specs.declared.jobs.Job.TheVariants.{Seq, Print, Annotat
 abbrev pub is_served : Job → Bool
 is_served (Seq budget) = true
 is_served Print = true
+is_served (Annotate emit) = true
 is_served (Check workers) = true
 is_served _ = false

@@ -88,6 +88,7 @@ fn command<'a>(alloc: Global) -> Result<Command<'a>, AllocError> {
         .subcommand_required(true)
         .subcommand(seq(alloc)?)?
         .subcommand(print(alloc)?)?
+        .subcommand(annotate(alloc)?)?
         .subcommand(check(alloc)?)
 }
 
@@ -103,6 +104,7 @@ fn read_job(
     match name {
         "seq" => read_seq(alloc, values),
         "print" => read_print(alloc, values),
+        "annotate" => read_annotate(alloc, values),
         "check" => read_check(alloc, values),
         _ => Ok(None),
     }
@@ -274,6 +276,7 @@ fn read_print(alloc: Global, values: &ArgMatches<'_>) -> Result<Option<(Job, Pat
 
 fn read_annotate(alloc: Global, values: &ArgMatches<'_>) -> Result<Option<(Job, Paths)>, UsageFault>
     ensures files { IfOk result (λ r. IfSome r (λ job. HasFilesOf job.0 job.1)) }
+    ensures served { IfOk result (λ r. IfSome r (λ job. is_served job.0 ≡ true)) }
 {
     let Some(text) = values.get_str("emit") else {
         return Ok(None);

@@ -8,6 +8,7 @@ use Rattle.canonical_text.specs.CanonicalText.{canonical_text}
 use Rattle.verdict_report.specs.OutputTexts.{Report, program_refused}
 use Rattle.verdict_report.specs.SeqText.{seq_text}
 use Rattle.verdict_report.specs.CheckText.{check_text}
+use Rattle.verdict_report.specs.AnnotateText.{IsAnnotateReport}
 use Rattle.command_line.specs.declared.jobs.Job.{Job}
 use Rattle.command_line.specs.declared.jobs.Job.TheVariants.{Seq, Print, Annotate, Check, Replay, Run}
 use Rattle.command_line.specs.declared.jobs.Texts.{Texts}
@@ -24,6 +25,7 @@ print_text text = print_read (parse text)
 abbrev pub IsReportOf : Job → Texts → Report → Type 0
 IsReportOf (Seq budget) texts report = report ≡ seq_text budget texts.program.items
 IsReportOf Print texts report = report ≡ print_text texts.program.items
+IsReportOf (Annotate emit) texts report = IsAnnotateReport emit texts.program.items report
 IsReportOf (Check workers) texts report = report ≡ check_text texts.program.items texts.certificate.items
 IsReportOf _ texts report = ⊥
 

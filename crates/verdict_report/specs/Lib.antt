@@ -2,4 +2,5 @@ pub mod OutputTexts
 pub mod SeqText
 pub mod VerdictTexts
 pub mod CheckText
+pub mod AnnotateText
 pub mod JobTexts

@@ -5,6 +5,7 @@
 //! the module that writes it, and by its arm in `serve`.
 #![tactic(auto)]
 
+pub mod annotating;
 pub mod checking;
 pub mod files;
 pub mod plain_text;

@@ -4,6 +4,7 @@ ghost use Rattle.std.specs.Io.KnownBytes.{Appends, Keeps};
 ghost use Rattle.command_line.specs.Served.{is_served};
 ghost use Rattle.verdict_report.specs.JobTexts.{IsDone, IsReportOf, print_text};
 
+use crate::annotating::annotate;
 use crate::checking::check;
 use crate::report::{Report, refused_program};
 use crate::sequential::seq;
@@ -58,6 +59,7 @@ fn report_of(alloc: Global, job: &Job, texts: &Texts) -> Result<Report, AllocErr
     match job {
         Job::Seq { budget } => seq(alloc, *budget, program),
         Job::Print => print(alloc, program),
+        Job::Annotate { emit } => annotate(alloc, *emit, program),
         Job::Check { .. } => check(alloc, program, texts.certificate.as_slice()),
         _ => unreachable!(),
     }
