@@ -4,6 +4,8 @@
 #![tactic(auto)]
 
 #[cfg(test)]
+mod annotate;
+#[cfg(test)]
 mod answers;
 #[cfg(test)]
 mod calls;

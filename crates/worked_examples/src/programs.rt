@@ -90,6 +90,54 @@ B: out $8
 halt
 ";
 
+/// A load on a path that is never taken.
+pub const WRONG_PATH_LOAD: &str = ".task A create=$8 targets=B,C
+.task B create=$11 targets=C
+.task C create=- targets=-
+A: addiu $8,$0,1 !f
+bne $8,$0,C !s
+B: lw $11,1($0) !f !s
+C: out $8
+halt
+";
+
+/// A task that never ends.
+pub const SPIN: &str = ".task A create=- targets=-
+A: j A
+";
+
+/// Two ways that join again.
+pub const DIAMOND: &str = ".task A create=$8 targets=B,C
+.task B create=- targets=D
+.task C create=- targets=D
+.task D create=$9 targets=-
+A: addiu $8,$0,1 !f
+bne $8,$0,C !s
+B: j D !s
+C: nop !s
+D: addiu $9,$0,7 !f
+out $9
+halt
+";
+
+/// A loop without end on a path that is never taken.
+pub const WRONG_PATH_SPIN: &str = ".task A create=- targets=B,C
+.task B create=- targets=-
+.task C create=- targets=-
+A: beq $0,$0,C !s
+B: j B
+C: halt
+";
+
+/// Two tasks that need nothing of each other.
+pub const PAIR: &str = ".task A create=$8 targets=B
+.task B create=$9 targets=C
+.task C create=- targets=-
+A: addiu $8,$0,1 !f !s
+B: addiu $9,$0,2 !f !s
+C: halt
+";
+
 /// Three tasks with five faults.
 pub const FIVE_FINDINGS: &str = ".task A create=- targets=B
 .task B create=$9 targets=D

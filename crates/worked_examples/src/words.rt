@@ -1,7 +1,7 @@
 //! Which words give which job, and which are refused.
 
 use crate::answers::words_of;
-use command_line::jobs::{Job, Paths};
+use command_line::jobs::{Emit, Job, Paths};
 use command_line::words::{UsageFault, job_of};
 use std::alloc::Global;
 use std::test::Fail;
@@ -45,6 +45,31 @@ fn reads_checks(rt: HostRuntime) -> Result<(), Fail> {
 }
 
 #[test]
+fn reads_annotates(rt: HostRuntime) -> Result<(), Fail> {
+    for (line, wanted) in [
+        ("annotate a.s", Emit::Text),
+        ("annotate --emit text a.s", Emit::Text),
+        ("annotate a.s --emit cert", Emit::Cert),
+        ("annotate --emit keep a.s", Emit::Keep),
+    ] {
+        let (annotate, paths) = job(rt.alloc(), line)?;
+        assert!(rt;
+            matches!(annotate, Job::Annotate { emit } if emit == wanted),
+            "{line}"
+        );
+        assert!(rt; paths.program.as_str() == "a.s", "{line}");
+        assert!(rt; !annotate.has_certificate(), "{line}");
+    }
+    for line in ["annotate a.s --emit xml", "annotate a.s --emit Text"] {
+        assert!(rt;
+            matches!(job(rt.alloc(), line), Err(UsageFault::Emit)),
+            "{line}"
+        );
+    }
+    Ok(())
+}
+
+#[test]
 fn refuses_words(rt: HostRuntime) -> Result<(), Fail> {
     let alloc = rt.alloc();
     for line in [
@@ -52,6 +77,8 @@ fn refuses_words(rt: HostRuntime) -> Result<(), Fail> {
         "seq a.s b.s",
         "seq a.s --budget 0",
         "seq a.s --budget 1000001",
+        "annotate",
+        "annotate a.s a.cert",
         "check a.s",
         "check a.s a.cert b.cert",
         "check a.s a.cert --workers 0",
