@@ -102,9 +102,9 @@ widened_more sources more source mask joined old new waiting_old waiting_new is 
     looked_up i r h = elim (cases_eq i source) [
       | inl e ↦ elim (or_cases (has (get_or new source 0) r) (has mask r)
           (sym (members r) ∙ sym (ap (λ (n : ℕ). has n r) (get_or-set_same new source joined 0 within)) ∙ subst (λ (k : ℕ). may (set new source joined) k r) e h)) [
-        | inl was ↦ inl (subst (λ (k : ℕ). may new k r) (sym e) was)
-        | inr now ↦ inr (sym e, now)
-      ]
+            | inl was ↦ inl (subst (λ (k : ℕ). may new k r) (sym e) was)
+            | inr now ↦ inr (sym e, now)
+          ]
       | inr ne ↦ inl (sym (ap (λ (n : ℕ). has n r) (get_or-set_other new source i joined 0 ne)) ∙ h)
     ]
 

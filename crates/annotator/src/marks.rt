@@ -20,7 +20,11 @@ use task_descriptor::program::Program;
 use task_graph::edges::next_inside;
 
 /// A mark for each instruction that is a member of some task.
-pub(crate) fn members_of_any(alloc: Global, program: &Program, cert: &Cert) -> Result<Vec<bool>, AllocError>
+pub(crate) fn members_of_any(
+    alloc: Global,
+    program: &Program,
+    cert: &Cert,
+) -> Result<Vec<bool>, AllocError>
     requires { IsLeast program.now cert.now }
     ensures { IfOk result (λ v. AreMembers program.now (length program.now.tasks) v.items) }
 {
@@ -105,7 +109,11 @@ fn mask_of(masks: &[RegSet], index: Option<u32>) -> RegSet
 }
 
 /// The create mask to propose for each task.
-pub(crate) fn create_masks(alloc: Global, program: &Program, cert: &Cert) -> Result<Vec<RegSet>, AllocError>
+pub(crate) fn create_masks(
+    alloc: Global,
+    program: &Program,
+    cert: &Cert,
+) -> Result<Vec<RegSet>, AllocError>
     requires { IsLeast program.now cert.now }
     ensures { IfOk result (λ v. AreCreates program.now (length program.now.tasks) v.items) }
 {

@@ -37,10 +37,7 @@ struct Found {
 /// # Errors
 ///
 /// `OutOfMemory` with the program as it was.
-pub fn propose(
-    alloc: Global,
-    program: Program,
-) -> Result<(Program, Cert), (Program, AnnotateFault)>
+pub fn propose(alloc: Global, program: Program) -> Result<(Program, Cert), (Program, AnnotateFault)>
     ensures { MatchResult result
         (λ proposed. IsProposed program proposed.0 × IsLeast proposed.0 proposed.1)
         (λ refused. refused.0 ≡ program) }

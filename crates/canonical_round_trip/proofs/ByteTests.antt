@@ -27,9 +27,9 @@ alphanumeric_text : (b : ℕ) → is_ascii_alphanumeric b ≡ true → is_text_b
 alphanumeric_text b h =
     elim (or_cases _ (is_in_range 97 122 b) h) [
       | inl others ↦ elim (or_cases (is_in_range 48 57 b) (is_in_range 65 90 b) others) [
-          | inl digit ↦ range_text 48 57 b (omega arith) (omega arith) digit
-          | inr upper ↦ range_text 65 90 b (omega arith) (omega arith) upper
-        ]
+        | inl digit ↦ range_text 48 57 b (omega arith) (omega arith) digit
+        | inr upper ↦ range_text 65 90 b (omega arith) (omega arith) upper
+      ]
       | inr lower ↦ range_text 97 122 b (omega arith) (omega arith) lower
     ]
 

@@ -152,9 +152,8 @@ pub code_said : (tasks : List Descriptor) (m : Marked) → IsInRange m.op → re
     → (labels_of (op_tokens tasks m.op ++ mark_tokens m.forward m.stop) ≡ []) × (statement_of section.Text (after_labels (op_tokens tasks m.op ++ mark_tokens m.forward m.stop)) ≡ Ok (code_statement tasks m))
 code_said tasks m range fits =
     let is = op_is tasks m.op in
-    let means = ap (unmarked section.Text) (sym is.same) ∙ op_means tasks m.op range fits in
-    (
+    let means = ap (unmarked section.Text) (sym is.same) ∙ op_means tasks m.op range fits in (
       ap (λ (ts : List Token). labels_of (ts ++ mark_tokens m.forward m.stop)) is.same ∙ (unlabelled is.name is.operands m.forward m.stop is.plain).0,
       ap (λ (ts : List Token). statement_of section.Text (after_labels (ts ++ mark_tokens m.forward m.stop))) is.same
-      ∙ code_of is.name is.operands (written tasks m.op) m.forward m.stop is.plain means,
+          ∙ code_of is.name is.operands (written tasks m.op) m.forward m.stop is.plain means,
     )

@@ -56,8 +56,7 @@ still_new : (task : Descriptor) (index : ℕ) (names : Names) (others : List Des
 still_new task index names [] apart new = tt
 still_new task index names (t ∷ others) apart new =
     let parts = or_parts (collide task t) (list_any (collide task) others) apart in
-    let other = swap_bytes task.name t.name (or_parts (task.entry == t.entry) (bytes_eq task.name t.name) parts.0).1 in
-    (
+    let other = swap_bytes task.name t.name (or_parts (task.entry == t.entry) (bytes_eq task.name t.name) parts.0).1 in (
       lookup-append names ((task.name, code_symbol index) ∷ []) t.name new.0 ∙ cond-false (bytes_eq t.name task.name) (Some (code_symbol index)) None other,
       still_new task index names others parts.1 new.1,
     )
@@ -122,7 +121,7 @@ laid_line tasks n index (Some t) m rest b f labels names started small new is =
     let entry = eqb-true t.entry index there.passes in
     let none = new there.place t there.there (omega arith) in
     ap (λ (o : Option Symbol). if_new (is_some o) n (layout index b f (labels ++ (t.name, code_symbol index) ∷ []) names started)
-        >>= λ next. laid next (item (n + 1) section.Text (code_statement tasks m) ∷ rest)) none
+    >>= λ next. laid next (item (n + 1) section.Text (code_statement tasks m) ∷ rest)) none
     ∙ laid_instruction tasks (n + 1) index m rest b f (labels ++ (t.name, code_symbol index) ∷ []) names started small
 
 laid_code : (tasks : List Descriptor) (n index : ℕ) (code : List Marked) (b f : ℕ) (labels names : Names) (started : Bool)
@@ -138,7 +137,7 @@ laid_code tasks n index (m ∷ code) b f labels names started apart small new =
     let one : index + 1 ≤ 4096 = omega arith in
     let others : (index + 1) + length code ≤ 4096 = omega arith in
     let still : IsNew tasks (index + 1) (labels ++ label_rows index at) = λ k t there above.
-        lookup-append labels (label_rows index at) t.name (new k t there (omega arith)) ∙ other_label tasks apart k t there index (λ e. omega arith) at refl in
+    lookup-append labels (label_rows index at) t.name (new k t there (omega arith)) ∙ other_label tasks apart k t there index (λ e. omega arith) at refl in
     let same : (index + 1) + length code ≡ index + length (m ∷ code) = omega arith in
     laid_line tasks n index at m (code_items tasks (behind_one n at + 1) (index + 1) code) b f labels names started one new refl
     ∙ laid_code tasks (behind_one n at + 1) (index + 1) code b f (labels ++ label_rows index at) names started apart others still

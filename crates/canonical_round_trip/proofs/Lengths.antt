@@ -138,8 +138,15 @@ length-code_line : (tasks : List Descriptor) (index : ℕ) (m : Marked) → All 
 length-code_line tasks index m named h =
     let at = find (λ t. t.entry == index) tasks in
     let label = length-label at (found_passes (λ t. is_name t.name ≡ true) (λ t. t.entry == index) tasks named) in
-    omega (arith, label, length-op tasks m.op named h, length-marks m.forward m.stop, length-line (marked_text tasks m),
-    length-append (op_text tasks m.op) (forward_text m.forward ++ stop_text m.stop), length-append (label_line at) (line (marked_text tasks m)))
+    omega (
+      arith,
+      label,
+      length-op tasks m.op named h,
+      length-marks m.forward m.stop,
+      length-line (marked_text tasks m),
+      length-append (op_text tasks m.op) (forward_text m.forward ++ stop_text m.stop),
+      length-append (label_line at) (line (marked_text tasks m)),
+    )
 
 length-code : (tasks : List Descriptor) (index : ℕ) (code : List Marked) → All (λ t. is_name t.name ≡ true) tasks → All (λ m. IsInRange m.op) code
     → length (code_lines tasks index code) ≤ 211 * length code
@@ -152,11 +159,17 @@ length-task : (tasks : List Descriptor) (task : Descriptor) → All (λ t. is_na
 length-task tasks task all named within few =
     let create = listed (map register_text (members task.create)) in
     let targets = listed (map (place_text tasks) task.targets) in
-    omega (arith, within_name task.name named, length-members task.create,
-    length-listed 3 (map register_text (members task.create)) (length-registers (members task.create) (members_below task.create)),
-    length-listed 32 (map (place_text tasks) task.targets) (length-places tasks task.targets all within), length-mapped (place_text tasks) task.targets,
-    length-append task.name (codes " create=" ++ (create ++ (codes " targets=" ++ (targets ++ 10 ∷ [])))),
-    length-append create (codes " targets=" ++ (targets ++ 10 ∷ [])), length-append targets (10 ∷ []))
+    omega (
+      arith,
+      within_name task.name named,
+      length-members task.create,
+      length-listed 3 (map register_text (members task.create)) (length-registers (members task.create) (members_below task.create)),
+      length-listed 32 (map (place_text tasks) task.targets) (length-places tasks task.targets all within),
+      length-mapped (place_text tasks) task.targets,
+      length-append task.name (codes " create=" ++ (create ++ (codes " targets=" ++ (targets ++ 10 ∷ [])))),
+      length-append create (codes " targets=" ++ (targets ++ 10 ∷ [])),
+      length-append targets (10 ∷ []),
+    )
 
 length-tasks : (tasks others : List Descriptor) → All (λ t. is_name t.name ≡ true) tasks → All (λ t. is_name t.name ≡ true) others
     → All (λ t. All (λ place. place ≤ 4096) t.targets) others → All (λ t. length t.targets ≤ 16) others → length (flat_map (task_line tasks) others) ≤ 722 * length others
@@ -201,7 +214,15 @@ length-canonical p h code bytes fixed tasks targets =
     let lines = code_lines p.tasks 0 p.code in
     let first = section (codes ".data") p.bytes in
     let second = section (codes ".rodata") p.fixed in
-    omega (arith, length-start (find (λ t. t.entry == p.start) p.tasks) (found_passes (λ t. is_name t.name ≡ true) (λ t. t.entry == p.start) p.tasks h.names),
-    length-tasks p.tasks p.tasks h.names h.names h.targets targets, length-code p.tasks 0 p.code h.names h.code,
-    length-section (codes ".data") p.bytes (omega arith), length-section (codes ".rodata") p.fixed (omega arith),
-    length-append start (listed ++ (lines ++ (first ++ second))), length-append listed (lines ++ (first ++ second)), length-append lines (first ++ second), length-append first second)
+    omega (
+      arith,
+      length-start (find (λ t. t.entry == p.start) p.tasks) (found_passes (λ t. is_name t.name ≡ true) (λ t. t.entry == p.start) p.tasks h.names),
+      length-tasks p.tasks p.tasks h.names h.names h.targets targets,
+      length-code p.tasks 0 p.code h.names h.code,
+      length-section (codes ".data") p.bytes (omega arith),
+      length-section (codes ".rodata") p.fixed (omega arith),
+      length-append start (listed ++ (lines ++ (first ++ second))),
+      length-append listed (lines ++ (first ++ second)),
+      length-append lines (first ++ second),
+      length-append first second,
+    )

@@ -61,18 +61,19 @@ fn annotates_count(rt: HostRuntime) -> Result<(), Fail> {
     let forwarded = COUNT.replace(alloc, "slti $10,$8,4", "slti $10,$8,4 !f")?;
     for (line, program, expected) in [
         ("annotate a.s", bare.as_str(), forwarded.as_str()),
-        ("annotate --emit text a.s", bare.as_str(), forwarded.as_str()),
-        ("annotate --emit cert a.s", bare.as_str(), COUNT_CERTIFICATE_WIDE),
+        (
+            "annotate --emit text a.s",
+            bare.as_str(),
+            forwarded.as_str(),
+        ),
+        (
+            "annotate --emit cert a.s",
+            bare.as_str(),
+            COUNT_CERTIFICATE_WIDE,
+        ),
         ("annotate --emit keep a.s", COUNT, COUNT_CERTIFICATE_WIDE),
     ] {
-        expect(
-            &rt,
-            alloc,
-            line,
-            program.as_bytes(),
-            expected.as_bytes(),
-            0,
-        )?;
+        expect(&rt, alloc, line, program.as_bytes(), expected.as_bytes(), 0)?;
     }
     Ok(())
 }

@@ -28,7 +28,7 @@ loop-i-preserved c =
           )
       | else-members-i w ↦
           other_bit p i m c.if-members-i.bit (λ member. both (is_marked c.args.members.now i) w.if-members-i.false
-              (c.requires.members.reached i member (slice_get_within p.tasks member.task member.descriptor member.is_there)))
+          (c.requires.members.reached i member (slice_get_within p.tasks member.task member.descriptor member.is_there)))
           w.bit-is (forward_fits p i m c.code-code.ensures.well_formed there)
     ]) c.loop-i.invariant
   where
