@@ -1,6 +1,6 @@
 //! The calls below the jobs.
 
-use crate::programs::{COUNT, COUNT_CERTIFICATE};
+use crate::programs::{COUNT, COUNT_CERTIFICATE, COUNT_CERTIFICATE_LACKING};
 use annotated_asm::assembler::assemble;
 use mark_checker::check::{check_task, verdict};
 use mark_checker::finding::{Finding, Rule};
@@ -9,36 +9,28 @@ use mips_plain::number::Reg;
 use std::test::Fail;
 use task_graph::members::members;
 
+// The members of a task, and what the checker finds in it; and the finding that `check` writes where a
+// mask lacks a register.
 #[test]
-fn lists_the_members_and_checks_one_task(rt: HostRuntime) -> Result<(), Fail> {
+fn finds_members_and_findings(rt: HostRuntime) -> Result<(), Fail> {
     let alloc = rt.alloc();
     let program = assemble(alloc, COUNT.as_bytes()).ok().ok_or("program")?;
-    let cert = read(alloc, COUNT_CERTIFICATE.as_bytes(), &program)
-        .ok()
-        .ok_or("certificate")?;
     assert_eq!(rt;
         members(alloc, &program, 0)?.as_slice(),
         [0, 1, 2, 3].as_slice()
     );
+    let cert = read(alloc, COUNT_CERTIFICATE.as_bytes(), &program);
+    let cert = cert.ok().ok_or("certificate")?;
     assert!(rt; check_task(alloc, &program, &cert, 0)?.is_empty());
-    Ok(())
-}
-
-#[test]
-fn gives_the_finding_that_check_writes(rt: HostRuntime) -> Result<(), Fail> {
-    let alloc = rt.alloc();
-    let program = assemble(alloc, COUNT.as_bytes()).ok().ok_or("program")?;
-    let certificate = COUNT_CERTIFICATE.replace(alloc, "1 00000600", "1 00000400")?;
-    let cert = read(alloc, certificate.as_bytes(), &program)
-        .ok()
-        .ok_or("certificate")?;
+    let lacking = read(alloc, COUNT_CERTIFICATE_LACKING.as_bytes(), &program);
+    let lacking = lacking.ok().ok_or("certificate")?;
     let missing = Finding {
         task: 0,
         index: 1,
         rule: Rule::LacksDestination,
         reg: Reg::new(9),
     };
-    let found = verdict(alloc, &program, &cert)?.findings;
+    let found = verdict(alloc, &program, &lacking)?.findings;
     assert_eq!(rt; found.as_slice(), [missing].as_slice());
     Ok(())
 }

@@ -1,4 +1,4 @@
-//! Certificates that `check` refuses, and what it says of every beginning of one.
+//! What `check` says of every beginning of a certificate.
 
 use crate::answers::expect_certified;
 use crate::programs::{COUNT, COUNT_CERTIFICATE, COUNT_CERTIFICATE_WIDE};
@@ -20,51 +20,6 @@ fn expect_refused(
         COUNT.as_bytes(),
         certificate,
         expected.as_bytes(),
-        1,
-    )
-}
-
-#[test]
-fn refuses_certificates(rt: HostRuntime) -> Result<(), Fail> {
-    for (certificate, fault) in [
-        ("cert 1\ntask A\n", "4 MissingTask"),
-        (
-            "cert 1\ntask A\n0 00000700\n1 00000600\n1 00000600\n2 00000400\n3 00000000\ntask B\n4 00000000\n5 00000000\n",
-            "5 Shape",
-        ),
-        (
-            "cert 2\ntask A\n0 00000700\n1 00000600\n2 00000400\n3 00000000\ntask B\n4 00000000\n5 00000000\n",
-            "2 Line 3",
-        ),
-        (
-            "cert 3\ntask A\n0 00000700\n1 00000600\n2 00000400\n3 00000000\ntask B\n4 00000000\n5 00000000\n",
-            "1 Header",
-        ),
-        (
-            "cert 1\ntask A\n0 00000700\n1 600\n2 00000400\n3 00000000\ntask B\n4 00000000\n5 00000000\n",
-            "2 Line 4",
-        ),
-        (
-            "cert 1\ntask C\n0 00000700\n1 00000600\n2 00000400\n3 00000000\ntask B\n4 00000000\n5 00000000\n",
-            "3 TaskName 2",
-        ),
-    ] {
-        let expected = format!(in rt.alloc(); "certificate refused: {fault}\n")?;
-        expect_refused(&rt, rt.alloc(), certificate.as_bytes(), expected.as_str())?;
-    }
-    Ok(())
-}
-
-// The program comes before the certificate.
-#[test]
-fn refuses_the_program_first(rt: HostRuntime) -> Result<(), Fail> {
-    expect_certified(
-        &rt,
-        rt.alloc(),
-        "check a.s a.cert",
-        b"foo".as_slice(),
-        b"cert 3\n".as_slice(),
-        b"program refused: 4 Mnemonic line 1\n".as_slice(),
         1,
     )
 }

@@ -1,13 +1,204 @@
-//! `check`: what is accepted and what is found.
+//! `check`: what it writes of programs and certificates.
 
 use crate::answers::expect_certified;
 use crate::programs::{
-    COUNT, COUNT_CERTIFICATE, FIVE_FINDINGS, FIVE_FINDINGS_CERTIFICATE, PRODUCT,
+    COUNT, COUNT_CERTIFICATE, COUNT_CERTIFICATE_LACKING, COUNT_CREATES_LESS, COUNT_LISTS_LESS,
+    COUNT_WITHOUT_HALT, COUNT_WRITTEN_AGAIN, FIVE_FINDINGS, FIVE_FINDINGS_CERTIFICATE, PRODUCT,
     PRODUCT_CERTIFICATE, READ_ONLY, READ_ONLY_CERTIFICATE, RELEASE, RELEASE_CERTIFICATE,
 };
 use std::alloc::{AllocError, Global};
 use std::process::Abort;
 use std::test::Fail;
+
+// One run, and what it writes.
+struct Case {
+    line: &'static str,
+    program: &'static str,
+    certificate: &'static str,
+    expected: &'static str,
+}
+
+const FIVE_FOUND: &str = "A 0 rule 5 $8
+A 0 rule 8 $8
+B 1 rule 9 -
+B 1 rule 12 -
+C 2 rule 2 -
+refused 5
+";
+
+const JUMPS_INSIDE: &str = ".task A create=- targets=-
+A: j @4096
+";
+
+const JUMPS_OUT: &str = ".task A create=- targets=@4096
+A: j @4096 !s
+";
+
+const CASES: [Case; 26] = [
+    Case {
+        line: "check a.s a.cert",
+        program: COUNT,
+        certificate: COUNT_CERTIFICATE,
+        expected: "accepted 2 tasks 6 instructions\n",
+    },
+    Case {
+        line: "check a.s a.cert",
+        program: RELEASE,
+        certificate: RELEASE_CERTIFICATE,
+        expected: "accepted 2 tasks 7 instructions\n",
+    },
+    Case {
+        line: "check a.s a.cert",
+        program: PRODUCT,
+        certificate: PRODUCT_CERTIFICATE,
+        expected: "accepted 2 tasks 7 instructions\n",
+    },
+    Case {
+        line: "check a.s a.cert",
+        program: READ_ONLY,
+        certificate: READ_ONLY_CERTIFICATE,
+        expected: "accepted 3 tasks 8 instructions\n",
+    },
+    // A mask lacks what the instruction writes.
+    Case {
+        line: "check a.s a.cert",
+        program: COUNT,
+        certificate: COUNT_CERTIFICATE_LACKING,
+        expected: "A 1 rule 3 $9\nrefused 1\n",
+    },
+    Case {
+        line: "check a.s a.cert",
+        program: PRODUCT,
+        certificate: "cert 2\ntask A\n0 0000000300000100\n1 0000000100000000\ntask B\n2 0000000000000200\n3 0000000000000200\n4 0000000000000200\n5 0000000000000000\n6 0000000000000000\n",
+        expected: "A 1 rule 3 $33\nrefused 1\n",
+    },
+    // A true program is refused for a mask that is too large.
+    Case {
+        line: "check a.s a.cert",
+        program: COUNT,
+        certificate: "cert 1\ntask A\n0 00000700\n1 00000700\n2 00000400\n3 00000000\ntask B\n4 00000000\n5 00000000\n",
+        expected: "A 0 rule 6 $8\nrefused 1\n",
+    },
+    // The program is wrong.
+    Case {
+        line: "check a.s a.cert",
+        program: COUNT_WRITTEN_AGAIN,
+        certificate: "cert 1\ntask A\n0 00000700\n1 00000700\n2 00000500\n3 00000400\n4 00000000\ntask B\n5 00000000\n6 00000000\n",
+        expected: "A 0 rule 6 $8\nrefused 1\n",
+    },
+    Case {
+        line: "check a.s a.cert",
+        program: COUNT_CREATES_LESS,
+        certificate: COUNT_CERTIFICATE,
+        expected: "A 0 rule 5 $10\nrefused 1\n",
+    },
+    Case {
+        line: "check a.s a.cert",
+        program: COUNT_LISTS_LESS,
+        certificate: COUNT_CERTIFICATE,
+        expected: "A 3 rule 9 -\nrefused 1\n",
+    },
+    Case {
+        line: "check a.s a.cert",
+        program: COUNT_WITHOUT_HALT,
+        certificate: "cert 1\ntask A\n0 00000700\n1 00000600\n2 00000400\n3 00000000\ntask B\n4 00000000\n",
+        expected: "B 4 rule 10 -\nrefused 1\n",
+    },
+    // However many workers there are.
+    Case {
+        line: "check a.s a.cert --workers 1",
+        program: FIVE_FINDINGS,
+        certificate: FIVE_FINDINGS_CERTIFICATE,
+        expected: FIVE_FOUND,
+    },
+    Case {
+        line: "check a.s a.cert --workers 3",
+        program: FIVE_FINDINGS,
+        certificate: FIVE_FINDINGS_CERTIFICATE,
+        expected: FIVE_FOUND,
+    },
+    Case {
+        line: "check --workers 16 a.s a.cert",
+        program: FIVE_FINDINGS,
+        certificate: FIVE_FINDINGS_CERTIFICATE,
+        expected: FIVE_FOUND,
+    },
+    // A jump to the index behind the last that an instruction may have, and entries there.
+    Case {
+        line: "check a.s a.cert",
+        program: JUMPS_INSIDE,
+        certificate: "cert 1\ntask A\n0 00000000\n",
+        expected: "A 0 rule 10 -\nrefused 1\n",
+    },
+    Case {
+        line: "check a.s a.cert",
+        program: JUMPS_INSIDE,
+        certificate: "cert 1\ntask A\n0 00000000\n4095 00000000\n",
+        expected: "A 0 rule 10 -\nrefused 1\n",
+    },
+    Case {
+        line: "check a.s a.cert",
+        program: JUMPS_INSIDE,
+        certificate: "cert 1\ntask A\n0 00000000\n4096 00000000\n",
+        expected: "certificate refused: 5 Shape\n",
+    },
+    Case {
+        line: "check a.s a.cert",
+        program: JUMPS_OUT,
+        certificate: "cert 1\ntask A\n0 00000000\n",
+        expected: "A 0 rule 12 -\nrefused 1\n",
+    },
+    // The certificate is none; bit 34 is no register.
+    Case {
+        line: "check a.s a.cert",
+        program: PRODUCT,
+        certificate: "cert 2\ntask A\n0 0000000400000100\n1 0000000300000000\ntask B\n2 0000000000000200\n3 0000000000000200\n4 0000000000000200\n5 0000000000000000\n6 0000000000000000\n",
+        expected: "certificate refused: 2 Line 3\n",
+    },
+    Case {
+        line: "check a.s a.cert",
+        program: COUNT,
+        certificate: "cert 1\ntask A\n",
+        expected: "certificate refused: 4 MissingTask\n",
+    },
+    Case {
+        line: "check a.s a.cert",
+        program: COUNT,
+        certificate: "cert 1\ntask A\n0 00000700\n1 00000600\n1 00000600\n2 00000400\n3 00000000\ntask B\n4 00000000\n5 00000000\n",
+        expected: "certificate refused: 5 Shape\n",
+    },
+    Case {
+        line: "check a.s a.cert",
+        program: COUNT,
+        certificate: "cert 2\ntask A\n0 00000700\n1 00000600\n2 00000400\n3 00000000\ntask B\n4 00000000\n5 00000000\n",
+        expected: "certificate refused: 2 Line 3\n",
+    },
+    Case {
+        line: "check a.s a.cert",
+        program: COUNT,
+        certificate: "cert 3\ntask A\n0 00000700\n1 00000600\n2 00000400\n3 00000000\ntask B\n4 00000000\n5 00000000\n",
+        expected: "certificate refused: 1 Header\n",
+    },
+    Case {
+        line: "check a.s a.cert",
+        program: COUNT,
+        certificate: "cert 1\ntask A\n0 00000700\n1 600\n2 00000400\n3 00000000\ntask B\n4 00000000\n5 00000000\n",
+        expected: "certificate refused: 2 Line 4\n",
+    },
+    Case {
+        line: "check a.s a.cert",
+        program: COUNT,
+        certificate: "cert 1\ntask C\n0 00000700\n1 00000600\n2 00000400\n3 00000000\ntask B\n4 00000000\n5 00000000\n",
+        expected: "certificate refused: 3 TaskName 2\n",
+    },
+    // The program is judged before the certificate.
+    Case {
+        line: "check a.s a.cert",
+        program: "foo",
+        certificate: "cert 3\n",
+        expected: "program refused: 4 Mnemonic line 1\n",
+    },
+];
 
 // A certificate in `cert 1` as it is spelled in `cert 2`: each mask with eight zeros before it.
 fn widened(alloc: Global, certificate: &str) -> Result<String, AllocError> {
@@ -23,211 +214,24 @@ fn widened(alloc: Global, certificate: &str) -> Result<String, AllocError> {
     Ok(text)
 }
 
-// Asserts what `check` writes, and the same for both spellings of the certificate.
-fn expect_check(
-    rt: &impl Abort,
-    alloc: Global,
-    line: &str,
-    program: &str,
-    certificate: &str,
-    expected: &str,
-) -> Result<(), Fail> {
-    let status = u8::from(!expected.starts_with("accepted"));
-    let program = program.as_bytes();
-    let expected = expected.as_bytes();
-    if certificate.starts_with("cert 1") {
-        let wide = widened(alloc, certificate)?;
-        expect_certified(rt, alloc, line, program, wide.as_bytes(), expected, status)?;
+// Asserts what a run writes, and that a certificate in `cert 1` gives the same in `cert 2`.
+fn expect_case(rt: &impl Abort, alloc: Global, case: &Case) -> Result<(), Fail> {
+    let status = u8::from(!case.expected.starts_with("accepted"));
+    let program = case.program.as_bytes();
+    let certificate = case.certificate.as_bytes();
+    let expected = case.expected.as_bytes();
+    if case.certificate.starts_with("cert 1") {
+        let wide = widened(alloc, case.certificate)?;
+        let wide = wide.as_bytes();
+        expect_certified(rt, alloc, case.line, program, wide, expected, status)?;
     }
-    let certificate = certificate.as_bytes();
-    expect_certified(rt, alloc, line, program, certificate, expected, status)
+    expect_certified(rt, alloc, case.line, program, certificate, expected, status)
 }
 
 #[test]
-fn accepts_programs(rt: HostRuntime) -> Result<(), Fail> {
-    for (program, certificate, expected) in [
-        (
-            COUNT,
-            COUNT_CERTIFICATE,
-            "accepted 2 tasks 6 instructions\n",
-        ),
-        (
-            RELEASE,
-            RELEASE_CERTIFICATE,
-            "accepted 2 tasks 7 instructions\n",
-        ),
-        (
-            PRODUCT,
-            PRODUCT_CERTIFICATE,
-            "accepted 2 tasks 7 instructions\n",
-        ),
-        (
-            READ_ONLY,
-            READ_ONLY_CERTIFICATE,
-            "accepted 3 tasks 8 instructions\n",
-        ),
-    ] {
-        expect_check(
-            &rt,
-            rt.alloc(),
-            "check a.s a.cert",
-            program,
-            certificate,
-            expected,
-        )?;
-    }
-    Ok(())
-}
-
-// A mask that is too small, and two that are too large, one of them with bit 34.
-#[test]
-fn finds_wrong_masks(rt: HostRuntime) -> Result<(), Fail> {
-    for (program, certificate, entry, changed, expected) in [
-        (
-            COUNT,
-            COUNT_CERTIFICATE,
-            "1 00000600",
-            "1 00000400",
-            "A 1 rule 3 $9\nrefused 1\n",
-        ),
-        (
-            COUNT,
-            COUNT_CERTIFICATE,
-            "1 00000600",
-            "1 00000700",
-            "A 0 rule 6 $8\nrefused 1\n",
-        ),
-        (
-            PRODUCT,
-            PRODUCT_CERTIFICATE,
-            "1 0000000300000000",
-            "1 0000000100000000",
-            "A 1 rule 3 $33\nrefused 1\n",
-        ),
-        (
-            PRODUCT,
-            PRODUCT_CERTIFICATE,
-            "0 0000000300000100",
-            "0 0000000400000100",
-            "certificate refused: 2 Line 3\n",
-        ),
-    ] {
-        let certificate = certificate.replace(rt.alloc(), entry, changed)?;
-        expect_check(
-            &rt,
-            rt.alloc(),
-            "check a.s a.cert",
-            program,
-            certificate.as_str(),
-            expected,
-        )?;
-    }
-    Ok(())
-}
-
-// `COUNT` with one change, and its certificate for that.
-#[test]
-fn finds_wrong_programs(rt: HostRuntime) -> Result<(), Fail> {
-    let written_again = "cert 1
-task A
-0 00000700
-1 00000700
-2 00000500
-3 00000400
-4 00000000
-task B
-5 00000000
-6 00000000
-";
-    let without_last = "cert 1
-task A
-0 00000700
-1 00000600
-2 00000400
-3 00000000
-task B
-4 00000000
-";
-    for (old, new, certificate, expected) in [
-        (
-            "slti",
-            "addiu $8,$8,0\nslti",
-            written_again,
-            "A 0 rule 6 $8\nrefused 1\n",
-        ),
-        (
-            "create=$8,$9,$10",
-            "create=$8,$9",
-            COUNT_CERTIFICATE,
-            "A 0 rule 5 $10\nrefused 1\n",
-        ),
-        (
-            "targets=A,B",
-            "targets=A",
-            COUNT_CERTIFICATE,
-            "A 3 rule 9 -\nrefused 1\n",
-        ),
-        ("halt\n", "", without_last, "B 4 rule 10 -\nrefused 1\n"),
-    ] {
-        let program = COUNT.replace(rt.alloc(), old, new)?;
-        expect_check(
-            &rt,
-            rt.alloc(),
-            "check a.s a.cert",
-            program.as_str(),
-            certificate,
-            expected,
-        )?;
-    }
-    Ok(())
-}
-
-#[test]
-fn finds_the_same_with_more_workers(rt: HostRuntime) -> Result<(), Fail> {
-    for line in [
-        "check a.s a.cert",
-        "check a.s a.cert --workers 1",
-        "check a.s a.cert --workers 3",
-        "check --workers 16 a.s a.cert",
-    ] {
-        expect_check(
-            &rt,
-            rt.alloc(),
-            line,
-            FIVE_FINDINGS,
-            FIVE_FINDINGS_CERTIFICATE,
-            "A 0 rule 5 $8
-A 0 rule 8 $8
-B 1 rule 9 -
-B 1 rule 12 -
-C 2 rule 2 -
-refused 5
-",
-        )?;
-    }
-    Ok(())
-}
-
-// A jump to the index behind the last that an instruction may have, and entries there.
-#[test]
-fn finds_the_end_of_the_code(rt: HostRuntime) -> Result<(), Fail> {
-    let inside = ".task A create=- targets=-\nA: j @4096\n";
-    let outside = ".task A create=- targets=@4096\nA: j @4096 !s\n";
-    for (program, entries, expected) in [
-        (inside, "", "A 0 rule 10 -\nrefused 1\n"),
-        (inside, "4095 00000000\n", "A 0 rule 10 -\nrefused 1\n"),
-        (inside, "4096 00000000\n", "certificate refused: 5 Shape\n"),
-        (outside, "", "A 0 rule 12 -\nrefused 1\n"),
-    ] {
-        let certificate = format!(in rt.alloc(); "cert 1\ntask A\n0 00000000\n{entries}")?;
-        expect_check(
-            &rt,
-            rt.alloc(),
-            "check a.s a.cert",
-            program,
-            certificate.as_str(),
-            expected,
-        )?;
+fn checks_programs(rt: HostRuntime) -> Result<(), Fail> {
+    for case in &CASES {
+        expect_case(&rt, rt.alloc(), case)?;
     }
     Ok(())
 }

@@ -28,6 +28,49 @@ B:
 out $9
 ";
 
+/// `COUNT` with another write of $8 in the first task.
+pub const COUNT_WRITTEN_AGAIN: &str = ".start A
+.task A create=$8,$9,$10 targets=A,B
+.task B create=- targets=-
+A:
+addiu $8,$8,1 !f
+addu $9,$9,$8 !f
+addiu $8,$8,0
+slti $10,$8,4
+bne $10,$0,A !s
+B:
+out $9
+halt
+";
+
+/// `COUNT` with $10 left out of the create mask.
+pub const COUNT_CREATES_LESS: &str = ".start A
+.task A create=$8,$9 targets=A,B
+.task B create=- targets=-
+A:
+addiu $8,$8,1 !f
+addu $9,$9,$8 !f
+slti $10,$8,4
+bne $10,$0,A !s
+B:
+out $9
+halt
+";
+
+/// `COUNT` with a target left out.
+pub const COUNT_LISTS_LESS: &str = ".start A
+.task A create=$8,$9,$10 targets=A
+.task B create=- targets=-
+A:
+addiu $8,$8,1 !f
+addu $9,$9,$8 !f
+slti $10,$8,4
+bne $10,$0,A !s
+B:
+out $9
+halt
+";
+
 /// `COUNT` with other names of the registers, hexadecimal, labels on the instructions' lines, and
 /// CR LF.
 pub const COUNT_OTHERWISE: &str = ".start A\r
@@ -170,6 +213,18 @@ task A
 task B
 4 0000000000000000
 5 0000000000000000
+";
+
+/// That of `COUNT` without $9 in the mask of the instruction that writes it.
+pub const COUNT_CERTIFICATE_LACKING: &str = "cert 1
+task A
+0 00000700
+1 00000400
+2 00000400
+3 00000000
+task B
+4 00000000
+5 00000000
 ";
 
 /// The certificate of `RELEASE`.
