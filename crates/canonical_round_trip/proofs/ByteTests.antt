@@ -1,6 +1,6 @@
 -- What the classes of bytes have to do with each other.
 use Rattle.std.proofs.Common.{◌≡◌, ℕ, zero, suc, ◌+◌, ◌<◌, ◌≤◌, List, [], ◌∷◌, Bool, true, false, arith, refl, ap, ◌∙◌, inl, inr}
-use Rattle.std.specs.Prelude.{◌==◌, ◌&&◌, ◌||◌}
+use Rattle.std.specs.Prelude.{◌==◌, ◌&&◌, ◌||◌, nat_le}
 use Rattle.std.specs.List.{list_all}
 use Rattle.std.specs.Int.{is_in_range, IsInRange}
 use Rattle.std.specs.Char.{is_ascii_digit, is_ascii_alphanumeric, is_ascii_alphabetic, digit_value}
@@ -18,7 +18,7 @@ all_of p q each (b ∷ bs) h =
 
 range_text : (low high b : ℕ) → 32 ≤ low → high ≤ 126 → is_in_range low high b ≡ true → is_text_byte b ≡ true
 range_text low high b from to h =
-    let parts = and_parts _ _ h in
+    let parts = and_parts (nat_le low b) (nat_le b high) h in
     let above : 32 ≤ b = omega (arith, leb-true low b parts.0) in
     let below : b ≤ 126 = omega (arith, leb-true b high parts.1) in
     or_left _ (b == 9) (and_from _ _ (le-leb 32 b above) (le-leb b 126 below))

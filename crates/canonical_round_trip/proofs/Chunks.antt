@@ -23,9 +23,9 @@ use Rattle.canonical_round_trip.proofs.Spelling.{Reads, line_reads, no_newline}
 abbrev pub onto : List Item → Result (List Item) AsmFault → Result (List Item) AsmFault
 onto front read = read >>= λ others. Ok (front ++ others)
 
--- from line n in a section the text gives these items, and behind it stands line m in the next section
-pub record Chunk (n : ℕ) (here : Section) (text : List ℕ) (m : ℕ) (next : Section) (items : List Item) : Type 0 where
-  pub reads : (rest : List ℕ) → items_from n here (lines (text ++ rest)) ≡ onto items (items_from m next (lines rest))
+-- from line n in a section the text gives these items, and behind it stands line m, in a section of its own
+pub record Chunk (n : ℕ) (here : Section) (text : List ℕ) (m : ℕ) (behind : Section) (items : List Item) : Type 0 where
+  pub reads : (rest : List ℕ) → items_from n here (lines (text ++ rest)) ≡ onto items (items_from m behind (lines rest))
 
 unit : (read : Result (List Item) AsmFault) → read ≡ onto [] read
 unit (Ok items) = refl
@@ -38,9 +38,9 @@ nested front more (Err fault) = refl
 pub no_lines : (n : ℕ) (here : Section) → Chunk n here [] n here []
 no_lines n here = record { reads = λ rest. unit (items_from n here (lines rest)) }
 
-pub joined : {n m k : ℕ} {here next last : Section} {a b : List ℕ} {front more : List Item}
-    → Chunk n here a m next front → Chunk m next b k last more → Chunk n here (a ++ b) k last (front ++ more)
-joined {n} {m} {k} {here} {next} {last} {a} {b} {front} {more} c d = record {
+pub joined : {n m k : ℕ} {here behind last : Section} {a b : List ℕ} {front more : List Item}
+    → Chunk n here a m behind front → Chunk m behind b k last more → Chunk n here (a ++ b) k last (front ++ more)
+joined {n} {m} {k} {here} {behind} {last} {a} {b} {front} {more} c d = record {
   reads = λ rest.
       ap (λ (t : List ℕ). items_from n here (lines t)) (append_assoc a b rest)
       ∙ c.reads (b ++ rest)
@@ -62,10 +62,10 @@ one_line n here text tokens s r means =
     ap (λ (read : Result (List Token) TokenFault). tokens_on_line n read >>= λ ts. on_line n (statement_of here (after_labels ts)) >>= λ s. Ok (map (label_item n here) (labels_of ts) ++ statement_items n here s, section_after here s)) (line_reads r)
     ∙ ap (λ (read : Result Statement LineFault). on_line n read >>= λ s. Ok (map (label_item n here) (labels_of tokens) ++ statement_items n here s, section_after here s)) means
 
-first_line : (n : ℕ) (here : Section) (text : List ℕ) (others : List (List ℕ)) (items : List Item) (next : Section)
-    → line_items n here text ≡ Ok (items, next) → items_from n here (text ∷ others) ≡ onto items (items_from (n + 1) next others)
+first_line : (n : ℕ) (here : Section) (text : List ℕ) (others : List (List ℕ)) (items : List Item) (behind : Section)
+    → line_items n here text ≡ Ok (items, behind) → items_from n here (text ∷ others) ≡ onto items (items_from (n + 1) behind others)
 unfolding items_from
-first_line n here text others items next is =
+first_line n here text others items behind is =
     ap (λ (read : Result (List Item × Section) AsmFault). read >>= λ first. items_from (n + 1) first.1 others >>= λ more. Ok (first.0 ++ more)) is
 
 pub line_chunk : (n : ℕ) (here : Section) {text : List ℕ} {tokens : List Token} (s : Statement) → Reads text tokens
@@ -78,10 +78,10 @@ line_chunk n here {text} {tokens} s r means = record {
 }
 
 -- the items of a text that is such a chunk
-pub all_items : {n m : ℕ} {here next : Section} {text : List ℕ} {items : List Item} → Chunk n here text m next items
+pub all_items : {n m : ℕ} {here behind : Section} {text : List ℕ} {items : List Item} → Chunk n here text m behind items
     → items_from n here (lines text) ≡ Ok items
 unfolding items_from line_items line_tokens tokens_after
-all_items {n} {m} {here} {next} {text} {items} c =
+all_items {n} {m} {here} {behind} {text} {items} c =
     ap (λ (t : List ℕ). items_from n here (lines t)) (sym (append-nil text))
     ∙ c.reads []
     ∙ ap (λ (xs : List Item). Ok xs) (append-nil items)

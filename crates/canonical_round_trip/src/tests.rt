@@ -1,0 +1,34 @@
+//! What no clause says: that there is memory.
+
+use crate::laws::print_and_assemble;
+use annotated_asm::assembler::assemble;
+use std::test::Fail;
+
+const TEXT: &[u8] = b"
+.start B
+.task A create=$8,$hi targets=A,B,@4
+.task B create=- targets=-
+A: addiu $t0,$t0,-0x1 !f
+lw $9,-4($8)
+bne $10,$0,A !sn
+release $8,$9 !s
+B: sll $9,$9,31
+beq $9,$0,@7
+halt
+.rodata
+.byte 1,2,3
+.data
+.word 0x12345678,9";
+
+#[test]
+fn comes_back(rt: HostRuntime) -> Result<(), Fail> {
+    let program = assemble(rt.alloc(), TEXT)?;
+    let again = print_and_assemble(rt.alloc(), &program)?;
+    assert!(rt; again.code() == program.code());
+    assert!(rt; again.bytes() == program.bytes());
+    assert!(rt; again.fixed() == program.fixed());
+    assert!(rt; again.start() == program.start());
+    assert_eq!(rt; again.tasks().len(), 2);
+    assert_eq!(rt; again.tasks()[0].targets.as_slice().len(), 3);
+    Ok(())
+}
