@@ -1,7 +1,7 @@
 -- A line of code, with its marks, is read as that instruction.
-use Rattle.std.proofs.Common.{◌≡◌, ℕ, List, [], ◌∷◌, ◌++◌, Bool, true, false, Option, Some, None, Result, Ok, Err, map, refl, ap, sym, ◌∙◌, subst}
-use Rattle.std.specs.Prelude.{◌==◌, ◌||◌, find, not, reverse, length, pos}
-use Rattle.std.specs.List.{list_all, list_any, AllByRecursion as All}
+use Rattle.std.proofs.Common.{◌≡◌, ℕ, List, [], ◌∷◌, ◌++◌, Bool, true, false, Option, Some, None, Result, Ok, refl, ap, sym, ◌∙◌}
+use Rattle.std.specs.Prelude.{◌==◌, find, reverse, length}
+use Rattle.std.specs.List.{list_all, list_any}
 use Rattle.std.proofs.lemmas.Bool.{and_parts, and_from, or_from, false≢true}
 use Rattle.mips_plain.specs.declared.instruction.Op.{Op}
 use Rattle.mips_plain.specs.declared.instruction.Op.TheVariants.{Three, ShiftBy, ShiftVar, Imm, Logic, Lui, Mult, MoveFrom, MoveTo, Load, Store, BranchTwo, BranchOne, Jump, JumpLink, JumpReg, JumpLinkReg, Out, Release, Halt}
@@ -14,7 +14,7 @@ use Rattle.program_tokens.specs.declared.token.Token.{Token}
 use Rattle.program_tokens.specs.declared.token.Token.TheVariants as token
 use Rattle.canonical_text.specs.CanonicalText.{members}
 use Rattle.annotated_asm.specs.Steps.{◌>>=◌}
-use Rattle.annotated_asm.specs.Statements.{is_mark, labels_of, after_labels, marks_after, no_marks, unmarked, with_marks, statement_of}
+use Rattle.annotated_asm.specs.Statements.{is_mark, labels_of, after_labels, no_marks, unmarked, with_marks, statement_of}
 use Rattle.annotated_asm.specs.declared.fault.LineFault.{LineFault}
 use Rattle.annotated_asm.specs.declared.statement.Section.TheVariants as section
 use Rattle.annotated_asm.specs.declared.statement.Marks.{Marks}

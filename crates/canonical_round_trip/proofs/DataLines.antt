@@ -1,7 +1,7 @@
 -- Lines of data, and the directives of sections, are read as what they say.
-use Rattle.std.proofs.Common.{◌≡◌, ℕ, zero, suc, ◌+◌, ◌*◌, ◌<◌, ◌≤◌, ◌^◌, List, [], ◌∷◌, ◌++◌, Bool, true, false, cond, Result, Ok, Err, length, get_or, arith, refl, ap, sym, ◌∙◌}
+use Rattle.std.proofs.Common.{◌≡◌, ℕ, zero, suc, ◌+◌, ◌*◌, ◌<◌, ◌^◌, List, [], ◌∷◌, ◌++◌, Result, Ok, Err, get_or, arith, refl, ap, ◌∙◌}
 use Rattle.std.specs.Prelude.{codes, pos, nat_lt}
-use Rattle.std.specs.Int.{w32, to_le_bytes, from_le_bytes}
+use Rattle.std.specs.Int.{w32, to_le_bytes}
 use Rattle.std.proofs.lemmas.Bool.{lt-ltb, cond-true}
 use Rattle.std.proofs.lemmas.List.{append-nil}
 use Rattle.std.proofs.lemmas.Nat.{le_bytes_4}
@@ -10,16 +10,13 @@ use Rattle.program_tokens.specs.declared.token.Token.{Token}
 use Rattle.program_tokens.specs.declared.token.Token.TheVariants as token
 use Rattle.program_tokens.specs.declared.token.Directive.{Directive}
 use Rattle.program_tokens.specs.declared.token.Directive.TheVariants as directive
-use Rattle.program_tokens.specs.declared.token.Number.{Number}
 use Rattle.program_tokens.specs.declared.token.Number.TheVariants.{Small}
 use Rattle.canonical_text.specs.CanonicalText.{hexadecimal}
 use Rattle.annotated_asm.specs.Steps.{◌>>=◌}
-use Rattle.annotated_asm.specs.Ranges.{word, byte}
 use Rattle.annotated_asm.specs.Statements.{numbers_of, words_of, bytes_of, word_statement, byte_statement, statement_of, in_data, with_marks}
 use Rattle.annotated_asm.specs.declared.fault.LineFault.{LineFault}
 use Rattle.annotated_asm.specs.declared.fault.LineFault.TheVariants as fault
 use Rattle.annotated_asm.specs.declared.statement.Section.{Section}
-use Rattle.annotated_asm.specs.declared.statement.Section.TheVariants as section
 use Rattle.annotated_asm.specs.declared.statement.Statement.{Statement}
 use Rattle.annotated_asm.specs.declared.statement.Statement.TheVariants as statement
 use Rattle.canonical_round_trip.proofs.Spelling.{Reads, blank, joined, directive_stops, token as one_token}

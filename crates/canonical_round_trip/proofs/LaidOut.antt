@@ -1,7 +1,7 @@
 -- The layout of a canonical text's items: nothing is defined twice, and each task's label stands at its
 -- entry.
-use Rattle.std.proofs.Common.{◌≡◌, ℕ, zero, suc, ◌+◌, ◌-◌, ◌^◌, ◌<◌, ◌≤◌, List, [], ◌∷◌, ◌++◌, Bool, true, false, cond, Option, Some, None, Result, Ok, Err, length, map, arith, refl, ap, sym, subst, ◌∙◌, append_assoc}
-use Rattle.std.specs.Prelude.{◌==◌, ◌||◌, find, slice_get, is_some, min, nat_lt}
+use Rattle.std.proofs.Common.{◌≡◌, ℕ, ◌+◌, ◌≤◌, List, [], ◌∷◌, ◌++◌, Bool, false, Option, Some, None, Result, Ok, Err, length, map, arith, refl, ap, sym, ◌∙◌, append_assoc}
+use Rattle.std.specs.Prelude.{◌==◌, find, slice_get, is_some}
 use Rattle.std.specs.List.{list_any, AllByRecursion as All}
 use Rattle.std.specs.Str.{bytes_eq}
 use Rattle.std.proofs.lemmas.Bool.{or_parts, or_from, cond-false, eqb-true, le-ltb}
@@ -20,10 +20,9 @@ use Rattle.annotated_asm.specs.declared.layout.Sizes.{Sizes}
 use Rattle.annotated_asm.specs.declared.statement.Item.{Item}
 use Rattle.annotated_asm.specs.declared.statement.Section.{Section}
 use Rattle.annotated_asm.specs.declared.statement.Section.TheVariants as section
-use Rattle.annotated_asm.specs.declared.statement.Statement.TheVariants as statement
 use Rattle.annotated_asm.specs.declared.table.Symbol.{Symbol}
 use Rattle.canonical_round_trip.proofs.Meanings.{written}
-use Rattle.canonical_round_trip.proofs.Layouts.{IsFound, found, swap_bytes, code_symbol, label_rows, rows, lookup-append, other_label}
+use Rattle.canonical_round_trip.proofs.Layouts.{found, swap_bytes, code_symbol, label_rows, rows, lookup-append, other_label}
 use Rattle.canonical_round_trip.proofs.SourceItems.{item, start_items, behind_one, task_items, behind_tasks, label_items, code_statement, code_items, behind_code, byte_items, data_items, section_items, behind_section, section_behind, items}
 
 -- One list of items behind another.

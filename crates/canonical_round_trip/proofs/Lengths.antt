@@ -1,5 +1,5 @@
 -- A canonical text is shorter than the longest text that is read.
-use Rattle.std.proofs.Common.{◌≡◌, ℕ, zero, suc, ◌+◌, ◌*◌, ◌<◌, ◌≤◌, ◌^◌, List, [], ◌∷◌, ◌++◌, Bool, true, false, cond, Option, Some, None, length, map, arith, refl, ap, sym, subst, ◌∙◌, length-append}
+use Rattle.std.proofs.Common.{◌≡◌, ℕ, suc, ◌+◌, ◌*◌, ◌<◌, ◌≤◌, ◌^◌, List, [], ◌∷◌, ◌++◌, Bool, true, false, Option, Some, None, length, map, arith, refl, ap, subst, ◌∙◌, length-append}
 use Rattle.std.specs.Prelude.{◌==◌, ℤ, pos, negsuc, find, filter, IfSome, codes}
 use Rattle.std.specs.List.{flat_map, AllByRecursion as All}
 use Rattle.std.specs.Fmt.{decimal, signed_decimal}

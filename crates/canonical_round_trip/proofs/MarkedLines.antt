@@ -1,6 +1,6 @@
 -- The marks at the end of a line are told apart from the tokens before them.
-use Rattle.std.proofs.Common.{◌≡◌, ℕ, suc, ◌+◌, ◌-◌, List, [], ◌∷◌, ◌++◌, Bool, true, false, cond, Result, Ok, Err, length, take, drop, arith, refl, ap, sym, ◌∙◌, length-append}
-use Rattle.std.specs.Prelude.{reverse, not, take_while}
+use Rattle.std.proofs.Common.{◌≡◌, ◌+◌, ◌-◌, List, [], ◌∷◌, ◌++◌, Bool, true, false, length, take, drop, arith, refl, ap, sym, ◌∙◌, length-append}
+use Rattle.std.specs.Prelude.{reverse, take_while}
 use Rattle.std.specs.List.{list_all, list_any, prefix_len}
 use Rattle.std.proofs.Math.Seq.{take-append_seam, drop-append_seam}
 use Rattle.std.proofs.lemmas.Bool.{and_parts, or_parts, cond-true, cond-false}

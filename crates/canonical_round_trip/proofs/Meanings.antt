@@ -1,7 +1,7 @@
 -- The tokens of an instruction mean that instruction.
-use Rattle.std.proofs.Common.{◌≡◌, ℕ, ◌+◌, ◌<◌, ◌≤◌, ◌^◌, List, [], ◌∷◌, ◌++◌, Bool, true, false, cond, Option, Some, None, Result, Ok, Err, map, arith, refl, ap, sym, ◌∙◌}
-use Rattle.std.specs.Prelude.{◌==◌, ◌||◌, ℤ, pos, negsuc, find, filter, IfSome, codes, nat_lt, nat_le, reverse, length}
-use Rattle.std.specs.List.{AllByRecursion as All, list_all, list_any}
+use Rattle.std.proofs.Common.{◌≡◌, ℕ, ◌<◌, ◌≤◌, ◌^◌, List, [], ◌∷◌, Bool, true, false, cond, Option, Some, None, Result, Ok, Err, arith, refl, ap, sym, ◌∙◌}
+use Rattle.std.specs.Prelude.{◌==◌, ◌||◌, ℤ, pos, negsuc, find, filter, codes, nat_lt, nat_le}
+use Rattle.std.specs.List.{list_any}
 use Rattle.std.proofs.lemmas.Bool.{lt-ltb, le-leb, cond-true, false≢true, and_parts}
 use Rattle.mips_plain.specs.declared.instruction.ThreeKind.{ThreeKind}
 use Rattle.mips_plain.specs.declared.instruction.ThreeKind.TheVariants.{Addu, Subu, And, Or, Xor, Nor, Slt, Sltu}
@@ -30,8 +30,6 @@ use Rattle.mips_plain.specs.declared.instruction.BranchOneKind.TheVariants.{Blez
 use Rattle.mips_plain.specs.declared.instruction.Op.{Op}
 use Rattle.mips_plain.specs.declared.instruction.Op.TheVariants.{Three, ShiftBy, ShiftVar, Imm, Logic, Lui, Mult, MoveFrom, MoveTo, Load, Store, BranchTwo, BranchOne, Jump, JumpLink, JumpReg, JumpLinkReg, Out, Release, Halt}
 use Rattle.task_descriptor.specs.declared.descriptor.Descriptor.{Descriptor}
-use Rattle.task_descriptor.specs.declared.descriptor.Stop.{Stop}
-use Rattle.task_descriptor.specs.declared.descriptor.Stop.TheVariants as stop
 use Rattle.program_tokens.specs.declared.token.Token.{Token}
 use Rattle.program_tokens.specs.declared.token.Token.TheVariants as token
 use Rattle.program_tokens.specs.declared.token.Number.TheVariants.{Small}
@@ -49,7 +47,6 @@ use Rattle.annotated_asm.specs.declared.statement.Target.{Target}
 use Rattle.annotated_asm.specs.declared.statement.Target.TheVariants as target
 use Rattle.annotated_asm.specs.declared.statement.Instruction.{Instruction}
 use Rattle.annotated_asm.specs.declared.statement.Instruction.TheVariants as instruction
-use Rattle.annotated_asm.specs.declared.statement.Statement.{Statement}
 use Rattle.annotated_asm.specs.declared.statement.Statement.TheVariants as statement
 use Rattle.annotated_asm.specs.Ranges.{signed_half}
 use Rattle.annotated_asm.specs.Statements.{with_registers, registers_of}

@@ -1,11 +1,11 @@
 -- Numbers are read back from the digits that `decimal` and `hexadecimal` write.
-use Rattle.std.proofs.Common.{◌≡◌, ℕ, zero, suc, ◌+◌, ◌*◌, ◌/◌, ◌%◌, ◌^◌, ◌<◌, ◌≤◌, List, [], ◌∷◌, ◌++◌, Bool, true, false, cond, Option, Some, None, length, take, drop, get_or, arith, refl, ap, sym, subst, ◌∙◌, length-append}
-use Rattle.std.specs.Prelude.{◌==◌, ◌&&◌, ◌||◌, nat_lt, nat_eq, slice_index, codes}
+use Rattle.std.proofs.Common.{◌≡◌, ℕ, zero, suc, ◌*◌, ◌/◌, ◌%◌, ◌^◌, ◌<◌, List, [], ◌∷◌, ◌++◌, true, false, Some, None, length, drop, arith, refl, ap, ◌∙◌, length-append}
+use Rattle.std.specs.Prelude.{◌&&◌, nat_lt, nat_eq, slice_index, codes}
 use Rattle.std.specs.List.{list_all, starts_with}
 use Rattle.std.specs.Char.{is_ascii_digit, is_ascii_alphanumeric, is_digit, digit_value}
 use Rattle.std.specs.Str.Parse.{AllDigits, digits_value}
 use Rattle.std.specs.Fmt.{decimal, digit_glyph}
-use Rattle.std.proofs.lemmas.Bool.{and_parts, and_from, and_left, and_right, lt-ltb, le-ltb, ne_eqb, false≢true, cond-true, cond-false}
+use Rattle.std.proofs.lemmas.Bool.{and_parts, and_from, and_left, and_right, lt-ltb, ne_eqb, false≢true, cond-true, cond-false}
 use Rattle.std.proofs.lemmas.Fmt.{decimal_is_IsNumeral, decimal_digit, first_decimal}
 use Rattle.std.proofs.lemmas.Int.Digits.{digits_value_push}
 use Rattle.std.proofs.lemmas.List.Folds.{list_all-append}
@@ -13,7 +13,6 @@ use Rattle.std.proofs.lemmas.Str.Parse.{digit_from_value}
 use Rattle.program_tokens.specs.Numbers.{begins_with_digit, number_in, magnitude_of}
 use Rattle.program_tokens.specs.Registers.{has_leading_zero}
 use Rattle.canonical_text.specs.CanonicalText.{hexadecimal}
-use Rattle.canonical_round_trip.proofs.Spelling.{differs}
 use Rattle.canonical_round_trip.proofs.ByteTests.{digit_of_range, glyph_alphanumeric, glyph_value}
 
 -- decimal digits, and the number that they write

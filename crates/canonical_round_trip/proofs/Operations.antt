@@ -1,5 +1,5 @@
 -- An instruction's text is read back as the tokens of its name and operands.
-use Rattle.std.proofs.Common.{◌≡◌, ℕ, ◌+◌, ◌<◌, ◌≤◌, ◌^◌, List, [], ◌∷◌, ◌++◌, Bool, true, false, cond, Option, Some, None, map, arith, refl, ap, sym, ◌∙◌}
+use Rattle.std.proofs.Common.{◌≡◌, ℕ, ◌<◌, ◌≤◌, ◌^◌, List, [], ◌∷◌, ◌++◌, Bool, true, false, Option, Some, None, map, arith, refl, sym}
 use Rattle.std.specs.Prelude.{◌==◌, ℤ, pos, find, filter, IfSome, codes, nat_lt}
 use Rattle.std.specs.List.{AllByRecursion as All}
 use Rattle.std.proofs.lemmas.Bool.{cond_both, ltb-true}
@@ -40,7 +40,6 @@ use Rattle.task_descriptor.specs.declared.descriptor.Stop.TheVariants as stop
 use Rattle.program_tokens.specs.Grammar.{kind_of, token_of}
 use Rattle.program_tokens.specs.declared.token.Token.{Token}
 use Rattle.program_tokens.specs.declared.token.Token.TheVariants as token
-use Rattle.program_tokens.specs.declared.token.Mark.{Mark}
 use Rattle.program_tokens.specs.declared.token.Mark.TheVariants as mark
 use Rattle.program_tokens.specs.declared.token.Number.TheVariants.{Small}
 use Rattle.canonical_text.specs.CanonicalText.{commas, spelled, based, register_text, members, place_named, place_text, op_text, forward_text, stop_text, three_name, shift_by_name, shift_var_name, imm_name, logic_name, mult_name, move_from_name, move_to_name, load_name, store_name, branch_two_name, branch_one_name}

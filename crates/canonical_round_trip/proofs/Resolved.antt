@@ -1,8 +1,8 @@
 -- Every name of a canonical text is a label of code, and the items become the program again.
-use Rattle.std.proofs.Common.{◌≡◌, ℕ, zero, suc, ◌+◌, ◌<◌, ◌≤◌, List, [], ◌∷◌, ◌++◌, Bool, true, false, cond, Option, Some, None, Result, Ok, Err, length, map, arith, refl, ap, sym, subst, ◌∙◌, append_assoc}
-use Rattle.std.specs.Prelude.{◌==◌, ◌&&◌, find, is_some, nat_le, IfSome}
+use Rattle.std.proofs.Common.{◌≡◌, ℕ, ◌+◌, ◌≤◌, List, [], ◌∷◌, ◌++◌, Bool, true, false, cond, Option, Some, None, Result, Ok, Err, map, refl, ap, sym, ◌∙◌, append_assoc}
+use Rattle.std.specs.Prelude.{◌==◌, find, is_some, nat_le, IfSome}
 use Rattle.std.specs.List.{list_all, AllByRecursion as All}
-use Rattle.std.proofs.lemmas.Bool.{and_from, cond-true, cond-false, cases_Bool, eqb-true, le-leb}
+use Rattle.std.proofs.lemmas.Bool.{and_from, cond-true, eqb-true, le-leb}
 use Rattle.std.proofs.lemmas.List.{append-nil}
 use Rattle.mips_plain.specs.declared.instruction.Op.{Op}
 use Rattle.mips_plain.specs.declared.instruction.Op.TheVariants.{Three, ShiftBy, ShiftVar, Imm, Logic, Lui, Mult, MoveFrom, MoveTo, Load, Store, BranchTwo, BranchOne, Jump, JumpLink, JumpReg, JumpLinkReg, Out, Release, Halt}
@@ -17,9 +17,7 @@ use Rattle.annotated_asm.specs.declared.fault.AsmFault.TheVariants as fault
 use Rattle.annotated_asm.specs.declared.statement.Item.{Item}
 use Rattle.annotated_asm.specs.declared.statement.Section.{Section}
 use Rattle.annotated_asm.specs.declared.statement.Section.TheVariants as section
-use Rattle.annotated_asm.specs.declared.statement.Statement.{Statement}
 use Rattle.annotated_asm.specs.declared.statement.Statement.TheVariants as statement
-use Rattle.annotated_asm.specs.declared.statement.Target.{Target}
 use Rattle.task_descriptor.specs.declared.program.BuildFault.TheVariants.{TooMany}
 use Rattle.canonical_round_trip.proofs.Operations.{found_passes}
 use Rattle.canonical_round_trip.proofs.Meanings.{target_named, target_of, written}

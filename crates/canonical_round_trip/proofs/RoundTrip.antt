@@ -1,9 +1,9 @@
 -- The canonical text of a well-formed program is read back as that program.
-use Rattle.std.proofs.Common.{◌≡◌, ℕ, zero, suc, ◌+◌, ◌<◌, ◌≤◌, ◌^◌, List, [], ◌∷◌, ◌++◌, Bool, true, false, cond, Option, Some, None, Result, Ok, Err, length, arith, refl, ap, sym, ◌∙◌, inl, inr}
+use Rattle.std.proofs.Common.{◌≡◌, ℕ, suc, ◌+◌, ◌<◌, ◌≤◌, ◌^◌, List, [], ◌∷◌, Bool, true, false, cond, Some, None, Result, Ok, Err, length, arith, refl, ap, sym, ◌∙◌, inl, inr}
 use Rattle.std.specs.Prelude.{◌==◌, ◌&&◌, ◌||◌, not, find, slice_get, is_some, nat_lt}
 use Rattle.std.specs.List.{list_any, position, position_or_len, All as AllAt, AllByRecursion as All}
 use Rattle.std.proofs.lemmas.Bool.{or_parts, cond-false, le-ltb, cases_lt, lt-ltb, cond-true, not-false}
-use Rattle.std.proofs.lemmas.List.Elements.{recursion_from_All, All-weaker}
+use Rattle.std.proofs.lemmas.List.Elements.{recursion_from_All}
 use Rattle.task_descriptor.specs.Names.{is_name}
 use Rattle.task_descriptor.specs.Listing.{Listing, IsWellFormed, build_fault, is_bad_mark, release_fits, stop_fits, has_destination}
 use Rattle.task_descriptor.specs.WellFormed.{passes, limits, entry_below, start_is_entry}
@@ -14,7 +14,7 @@ use Rattle.canonical_text.specs.CanonicalText.{canonical_text}
 use Rattle.annotated_asm.specs.Steps.{◌>>=◌}
 use Rattle.annotated_asm.specs.Items.{items_from}
 use Rattle.annotated_asm.specs.Layout.{laid, no_layout, is_beyond}
-use Rattle.annotated_asm.specs.Resolve.{index_of_symbol, code_label, known, parts, no_parts}
+use Rattle.annotated_asm.specs.Resolve.{index_of_symbol, code_label, parts, no_parts}
 use Rattle.annotated_asm.specs.ProgramText.{built, program_of, parse}
 use Rattle.annotated_asm.specs.declared.fault.AsmFault.{AsmFault}
 use Rattle.annotated_asm.specs.declared.fault.AsmFault.TheVariants as fault

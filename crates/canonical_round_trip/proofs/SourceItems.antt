@@ -1,10 +1,9 @@
 -- The items of a canonical text, line by line.
-use Rattle.std.proofs.Common.{◌≡◌, ℕ, zero, suc, ◌+◌, ◌*◌, ◌<◌, ◌≤◌, List, [], ◌∷◌, ◌++◌, Bool, true, false, Option, Some, None, Result, Ok, Err, map, refl, ap, sym, ◌∙◌}
+use Rattle.std.proofs.Common.{ℕ, ◌+◌, List, [], ◌∷◌, ◌++◌, Option, Some, None, map}
 use Rattle.std.specs.Prelude.{◌==◌, find}
 use Rattle.task_descriptor.specs.Listing.{Listing}
 use Rattle.task_descriptor.specs.declared.descriptor.Marked.{Marked}
 use Rattle.task_descriptor.specs.declared.descriptor.Descriptor.{Descriptor}
-use Rattle.canonical_text.specs.CanonicalText.{members}
 use Rattle.annotated_asm.specs.declared.statement.Item.{Item}
 use Rattle.annotated_asm.specs.declared.statement.Section.{Section}
 use Rattle.annotated_asm.specs.declared.statement.Section.TheVariants as section

@@ -1,7 +1,7 @@
 -- Texts that are read as their tokens wherever they stand before bytes that go on no token, and how such
 -- texts are put together from the right.
-use Rattle.std.proofs.Common.{◌≡◌, ℕ, zero, suc, ◌+◌, ◌-◌, List, [], ◌∷◌, ◌++◌, Bool, true, false, cond, Option, Some, None, Result, Ok, Err, length, take, refl, ap, sym, ◌∙◌, append_assoc, subst, ne_eqb, inl, inr}
-use Rattle.std.specs.Prelude.{◌==◌, ◌&&◌, ◌||◌, not, slice_index}
+use Rattle.std.proofs.Common.{◌≡◌, ℕ, zero, suc, ◌+◌, ◌-◌, List, [], ◌∷◌, ◌++◌, Bool, true, false, cond, Option, Some, Result, Ok, Err, length, take, refl, ap, sym, ◌∙◌, append_assoc, ne_eqb, inl, inr}
+use Rattle.std.specs.Prelude.{◌==◌, not, slice_index}
 use Rattle.std.specs.List.{list_all, prefix_len, All}
 use Rattle.std.specs.Str.{byte}
 use Rattle.std.specs.Char.{is_ascii_alphanumeric, is_ascii_lowercase}

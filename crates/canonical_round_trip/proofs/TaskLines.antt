@@ -1,8 +1,8 @@
 -- The line of a task is read as that task.
-use Rattle.std.proofs.Common.{◌≡◌, ℕ, ◌≤◌, ◌<◌, ◌^◌, List, [], ◌∷◌, ◌++◌, Bool, true, false, cond, Option, Some, None, Result, Ok, Err, map, refl, ap, sym, ◌∙◌, subst, append_assoc}
-use Rattle.std.specs.Prelude.{◌==◌, ◌&&◌, find, nat_le, pos, codes, reverse, length}
-use Rattle.std.specs.List.{list_all, list_any, AllByRecursion as All}
-use Rattle.std.proofs.lemmas.Bool.{and_parts, and_from, le-leb, cond-true, false≢true}
+use Rattle.std.proofs.Common.{◌≡◌, ℕ, ◌≤◌, ◌<◌, ◌^◌, List, [], ◌∷◌, ◌++◌, true, Option, Some, None, Result, Ok, map, refl, ap, sym, ◌∙◌, append_assoc}
+use Rattle.std.specs.Prelude.{◌==◌, find, nat_le, pos, codes}
+use Rattle.std.specs.List.{list_all, AllByRecursion as All}
+use Rattle.std.proofs.lemmas.Bool.{and_from, le-leb}
 use Rattle.std.proofs.lemmas.List.{append-nil}
 use Rattle.std.proofs.lemmas.List.Folds.{list_all-append}
 use Rattle.task_descriptor.specs.Names.{is_name}
@@ -14,16 +14,14 @@ use Rattle.program_tokens.specs.declared.token.Directive.TheVariants as directiv
 use Rattle.program_tokens.specs.declared.token.Number.TheVariants.{Small}
 use Rattle.canonical_text.specs.CanonicalText.{line, listed, register_text, members, place_text, task_line}
 use Rattle.annotated_asm.specs.Steps.{◌>>=◌}
-use Rattle.annotated_asm.specs.Statements.{registers_of, registers_at, with_registers, places_of, targets_of, create_at, targets_at, task_of, unmarked, with_marks, statement_of, after_labels, labels_of}
+use Rattle.annotated_asm.specs.Statements.{registers_at, with_registers, places_of, targets_of, create_at, targets_at, task_of, with_marks, statement_of}
 use Rattle.annotated_asm.specs.declared.fault.LineFault.{LineFault}
-use Rattle.annotated_asm.specs.declared.fault.LineFault.TheVariants as fault
 use Rattle.annotated_asm.specs.declared.operand.Operand.{Operand}
 use Rattle.annotated_asm.specs.declared.operand.Operand.TheVariants as operand
 use Rattle.annotated_asm.specs.declared.statement.Section.TheVariants as section
 use Rattle.annotated_asm.specs.declared.statement.Target.{Target}
 use Rattle.annotated_asm.specs.declared.statement.Target.TheVariants as target
 use Rattle.annotated_asm.specs.declared.statement.Statement.{Statement}
-use Rattle.annotated_asm.specs.declared.statement.Statement.TheVariants as statement
 use Rattle.canonical_round_trip.proofs.Spelling.{Reads, blank, joined, directive_stops, token as one_token}
 use Rattle.canonical_round_trip.proofs.Pieces.{name_reads, equals, minus}
 use Rattle.canonical_round_trip.proofs.Operations.{ReadEach, done, more, comma_tokens, commas_read, register_tokens, registers_read, members_below, place_token_named, place_token, place_reads}

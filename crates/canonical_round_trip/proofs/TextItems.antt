@@ -1,29 +1,23 @@
 -- A canonical text is read as its items.
-use Rattle.std.proofs.Common.{◌≡◌, ℕ, zero, suc, ◌+◌, ◌*◌, ◌<◌, ◌≤◌, ◌^◌, List, [], ◌∷◌, ◌++◌, Bool, true, false, Option, Some, None, Result, Ok, Err, map, arith, refl, ap, sym, subst, ◌∙◌}
+use Rattle.std.proofs.Common.{◌≡◌, ℕ, ◌+◌, ◌*◌, ◌<◌, ◌≤◌, ◌^◌, List, [], ◌∷◌, ◌++◌, true, Option, Some, None, Ok, map, arith, refl, sym, subst}
 use Rattle.std.specs.Prelude.{◌==◌, find, IfSome, codes}
 use Rattle.std.specs.List.{flat_map, AllByRecursion as All}
 use Rattle.task_descriptor.specs.Names.{is_name}
 use Rattle.task_descriptor.specs.Listing.{Listing, release_fits}
 use Rattle.task_descriptor.specs.declared.descriptor.Marked.{Marked}
 use Rattle.task_descriptor.specs.declared.descriptor.Descriptor.{Descriptor}
-use Rattle.program_tokens.specs.declared.token.Token.{Token}
-use Rattle.program_tokens.specs.declared.token.Token.TheVariants as token
-use Rattle.program_tokens.specs.declared.token.Directive.TheVariants as directive
 use Rattle.program_tokens.specs.Lines.{lines}
-use Rattle.canonical_text.specs.CanonicalText.{line, start_line, task_line, label_line, marked_text, code_line, code_lines, hexadecimal, word_line, byte_line, data_lines, section, canonical_text}
-use Rattle.annotated_asm.specs.Statements.{labels_of, after_labels, statement_of}
-use Rattle.annotated_asm.specs.Items.{label_item, statement_items, section_after, items_from}
-use Rattle.annotated_asm.specs.declared.statement.Item.{Item}
+use Rattle.canonical_text.specs.CanonicalText.{line, start_line, task_line, label_line, marked_text, code_lines, word_line, byte_line, data_lines, section, canonical_text}
+use Rattle.annotated_asm.specs.Items.{label_item, items_from}
 use Rattle.annotated_asm.specs.declared.statement.Section.{Section}
 use Rattle.annotated_asm.specs.declared.statement.Section.TheVariants as section
-use Rattle.annotated_asm.specs.declared.statement.Statement.{Statement}
 use Rattle.annotated_asm.specs.declared.statement.Statement.TheVariants as statement
-use Rattle.canonical_round_trip.proofs.Spelling.{Reads, blank, nothing, joined as joined_texts}
+use Rattle.canonical_round_trip.proofs.Spelling.{blank, nothing, joined as joined_texts}
 use Rattle.canonical_round_trip.proofs.Pieces.{name_reads, colon}
-use Rattle.canonical_round_trip.proofs.Operations.{found_passes, op_tokens, mark_tokens, op_reads, marks_read}
+use Rattle.canonical_round_trip.proofs.Operations.{found_passes, op_reads, marks_read}
 use Rattle.canonical_round_trip.specs.Ranges.{IsInRange}
 use Rattle.canonical_round_trip.proofs.CodeLines.{code_said}
-use Rattle.canonical_round_trip.proofs.TaskLines.{task_line_is, task_text, task_operands, task_reads, task_said}
+use Rattle.canonical_round_trip.proofs.TaskLines.{task_line_is, task_reads, task_said}
 use Rattle.canonical_round_trip.proofs.DataLines.{IsData, start_reads, data_reads, rodata_reads, word_line_reads, byte_line_reads, word_said, byte_said, bytes_back}
 use Rattle.canonical_round_trip.proofs.Chunks.{Chunk, no_lines, joined, line_chunk, all_items}
 use Rattle.canonical_round_trip.proofs.SourceItems.{item, start_items, behind_one, task_statement, task_items, behind_tasks, label_items, code_statement, code_items, behind_code, byte_items, behind_bytes, data_items, behind_data, section_items, behind_section, section_behind, items}

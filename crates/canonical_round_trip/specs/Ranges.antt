@@ -1,10 +1,9 @@
 -- The ranges of a program's numbers, and its tasks' names: what their types say of them.
-use Rattle.std.specs.Prelude.{◌≡◌, ◌<◌, ◌≤◌, ◌^◌, ℕ, ℤ, pos, negsuc, true, List}
+use Rattle.std.specs.Prelude.{◌≡◌, ◌<◌, ◌≤◌, ◌^◌, ℤ, pos, negsuc, true}
 use Rattle.std.specs.List.{All}
 use Rattle.mips_plain.specs.declared.instruction.Op.{Op}
 use Rattle.mips_plain.specs.declared.instruction.Op.TheVariants.{Three, ShiftBy, ShiftVar, Imm, Logic, Lui, Mult, MoveFrom, MoveTo, Load, Store, BranchTwo, BranchOne, Jump, JumpLink, JumpReg, JumpLinkReg, Out, Release, Halt}
 use Rattle.task_descriptor.specs.Names.{is_name}
-use Rattle.task_descriptor.specs.Listing.{Listing}
 use Rattle.task_descriptor.specs.declared.descriptor.Descriptor.{Descriptor}
 
 -- a number of 16 bits with its sign; negsuc n is -(n + 1)
