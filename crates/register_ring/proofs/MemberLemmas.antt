@@ -1,5 +1,5 @@
 -- The least member of a set from a register on: the lowest bit of what is left of it.
-use Rattle.std.specs.Prelude.{◌≡◌, ℕ, ◌+◌, ◌-◌, ◌*◌, ◌/◌, ◌%◌, ◌^◌, ◌<◌, ◌≤◌, Bool, true, false, ◌==◌, ◌↔◌, Option, Some, None, IsSome, IfSome, IfNone}
+use Rattle.std.specs.Prelude.{◌≡◌, ℕ, ◌+◌, ◌-◌, ◌/◌, ◌%◌, ◌^◌, ◌<◌, ◌≤◌, true, false, ◌==◌, ◌↔◌, Option, Some, None, IsSome, IfSome, IfNone}
 use Rattle.std.specs.Int.{bit_at, trailing_zeros, w64}
 use Rattle.std.proofs.Common.{refl, sym, ap, ◌∙◌, subst, arith, inl, inr}
 use Rattle.std.proofs.Math.Nat.{mod-lt, div-le_self}
@@ -49,12 +49,13 @@ next_is set from bits small is some =
 pub record Answers (set from : ℕ) (answer : Option ℕ) : Type 0 where
   pub member : IfSome answer (λ r. (has set r ≡ true) × (from ≤ r))
   pub least : IfSome answer (λ r. (s : ℕ) → from ≤ s → s < r → has set s ≡ false)
+  pub range : IfSome answer (λ r. r < 34)
   pub none : IfNone answer ((s : ℕ) → from ≤ s → has set s ≡ false)
 
 pub answers_next : (answer : Option ℕ) (set from r : ℕ) → from ≤ r → IsNext set from r → IsSome answer ↔ (r < 34) → IfSome answer (λ x. x ≡ r) → Answers set from answer
 answers_next None set from r above next iff is = absurd (false≢true (iff.1 next.within))
 answers_next (Some x) set from r above next iff is =
-    let at : Answers set from (Some r) = record { member = (next.member, above); least = next.least; none = tt } in
+    let at : Answers set from (Some r) = record { member = (next.member, above); least = next.least; range = next.within; none = tt } in
     subst (λ (y : ℕ). Answers set from (Some y)) (sym is) at
 
 pub answers_of : (answer : Option ℕ) (set from bits : ℕ) → bits ≡ set → bits < 2 ^ 34 → (bits / 2 ^ from ≡ 0 → ⊥) → IsSome answer ↔ (from + trailing_zeros w64 (bits / 2 ^ from) < 34) → IfSome answer (λ x. x ≡ from + trailing_zeros w64 (bits / 2 ^ from)) → Answers set from answer

@@ -1,7 +1,6 @@
 -- What a change of the pairs that are kept is to what arrived and to what was sent.
-use Rattle.std.specs.Prelude.{◌≡◌, ℕ, ◌-◌, ◌^◌, ◌<◌, ◌≤◌, Bool, true, false, not, ◌&&◌, nat_eq, nat_lt, if◌then◌else◌, cond, Option, Some, None, List, slice_index, IsSome, length}
+use Rattle.std.specs.Prelude.{◌≡◌, ℕ, ◌-◌, ◌^◌, ◌<◌, ◌≤◌, Bool, true, false, nat_eq, nat_lt, if◌then◌else◌, cond, Option, Some, None, List, slice_index, length}
 use Rattle.std.specs.Option.{option_or}
-use Rattle.std.specs.Int.{bit_at}
 use Rattle.std.proofs.Common.{refl, sym, ap, ◌∙◌, subst, arith, inl, inr}
 use Rattle.std.proofs.Math.Path.{fun_ext}
 use Rattle.std.proofs.lemmas.Bool.{cases_lt, cond-true, cond-false, lt-ltb, le-ltb, eqb-true}
@@ -12,7 +11,7 @@ use Rattle.machine_model.specs.Machine.{Words}
 use Rattle.machine_model.specs.Step.{put}
 use Rattle.machine_model.specs.Burst.{AllIn}
 use Rattle.register_ring.specs.Held.{Held, pairs, put_first}
-use Rattle.register_ring.specs.Ports.{Ports, arrived_of, sent_of, arrived_fresh, filled_with}
+use Rattle.register_ring.specs.Ports.{arrived_fresh, filled_with}
 
 pub has_all : (all r : ℕ) → all ≡ 2 ^ 34 - 1 → r < 34 → has all r ≡ true
 has_all all r is below = ap (λ (x : ℕ). has x r) is ∙ ap (λ (bit : ℕ). nat_eq bit 1) (bit_at_ones 34 r below)

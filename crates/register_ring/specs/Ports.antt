@@ -1,6 +1,6 @@
 -- What stands between a unit and its neighbours on the ring (ISCA 1995, section 2.2; own in form):
 -- the registers that arrived from before it, and those that it sent on.
-use Rattle.std.specs.Prelude.{ℕ, List, Bool, nat_lt, if◌then◌else◌, slice_index, Option, Some, None}
+use Rattle.std.specs.Prelude.{ℕ, List, nat_lt, if◌then◌else◌, slice_index, Some, None}
 use Rattle.std.specs.Option.{option_or}
 use Rattle.mips_plain.specs.Words.{has}
 use Rattle.machine_model.specs.Machine.{Words}

@@ -10,6 +10,7 @@ use mips_plain::number::{Reg, RegSet};
 pub fn next_member(set: RegSet, from: u8) -> Option<Reg>
     requires { from ≤ 34 }
     ensures member { IfSome result (λ r. (has set r ≡ true) × (from ≤ r)) }
+    ensures range { IfSome result (λ r. r < 34) }
     ensures least { IfSome result (λ r. (s : ℕ) → from ≤ s → s < r → has set s ≡ false) }
     ensures none { IfNone result ((s : ℕ) → from ≤ s → has set s ≡ false) }
 {

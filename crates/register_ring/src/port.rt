@@ -130,6 +130,17 @@ impl Port {
         self.sent.set()
     }
 
+    /// The port with what another sent in place of what it sent itself.
+    pub fn with_sent(&self, other: &Port) -> Port
+        ensures arrived { arrived_of result ≡ arrived_of self.now }
+        ensures sent { sent_of result ≡ sent_of other.now }
+    {
+        Port {
+            arrived: self.arrived,
+            sent: other.sent,
+        }
+    }
+
     /// Whether each register that has arrived here has arrived there with the same word, and both
     /// have sent the same.
     pub fn is_within(&self, other: &Port) -> bool

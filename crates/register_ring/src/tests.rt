@@ -1,1 +1,156 @@
-//! The worked example of the port, and each call once.
+//! The worked example of the port: the same calls on a plain form of it, two arrays of options.
+
+use crate::held::RegisterWords;
+use crate::members::next_member;
+use crate::port::{AlreadyThere, Port};
+use mips_plain::number::{Reg, RegSet};
+use std::process::Abort;
+use std::test::Fail;
+
+/// A port as two arrays.
+#[derive(Drop)]
+struct PlainPort {
+    arrived: [Option<u32>; 34],
+    sent: [Option<u32>; 34],
+}
+
+fn is_member(set: RegSet, index: usize) -> bool {
+    match Reg::new((index % 34) as u8) {
+        Some(register) => set.has(register),
+        None => false,
+    }
+}
+
+impl PlainPort {
+    fn fresh(words: &[u32; 34], accum: RegSet) -> PlainPort {
+        let mut arrived = [None; 34];
+        for index in 0..34usize {
+            if !is_member(accum, index) {
+                arrived[index] = Some(words[index]);
+            }
+        }
+        PlainPort {
+            arrived,
+            sent: [None; 34],
+        }
+    }
+
+    fn arrive(&mut self, register: Reg, word: u32) -> Result<(), AlreadyThere> {
+        let index = usize::from(register.get());
+        if self.arrived[index].is_some() {
+            return Err(AlreadyThere);
+        }
+        self.arrived[index] = Some(word);
+        Ok(())
+    }
+
+    fn send(&mut self, register: Reg, word: u32) {
+        let index = usize::from(register.get());
+        if self.sent[index].is_none() {
+            self.sent[index] = Some(word);
+        }
+    }
+
+    fn pass(&self, create: RegSet, register: Reg) -> Option<u32> {
+        let index = usize::from(register.get());
+        if create.has(register) {
+            self.sent[index]
+        } else {
+            self.arrived[index]
+        }
+    }
+
+    fn fill(&mut self, words: &[u32; 34]) {
+        for index in 0..34usize {
+            if self.arrived[index].is_none() {
+                self.arrived[index] = Some(words[index]);
+            }
+        }
+    }
+}
+
+/// The next of a fixed row of numbers.
+fn next_draw(draw: u32) -> u32 {
+    draw.wrapping_mul(1_664_525).wrapping_add(1_013_904_223)
+}
+
+fn mask(draw: u32) -> Result<RegSet, Fail> {
+    Ok(RegSet::from_bits(u64::from(draw) << 2 | u64::from(draw) >> 30).ok_or("mask")?)
+}
+
+/// One call on both, by a drawn number, with the same answer.
+fn call(rt: &impl Abort, port: &mut Port, plain: &mut PlainPort, create: RegSet, draw: u32) {
+    let Some(register) = Reg::new(((draw >> 16) % 34) as u8) else {
+        return;
+    };
+    match (draw >> 8) % 32 {
+        0..=9 => assert_eq!(rt; port.arrive(register, draw), plain.arrive(register, draw)),
+        10..=19 => {
+            port.send(register, draw);
+            plain.send(register, draw);
+        }
+        20..=30 => assert_eq!(rt; port.pass(create, register), plain.pass(create, register)),
+        _ => {
+            port.fill(&[draw; 34]);
+            plain.fill(&[draw; 34]);
+        }
+    }
+}
+
+/// Both hold the same of each register.
+fn compare(rt: &impl Abort, port: &Port, plain: &PlainPort) {
+    for index in 0..34usize {
+        if let Some(register) = Reg::new(index as u8) {
+            assert_eq!(rt; port.arrived(register), plain.arrived[index]);
+            assert_eq!(rt; port.sent(register), plain.sent[index]);
+        }
+    }
+}
+
+#[test]
+fn port_two_representations(rt: HostRuntime) -> Result<(), Fail> {
+    let mut draw = 1995;
+    for _ in 0..1_000 {
+        draw = next_draw(draw);
+        let accum = mask(draw)?;
+        let create = mask(next_draw(draw))?;
+        let words = [draw; 34];
+        let mut port = Port::fresh(&words, accum);
+        let mut plain = PlainPort::fresh(&words, accum);
+        for _ in 0..40 {
+            draw = next_draw(draw);
+            call(&rt, &mut port, &mut plain, create, draw);
+        }
+        compare(&rt, &port, &plain);
+    }
+    Ok(())
+}
+
+#[test]
+fn each_call_once(rt: HostRuntime) -> Result<(), Fail> {
+    let (r8, r33) = (Reg::new(8).ok_or("register")?, Reg::LO);
+    let eight = RegSet::empty().insert(r8);
+    let mut port = Port::fresh(&[5; 34], Port::accum(&[RegSet::empty(), eight]));
+    assert_eq!(rt; port.arrived(r8), None);
+    assert_eq!(rt; port.arrive(r8, 2), Ok(()));
+    assert_eq!(rt; port.arrive(r8, 3), Err(AlreadyThere));
+    port.send(r33, 7);
+    port.send(r33, 9);
+    assert_eq!(rt; port.pass(eight.insert(r33), r33), Some(7));
+    assert_eq!(rt; port.pass(eight, r33), Some(5));
+    assert!(rt; port.arrived_set().has(r8));
+    assert!(rt; port.sent_set().has(r33));
+    assert!(rt;
+        Port::fresh(&[5; 34], eight)
+            .with_sent(&port)
+            .is_within(&port)
+    );
+    assert_eq!(rt; next_member(eight, 0), Some(r8));
+    assert_eq!(rt; next_member(eight, 9), None);
+    let mut words = RegisterWords::all_but(&[1; 34], eight);
+    assert!(rt; !words.is_same(&RegisterWords::none()));
+    words.put(r8, 4);
+    words.fill(&[6; 34]);
+    assert_eq!(rt; words.get(r8), Some(4));
+    Ok(())
+}

@@ -1,4 +1,3 @@
-use Rattle.std.proofs.Common.{◌∙◌, refl}
 use Rattle.register_ring.proofs.PortLemmas.{has_all}
 use Rattle.register_ring.proofs.held.all_registers.Goals as goal
 

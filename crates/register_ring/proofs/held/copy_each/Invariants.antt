@@ -1,4 +1,4 @@
-use Rattle.std.specs.Prelude.{◌≡◌, ℕ, ◌-◌, ◌<◌, ◌≤◌, if◌then◌else◌, slice_index, length}
+use Rattle.std.specs.Prelude.{◌≡◌, ℕ, ◌-◌, ◌<◌, ◌≤◌, if◌then◌else◌, slice_index}
 use Rattle.mips_plain.specs.Words.{has}
 use Rattle.register_ring.proofs.held.copy_each.Given as goal
 

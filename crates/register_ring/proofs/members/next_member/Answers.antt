@@ -1,5 +1,5 @@
 -- What is shifted out lies below; the lowest bit of the rest is the next member.
-use Rattle.std.specs.Prelude.{◌≡◌, ◌^◌, ◌/◌}
+use Rattle.std.specs.Prelude.{◌^◌, ◌/◌}
 use Rattle.std.proofs.Common.{◌∙◌, ap, sym}
 use Rattle.register_ring.proofs.MemberLemmas.{none_from, Answers, answers_of}
 use Rattle.register_ring.proofs.members.next_member.Goals as goal
@@ -21,3 +21,6 @@ returns-clause-least c = (answers c).least
 
 pub returns-clause-none : goal.returns-clause-none
 returns-clause-none c = (answers c).none
+
+pub returns-clause-range : goal.returns-clause-range
+returns-clause-range c = (answers c).range

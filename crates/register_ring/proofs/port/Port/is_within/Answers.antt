@@ -1,8 +1,7 @@
 -- What arrived is within what arrived there exactly where the pairs that are kept are.
-use Rattle.std.specs.Prelude.{◌≡◌, ◌<◌, ◌^◌}
+use Rattle.std.specs.Prelude.{◌<◌, ◌^◌}
 use Rattle.std.proofs.Common.{sym, ap, ◌∙◌, subst}
 use Rattle.std.proofs.lemmas.Bool.{false≢true}
-use Rattle.machine_model.specs.Burst.{AllIn}
 use Rattle.register_ring.specs.Held.{pairs}
 use Rattle.register_ring.specs.Ports.{arrived_of, sent_of}
 use Rattle.register_ring.proofs.PortLemmas.{rings_within}

@@ -1,4 +1,4 @@
-use Rattle.std.specs.Prelude.{◌≡◌, None, false}
+use Rattle.std.specs.Prelude.{◌≡◌, false}
 use Rattle.std.proofs.Common.{ap, sym, ◌∙◌}
 use Rattle.mips_plain.specs.Words.{has}
 use Rattle.register_ring.specs.Held.{pairs, put_first}

@@ -1,0 +1,49 @@
+-- Each test that failed says that the units differ in a field; where none did, they have all but
+-- what arrived in common.
+use Rattle.std.specs.Prelude.{◌≡◌, IsTrue, false}
+use Rattle.std.proofs.Common.{sym, ap, ◌∙◌, subst}
+use Rattle.std.proofs.lemmas.Bool.{false≢true}
+use Rattle.machine_model.specs.Machine.{Active}
+use Rattle.unit_core.specs.Units.{UnitView, active_of}
+use Rattle.register_ring.specs.Ports.{arrived_of}
+use Rattle.unit_core.specs.Bursts.{HasMore}
+use Rattle.unit_core.proofs.unit.Unit.has_more.Goals as goal
+
+pub returns-then-not-is_within : goal.returns-then-not-is_within
+returns-then-not-is_within c =
+    let u : UnitView = record { task = c.self.inside.task; serial = c.self.inside.serial; place = c.self.inside.spot; port = c.self.inside.port; local = c.self.inside.local; log = c.self.inside.log.items } in
+    let b : UnitView = record { task = c.before-2.inside.task; serial = c.before-2.inside.serial; place = c.before-2.inside.spot; port = c.before-2.inside.port; local = c.before-2.inside.local; log = c.before-2.inside.log.items } in
+    let differs : HasMore (active_of b) (active_of u) → IsTrue false =
+    λ h. absurd (false≢true (sym c.if-not-is_within.true ∙ c.is_within.ensures.1 (h.more, sym (ap (λ (a : Active). a.sent) h.is)))) in (
+      λ never. absurd (false≢true never),
+      subst (λ (v : UnitView). HasMore (active_of c.args.before.now) (active_of v) → IsTrue false) c.self.view_is
+          (subst (λ (w : UnitView). HasMore (active_of w) (active_of u) → IsTrue false) c.before-2.view_is differs),
+    )
+
+pub returns : goal.returns
+returns c =
+    let u : UnitView = record { task = c.self.inside.task; serial = c.self.inside.serial; place = c.self.inside.spot; port = c.self.inside.port; local = c.self.inside.local; log = c.self.inside.log.items } in
+    let b : UnitView = record { task = c.before-2.inside.task; serial = c.before-2.inside.serial; place = c.before-2.inside.spot; port = c.before-2.inside.port; local = c.before-2.inside.local; log = c.before-2.inside.log.items } in
+    let within = c.is_within.ensures.0 c.if-not-is_within.false in
+    let place = c.is_same_spot.ensures.0 c.if-not-is_same_spot.false in
+    let local = c.is_same.ensures.0 c.if-not-is_same.false in
+    let same : IsTrue c.are_same_reads.result → HasMore (active_of b) (active_of u) =
+    λ reads.
+    let log = sym c.deref.ensures.value ∙ (c.are_same_reads.ensures.0 reads ∙ c.deref-2.ensures.value) in
+    record {
+      more = within.0;
+      is = λ j. record {
+        task = c.if-self-before.false j;
+        serial = c.if-self-before-2.false j;
+        arrived = arrived_of u.port;
+        local = local j;
+        sent = sym within.1 j;
+        place = place j;
+        log = log j;
+      };
+    } in
+    let back : HasMore (active_of b) (active_of u) → IsTrue c.are_same_reads.result =
+    λ h. c.are_same_reads.ensures.1 (c.deref.ensures.value ∙ (ap (λ (a : Active). a.log) h.is ∙ sym c.deref-2.ensures.value)) in
+    subst (λ (v : UnitView). (IsTrue c.are_same_reads.result → HasMore (active_of c.args.before.now) (active_of v)) × (HasMore (active_of c.args.before.now) (active_of v) → IsTrue c.are_same_reads.result)) c.self.view_is
+    (subst (λ (w : UnitView). (IsTrue c.are_same_reads.result → HasMore (active_of w) (active_of u)) × (HasMore (active_of w) (active_of u) → IsTrue c.are_same_reads.result)) c.before-2.view_is
+    (same, back))

@@ -1,0 +1,5 @@
+pub mod Units
+pub mod Worlds
+pub mod UnitStep
+pub mod Parts
+pub mod Bursts

@@ -1,0 +1,11 @@
+//! The units of the multiscalar processor: one executes one task, instruction by instruction (Sohi,
+//! Breach, Vijaykumar, ISCA 1995, section 2).
+#![tactic(auto)]
+
+pub mod burst;
+mod step;
+#[cfg(test)]
+mod tests;
+pub mod unit;
+pub mod wait;
+pub mod world;

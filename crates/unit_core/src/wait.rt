@@ -1,0 +1,56 @@
+//! Why a unit does not execute, or does not send.
+
+use mips_plain::number::Reg;
+use mips_plain::outcome::OutOfMemory;
+use std::alloc::AllocError;
+
+/// Why a unit does not execute its next instruction. The first that holds, in this order, is the
+/// answer; nothing is changed.
+#[derive(Clone, Copy, Debug, PartialEq, Eq)]
+pub enum Wait {
+    /// 1: it has stopped.
+    Stopped,
+    /// 2: this register, of those that the instruction needs the least without a value, is reserved.
+    Waiting(Reg),
+    /// 3: the instruction is a memory operation, `out` or `halt`, which wait until the unit is the
+    /// head, and no load of read-only data.
+    NotHead,
+    /// 4: a growth of the log or of the output was refused.
+    OutOfMemory,
+}
+
+impl From<AllocError> for Wait {
+    ghost use Rattle.std.specs.Prelude.{◌≡◌};
+    ghost use Rattle.unit_core.specs.declared.wait.Wait.TheVariants as wait;
+
+    ghost from_gives = { λ e w. w ≡ wait.OutOfMemory };
+
+    fn from(_error: AllocError) -> Wait {
+        Wait::OutOfMemory
+    }
+}
+
+impl From<OutOfMemory> for Wait {
+    ghost use Rattle.std.specs.Prelude.{◌≡◌};
+    ghost use Rattle.unit_core.specs.declared.wait.Wait.TheVariants as wait;
+
+    ghost from_gives = { λ e w. w ≡ wait.OutOfMemory };
+
+    fn from(_error: OutOfMemory) -> Wait {
+        Wait::OutOfMemory
+    }
+}
+
+/// Why a unit does not send a register at its end. The first that holds, in this order, is the
+/// answer; nothing is changed.
+#[derive(Clone, Copy, Debug, PartialEq, Eq)]
+pub enum DrainFault {
+    /// 1: the register is not in the create mask of the unit's task.
+    NotInCreate,
+    /// 2: the unit has not stopped.
+    NotStopped,
+    /// 3: the register has been sent.
+    AlreadySent,
+    /// 4: the register has no value.
+    NoValue,
+}
