@@ -33,7 +33,8 @@ pub record IsMember (p : Listing) (i : ℕ) : Type 0 where
   pub reached : Reaches p descriptor.entry i
 
 -- The instruction at i has a destination, and no path from an inner successor writes any of its
--- destinations again.
+-- destinations again. In each task that it belongs to these paths are the same, since where tasks end is
+-- marked at the instructions.
 pub record WritesLast (p : Listing) (i : ℕ) (op : Op) : Type 0 where
   pub writes : has_destination op ≡ true
   pub last : (j r : ℕ) → Edge p false i j → dests op r ≡ true → MayWrite p j r → ⊥

@@ -11,3 +11,5 @@ mod marks;
 mod masks;
 pub mod propose;
 pub mod soundness;
+#[cfg(test)]
+mod tests;
