@@ -67,8 +67,11 @@ pub fn exits_of(program: &Program, i: u32) -> Exits
     }
 }
 
-/// The index that `op` at `i` leads to, for a conditional branch where it is `taken` or isn't.
-fn leads_to(op: &Op, i: u32, taken: bool) -> Option<u32>
+/// The index that `op` at `i` leads to, for a conditional branch where it is `taken` or isn't; `None`
+/// for a jump to an address in a register and for `halt`, and where only a conditional branch is
+/// taken. The caller sees to it that `i` is below 4,096. Takes no memory.
+#[inline]
+pub fn leads_to(op: &Op, i: u32, taken: bool) -> Option<u32>
     requires { i < 4096 }
     ensures { result ≡ edge op.now i taken }
 {
@@ -81,8 +84,10 @@ fn leads_to(op: &Op, i: u32, taken: bool) -> Option<u32>
     }
 }
 
-/// Whether the task ends there: the stop's condition is met.
-fn ends_task(stop: Stop, taken: bool) -> bool
+/// Whether the task ends there: the stop's condition is met, for a conditional branch where it is
+/// `taken` or isn't. Takes no memory.
+#[inline]
+pub fn ends_task(stop: Stop, taken: bool) -> bool
     ensures { result ≡ leaves stop taken }
 {
     match stop {
