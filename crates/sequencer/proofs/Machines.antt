@@ -1,0 +1,71 @@
+-- A machine stays the replay of its history: at its start, and after one more event.
+use Rattle.std.proofs.Common.{◌≡◌, ℕ, zero, suc, ◌+◌, ◌<◌, ◌≤◌, inl, inr, Bool, true, false, List, [], ◌∷◌, ◌++◌, length, Option, Some, None, Result, Ok, Err, refl, sym, ap, ◌∙◌, subst, arith, length-append, ltb-true}
+use Rattle.std.specs.Prelude.{nat_lt, slice_index, replicate}
+use Rattle.std.specs.Option.{option_or}
+use Rattle.mips_plain.specs.Words.{byte_of}
+use Rattle.task_descriptor.specs.Listing.{Listing}
+use Rattle.machine_model.specs.Machine.{State, opening}
+use Rattle.machine_model.specs.Replay.{ReplaysFrom, Replays}
+use Rattle.machine_model.specs.Answer.{unless, is_running, ok_unless, answer, most_events}
+use Rattle.machine_model.specs.declared.event.Event.{Event}
+use Rattle.machine_model.specs.declared.event.Refused.{Refused}
+use Rattle.machine_model.specs.declared.event.Refused.TheVariants as refused
+use Rattle.machine_model.specs.declared.event.Standing.{Standing}
+use Rattle.machine_model.specs.declared.event.Standing.TheVariants.{Running, Halted, Trapped, Unlisted}
+use Rattle.sequencer.specs.Seen.{ProcessorView, MachineView, IsMachine, Steps, state_of, state, units_of, answer_to, IsAnswered, later_refusal, takes_memory}
+use Rattle.sequencer.proofs.Verdicts.{refused_where_running}
+
+-- an array of zeros
+
+pub zero_at : (n r : ℕ) → slice_index (replicate n 0) r ≡ 0
+zero_at zero r = refl
+zero_at (suc n) zero = refl
+zero_at (suc n) (suc r) = zero_at n r
+
+-- room that the test found
+
+room_left : (o : Option Refused) (b : Bool) → option_or o (unless b refused.Full None) ≡ None → b ≡ true
+room_left None true e = refl
+room_left None false e = absurd (cc)
+room_left (Some r) b e = absurd (cc)
+
+-- one more event
+
+pub applied : (m : MachineView) (e : Event) (done : Unit {0}) (p' : ProcessorView) → IsMachine m → Steps m.accepted.program m.processor (length m.history) e (Ok done) p'
+    → ((units : ℕ) (first second : List Event) (s s' : State) → Replays m.accepted.program units first s → ReplaysFrom m.accepted.program units s second s' → Replays m.accepted.program units (first ++ second) s')
+    → IsMachine (record m { processor = p'; history = m.history ++ e ∷ [] })
+applied m e done p' h steps more =
+    let room : length m.history < 1000000 = ltb-true (length m.history) 1000000 (room_left _ (nat_lt (length m.history) most_events) steps.allowed) in
+    let p = m.accepted.program in
+    record {
+      some_unit = subst (λ (n : ℕ). 0 < n) (sym steps.kept.places) h.some_unit;
+      replay =
+          subst (λ (n : ℕ). Replays p n (m.history ++ e ∷ []) (state_of p')) (sym steps.kept.places)
+          (more (units_of m) m.history (e ∷ []) (state m) (state_of p') h.replay (state_of p', steps.next, refl));
+      room = omega (arith, length-append m.history (e ∷ []));
+      fixed = ap byte_of steps.kept.fixed ∙ h.fixed;
+    }
+
+-- the answers
+
+pub answered_ok : (m : MachineView) (e : Event) (p' : ProcessorView) (done : Unit {0}) → (state m).outcome ≡ Running → Steps m.accepted.program m.processor (length m.history) e (Ok done) p' → IsAnswered m e (Ok done)
+answered_ok m e p' done runs steps = inl (sym (ap ok_unless (refused_where_running (state m).outcome _ runs ∙ steps.allowed)))
+
+pub answered_err : (m : MachineView) (e : Event) (p' : ProcessorView) (why : Refused) → (state m).outcome ≡ Running → Steps m.accepted.program m.processor (length m.history) e (Err why) p' → IsAnswered m e (Err why)
+answered_err m e p' why runs steps = elim steps.refused [
+  | inl refuses ↦ inl (sym (ap ok_unless (refused_where_running (state m).outcome _ runs ∙ refuses)))
+  | inr memory ↦ inr (
+    memory.0,
+    ap (λ (w : Refused). let e : Result (Unit {0}) Refused = Err w in e) memory.1,
+    ap ok_unless (refused_where_running (state m).outcome _ runs ∙ memory.2),
+  )
+]
+
+pub ended_refused : (o : Standing) (later : Option Refused) → (o ≡ Running → ⊥) → unless (is_running o) refused.Ended later ≡ Some refused.Ended
+ended_refused Running later never = absurd (never refl)
+ended_refused Halted later never = refl
+ended_refused (Trapped trap) later never = refl
+ended_refused (Unlisted at) later never = refl
+
+pub answered_ended : (m : MachineView) (e : Event) → ((state m).outcome ≡ Running → ⊥) → IsAnswered m e (Err refused.Ended)
+answered_ended m e never = inl (sym (ap ok_unless (ended_refused (state m).outcome _ never)))

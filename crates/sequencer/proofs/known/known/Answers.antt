@@ -1,0 +1,32 @@
+use Rattle.std.proofs.Common.{◌≡◌, ℕ, Option, None, Ok, subst}
+use Rattle.task_descriptor.specs.Listing.{IsWellFormed}
+use Rattle.machine_model.specs.Answer.{refusal}
+use Rattle.sequencer.proofs.Runs.{replays_more, replay_executes, replay_assigns}
+use Rattle.sequencer.proofs.Verdicts.{ok_where_running}
+use Rattle.sequencer.proofs.known.known.Goals as goal
+
+pub returns-clause-placed : goal.returns-clause-placed
+returns-clause-placed c = λ units events s replay k u at.
+    let p = c.args.accepted.now.program in
+    let formed : IsWellFormed p = subst IsWellFormed c.program.ensures.value c.start.ensures.well_formed in
+    let valid = c.places_are_valid.ensures p units events s formed c.program.ensures.sound replay k u at in
+    let masked = c.replayed_places_masked.ensures units events s replay k u at in
+    record { is_task = valid.is_task; inside = λ i e. valid.is_instruction i e; masked = λ i e. (masked i e).1 }
+
+pub returns-clause-step : goal.returns-clause-step
+returns-clause-step c = λ units s e runs none.
+    let p = c.args.accepted.now.program in
+    let formed : IsWellFormed p = subst IsWellFormed c.program.ensures.value c.start.ensures.well_formed in
+    ((c.answer_is_next.ensures p units s 0 e formed).0 (ok_where_running s.outcome (refusal p units s e) runs none)).0
+
+pub returns-clause-is_after : goal.returns-clause-is_after
+returns-clause-is_after c = λ units s s' e next. c.next_is_after.ensures c.args.accepted.now.program units s s' e next
+
+pub returns-clause-more : goal.returns-clause-more
+returns-clause-more c = λ units first second s s' before more. replays_more c.replays_join.ensures c.args.accepted.now.program units first second s s' before more
+
+pub returns-clause-executed : goal.returns-clause-executed
+returns-clause-executed c = λ units events s replay. replay_executes c.args.accepted.now.program units events s replay
+
+pub returns-clause-assigned : goal.returns-clause-assigned
+returns-clause-assigned c = λ units events s replay. replay_assigns c.args.accepted.now.program units events s replay

@@ -1,0 +1,21 @@
+use Rattle.std.proofs.Common.{◌≡◌, None, Result, Ok, Err, sym, ap, ◌∙◌}
+use Rattle.std.specs.Prelude.{Option, MatchResult, IsSome}
+use Rattle.mips_plain.specs.declared.number.Reg.{Reg}
+use Rattle.machine_model.specs.Machine.{Active, Words}
+use Rattle.machine_model.specs.Step.{put}
+use Rattle.register_ring.specs.declared.port.AlreadyThere.{AlreadyThere}
+use Rattle.unit_core.specs.Units.{active_of}
+use Rattle.sequencer.specs.Seen.{QueueView, actives}
+use Rattle.sequencer.proofs.Queues.{unit_is, changed}
+use Rattle.sequencer.proofs.Outcomes.{arrived_ok}
+use Rattle.sequencer.proofs.queue.Queue.arrive.Goals as goal
+
+pub returns-clause-active : goal.returns-clause-active
+returns-clause-active c = λ u at missing.
+    let items = c.self.inside.ring.items in
+    let same = ap (λ (q : QueueView). actives q) c.self.view_is in
+    let x = c.in-Some.unit.now in
+    let is : active_of x ≡ u = unit_is items c.args.self.now c.args.position x u same c.in-Some.ensures.value at in
+    let done = arrived_ok c.arrive.result (active_of x) (active_of c.arrive.new.self) c.args.register c.args.word _ c.arrive.ensures (ap (λ (v : Active). v.arrived c.args.register) is ∙ missing) in
+    changed items c.args.self.now c.args.position c.arrive.new.self (record u { arrived = put c.args.register c.args.word u.arrived }) same
+    (done ∙ ap (λ (v : Active). record v { arrived = put c.args.register c.args.word v.arrived }) is)

@@ -1,0 +1,296 @@
+//! The machine: units on a ring over one accepted program, changed by events alone.
+
+use crate::history::History;
+use crate::known::known;
+use crate::processor::Processor;
+use accepted_laws::laws::accepted_headline;
+use machine_model::event::{Commit, Event, Refused, Standing};
+use mark_checker::accept::Accepted;
+use mips_plain::memory::Memory;
+use mips_plain::number::{Place, Reg};
+use mips_plain::outcome::Read;
+use std::alloc::Global;
+use std::marker::Model;
+
+/// The most units of a machine.
+pub const MOST_UNITS: u32 = 16;
+
+/// Why a machine isn't made.
+#[derive(Clone, Copy, Debug, PartialEq, Eq)]
+pub enum MachineFault {
+    /// 1: not 1 to 16 units.
+    Units,
+    /// 2: want of memory.
+    OutOfMemory,
+}
+
+/// A multiscalar machine (Sohi, Breach, Vijaykumar, ISCA 1995, section 2) over an accepted program. It
+/// is always the replay of its history.
+#[derive(Drop)]
+pub struct Machine<'a> {
+    alloc: Global,
+    accepted: &'a Accepted,
+    processor: Processor,
+    history: History,
+}
+
+impl<'a> Model for Machine<'a> {
+    ghost use Rattle.sequencer.specs.Seen.{MachineView, IsMachine};
+
+    ghost Value = { MachineView };
+
+    ghost view = { λ m. record { accepted = m.accepted.now; processor = m.processor; history = m.history } };
+
+    ghost invariant = { λ m. IsMachine (record { accepted = m.accepted.now; processor = m.processor; history = m.history }) };
+}
+
+impl<'a> Machine<'a> {
+    ghost use Rattle.std.specs.Prelude.{◌≡◌, ℕ, ◌+◌, ◌%◌, ◌<◌, ◌≤◌, ◌⊎◌, ◌↔◌, List, [], ◌∷◌, ◌++◌, length, slice_get, nat_lt, if◌then◌else◌, Ok, Err, Some, None, IfOk, IfErr, OnOk, OnErr, IfSome, IfNone, IsSome, IsTrue};
+    ghost use Rattle.std.specs.Option.{option_and_then};
+    ghost use Rattle.machine_model.specs.Machine.{State, opening, value as value_of};
+    ghost use Rattle.machine_model.specs.Step.{Next};
+    ghost use Rattle.machine_model.specs.Answer.{after};
+    ghost use Rattle.machine_model.specs.declared.event.Event.{Event};
+    ghost use Rattle.machine_model.specs.declared.event.Standing.TheVariants as standing;
+    ghost use Rattle.machine_model.specs.Replay.{Replays};
+    ghost use Rattle.machine_model.specs.Claims.{Claims, EndsLike, count_c, count_h};
+    ghost use Rattle.mips_plain.specs.Words.{byte_of};
+    ghost use Rattle.sequencer.specs.Seen.{ProcessorView, IsMachine, Steps, ArePlaced, executed_by, state, units_of, answer_to, IsAnswered, Applies, SameRing};
+    ghost use Rattle.sequencer.specs.Choices.{choices_of, choice_of};
+
+    /// A machine at the start of the program, with so many units, 1 to 16, none of them at work. It
+    /// reserves the room of its history, once.
+    ///
+    /// # Errors
+    ///
+    /// `Units` and `OutOfMemory`, in this order.
+    pub fn new(
+        alloc: Global,
+        accepted: &'a Accepted,
+        units: u32,
+    ) -> Result<Machine<'a>, MachineFault>
+        ensures units { (result ≡ Err MachineFault.Units) ↔ ((units ≡ 0) ⊎ (16 < units)) }
+        ensures accepted { IfOk result (λ machine. machine.accepted ≡ accepted.now) }
+        ensures places { IfOk result (λ machine. units_of machine ≡ units) }
+        ensures history { IfOk result (λ machine. machine.history ≡ []) }
+        ensures opening { IfOk result (λ machine. state machine ≡ opening accepted.now.program) }
+    {
+        if units == 0 || units > MOST_UNITS {
+            return Err(MachineFault::Units);
+        }
+        let Ok(processor) = Processor::new(alloc, accepted.program(), units) else {
+            return Err(MachineFault::OutOfMemory);
+        };
+        let Ok(history) = History::new(alloc) else {
+            return Err(MachineFault::OutOfMemory);
+        };
+        Ok(Machine {
+            alloc,
+            accepted,
+            processor,
+            history,
+        })
+    }
+
+    /// Applies an event, exactly where the machine step allows it and the history has fewer than
+    /// 1,000,000 events. Exec and Retire may take memory, no other event does.
+    ///
+    /// # Errors
+    ///
+    /// The first refusal of 1 to 16 whose condition holds, else for Exec and Retire alone
+    /// `OutOfMemory` where a growth was refused; nothing is changed then.
+    pub fn apply(&mut self, event: Event) -> Result<(), Refused>
+        ensures answer { IsAnswered self.old event result }
+        ensures ok { OnOk result (Applies self.old event self.new) }
+        ensures err { OnErr result (self.new ≡ self.old) }
+        ensures kept { SameRing self.old self.new }
+    {
+        self.is_known();
+        if !self.processor.world.is_running() {
+            return Err(Refused::Ended);
+        }
+        let alloc = self.alloc;
+        let count = self.length();
+        self.processor.step(alloc, self.accepted, count, &event)?;
+        self.history.push(event);
+        Ok(())
+    }
+
+    /// The events that were applied, the first first. The machine is always their replay.
+    pub fn history(&self) -> &[Event]
+        ensures value { result.now ≡ self.now.history }
+        ensures replay { Replays self.now.accepted.program (units_of self.now) self.now.history (state self.now) }
+        ensures room { length self.now.history ≤ 1000000 }
+    {
+        let _ = &self.alloc;
+        self.history.as_slice()
+    }
+
+    /// How many events were applied.
+    pub fn length(&self) -> usize
+        ensures { result ≡ length self.now.history }
+    {
+        self.history.len()
+    }
+
+    /// What the laws say of this machine; the call does nothing.
+    fn is_known(&self)
+        ensures placed { ArePlaced self.now.accepted (state self.now).queue }
+        ensures assigned { (state self.now).assigns ≤ length self.now.history }
+        ensures executed { executed_by (state self.now) ≤ length self.now.history }
+        ensures room { length self.now.history ≤ 1000000 }
+        ensures applied { (e : Event) (done : Unit {0}) (p : ProcessorView) → Steps self.now.accepted.program self.now.processor (length self.now.history) e (Ok done) p
+            → IsMachine (record self.now { processor = p; history = self.now.history ++ e ∷ [] }) }
+    {
+        known(self.accepted);
+        let _ = &self.processor;
+    }
+
+    /// The headline, of this machine: what retired is the plain machine's run, and how it ended.
+    fn claims(&self)
+        ensures claims { Claims self.now.accepted.program (state self.now) }
+        ensures replay { Replays self.now.accepted.program (units_of self.now) self.now.history (state self.now) }
+    {
+        accepted_headline(self.accepted);
+        let _ = &self.processor;
+    }
+
+    /// The retired tasks, the first first. Each exit is the address of a target of its task.
+    pub fn commits(&self) -> &[Commit]
+        ensures value { result.now ≡ (state self.now).commits }
+        ensures headline { Claims self.now.accepted.program (state self.now) }
+    {
+        self.claims();
+        &self.processor.commits
+    }
+
+    /// What the instructions of the retired tasks read, the first first. They are the reads of the
+    /// plain machine's first c instructions.
+    pub fn reads(&self) -> &[Read]
+        ensures value { result.now ≡ (state self.now).reads }
+        ensures headline { Claims self.now.accepted.program (state self.now) }
+    {
+        self.claims();
+        &self.processor.reads
+    }
+
+    /// The words that were put out, the first first. They are the plain machine's after h instructions.
+    pub fn output(&self) -> &[u32]
+        ensures value { result.now ≡ (state self.now).output }
+        ensures headline { Claims self.now.accepted.program (state self.now) }
+    {
+        self.claims();
+        self.processor.world.output()
+    }
+
+    /// Data memory, which is the plain machine's after h instructions, and read-only data, which no
+    /// event changes.
+    pub fn memory(&self) -> &Memory
+        ensures bytes { byte_of result.now.bytes ≡ (state self.now).memory }
+        ensures fixed { byte_of result.now.fixed ≡ byte_of self.now.accepted.program.fixed }
+        ensures headline { Claims self.now.accepted.program (state self.now) }
+    {
+        self.claims();
+        let _ = &self.alloc;
+        self.processor.world.memory()
+    }
+
+    /// How many instructions the retired tasks executed, c, and how many these and the head, h.
+    pub fn counts(&self) -> (u64, u64)
+        ensures retired { result.0 ≡ count_c (state self.now) }
+        ensures head { result.1 ≡ count_h (state self.now) }
+        ensures headline { Claims self.now.accepted.program (state self.now) }
+    {
+        self.claims();
+        let retired = self.processor.reads.len() as u64;
+        match self.processor.queue.get(0) {
+            Some(head) => (retired, retired + head.reads().len() as u64),
+            None => (retired, retired),
+        }
+    }
+
+    /// How the run stands: Halted and Trapped only as the plain machine after h instructions, Unlisted
+    /// at an address only where that is about to fetch there and the head's task does not list it.
+    pub fn outcome(&self) -> Standing
+        ensures value { result ≡ (state self.now).outcome }
+        ensures ends { EndsLike self.now.accepted.program (state self.now) result }
+    {
+        self.claims();
+        self.processor.world.outcome()
+    }
+
+    /// The value of a register at a position from the head; `None` where no unit is there or the
+    /// register is reserved. At position 0 it is the plain machine's after h instructions.
+    pub fn value(&self, position: u32, register: Reg) -> Option<u32>
+        ensures value { result ≡ option_and_then (λ u. value_of u register) (slice_get (state self.now).queue position) }
+        ensures headline { Claims self.now.accepted.program (state self.now) }
+    {
+        self.claims();
+        match self.processor.queue.get(position as usize) {
+            Some(unit) => unit.value(register),
+            None => None,
+        }
+    }
+
+    /// The position of a unit of the ring, by its number; `None` where it is not at work or there is no
+    /// such unit. The head is at the number of retired tasks, modulo the number of units.
+    pub fn position(&self, unit: u32) -> Option<u32>
+        ensures position { IfSome result (λ k. (k < length (state self.now).queue) × ((length (state self.now).commits + k) % units_of self.now ≡ unit)) }
+        ensures none { IfNone result ((k : ℕ) → k < length (state self.now).queue → (length (state self.now).commits + k) % units_of self.now ≡ unit → ⊥) }
+    {
+        let _ = &self.alloc;
+        let units = self.processor.queue.places() as usize;
+        let retired = self.processor.commits.len();
+        for position in 0..self.processor.queue.len() {
+            if (retired + position as usize) % units == unit as usize {
+                return Some(position);
+            }
+        }
+        None
+    }
+
+    /// The number of the unit that the next Assign fills; `None` where all are at work.
+    pub fn next_unit(&self) -> Option<u32>
+        ensures { result ≡ (if nat_lt (length (state self.now).queue) (units_of self.now) then Some ((length (state self.now).commits + length (state self.now).queue) % units_of self.now) else None) }
+    {
+        let _ = &self.alloc;
+        let units = self.processor.queue.places();
+        let active = self.processor.queue.len();
+        if active < units {
+            Some(((self.processor.commits.len() + active as usize) % units as usize) as u32)
+        } else {
+            None
+        }
+    }
+
+    /// The targets of a tail that has not stopped; none where there is no such tail or the run has
+    /// ended.
+    pub fn choices(&self) -> &[Place]
+        ensures { result.now ≡ choices_of self.now.accepted.program (state self.now) }
+    {
+        if self.processor.world.is_running() {
+            self.processor.targets_of_tail(self.accepted.program())
+        } else {
+            &[]
+        }
+    }
+
+    /// The Assign that may follow: behind a tail that has not stopped that of the target at this
+    /// position modulo their number, `None` where it has none; behind a stopped tail, and on an empty
+    /// queue, the one that the machine step allows by task and place, whatever the answer. `None` once
+    /// the run has ended. A full ring does not matter to it.
+    pub fn choice(&self, answer: u32) -> Option<Event>
+        ensures { result ≡ choice_of self.now.accepted.program (state self.now) answer }
+    {
+        if !self.processor.world.is_running() {
+            return None;
+        }
+        match self
+            .processor
+            .task_to_assign(self.accepted.program(), answer)
+        {
+            Some(task) => Some(Event::Assign(task)),
+            None => None,
+        }
+    }
+}
