@@ -102,7 +102,7 @@ program_is p started h =
     ap (λ (read : Result (Unit {0}) AsmFault). read >>= λ _. cond (is_beyond (sizes p)) (Err (fault.Build TooMany)) (parts labels no_parts (items p) >>= λ q. built q (build_fault q))) (all_known p labels (labelled p h))
     ∙ cond-false (is_beyond (sizes p)) (Err (fault.Build TooMany)) (parts labels no_parts (items p) >>= λ q. built q (build_fault q)) (within_limits p limit.code limit.bytes limit.fixed)
     ∙ ap (λ (read : Result Listing AsmFault). read >>= λ q. built q (build_fault q)) (program_back p labels (labelled p h) some)
-    ∙ ap (built p) h
+    ∙ ap (built p) h.passes
 
 parsed : (p : Listing) → IsWellFormed p → IsSpellable p → parse (canonical_text p) ≡ Ok p
 unfolding parse
