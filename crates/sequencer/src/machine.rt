@@ -1,9 +1,9 @@
 //! The machine: units on a ring over one accepted program, changed by events alone.
 
-use crate::history::History;
+use crate::history::{History, MOST_EVENTS};
 use crate::known::known;
 use crate::processor::Processor;
-use accepted_laws::laws::accepted_headline;
+use accepted_laws::laws::{accepted_headline, accepted_never_stuck};
 use machine_model::event::{Commit, Event, Refused, Standing};
 use mark_checker::accept::Accepted;
 use mips_plain::memory::Memory;
@@ -49,7 +49,8 @@ impl<'a> Machine<'a> {
     ghost use Rattle.std.specs.Option.{option_and_then};
     ghost use Rattle.machine_model.specs.Machine.{State, opening, value as value_of};
     ghost use Rattle.machine_model.specs.Step.{Next};
-    ghost use Rattle.machine_model.specs.Answer.{after};
+    ghost use Rattle.machine_model.specs.Answer.{after, refusal};
+    ghost use Rattle.machine_model.specs.HeadEvent.{head_event as head_event_of, event_of_queue};
     ghost use Rattle.machine_model.specs.declared.event.Event.{Event};
     ghost use Rattle.machine_model.specs.declared.event.Standing.TheVariants as standing;
     ghost use Rattle.machine_model.specs.Replay.{Replays};
@@ -116,6 +117,39 @@ impl<'a> Machine<'a> {
         Ok(())
     }
 
+    /// Whether the machine step allows an event and the history has room: `apply` would answer Ok or
+    /// `OutOfMemory`. Takes no memory.
+    pub fn enabled(&self, event: Event) -> bool
+        ensures { IsTrue result ↔ (answer_to self.now event ≡ Ok tt) }
+    {
+        self.is_known();
+        if !self.is_running() {
+            return false;
+        }
+        if self.length() >= MOST_EVENTS {
+            return false;
+        }
+        self.allows(event)
+    }
+
+    /// The event that the head is ready for, which the machine step allows: on an empty queue the Assign
+    /// of the task at the next address; of a running head its next instruction; of a stopped head Fault
+    /// where its exit is not listed, else Squash(0) where the next unit begins elsewhere, else the Drain
+    /// of its least register that is not sent, else Retire. `None` exactly where the run has ended.
+    /// Takes no memory.
+    pub fn head_event(&self) -> Option<Event>
+        ensures event { result ≡ head_event_of self.now.accepted.program (state self.now) }
+        ensures running { IsSome result ↔ ((state self.now).outcome ≡ standing.Running) }
+        ensures allowed { IfSome result (λ e. (s : State) × Next self.now.accepted.program (units_of self.now) (state self.now) e s) }
+    {
+        self.is_ready();
+        if self.is_running() {
+            self.event_at_head()
+        } else {
+            None
+        }
+    }
+
     /// The events that were applied, the first first. The machine is always their replay.
     pub fn history(&self) -> &[Event]
         ensures value { result.now ≡ self.now.history }
@@ -144,6 +178,39 @@ impl<'a> Machine<'a> {
     {
         known(self.accepted);
         let _ = &self.processor;
+    }
+
+    /// Where the run goes on there is a head event, and the machine step allows it; the call does
+    /// nothing.
+    fn is_ready(&self)
+        ensures { (state self.now).outcome ≡ standing.Running
+            → (e : Event) × (head_event_of self.now.accepted.program (state self.now) ≡ Some e) × Next self.now.accepted.program (units_of self.now) (state self.now) e (after self.now.accepted.program (state self.now) e) }
+    {
+        accepted_never_stuck(self.accepted);
+        let _ = &self.processor;
+    }
+
+    /// Whether the run goes on.
+    fn is_running(&self) -> bool
+        ensures { IsTrue result ↔ ((state self.now).outcome ≡ standing.Running) }
+    {
+        let _ = &self.alloc;
+        self.processor.world.is_running()
+    }
+
+    /// Whether nothing but the run's end and the history's room can refuse an event.
+    fn allows(&self, event: Event) -> bool
+        requires { ArePlaced self.now.accepted (state self.now).queue }
+        ensures { IsTrue result ↔ (refusal self.now.accepted.program (units_of self.now) (state self.now) event ≡ None) }
+    {
+        self.processor.is_allowed(self.accepted, event)
+    }
+
+    /// The event that the head is ready for, where the run goes on.
+    fn event_at_head(&self) -> Option<Event>
+        ensures { result ≡ event_of_queue self.now.accepted.program (state self.now).next (state self.now).queue }
+    {
+        self.processor.event_at_head(self.accepted.program())
     }
 
     /// The headline, of this machine: what retired is the plain machine's run, and how it ended.
