@@ -1,3 +1,4 @@
 pub mod Scripts
 pub mod Seen
 pub mod Choices
+pub mod Finish

@@ -45,19 +45,21 @@ impl<'a> Model for Machine<'a> {
 }
 
 impl<'a> Machine<'a> {
-    ghost use Rattle.std.specs.Prelude.{◌≡◌, ℕ, ◌+◌, ◌%◌, ◌<◌, ◌≤◌, ◌⊎◌, ◌↔◌, List, [], ◌∷◌, ◌++◌, length, slice_get, nat_lt, if◌then◌else◌, Ok, Err, Some, None, IfOk, IfErr, OnOk, OnErr, IfSome, IfNone, IsSome, IsTrue};
+    ghost use Rattle.std.specs.Prelude.{◌≡◌, ℕ, ◌+◌, ◌%◌, ◌<◌, ◌≤◌, ◌⊎◌, ◌↔◌, List, [], ◌∷◌, ◌++◌, length, slice_get, nat_lt, if◌then◌else◌, Ok, Err, Some, None, IfOk, IfErr, OnOk, OnErr, IfSome, IfNone, IsSome, IsTrue, true, false};
     ghost use Rattle.std.specs.Option.{option_and_then};
     ghost use Rattle.machine_model.specs.Machine.{State, opening, value as value_of};
     ghost use Rattle.machine_model.specs.Step.{Next};
     ghost use Rattle.machine_model.specs.Answer.{after, refusal};
     ghost use Rattle.machine_model.specs.HeadEvent.{head_event as head_event_of, event_of_queue};
     ghost use Rattle.machine_model.specs.declared.event.Event.{Event};
+    ghost use Rattle.machine_model.specs.declared.event.Refused.TheVariants as refused;
     ghost use Rattle.machine_model.specs.declared.event.Standing.TheVariants as standing;
     ghost use Rattle.machine_model.specs.Replay.{Replays};
     ghost use Rattle.machine_model.specs.Claims.{Claims, EndsLike, count_c, count_h};
     ghost use Rattle.mips_plain.specs.Words.{byte_of};
     ghost use Rattle.sequencer.specs.Seen.{ProcessorView, IsMachine, Steps, ArePlaced, executed_by, state, units_of, answer_to, IsAnswered, Applies, SameRing};
     ghost use Rattle.sequencer.specs.Choices.{choices_of, choice_of};
+    ghost use Rattle.sequencer.specs.Finish.{RunsByHead};
 
     /// A machine at the start of the program, with so many units, 1 to 16, none of them at work. It
     /// reserves the room of its history, once.
@@ -150,6 +152,52 @@ impl<'a> Machine<'a> {
         }
     }
 
+    /// Applies head events until h has grown by `k` or the run has ended. Only a Retire can let h grow
+    /// by more than `k`, by what the next unit has executed ahead.
+    ///
+    /// # Errors
+    ///
+    /// `Full` with a history of 1,000,000 events, and `OutOfMemory`; the events before the refused one
+    /// stay.
+    pub fn finish(&mut self, k: u64) -> Result<(), Refused>
+        ensures kept { SameRing self.old self.new }
+        ensures runs { (es : List Event) × (self.new.history ≡ self.old.history ++ es)
+            × RunsByHead self.old.accepted.program (units_of self.old) (count_h (state self.old) + k) (state self.old) es (state self.new) }
+        ensures done { OnOk result (((state self.new).outcome ≡ standing.Running → ⊥) ⊎ (count_h (state self.old) + k ≤ count_h (state self.new))) }
+        ensures refused { IfErr result (λ why. ((why ≡ refused.Full) × (length self.new.history ≡ 1000000)) ⊎ (why ≡ refused.OutOfMemory)) }
+    {
+        let (_, start) = self.counts();
+        while self.counts().1 - start < k {
+            if !self.apply_head_event()? {
+                return Ok(());
+            }
+        }
+        Ok(())
+    }
+
+    /// Applies the head event, and says whether there was one.
+    ///
+    /// # Errors
+    ///
+    /// `Full` with a history of 1,000,000 events, and `OutOfMemory`; nothing is changed then.
+    fn apply_head_event(&mut self) -> Result<bool, Refused>
+        ensures kept { SameRing self.old self.new }
+        ensures applied { IfOk result (λ did. did ≡ true → (e : Event) × (head_event_of self.old.accepted.program (state self.old) ≡ Some e) × Applies self.old e self.new) }
+        ensures ended { IfOk result (λ did. did ≡ false → (self.new ≡ self.old) × ((state self.new).outcome ≡ standing.Running → ⊥)) }
+        ensures grows { count_h (state self.old) ≤ count_h (state self.new) }
+        ensures room { length self.new.history ≤ 1000000 }
+        ensures refused { IfErr result (λ why. ((why ≡ refused.Full) × (length self.new.history ≡ 1000000)) ⊎ (why ≡ refused.OutOfMemory)) }
+        ensures err { OnErr result (self.new ≡ self.old) }
+    {
+        self.is_known();
+        let Some(event) = self.head_event() else {
+            return Ok(false);
+        };
+        self.apply(event)?;
+        self.has_room();
+        Ok(true)
+    }
+
     /// The events that were applied, the first first. The machine is always their replay.
     pub fn history(&self) -> &[Event]
         ensures value { result.now ≡ self.now.history }
@@ -173,6 +221,8 @@ impl<'a> Machine<'a> {
         ensures assigned { (state self.now).assigns ≤ length self.now.history }
         ensures executed { executed_by (state self.now) ≤ length self.now.history }
         ensures room { length self.now.history ≤ 1000000 }
+        ensures allowed { (e : Event) (s : State) → Next self.now.accepted.program (units_of self.now) (state self.now) e s → refusal self.now.accepted.program (units_of self.now) (state self.now) e ≡ None }
+        ensures grows { (e : Event) (s : State) → Next self.now.accepted.program (units_of self.now) (state self.now) e s → count_h (state self.now) ≤ count_h s }
         ensures applied { (e : Event) (done : Unit {0}) (p : ProcessorView) → Steps self.now.accepted.program self.now.processor (length self.now.history) e (Ok done) p
             → IsMachine (record self.now { processor = p; history = self.now.history ++ e ∷ [] }) }
     {
@@ -211,6 +261,13 @@ impl<'a> Machine<'a> {
         ensures { result ≡ event_of_queue self.now.accepted.program (state self.now).next (state self.now).queue }
     {
         self.processor.event_at_head(self.accepted.program())
+    }
+
+    /// The history's room; the call does nothing.
+    fn has_room(&self)
+        ensures { length self.now.history ≤ 1000000 }
+    {
+        let _ = &self.processor;
     }
 
     /// The headline, of this machine: what retired is the plain machine's run, and how it ended.

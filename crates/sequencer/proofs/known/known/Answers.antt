@@ -1,8 +1,12 @@
-use Rattle.std.proofs.Common.{◌≡◌, ℕ, Option, None, Ok, subst}
+use Rattle.std.proofs.Common.{◌≡◌, ℕ, ◌+◌, Option, None, Ok, subst, arith}
 use Rattle.task_descriptor.specs.Listing.{IsWellFormed}
+use Rattle.machine_model.specs.Machine.{State}
+use Rattle.machine_model.specs.Step.{Next}
 use Rattle.machine_model.specs.Answer.{refusal}
+use Rattle.machine_model.specs.Claims.{count_h}
+use Rattle.machine_model.specs.HeadEvent.{growth}
 use Rattle.sequencer.proofs.Runs.{replays_more, replay_executes, replay_assigns}
-use Rattle.sequencer.proofs.Verdicts.{ok_where_running}
+use Rattle.sequencer.proofs.Verdicts.{ok_where_running, none_refused}
 use Rattle.sequencer.proofs.known.known.Goals as goal
 
 pub returns-clause-placed : goal.returns-clause-placed
@@ -21,6 +25,18 @@ returns-clause-step c = λ units s e runs none.
 
 pub returns-clause-is_after : goal.returns-clause-is_after
 returns-clause-is_after c = λ units s s' e next. c.next_is_after.ensures c.args.accepted.now.program units s s' e next
+
+pub returns-clause-allowed : goal.returns-clause-allowed
+returns-clause-allowed c = λ units s s' e next.
+    let p = c.args.accepted.now.program in
+    let formed : IsWellFormed p = subst IsWellFormed c.program.ensures.value c.start.ensures.well_formed in
+    let step = subst (λ (x : State). Next p units s e x) (c.next_is_after.ensures p units s s' e next) next in
+    none_refused s.outcome (refusal p units s e) next.runs ((c.answer_is_next.ensures p units s 0 e formed).1 (step, omega arith))
+
+pub returns-clause-grows : goal.returns-clause-grows
+returns-clause-grows c = λ units s s' e next.
+    let grown : count_h s' ≡ count_h s + growth s e = c.events_grow.ensures c.args.accepted.now.program units s s' e next in
+    omega arith
 
 pub returns-clause-more : goal.returns-clause-more
 returns-clause-more c = λ units first second s s' before more. replays_more c.replays_join.ensures c.args.accepted.now.program units first second s s' before more

@@ -1,6 +1,10 @@
-use Rattle.std.proofs.Common.{ℕ, ◌≤◌, length, ◌++◌, ◌∷◌, [], Result, Ok, subst}
+use Rattle.std.proofs.Common.{◌≡◌, ℕ, ◌≤◌, None, length, ◌++◌, ◌∷◌, [], Result, Ok, subst}
 use Rattle.machine_model.specs.declared.event.Event.{Event}
-use Rattle.sequencer.specs.Seen.{MachineView, ProcessorView, IsMachine, Steps, ArePlaced, state, state_of}
+use Rattle.machine_model.specs.Machine.{State}
+use Rattle.machine_model.specs.Step.{Next}
+use Rattle.machine_model.specs.Answer.{refusal}
+use Rattle.machine_model.specs.Claims.{count_h}
+use Rattle.sequencer.specs.Seen.{MachineView, ProcessorView, IsMachine, Steps, ArePlaced, state, state_of, units_of}
 use Rattle.sequencer.proofs.Machines.{applied}
 use Rattle.sequencer.proofs.machine.Machine.is_known.Goals as goal
 
@@ -10,6 +14,18 @@ returns-clause-applied c =
     let m : MachineView = record { accepted = i.accepted.now; processor = i.processor; history = i.history } in
     subst (λ (x : MachineView). (e : Event) (done : Unit {0}) (p : ProcessorView) → Steps x.accepted.program x.processor (length x.history) e (Ok done) p → IsMachine (record x { processor = p; history = x.history ++ e ∷ [] })) c.self.view_is
     (λ e done p steps. applied m e done p c.self.invariant steps c.known.ensures.more)
+
+pub returns-clause-allowed : goal.returns-clause-allowed
+returns-clause-allowed c =
+    let i = c.self.inside in
+    subst (λ (x : MachineView). (e : Event) (s : State) → Next x.accepted.program (units_of x) (state x) e s → refusal x.accepted.program (units_of x) (state x) e ≡ None) c.self.view_is
+    (λ e s next. c.known.ensures.allowed i.processor.queue.places (state_of i.processor) s e next)
+
+pub returns-clause-grows : goal.returns-clause-grows
+returns-clause-grows c =
+    let i = c.self.inside in
+    subst (λ (x : MachineView). (e : Event) (s : State) → Next x.accepted.program (units_of x) (state x) e s → count_h (state x) ≤ count_h s) c.self.view_is
+    (λ e s next. c.known.ensures.grows i.processor.queue.places (state_of i.processor) s e next)
 
 pub returns-clause-placed : goal.returns-clause-placed
 returns-clause-placed c =

@@ -1,0 +1,44 @@
+use Rattle.std.proofs.Common.{◌≡◌, ℕ, ◌+◌, ◌<◌, ◌≤◌, arith, inl, inr}
+use Rattle.machine_model.specs.Claims.{count_h}
+use Rattle.sequencer.specs.Seen.{state}
+use Rattle.sequencer.proofs.HeadRuns.{begins_here, stays, goes_on, takes_room}
+use Rattle.sequencer.proofs.machine.Machine.finish.Goals as goal
+
+pub loop-self-init : goal.loop-self-init
+loop-self-init c = begins_here c.args.self.now c.args.k
+
+pub overflow_sub-counts : goal.overflow_sub-counts
+overflow_sub-counts c = omega (arith, c.loop-self.invariant.grown, c.counts-start.ensures.head, c.counts.ensures.head)
+
+pub returns-in_err-apply_head_event-clause-kept : goal.returns-in_err-apply_head_event-clause-kept
+returns-in_err-apply_head_event-clause-kept c = (stays c.args.self.now c.loop-self.self c.apply_head_event.new.self c.args.k c.loop-self.invariant c.in_err-apply_head_event.ensures.err).kept
+
+pub returns-in_err-apply_head_event-clause-runs : goal.returns-in_err-apply_head_event-clause-runs
+returns-in_err-apply_head_event-clause-runs c = (stays c.args.self.now c.loop-self.self c.apply_head_event.new.self c.args.k c.loop-self.invariant c.in_err-apply_head_event.ensures.err).runs
+
+pub returns-then-not-branch-clause-kept : goal.returns-then-not-branch-clause-kept
+returns-then-not-branch-clause-kept c = (stays c.args.self.now c.loop-self.self c.apply_head_event.new.self c.args.k c.loop-self.invariant (c.in_ok-apply_head_event.ensures.ended c.if-not-branch.true).0).kept
+
+pub returns-then-not-branch-clause-runs : goal.returns-then-not-branch-clause-runs
+returns-then-not-branch-clause-runs c = (stays c.args.self.now c.loop-self.self c.apply_head_event.new.self c.args.k c.loop-self.invariant (c.in_ok-apply_head_event.ensures.ended c.if-not-branch.true).0).runs
+
+pub loop-self-smaller : goal.loop-self-smaller
+loop-self-smaller c = takes_room c.loop-self.self c.apply_head_event.new.self (c.in_ok-apply_head_event.ensures.applied c.if-not-branch.false) c.in_ok-apply_head_event.ensures.room
+
+pub loop-self-preserved : goal.loop-self-preserved
+loop-self-preserved c =
+    let below : count_h (state c.loop-self.self) < count_h (state c.args.self.now) + c.args.k =
+    omega (arith, c.loop-self.invariant.grown, c.counts-start.ensures.head, c.counts.ensures.head, c.loop-self-test.true) in
+    goes_on c.args.self.now c.loop-self.self c.apply_head_event.new.self c.args.k c.loop-self.invariant below c.in_ok-apply_head_event.ensures.kept c.in_ok-apply_head_event.ensures.grows (c.in_ok-apply_head_event.ensures.applied c.if-not-branch.false)
+
+pub returns-clause-kept : goal.returns-clause-kept
+returns-clause-kept c = c.loop-self.invariant.kept
+
+pub returns-clause-runs : goal.returns-clause-runs
+returns-clause-runs c = c.loop-self.invariant.runs
+
+pub returns-clause-done : goal.returns-clause-done
+returns-clause-done c =
+    let full : count_h (state c.args.self.now) + c.args.k ≤ count_h (state c.loop-self.self) =
+    omega (arith, c.loop-self.invariant.grown, c.counts-start.ensures.head, c.counts.ensures.head, c.loop-self-test.false) in
+    inr full

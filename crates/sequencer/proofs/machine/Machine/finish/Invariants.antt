@@ -1,0 +1,10 @@
+-- The machine has gone from its start by head events; each takes a place of the history's room.
+use Rattle.std.proofs.Common.{ℕ, ◌-◌, length}
+use Rattle.sequencer.proofs.HeadRuns.{OnTheWay}
+use Rattle.sequencer.proofs.machine.Machine.finish.Given as goal
+
+abbrev pub invariant-loop-self : goal.invariant-loop-self
+invariant-loop-self l = OnTheWay l.initial.self l.self l.k
+
+abbrev pub decreases-loop-self : goal.decreases-loop-self
+decreases-loop-self l = 1000000 - length l.self.history
