@@ -1,11 +1,12 @@
 //! What is known of every machine over an accepted program, from the theorems about the model.
 
-ghost use Rattle.std.specs.Prelude.{◌≡◌, ℕ, ◌≤◌, List, [], ◌∷◌, ◌++◌, None, length};
+ghost use Rattle.std.specs.Prelude.{◌≡◌, ℕ, ◌+◌, ◌≤◌, List, [], ◌∷◌, ◌++◌, None, length};
 ghost use Rattle.machine_model.specs.Machine.{State};
 ghost use Rattle.machine_model.specs.Step.{Next};
 ghost use Rattle.machine_model.specs.Replay.{ReplaysFrom, Replays};
 ghost use Rattle.machine_model.specs.Answer.{refusal, after};
 ghost use Rattle.machine_model.specs.Claims.{count_h};
+ghost use Rattle.machine_model.specs.HeadEvent.{growth};
 ghost use Rattle.machine_model.specs.declared.event.Event.{Event};
 ghost use Rattle.machine_model.specs.declared.event.Standing.TheVariants as standing;
 ghost use Rattle.sequencer.specs.Seen.{ArePlaced, executed_by};
@@ -22,7 +23,7 @@ pub(crate) fn known(accepted: &Accepted)
     ensures step { (units : ℕ) (s : State) (e : Event) → s.outcome ≡ standing.Running → refusal accepted.now.program units s e ≡ None → Next accepted.now.program units s e (after accepted.now.program s e) }
     ensures is_after { (units : ℕ) (s s' : State) (e : Event) → Next accepted.now.program units s e s' → s' ≡ after accepted.now.program s e }
     ensures allowed { (units : ℕ) (s s' : State) (e : Event) → Next accepted.now.program units s e s' → refusal accepted.now.program units s e ≡ None }
-    ensures grows { (units : ℕ) (s s' : State) (e : Event) → Next accepted.now.program units s e s' → count_h s ≤ count_h s' }
+    ensures grows { (units : ℕ) (s s' : State) (e : Event) → Next accepted.now.program units s e s' → count_h s' ≡ count_h s + growth s e }
     ensures more { (units : ℕ) (first second : List Event) (s s' : State) → Replays accepted.now.program units first s → ReplaysFrom accepted.now.program units s second s' → Replays accepted.now.program units (first ++ second) s' }
     ensures executed { (units : ℕ) (events : List Event) (s : State) → Replays accepted.now.program units events s → executed_by s ≤ length events }
     ensures assigned { (units : ℕ) (events : List Event) (s : State) → Replays accepted.now.program units events s → s.assigns ≤ length events }

@@ -50,8 +50,9 @@ impl<'a> Machine<'a> {
     ghost use Rattle.machine_model.specs.Machine.{State, opening, value as value_of};
     ghost use Rattle.machine_model.specs.Step.{Next};
     ghost use Rattle.machine_model.specs.Answer.{after, refusal};
-    ghost use Rattle.machine_model.specs.HeadEvent.{head_event as head_event_of, event_of_queue};
+    ghost use Rattle.machine_model.specs.HeadEvent.{head_event as head_event_of, event_of_queue, growth};
     ghost use Rattle.machine_model.specs.declared.event.Event.{Event};
+    ghost use Rattle.machine_model.specs.declared.event.Event.TheVariants.{Retire};
     ghost use Rattle.machine_model.specs.declared.event.Refused.TheVariants as refused;
     ghost use Rattle.machine_model.specs.declared.event.Standing.TheVariants as standing;
     ghost use Rattle.machine_model.specs.Replay.{Replays};
@@ -152,8 +153,8 @@ impl<'a> Machine<'a> {
         }
     }
 
-    /// Applies head events until h has grown by `k` or the run has ended. Only a Retire can let h grow
-    /// by more than `k`, by what the next unit has executed ahead.
+    /// Applies head events until h has grown by `k` or the run has ended. h grows by more than `k`
+    /// only where the last event is a Retire whose next unit had executed ahead.
     ///
     /// # Errors
     ///
@@ -164,6 +165,7 @@ impl<'a> Machine<'a> {
         ensures runs { (es : List Event) × (self.new.history ≡ self.old.history ++ es)
             × RunsByHead self.old.accepted.program (units_of self.old) (count_h (state self.old) + k) (state self.old) es (state self.new) }
         ensures done { OnOk result (((state self.new).outcome ≡ standing.Running → ⊥) ⊎ (count_h (state self.old) + k ≤ count_h (state self.new))) }
+        ensures beyond { count_h (state self.old) + k < count_h (state self.new) → (before : List Event) × (self.new.history ≡ before ++ Retire ∷ []) }
         ensures refused { IfErr result (λ why. ((why ≡ refused.Full) × (length self.new.history ≡ 1000000)) ⊎ (why ≡ refused.OutOfMemory)) }
     {
         let (_, start) = self.counts();
@@ -182,9 +184,8 @@ impl<'a> Machine<'a> {
     /// `Full` with a history of 1,000,000 events, and `OutOfMemory`; nothing is changed then.
     fn apply_head_event(&mut self) -> Result<bool, Refused>
         ensures kept { SameRing self.old self.new }
-        ensures applied { IfOk result (λ did. did ≡ true → (e : Event) × (head_event_of self.old.accepted.program (state self.old) ≡ Some e) × Applies self.old e self.new) }
+        ensures applied { IfOk result (λ did. did ≡ true → (e : Event) × (head_event_of self.old.accepted.program (state self.old) ≡ Some e) × Applies self.old e self.new × (count_h (state self.new) ≡ count_h (state self.old) + growth (state self.old) e)) }
         ensures ended { IfOk result (λ did. did ≡ false → (self.new ≡ self.old) × ((state self.new).outcome ≡ standing.Running → ⊥)) }
-        ensures grows { count_h (state self.old) ≤ count_h (state self.new) }
         ensures room { length self.new.history ≤ 1000000 }
         ensures refused { IfErr result (λ why. ((why ≡ refused.Full) × (length self.new.history ≡ 1000000)) ⊎ (why ≡ refused.OutOfMemory)) }
         ensures err { OnErr result (self.new ≡ self.old) }
@@ -222,7 +223,7 @@ impl<'a> Machine<'a> {
         ensures executed { executed_by (state self.now) ≤ length self.now.history }
         ensures room { length self.now.history ≤ 1000000 }
         ensures allowed { (e : Event) (s : State) → Next self.now.accepted.program (units_of self.now) (state self.now) e s → refusal self.now.accepted.program (units_of self.now) (state self.now) e ≡ None }
-        ensures grows { (e : Event) (s : State) → Next self.now.accepted.program (units_of self.now) (state self.now) e s → count_h (state self.now) ≤ count_h s }
+        ensures grows { (e : Event) (s : State) → Next self.now.accepted.program (units_of self.now) (state self.now) e s → count_h s ≡ count_h (state self.now) + growth (state self.now) e }
         ensures applied { (e : Event) (done : Unit {0}) (p : ProcessorView) → Steps self.now.accepted.program self.now.processor (length self.now.history) e (Ok done) p
             → IsMachine (record self.now { processor = p; history = self.now.history ++ e ∷ [] }) }
     {

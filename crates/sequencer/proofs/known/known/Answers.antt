@@ -1,10 +1,8 @@
-use Rattle.std.proofs.Common.{◌≡◌, ℕ, ◌+◌, Option, None, Ok, subst, arith}
+use Rattle.std.proofs.Common.{◌≡◌, ℕ, Option, None, Ok, subst, arith}
 use Rattle.task_descriptor.specs.Listing.{IsWellFormed}
 use Rattle.machine_model.specs.Machine.{State}
 use Rattle.machine_model.specs.Step.{Next}
 use Rattle.machine_model.specs.Answer.{refusal}
-use Rattle.machine_model.specs.Claims.{count_h}
-use Rattle.machine_model.specs.HeadEvent.{growth}
 use Rattle.sequencer.proofs.Runs.{replays_more, replay_executes, replay_assigns}
 use Rattle.sequencer.proofs.Verdicts.{ok_where_running, none_refused}
 use Rattle.sequencer.proofs.known.known.Goals as goal
@@ -35,8 +33,7 @@ returns-clause-allowed c = λ units s s' e next.
 
 pub returns-clause-grows : goal.returns-clause-grows
 returns-clause-grows c = λ units s s' e next.
-    let grown : count_h s' ≡ count_h s + growth s e = c.events_grow.ensures c.args.accepted.now.program units s s' e next in
-    omega arith
+    c.events_grow.ensures c.args.accepted.now.program units s s' e next
 
 pub returns-clause-more : goal.returns-clause-more
 returns-clause-more c = λ units first second s s' before more. replays_more c.replays_join.ensures c.args.accepted.now.program units first second s s' before more

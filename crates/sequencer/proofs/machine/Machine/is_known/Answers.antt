@@ -1,9 +1,10 @@
-use Rattle.std.proofs.Common.{◌≡◌, ℕ, ◌≤◌, None, length, ◌++◌, ◌∷◌, [], Result, Ok, subst}
+use Rattle.std.proofs.Common.{◌≡◌, ℕ, ◌+◌, ◌≤◌, None, length, ◌++◌, ◌∷◌, [], Result, Ok, subst}
 use Rattle.machine_model.specs.declared.event.Event.{Event}
 use Rattle.machine_model.specs.Machine.{State}
 use Rattle.machine_model.specs.Step.{Next}
 use Rattle.machine_model.specs.Answer.{refusal}
 use Rattle.machine_model.specs.Claims.{count_h}
+use Rattle.machine_model.specs.HeadEvent.{growth}
 use Rattle.sequencer.specs.Seen.{MachineView, ProcessorView, IsMachine, Steps, ArePlaced, state, state_of, units_of}
 use Rattle.sequencer.proofs.Machines.{applied}
 use Rattle.sequencer.proofs.machine.Machine.is_known.Goals as goal
@@ -24,7 +25,7 @@ returns-clause-allowed c =
 pub returns-clause-grows : goal.returns-clause-grows
 returns-clause-grows c =
     let i = c.self.inside in
-    subst (λ (x : MachineView). (e : Event) (s : State) → Next x.accepted.program (units_of x) (state x) e s → count_h (state x) ≤ count_h s) c.self.view_is
+    subst (λ (x : MachineView). (e : Event) (s : State) → Next x.accepted.program (units_of x) (state x) e s → count_h s ≡ count_h (state x) + growth (state x) e) c.self.view_is
     (λ e s next. c.known.ensures.grows i.processor.queue.places (state_of i.processor) s e next)
 
 pub returns-clause-placed : goal.returns-clause-placed
