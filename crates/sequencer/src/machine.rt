@@ -126,13 +126,7 @@ impl<'a> Machine<'a> {
         ensures { IsTrue result ↔ (answer_to self.now event ≡ Ok tt) }
     {
         self.is_known();
-        if !self.is_running() {
-            return false;
-        }
-        if self.length() >= MOST_EVENTS {
-            return false;
-        }
-        self.allows(event)
+        self.is_running() && self.length() < MOST_EVENTS && self.allows(event)
     }
 
     /// The event that the head is ready for, which the machine step allows: on an empty queue the Assign
@@ -245,7 +239,6 @@ impl<'a> Machine<'a> {
     fn is_running(&self) -> bool
         ensures { IsTrue result ↔ ((state self.now).outcome ≡ standing.Running) }
     {
-        let _ = &self.alloc;
         self.processor.world.is_running()
     }
 
