@@ -189,7 +189,7 @@ impl<'a> Machine<'a> {
             return Ok(false);
         };
         self.apply(event)?;
-        self.has_room();
+        self.is_known();
         Ok(true)
     }
 
@@ -255,13 +255,6 @@ impl<'a> Machine<'a> {
         ensures { result ≡ event_of_queue self.now.accepted.program (state self.now).next (state self.now).queue }
     {
         self.processor.event_at_head(self.accepted.program())
-    }
-
-    /// The history's room; the call does nothing.
-    fn has_room(&self)
-        ensures { length self.now.history ≤ 1000000 }
-    {
-        let _ = &self.processor;
     }
 
     /// The headline, of this machine: what retired is the plain machine's run, and how it ended.
