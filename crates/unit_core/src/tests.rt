@@ -5,7 +5,6 @@ use crate::burst::Burst;
 use crate::unit::Unit;
 use crate::wait::{DrainFault, Wait};
 use crate::world::World;
-use machine_model::event::{Spot, Standing};
 use mark_checker::accept::Accepted;
 use mask_certificate::certificate::Cert;
 use mips_plain::instruction::{BranchTwoKind, ImmKind, Op, ThreeKind};
@@ -110,52 +109,6 @@ fn count_cert(alloc: Global) -> Result<Cert, Fail> {
 
 fn world(alloc: Global) -> Result<World, Fail> {
     Ok(World::new(alloc, Memory::new(alloc, &[], &[]).ok().ok_or("memory")?))
-}
-
-#[test]
-fn unit_runs_task(rt: HostRuntime) -> Result<(), Fail> {
-    let accepted = count(rt.alloc())?;
-    let mut world = world(rt.alloc())?;
-    if accepted.program().tasks().is_empty() {
-        return Err(Fail::from("tasks"));
-    }
-    let mut unit = Unit::new(
-        rt.alloc(),
-        &accepted,
-        0,
-        7,
-        Port::fresh(&[0; 34], RegSet::empty()),
-    );
-    for _ in 0..4 {
-        if !world.is_running() {
-            return Err(Fail::from("ended"));
-        }
-        assert_eq!(rt; unit.exec(&accepted, &mut world), Ok(()));
-    }
-    assert_eq!(rt; unit.spot(), Spot::Stopped(0x0040_0000));
-    assert_eq!(rt; (unit.task(), unit.serial(), unit.reads().len()), (0, 7, 4));
-    for number in 8..11u8 {
-        assert_eq!(rt; unit.value(register(number)?), Some(1));
-    }
-    if !world.is_running() {
-        return Err(Fail::from("ended"));
-    }
-    assert_eq!(rt; unit.exec(&accepted, &mut world), Err(Wait::Stopped));
-    assert_eq!(rt;
-        unit.drain(&accepted, register(7)?),
-        Err(DrainFault::NotInCreate)
-    );
-    assert_eq!(rt;
-        unit.drain(&accepted, register(8)?),
-        Err(DrainFault::AlreadySent)
-    );
-    assert_eq!(rt; unit.drain(&accepted, register(10)?), Ok(()));
-    assert_eq!(rt;
-        unit.drain(&accepted, register(10)?),
-        Err(DrainFault::AlreadySent)
-    );
-    assert_eq!(rt; world.outcome(), Standing::Running);
-    Ok(())
 }
 
 #[test]
