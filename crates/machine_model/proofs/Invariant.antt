@@ -12,8 +12,8 @@ use Rattle.task_graph.specs.Soundness.{Sound}
 use Rattle.machine_model.specs.Machine.{Words, Active, task_at, creates, begins, value, pass}
 use Rattle.machine_model.specs.Step.{put, is_reserved, filled}
 use Rattle.machine_model.specs.Claims.{plain_of, reads_of}
-use Rattle.machine_model.specs.declared.event.Spot.{Spot}
-use Rattle.machine_model.specs.declared.event.Spot.TheVariants.{Inside, Stopped}
+use Rattle.machine_events.specs.declared.event.Spot.{Spot}
+use Rattle.machine_events.specs.declared.event.Spot.TheVariants.{Inside, Stopped}
 use Rattle.machine_model.proofs.PlainRuns.{Follows, Ends, here, plain_zero, rest_of, same_end, end_runs, end_keeps, not_created}
 
 -- What it says. The unit's task begins where the plain machine stands after n steps, and the unit

@@ -10,14 +10,14 @@ use Rattle.task_descriptor.specs.Listing.{Listing}
 use Rattle.task_descriptor.specs.declared.descriptor.Marked.{Marked}
 use Rattle.machine_model.specs.Machine.{Active, State, opening, creates, begins, value, pass}
 use Rattle.machine_model.specs.Step.{put, is_listed, follows, started, exec_leaves, next_begins, retire_leaves}
-use Rattle.machine_model.specs.declared.event.Event.{Event}
-use Rattle.machine_model.specs.declared.event.Event.TheVariants.{Assign, Exec, Transfer, Drain, Squash, Retire, Fault, Drop}
-use Rattle.machine_model.specs.declared.event.Refused.{Refused}
-use Rattle.machine_model.specs.declared.event.Refused.TheVariants as refused
-use Rattle.machine_model.specs.declared.event.Spot.{Spot}
-use Rattle.machine_model.specs.declared.event.Spot.TheVariants.{Inside, Stopped}
-use Rattle.machine_model.specs.declared.event.Standing.{Standing}
-use Rattle.machine_model.specs.declared.event.Standing.TheVariants as standing
+use Rattle.machine_events.specs.declared.event.Event.{Event}
+use Rattle.machine_events.specs.declared.event.Event.TheVariants.{Assign, Exec, Transfer, Drain, Squash, Retire, Fault, Drop}
+use Rattle.machine_events.specs.declared.event.Refused.{Refused}
+use Rattle.machine_events.specs.declared.event.Refused.TheVariants as refused
+use Rattle.machine_events.specs.declared.event.Spot.{Spot}
+use Rattle.machine_events.specs.declared.event.Spot.TheVariants.{Inside, Stopped}
+use Rattle.machine_events.specs.declared.event.Standing.{Standing}
+use Rattle.machine_events.specs.declared.event.Standing.TheVariants as standing
 
 abbrev pub is_running : Standing → Bool
 is_running standing.Running = true

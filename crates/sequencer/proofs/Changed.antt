@@ -9,7 +9,7 @@ use Rattle.mark_checker.specs.Places.{Checked}
 use Rattle.machine_model.specs.Machine.{Active, State, Words}
 use Rattle.machine_model.specs.Step.{is_reserved, started}
 use Rattle.machine_model.specs.Answer.{with_queue, after}
-use Rattle.machine_model.specs.declared.event.Event.TheVariants.{Assign}
+use Rattle.machine_events.specs.declared.event.Event.TheVariants.{Assign}
 use Rattle.register_ring.specs.Held.{no_pairs}
 use Rattle.register_ring.specs.Ports.{Ports, arrived_of, sent_of, arrived_fresh}
 use Rattle.unit_core.specs.Units.{UnitView, active_of, begun}

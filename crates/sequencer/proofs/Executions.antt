@@ -15,10 +15,10 @@ use Rattle.machine_model.specs.Step.{Next, executed, after_exec}
 use Rattle.machine_model.specs.Burst.{StepsAlone, with_arrived}
 use Rattle.machine_model.specs.Laws.{BurstsAreEvents}
 use Rattle.machine_model.specs.Answer.{for_some, for_none, unless, least, instruction_at, operand, refusal, with_queue, most_events}
-use Rattle.machine_model.specs.declared.event.Event.TheVariants.{Exec}
-use Rattle.machine_model.specs.declared.event.Refused.{Refused}
-use Rattle.machine_model.specs.declared.event.Refused.TheVariants as refused
-use Rattle.machine_model.specs.declared.event.Standing.TheVariants.{Running}
+use Rattle.machine_events.specs.declared.event.Event.TheVariants.{Exec}
+use Rattle.machine_events.specs.declared.event.Refused.{Refused}
+use Rattle.machine_events.specs.declared.event.Refused.TheVariants as refused
+use Rattle.machine_events.specs.declared.event.Standing.TheVariants.{Running}
 use Rattle.unit_core.specs.UnitStep.{StepsAtHead, wait_of, wait_at, wait_with}
 use Rattle.unit_core.specs.Worlds.{WorldView, memory_of}
 use Rattle.sequencer.specs.Seen.{ProcessorView, state_of, actives, HeadStep, AheadStep, Steps, IsRefusedBy, refused_by, exec_refusal}

@@ -6,8 +6,8 @@ use Rattle.machine_model.specs.Machine.{State}
 use Rattle.machine_model.specs.Step.{Next}
 use Rattle.machine_model.specs.Claims.{count_h}
 use Rattle.machine_model.specs.HeadEvent.{head_event, growth}
-use Rattle.machine_model.specs.declared.event.Event.{Event}
-use Rattle.machine_model.specs.declared.event.Event.TheVariants.{Assign, Exec, Transfer, Drain, Squash, Retire, Fault, Drop}
+use Rattle.machine_events.specs.declared.event.Event.{Event}
+use Rattle.machine_events.specs.declared.event.Event.TheVariants.{Assign, Exec, Transfer, Drain, Squash, Retire, Fault, Drop}
 use Rattle.sequencer.specs.Finish.{RunsByHead}
 use Rattle.sequencer.specs.Seen.{MachineView, Applies, SameRing, state, units_of}
 

@@ -7,11 +7,11 @@ use Rattle.task_descriptor.specs.Listing.{Listing}
 use Rattle.machine_model.specs.Machine.{State, opening}
 use Rattle.machine_model.specs.Replay.{ReplaysFrom, Replays}
 use Rattle.machine_model.specs.Answer.{unless, is_running, ok_unless, answer, most_events}
-use Rattle.machine_model.specs.declared.event.Event.{Event}
-use Rattle.machine_model.specs.declared.event.Refused.{Refused}
-use Rattle.machine_model.specs.declared.event.Refused.TheVariants as refused
-use Rattle.machine_model.specs.declared.event.Standing.{Standing}
-use Rattle.machine_model.specs.declared.event.Standing.TheVariants.{Running, Halted, Trapped, Unlisted}
+use Rattle.machine_events.specs.declared.event.Event.{Event}
+use Rattle.machine_events.specs.declared.event.Refused.{Refused}
+use Rattle.machine_events.specs.declared.event.Refused.TheVariants as refused
+use Rattle.machine_events.specs.declared.event.Standing.{Standing}
+use Rattle.machine_events.specs.declared.event.Standing.TheVariants.{Running, Halted, Trapped, Unlisted}
 use Rattle.sequencer.specs.Seen.{ProcessorView, MachineView, IsMachine, Steps, state_of, state, units_of, answer_to, IsAnswered, later_refusal, takes_memory}
 use Rattle.sequencer.proofs.Verdicts.{refused_where_running}
 

@@ -3,8 +3,8 @@ use Rattle.std.proofs.Common.{◌≡◌, ℕ, Bool, List, Option, Some, None, Re
 use Rattle.std.specs.Prelude.{MatchResult, IsSome, slice_get, nat_eq}
 use Rattle.std.specs.Option.{option_map}
 use Rattle.machine_model.specs.Answer.{for_some}
-use Rattle.machine_model.specs.declared.event.Refused.{Refused}
-use Rattle.machine_model.specs.declared.event.Refused.TheVariants as refused
+use Rattle.machine_events.specs.declared.event.Refused.{Refused}
+use Rattle.machine_events.specs.declared.event.Refused.TheVariants as refused
 use Rattle.unit_core.specs.declared.wait.Wait.{Wait}
 use Rattle.unit_core.specs.declared.wait.Wait.TheVariants as wait
 use Rattle.sequencer.specs.Seen.{refused_by, exec_refusal, IsRefusedBy}

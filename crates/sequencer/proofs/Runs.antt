@@ -13,9 +13,9 @@ use Rattle.machine_model.specs.Replay.{ReplaysFrom, Replays}
 use Rattle.sequencer.specs.Seen.{by_units, executed_by}
 use Rattle.machine_model.specs.Laws.{ReplayCut, EventsCount}
 use Rattle.machine_model.specs.HeadEvent.{active_after, retired_after}
-use Rattle.machine_model.specs.declared.event.Commit.{Commit}
-use Rattle.machine_model.specs.declared.event.Event.{Event}
-use Rattle.machine_model.specs.declared.event.Event.TheVariants.{Assign, Exec, Transfer, Drain, Squash, Retire, Fault, Drop}
+use Rattle.machine_events.specs.declared.event.Commit.{Commit}
+use Rattle.machine_events.specs.declared.event.Event.{Event}
+use Rattle.machine_events.specs.declared.event.Event.TheVariants.{Assign, Exec, Transfer, Drain, Squash, Retire, Fault, Drop}
 
 -- more events behind a replay
 

@@ -3,10 +3,10 @@ use Rattle.std.proofs.Common.{◌≡◌, ℕ, Bool, true, false, Option, Some, N
 use Rattle.std.specs.Prelude.{nat_lt}
 use Rattle.std.specs.Option.{option_or}
 use Rattle.machine_model.specs.Answer.{unless, is_running, ok_unless, most_events}
-use Rattle.machine_model.specs.declared.event.Refused.{Refused}
-use Rattle.machine_model.specs.declared.event.Refused.TheVariants as refused
-use Rattle.machine_model.specs.declared.event.Standing.{Standing}
-use Rattle.machine_model.specs.declared.event.Standing.TheVariants.{Running}
+use Rattle.machine_events.specs.declared.event.Refused.{Refused}
+use Rattle.machine_events.specs.declared.event.Refused.TheVariants as refused
+use Rattle.machine_events.specs.declared.event.Standing.{Standing}
+use Rattle.machine_events.specs.declared.event.Standing.TheVariants.{Running}
 
 -- where the run goes on, nothing refuses the event and there is room, the answer is Ok
 pub ok_where_running : (o : Standing) (r : Option Refused) → o ≡ Running → r ≡ None → ok_unless (unless (is_running o) refused.Ended (option_or r (unless (nat_lt 0 most_events) refused.Full None))) ≡ Ok tt

@@ -5,7 +5,7 @@ use Rattle.machine_model.specs.Machine.{State}
 use Rattle.machine_model.specs.Step.{Next}
 use Rattle.machine_model.specs.Claims.{count_h}
 use Rattle.machine_model.specs.HeadEvent.{head_event}
-use Rattle.machine_model.specs.declared.event.Event.{Event}
+use Rattle.machine_events.specs.declared.event.Event.{Event}
 
 -- each event is the head event where h is below a goal, and leaves the next state by the machine step
 abbrev pub RunsByHead : Listing → (units goal : ℕ) → State → List Event → State → Type 0

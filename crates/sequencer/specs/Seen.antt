@@ -13,13 +13,13 @@ use Rattle.machine_model.specs.Machine.{Active, State}
 use Rattle.machine_model.specs.Burst.{StepsAlone}
 use Rattle.machine_model.specs.Replay.{Replays}
 use Rattle.machine_model.specs.Claims.{committed}
-use Rattle.machine_model.specs.declared.event.Commit.{Commit}
+use Rattle.machine_events.specs.declared.event.Commit.{Commit}
 use Rattle.machine_model.specs.Answer.{for_some, unless, refusal, most_events, after, answer}
 use Rattle.machine_model.specs.Step.{Next}
-use Rattle.machine_model.specs.declared.event.Event.TheVariants.{Exec, Retire}
-use Rattle.machine_model.specs.declared.event.Refused.{Refused}
-use Rattle.machine_model.specs.declared.event.Refused.TheVariants as refused
-use Rattle.machine_model.specs.declared.event.Event.{Event}
+use Rattle.machine_events.specs.declared.event.Event.TheVariants.{Exec, Retire}
+use Rattle.machine_events.specs.declared.event.Refused.{Refused}
+use Rattle.machine_events.specs.declared.event.Refused.TheVariants as refused
+use Rattle.machine_events.specs.declared.event.Event.{Event}
 use Rattle.unit_core.specs.Units.{UnitView, active_of, IsPlaced}
 use Rattle.unit_core.specs.UnitStep.{StepsAtHead, wait_of}
 use Rattle.unit_core.specs.declared.wait.Wait.{Wait}

@@ -8,15 +8,15 @@ ghost use Rattle.std.specs.List.{last_or};
 ghost use Rattle.machine_model.specs.Machine.{Active, creates, pass};
 ghost use Rattle.machine_model.specs.Step.{follows, next_begins};
 ghost use Rattle.machine_model.specs.Answer.{refusal, least, exit_of, unless, most_events};
-ghost use Rattle.machine_model.specs.declared.event.Event.TheVariants as event;
-ghost use Rattle.machine_model.specs.declared.event.Refused.TheVariants as refused;
+ghost use Rattle.machine_events.specs.declared.event.Event.TheVariants as event;
+ghost use Rattle.machine_events.specs.declared.event.Refused.TheVariants as refused;
 ghost use Rattle.sequencer.specs.Seen.{state_of};
 ghost use Rattle.unit_core.specs.Units.{active_of};
 
 use crate::history::MOST_EVENTS;
 use crate::listing::{begins, created, is_listed, may_follow};
 use crate::processor::Processor;
-use machine_model::event::{Refused, Spot};
+use machine_events::event::{Refused, Spot};
 use mips_plain::number::Reg;
 use register_ring::members::next_member;
 use task_descriptor::program::Program;

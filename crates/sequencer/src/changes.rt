@@ -5,13 +5,13 @@ ghost use Rattle.std.specs.Prelude.{◌≡◌, ℕ, ◌+◌, ◌-◌, ◌^◌, �
 ghost use Rattle.std.specs.Option.{option_and_then};
 ghost use Rattle.machine_model.specs.Machine.{Active, pass};
 ghost use Rattle.machine_model.specs.Answer.{refusal, after, exit_of};
-ghost use Rattle.machine_model.specs.declared.event.Event.TheVariants as event;
+ghost use Rattle.machine_events.specs.declared.event.Event.TheVariants as event;
 ghost use Rattle.sequencer.specs.Seen.{state_of, Keeps, ArePlaced};
 ghost use Rattle.unit_core.specs.Units.{active_of};
 
 use crate::listing::created;
 use crate::processor::Processor;
-use machine_model::event::{Commit, Standing};
+use machine_events::event::{Commit, Standing};
 use mark_checker::accept::Accepted;
 use mips_plain::number::{Reg, RegSet};
 use mips_plain::outcome::{OutOfMemory, Read};

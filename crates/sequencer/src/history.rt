@@ -1,6 +1,6 @@
 //! The events of a machine so far, in room that is reserved once.
 
-use machine_model::event::Event;
+use machine_events::event::Event;
 use std::alloc::{AllocError, Global};
 use std::marker::Model;
 
@@ -16,7 +16,7 @@ pub(crate) struct History {
 
 impl Model for History {
     ghost use Rattle.std.specs.Prelude.{◌≤◌, List, vec_capacity};
-    ghost use Rattle.machine_model.specs.declared.event.Event.{Event};
+    ghost use Rattle.machine_events.specs.declared.event.Event.{Event};
 
     ghost Value = { List Event };
 

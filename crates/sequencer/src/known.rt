@@ -7,8 +7,8 @@ ghost use Rattle.machine_model.specs.Replay.{ReplaysFrom, Replays};
 ghost use Rattle.machine_model.specs.Answer.{refusal, after};
 ghost use Rattle.machine_model.specs.Claims.{count_h};
 ghost use Rattle.machine_model.specs.HeadEvent.{growth};
-ghost use Rattle.machine_model.specs.declared.event.Event.{Event};
-ghost use Rattle.machine_model.specs.declared.event.Standing.TheVariants as standing;
+ghost use Rattle.machine_events.specs.declared.event.Event.{Event};
+ghost use Rattle.machine_events.specs.declared.event.Standing.TheVariants as standing;
 ghost use Rattle.sequencer.specs.Seen.{ArePlaced, executed_by};
 
 use accepted_laws::laws::replayed_places_masked;

@@ -2,7 +2,7 @@
 //! retired.
 
 use crate::queue::Queue;
-use machine_model::event::Commit;
+use machine_events::event::Commit;
 use mips_plain::memory::Memory;
 use mips_plain::number::REGISTERS;
 use mips_plain::outcome::{OutOfMemory, Read};

@@ -3,7 +3,7 @@
 
 use crate::listing::created;
 use circular_buffer::HeapCircularBuffer;
-use machine_model::event::Refused;
+use machine_events::event::Refused;
 use mark_checker::accept::Accepted;
 use mips_plain::number::{Reg, RegSet};
 use std::alloc::{AllocError, Global};
@@ -41,7 +41,7 @@ impl Queue {
     ghost use Rattle.unit_core.specs.Units.{active_of};
     ghost use Rattle.unit_core.specs.UnitStep.{drain_fault};
     ghost use Rattle.sequencer.specs.Seen.{actives, ArePlaced, HeadStep, AheadStep, IsRefusedBy, exec_refusal as exec_refusal_of};
-    ghost use Rattle.machine_model.specs.declared.event.Standing.TheVariants as standing;
+    ghost use Rattle.machine_events.specs.declared.event.Standing.TheVariants as standing;
 
     /// A queue without a unit, with so many places.
     pub(crate) fn new(alloc: Global, places: u32) -> Result<Queue, AllocError>

@@ -14,7 +14,7 @@ ghost use Rattle.unit_core.specs.Parts.{loads, writes, with_own, value_in, sent_
 ghost use Rattle.unit_core.specs.declared.wait.Wait.TheVariants as wait;
 
 use crate::wait::Wait;
-use machine_model::event::Spot;
+use machine_events::event::Spot;
 use mips_plain::instruction::Op;
 use mips_plain::number::{Reg, RegSet};
 use mips_plain::outcome::Read;

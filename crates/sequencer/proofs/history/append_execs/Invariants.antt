@@ -1,7 +1,7 @@
 -- As many were appended as the loop has gone round, and the room stays.
 use Rattle.std.proofs.Common.{◌≡◌, ◌++◌, vec_capacity}
 use Rattle.std.specs.Prelude.{replicate}
-use Rattle.machine_model.specs.declared.event.Event.TheVariants.{Exec}
+use Rattle.machine_events.specs.declared.event.Event.TheVariants.{Exec}
 use Rattle.sequencer.proofs.history.append_execs.Given as goal
 
 abbrev pub invariant-loop : goal.invariant-loop

@@ -3,7 +3,7 @@ use Rattle.mips_plain.specs.Words.{has}
 use Rattle.task_descriptor.specs.Listing.{Listing}
 use Rattle.machine_model.specs.Step.{is_reserved}
 use Rattle.machine_model.specs.Answer.{after}
-use Rattle.machine_model.specs.declared.event.Event.TheVariants.{Assign}
+use Rattle.machine_events.specs.declared.event.Event.TheVariants.{Assign}
 use Rattle.sequencer.specs.Seen.{ProcessorView, state_of, actives}
 use Rattle.sequencer.proofs.Changed.{assigned}
 use Rattle.sequencer.proofs.processor.Processor.assign.Goals as goal

@@ -1,7 +1,7 @@
 use Rattle.std.proofs.Common.{◌≡◌, Option, Some, None, sym, ap, ◌∙◌, subst}
 use Rattle.std.specs.Option.{option_or}
-use Rattle.machine_model.specs.declared.event.Refused.{Refused}
-use Rattle.machine_model.specs.declared.event.Refused.TheVariants as refused
+use Rattle.machine_events.specs.declared.event.Refused.{Refused}
+use Rattle.machine_events.specs.declared.event.Refused.TheVariants as refused
 use Rattle.sequencer.specs.Seen.{ProcessorView, state_of, actives, ArePlaced, exec_refusal}
 use Rattle.sequencer.proofs.Executions.{exec_refused}
 use Rattle.sequencer.proofs.processor.Processor.exec_when_full.Goals as goal

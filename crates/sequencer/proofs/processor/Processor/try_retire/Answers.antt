@@ -3,9 +3,9 @@ use Rattle.std.specs.Prelude.{nat_lt}
 use Rattle.std.specs.Option.{option_or}
 use Rattle.task_descriptor.specs.Listing.{Listing}
 use Rattle.machine_model.specs.Answer.{refusal, after, unless, most_events}
-use Rattle.machine_model.specs.declared.event.Event.TheVariants.{Retire}
-use Rattle.machine_model.specs.declared.event.Refused.{Refused}
-use Rattle.machine_model.specs.declared.event.Refused.TheVariants as refused
+use Rattle.machine_events.specs.declared.event.Event.TheVariants.{Retire}
+use Rattle.machine_events.specs.declared.event.Refused.{Refused}
+use Rattle.machine_events.specs.declared.event.Refused.TheVariants as refused
 use Rattle.sequencer.specs.Seen.{ProcessorView, state_of, Does}
 use Rattle.sequencer.proofs.TriedSteps.{does_steps}
 use Rattle.sequencer.proofs.processor.Processor.try_retire.Goals as goal
