@@ -17,5 +17,3 @@ mod resolve;
 mod row;
 mod statement;
 mod table;
-#[cfg(test)]
-mod tests;

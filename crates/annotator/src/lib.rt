@@ -11,5 +11,3 @@ mod marks;
 mod masks;
 pub mod propose;
 pub mod soundness;
-#[cfg(test)]
-mod tests;

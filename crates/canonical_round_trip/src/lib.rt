@@ -4,5 +4,3 @@
 
 pub mod laws;
 mod ranges;
-#[cfg(test)]
-mod tests;

@@ -5,5 +5,3 @@ mod instructions;
 mod mnemonics;
 mod pieces;
 pub mod print;
-#[cfg(test)]
-mod tests;

@@ -12,5 +12,3 @@ pub mod check;
 pub mod finding;
 pub mod laws;
 mod place;
-#[cfg(test)]
-mod tests;

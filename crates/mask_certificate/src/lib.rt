@@ -8,6 +8,4 @@ pub mod fault;
 pub mod laws;
 pub mod masks;
 pub mod reading;
-#[cfg(test)]
-mod tests;
 pub mod writing;

@@ -10,5 +10,3 @@ pub mod outcome;
 pub mod parts;
 pub mod plain;
 pub(crate) mod processor;
-#[cfg(test)]
-mod tests;

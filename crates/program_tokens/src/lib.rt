@@ -5,7 +5,5 @@ mod kind;
 pub mod line;
 mod number;
 mod register;
-#[cfg(test)]
-mod tests;
 pub mod token;
 mod word;

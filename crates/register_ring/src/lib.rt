@@ -5,5 +5,3 @@
 pub mod held;
 pub mod members;
 pub mod port;
-#[cfg(test)]
-mod tests;

@@ -10,5 +10,3 @@ pub mod places;
 pub mod program;
 mod registers;
 mod same;
-#[cfg(test)]
-mod tests;

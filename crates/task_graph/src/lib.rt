@@ -4,5 +4,3 @@
 
 pub mod edges;
 pub mod members;
-#[cfg(test)]
-mod tests;

@@ -1,9 +1,9 @@
 //! What no clause says: that there is memory for the tokens. The expected values are the grammar's own
 //! examples.
 
-use crate::line::{first_line, line_tokens, read_tokens};
-use crate::token::{Directive, Mark, Number, Token, TokenFault};
 use mips_plain::number::Reg;
+use program_tokens::line::{first_line, line_tokens, read_tokens};
+use program_tokens::token::{Directive, Mark, Number, Token, TokenFault};
 use std::test::Fail;
 
 #[test]

@@ -1,7 +1,7 @@
-//! What no clause says: that there is memory.
+//! A program printed and assembled again.
 
-use crate::laws::print_and_assemble;
 use annotated_asm::assembler::assemble;
+use canonical_round_trip::laws::print_and_assemble;
 use std::test::Fail;
 
 const TEXT: &[u8] = b"

@@ -1,53 +1,19 @@
-//! One run of each public call, on the certificate of a program with the tasks A, a loop of four
-//! instructions, and B, two instructions; and every beginning of its text.
+//! The certificate of the program `count` in both spellings, every beginning of them, and texts that
+//! are none.
 
-use crate::certificate::{Cert, ListFault};
-use crate::fault::CertFault;
-use crate::reading::read;
-use crate::writing::write;
-use mips_plain::instruction::Op;
-use mips_plain::number::{Place, RegSet};
-use std::alloc::Global;
+use crate::count::program;
+use mask_certificate::certificate::{Cert, ListFault};
+use mask_certificate::fault::CertFault;
+use mask_certificate::reading::read;
+use mask_certificate::writing::write;
+use mips_plain::number::RegSet;
 use std::test::Fail;
-use task_descriptor::descriptor::{Descriptor, Marked, Stop};
-use task_descriptor::name::Name;
-use task_descriptor::places::Places;
-use task_descriptor::program::{Parts, Program};
 
 const WIDE: &[u8] =
     b"cert 2\ntask A\n0 0000000000000700\n1 0000000000000600\n2 0000000000000400\n3 0000000000000000\ntask B\n4 0000000000000000\n5 0000000000000000\n";
 
 const NARROW: &[u8] =
     b"cert 1\ntask A\n0 00000700\n1 00000600\n2 00000400\n3 00000000\ntask B\n4 00000000\n5 00000000\n";
-
-fn place(index: u32) -> Result<Place, Fail> {
-    Ok(Place::new(index).ok_or("place")?)
-}
-
-fn task(alloc: Global, name: &[u8], entry: u32) -> Result<Descriptor, Fail> {
-    Ok(Descriptor {
-        name: Name::new(name).ok_or("name")?,
-        entry: place(entry)?,
-        create: RegSet::empty(),
-        targets: Places::new(Vec::new(alloc)),
-    })
-}
-
-fn program(alloc: Global) -> Result<Program, Fail> {
-    let halt = Marked {
-        op: Op::Halt,
-        forward: false,
-        stop: Stop::None,
-    };
-    let parts = Parts {
-        code: vec![in alloc; halt, halt, halt, halt, halt, halt]?,
-        bytes: Vec::new(alloc),
-        fixed: Vec::new(alloc),
-        tasks: vec![in alloc; task(alloc, b"A", 0)?, task(alloc, b"B", 4)?]?,
-        start: place(0)?,
-    };
-    Ok(Program::build(parts).ok().ok_or("refused")?)
-}
 
 fn mask(bits: u64) -> Result<RegSet, Fail> {
     Ok(RegSet::from_bits(bits).ok_or("mask")?)

@@ -1,8 +1,5 @@
-//! One run of each public call, on a program with the tasks A, a loop of four instructions, and B, two
-//! instructions.
+//! The program `count`: the tasks A, a loop of four instructions, and B, two instructions.
 
-use crate::edges::{Next, exits_of, next_inside};
-use crate::members::members;
 use mips_plain::instruction::{BranchTwoKind, ImmKind, Op, ThreeKind};
 use mips_plain::number::{Gpr, Place, Reg, RegSet};
 use std::alloc::Global;
@@ -12,15 +9,15 @@ use task_descriptor::name::Name;
 use task_descriptor::places::Places;
 use task_descriptor::program::{Parts, Program};
 
-fn register(number: u8) -> Result<Gpr, Fail> {
+pub(crate) fn register(number: u8) -> Result<Gpr, Fail> {
     Ok(Gpr::new(number).ok_or("register")?)
 }
 
-fn place(index: u32) -> Result<Place, Fail> {
+pub(crate) fn place(index: u32) -> Result<Place, Fail> {
     Ok(Place::new(index).ok_or("place")?)
 }
 
-fn marked(op: Op, forward: bool, stop: Stop) -> Marked {
+pub(crate) fn marked(op: Op, forward: bool, stop: Stop) -> Marked {
     Marked { op, forward, stop }
 }
 
@@ -61,50 +58,17 @@ fn tasks(alloc: Global) -> Result<Vec<Descriptor>, Fail> {
     ]?)
 }
 
-fn program(alloc: Global) -> Result<Program, Fail> {
-    let parts = Parts {
+/// The parts of the program, with one byte of read-only data.
+pub(crate) fn parts(alloc: Global) -> Result<Parts, Fail> {
+    Ok(Parts {
         code: code(alloc)?,
         bytes: Vec::new(alloc),
-        fixed: Vec::new(alloc),
+        fixed: vec![in alloc; 7]?,
         tasks: tasks(alloc)?,
         start: place(0)?,
-    };
-    Ok(Program::build(parts).ok().ok_or("refused")?)
+    })
 }
 
-#[test]
-fn edges_of_count(rt: HostRuntime) -> Result<(), Fail> {
-    let program = program(rt.alloc())?;
-    if program.code().len() < 6 {
-        return Err(Fail::from("short"));
-    }
-    assert_eq!(rt; next_inside(&program, 0).first, Some(1));
-    assert_eq!(rt; next_inside(&program, 0).second, None);
-    assert_eq!(rt; next_inside(&program, 3).first, None);
-    let exits = exits_of(&program, 3);
-    assert_eq!(rt; exits.direct.first, Some(0));
-    assert_eq!(rt; exits.direct.second, Some(4));
-    assert!(rt; !exits.indirect && !exits.falls_off);
-    let last = exits_of(&program, 5);
-    let none = Next {
-        first: None,
-        second: None,
-    };
-    assert_eq!(rt; last.direct, none);
-    Ok(())
-}
-
-#[test]
-fn members_of_count(rt: HostRuntime) -> Result<(), Fail> {
-    let program = program(rt.alloc())?;
-    assert_eq!(rt;
-        members(rt.alloc(), &program, 0)?.as_slice(),
-        [0, 1, 2, 3].as_slice()
-    );
-    assert_eq!(rt;
-        members(rt.alloc(), &program, 1)?.as_slice(),
-        [4, 5].as_slice()
-    );
-    assert_eq!(rt; members(rt.alloc(), &program, 2)?.len(), 0);
-    Ok(())
+pub(crate) fn program(alloc: Global) -> Result<Program, Fail> {
+    Ok(Program::build(parts(alloc)?).ok().ok_or("refused")?)
 }

@@ -1,9 +1,9 @@
 //! The worked example of the port: the same calls on a plain form of it, two arrays of options.
 
-use crate::held::RegisterWords;
-use crate::members::next_member;
-use crate::port::{AlreadyThere, Port};
 use mips_plain::number::{Reg, RegSet};
+use register_ring::held::RegisterWords;
+use register_ring::members::next_member;
+use register_ring::port::{AlreadyThere, Port};
 use std::process::Abort;
 use std::test::Fail;
 

@@ -1,7 +1,7 @@
-//! What no clause says: that there is memory. The expected values are those of the text format.
+//! Programs from text, and three faults.
 
-use crate::assembler::assemble;
-use crate::fault::AsmFault;
+use annotated_asm::assembler::assemble;
+use annotated_asm::fault::AsmFault;
 use mips_plain::instruction::{ImmKind, LogicKind, Op};
 use mips_plain::number::Gpr;
 use std::test::Fail;

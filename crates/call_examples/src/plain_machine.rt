@@ -3,14 +3,14 @@
 
 ghost use Rattle.std.specs.Prelude.{◌<◌, ◌≤◌, ◌≡◌};
 
-use crate::instruction::{
+use mips_plain::instruction::{
     BranchOneKind, BranchTwoKind, ImmKind, LoadKind, LogicKind, MoveFromKind, MoveToKind, MultKind,
     Op, ShiftByKind, ShiftVarKind, StoreKind, ThreeKind,
 };
-use crate::memory::{Memory, MemoryFault};
-use crate::number::{Amount, Gpr, Place, Reg, RegSet};
-use crate::outcome::{OutOfMemory, Outcome, Trap};
-use crate::plain::{Plain, PlainFault};
+use mips_plain::memory::{Memory, MemoryFault};
+use mips_plain::number::{Amount, Gpr, Place, Reg, RegSet};
+use mips_plain::outcome::{OutOfMemory, Outcome, Trap};
+use mips_plain::plain::{Plain, PlainFault};
 use std::alloc::AllocError;
 use std::test::Fail;
 
