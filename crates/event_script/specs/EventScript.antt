@@ -1,0 +1,148 @@
+-- Reading the text of an event script (own choice): the events that its lines spell, or the first line
+-- that spells none. The lines are `assign NAME`, `exec K`, `transfer K $R`, `drain K $R`, `squash K`,
+-- `retire`, `fault` and `drop K`, where K is a position in the queue of units and R a register.
+use Rattle.std.specs.Prelude.{ℕ, ◌+◌, Bool, false, ◌&&◌, not, List, [], ◌∷◌, length, map, position, Option, None, Some, Result, Ok, Err, nat_lt, nat_le, ◌==◌, if◌then◌else◌, codes}
+use Rattle.std.specs.Char.{is_ascii_digit}
+use Rattle.std.specs.List.{list_all, slice_split}
+use Rattle.std.specs.Str.{bytes_eq}
+use Rattle.std.specs.Str.Parse.{digits_value}
+use Rattle.task_descriptor.specs.Names.{is_name}
+use Rattle.task_descriptor.specs.Listing.{Listing}
+use Rattle.task_descriptor.specs.declared.descriptor.Descriptor.{Descriptor}
+use Rattle.machine_events.specs.declared.event.Event.{Event}
+use Rattle.machine_events.specs.declared.event.Event.TheVariants.{Assign, Exec, Transfer, Drain, Squash, Retire, Fault, Drop}
+use Rattle.event_script.specs.declared.fault.ScriptFault.{ScriptFault}
+use Rattle.event_script.specs.declared.fault.ScriptFault.TheVariants.{Line, TaskName}
+use Rattle.event_script.specs.declared.fault.LineFault.{LineFault}
+use Rattle.event_script.specs.declared.fault.LineFault.TheVariants.{NoForm, NoTask}
+
+-- ---- the lines of a text
+
+abbrev pub is_newline : ℕ → Bool
+is_newline byte = byte == 10
+
+-- without the last part where it is empty
+abbrev pub without_empty_last : List (List ℕ) → List (List ℕ)
+without_empty_last [] = []
+without_empty_last (last ∷ []) = if length last == 0 then [] else last ∷ []
+without_empty_last (part ∷ next ∷ parts) = part ∷ without_empty_last (next ∷ parts)
+
+-- the lines, each without the LF at its end, which the last may lack
+abbrev pub lines : List ℕ → List (List ℕ)
+lines text = without_empty_last (slice_split is_newline text)
+
+-- ---- the words of a line
+
+abbrev pub is_space : ℕ → Bool
+is_space byte = byte == 32
+
+-- one space stands between two words, so between two spaces there is an empty word
+abbrev pub words : List ℕ → List (List ℕ)
+words line = slice_split is_space line
+
+-- a number is 1 to 3 decimal digits without leading zeros
+abbrev pub has_leading_zero : List ℕ → Bool
+has_leading_zero [] = false
+has_leading_zero (digit ∷ []) = false
+has_leading_zero (first ∷ second ∷ digits) = first == 48
+
+abbrev pub is_number : List ℕ → Bool
+is_number word = nat_le 1 (length word) && (nat_le (length word) 3 && (not (has_leading_zero word) && list_all is_ascii_digit word))
+
+abbrev pub number_in : List ℕ → Option ℕ
+number_in word = if is_number word then Some (digits_value 10 word) else None
+
+-- the number, where it is one of a register, 0 to 33
+abbrev pub if_register : Option ℕ → Option ℕ
+if_register None = None
+if_register (Some number) = if nat_lt number 34 then Some number else None
+
+-- a register is `$` and its number
+abbrev pub register_in : List ℕ → Option ℕ
+register_in [] = None
+register_in (first ∷ word) = if first == 36 then if_register (number_in word) else None
+
+-- ---- the event that a line spells
+
+-- of a word that stands alone
+abbrev pub alone : List ℕ → Result Event LineFault
+alone verb =
+    if bytes_eq verb (codes "retire") then Ok Retire
+    else (if bytes_eq verb (codes "fault") then Ok Fault
+    else Err NoForm)
+
+abbrev pub if_task : Option ℕ → Result Event LineFault
+if_task None = Err NoTask
+if_task (Some task) = Ok (Assign task)
+
+-- the assignment of the task of a name
+abbrev pub assigned : List (List ℕ) → List ℕ → Result Event LineFault
+assigned names name = if is_name name then if_task (position (λ other. bytes_eq other name) names) else Err NoForm
+
+-- of a verb and a position
+abbrev pub at_position : List ℕ → Option ℕ → Result Event LineFault
+at_position verb None = Err NoForm
+at_position verb (Some k) =
+    if bytes_eq verb (codes "exec") then Ok (Exec k)
+    else (if bytes_eq verb (codes "squash") then Ok (Squash k)
+    else (if bytes_eq verb (codes "drop") then Ok (Drop k)
+    else Err NoForm))
+
+-- of a verb and one word behind it
+abbrev pub with_one : List (List ℕ) → (verb word : List ℕ) → Result Event LineFault
+with_one names verb word = if bytes_eq verb (codes "assign") then assigned names word else at_position verb (number_in word)
+
+-- of a verb, a position and a register
+abbrev pub with_two : List ℕ → (position register : Option ℕ) → Result Event LineFault
+with_two verb None register = Err NoForm
+with_two verb (Some k) None = Err NoForm
+with_two verb (Some k) (Some r) =
+    if bytes_eq verb (codes "transfer") then Ok (Transfer k r)
+    else (if bytes_eq verb (codes "drain") then Ok (Drain k r)
+    else Err NoForm)
+
+-- of the words of a line, with the names of the tasks
+abbrev pub event_of : List (List ℕ) → (words : List (List ℕ)) → Result Event LineFault
+event_of names [] = Err NoForm
+event_of names (verb ∷ []) = alone verb
+event_of names (verb ∷ word ∷ []) = with_one names verb word
+event_of names (verb ∷ first ∷ second ∷ []) = with_two verb (number_in first) (register_in second)
+event_of names (verb ∷ first ∷ second ∷ third ∷ more) = Err NoForm
+
+abbrev pub event_in : List (List ℕ) → (line : List ℕ) → Result Event LineFault
+event_in names line = event_of names (words line)
+
+-- ---- the events of the lines, or the first line with a fault
+
+abbrev pub fault_at : ℕ → LineFault → ScriptFault
+fault_at n NoForm = Line n
+fault_at n NoTask = TaskName n
+
+abbrev pub at_line : ℕ → Result Event LineFault → Result Event ScriptFault
+at_line n (Ok event) = Ok event
+at_line n (Err fault) = Err (fault_at n fault)
+
+infixl 10 ◌>>=◌
+abbrev pub ◌>>=◌ : {A B : Type 0} → Result A ScriptFault → (A → Result B ScriptFault) → Result B ScriptFault
+(Ok x) >>= f = f x
+(Err fault) >>= f = Err fault
+
+-- the events of the lines from line n on
+abbrev pub events_from : ℕ → List (List ℕ) → (lines : List (List ℕ)) → Result (List Event) ScriptFault
+events_from n names [] = Ok []
+events_from n names (line ∷ lines) = do
+  event ← at_line n (event_in names line)
+  events ← events_from (n + 1) names lines
+  Ok (event ∷ events)
+
+-- what a text is as a script, with the names of the tasks in their order; lines are counted from 1
+abbrev pub script_parse : List ℕ → List (List ℕ) → Result (List Event) ScriptFault
+script_parse text names = events_from 1 names (lines text)
+
+-- the names of tasks, in order
+abbrev pub names_in : List Descriptor → List (List ℕ)
+names_in tasks = map (λ task. task.name) tasks
+
+-- what a text is as a script for a program
+abbrev pub script_of : Listing → List ℕ → Result (List Event) ScriptFault
+script_of program text = script_parse text (names_in program.tasks)

@@ -1,0 +1,2 @@
+pub mod EventScript
+pub mod Examples

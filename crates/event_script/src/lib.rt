@@ -1,0 +1,7 @@
+//! Event scripts: the events that are given to the machine, one on each line of a text (own choice).
+#![tactic(auto)]
+
+pub mod fault;
+pub mod reading;
+#[cfg(test)]
+mod tests;

@@ -1,0 +1,189 @@
+//! Reading the text of an event script.
+
+ghost use Rattle.std.specs.Prelude.{◌≡◌, ◌+◌, ◌^◌, ◌<◌, ◌≤◌, ◌==◌, ◌⊎◌, [], ◌∷◌, length, position, Ok, Err, MatchOption, MatchResult, OnSome, IfSome};
+ghost use Rattle.std.specs.List.{slice_split};
+ghost use Rattle.std.specs.Str.{bytes_eq};
+ghost use Rattle.event_script.specs.EventScript.{lines as lines_of, number_in, register_in, alone as alone_of, assigned as assigned_of, at_position as at_position_of, with_one as with_one_of, with_two as with_two_of, event_in, names_in, script_of};
+
+use crate::fault::{LineFault, ScriptFault};
+use machine_events::event::Event;
+use mips_plain::number::Reg;
+use std::alloc::Global;
+use task_descriptor::descriptor::Descriptor;
+use task_descriptor::name::Name;
+use task_descriptor::program::Program;
+
+fn place_of(wanted: u8, bytes: &[u8]) -> Option<usize>
+    ensures { result ≡ position (λ byte. byte == wanted) bytes.now }
+{
+    bytes.iter().position(|byte| *byte == wanted)
+}
+
+/// What stands before the first such byte and behind it; `None` where there is none.
+fn cut(byte: u8, text: &[u8]) -> Option<(&[u8], &[u8])>
+    ensures parts { MatchOption result
+        (slice_split (λ other. other == byte) text.now ≡ text.now ∷ [])
+        (λ found. slice_split (λ other. other == byte) text.now ≡ found.0.now ∷ slice_split (λ other. other == byte) found.1.now) }
+    ensures shorter { IfSome result (λ found. length found.1.now < length text.now) }
+{
+    let end = place_of(byte, text)?;
+    Some((&text[..end], &text[end + 1..]))
+}
+
+/// The first line of a text that is not empty, without its LF, and the text of the other lines.
+fn next_line(text: &[u8]) -> (&[u8], &[u8])
+    requires { 0 < length text.now }
+    ensures lines { lines_of text.now ≡ result.0.now ∷ lines_of result.1.now }
+    ensures shorter { length result.1.now < length text.now }
+{
+    match cut(b'\n', text) {
+        Some(parts) => parts,
+        None => (text, &text[text.len()..]),
+    }
+}
+
+fn number_of(word: &[u8]) -> Option<u32>
+    ensures { result ≡ number_in word.now }
+{
+    if word.is_empty() || word.len() > 3 || (word[0] == b'0' && word.len() > 1) {
+        return None;
+    }
+    let mut number: u32 = 0;
+    for digit in word {
+        if !digit.is_ascii_digit() {
+            return None;
+        }
+        number = number * 10 + u32::from(*digit - b'0');
+    }
+    Some(number)
+}
+
+fn register_of(word: &[u8]) -> Option<Reg>
+    ensures { result ≡ register_in word.now }
+{
+    if word.is_empty() || word[0] != b'$' {
+        return None;
+    }
+    let number = number_of(&word[1..])?;
+    Reg::new(u8::try_from(number).ok()?)
+}
+
+/// The event of a word that stands alone.
+fn alone(verb: &[u8]) -> Result<Event, LineFault>
+    ensures { result ≡ alone_of verb.now }
+{
+    if verb == b"retire".as_slice() {
+        Ok(Event::Retire)
+    } else if verb == b"fault".as_slice() {
+        Ok(Event::Fault)
+    } else {
+        Err(LineFault::NoForm)
+    }
+}
+
+fn task_of(tasks: &[Descriptor], name: &[u8]) -> Option<usize>
+    ensures task { result ≡ position (λ task. bytes_eq task.name name.now) tasks.now }
+    ensures within { IfSome result (λ task. task < length tasks.now) }
+{
+    tasks.iter().position(|task| task.name.bytes() == name)
+}
+
+/// The assignment of the task of this name.
+fn assigned(tasks: &[Descriptor], name: &[u8]) -> Result<Event, LineFault>
+    requires { length tasks.now ≤ 1024 }
+    ensures { result ≡ assigned_of (names_in tasks.now) name.now }
+{
+    if Name::new(name).is_none() {
+        return Err(LineFault::NoForm);
+    }
+    match task_of(tasks, name) {
+        Some(task) => Ok(Event::Assign(task as u32)),
+        None => Err(LineFault::NoTask),
+    }
+}
+
+/// The event of a verb and a position.
+fn at_position(verb: &[u8], k: u32) -> Result<Event, LineFault>
+    ensures { result ≡ at_position_of verb.now (Some k) }
+{
+    if verb == b"exec".as_slice() {
+        Ok(Event::Exec(k))
+    } else if verb == b"squash".as_slice() {
+        Ok(Event::Squash(k))
+    } else if verb == b"drop".as_slice() {
+        Ok(Event::Drop(k))
+    } else {
+        Err(LineFault::NoForm)
+    }
+}
+
+/// The event of a verb and one word behind it.
+fn with_one(tasks: &[Descriptor], verb: &[u8], word: &[u8]) -> Result<Event, LineFault>
+    requires { length tasks.now ≤ 1024 }
+    ensures { result ≡ with_one_of (names_in tasks.now) verb.now word.now }
+{
+    if verb == b"assign".as_slice() {
+        return assigned(tasks, word);
+    }
+    match number_of(word) {
+        Some(k) => at_position(verb, k),
+        None => Err(LineFault::NoForm),
+    }
+}
+
+/// The event of a verb, a position and a register.
+fn with_two(verb: &[u8], k: u32, register: Reg) -> Result<Event, LineFault>
+    ensures { result ≡ with_two_of verb.now (Some k) (Some register) }
+{
+    if verb == b"transfer".as_slice() {
+        Ok(Event::Transfer(k, register))
+    } else if verb == b"drain".as_slice() {
+        Ok(Event::Drain(k, register))
+    } else {
+        Err(LineFault::NoForm)
+    }
+}
+
+/// The event that a line spells, which is given without its LF.
+fn event_of(tasks: &[Descriptor], line: &[u8]) -> Result<Event, LineFault>
+    requires { length tasks.now ≤ 1024 }
+    ensures { result ≡ event_in (names_in tasks.now) line.now }
+{
+    let Some((verb, operands)) = cut(b' ', line) else {
+        return alone(line);
+    };
+    let Some((first, second)) = cut(b' ', operands) else {
+        return with_one(tasks, verb, operands);
+    };
+    if let Some(_) = cut(b' ', second) {
+        return Err(LineFault::NoForm);
+    }
+    match (number_of(first), register_of(second)) {
+        (Some(k), Some(register)) => with_two(verb, k, register),
+        _ => Err(LineFault::NoForm),
+    }
+}
+
+/// The events that a text spells for the tasks of a program, in order. Else the first line that spells
+/// none: `Line`, or `TaskName` where it assigns a task that is not there. `OutOfMemory` may come at any
+/// point.
+pub fn read(alloc: Global, text: &[u8], program: &Program) -> Result<Vec<Event>, ScriptFault>
+    ensures { MatchResult result
+        (λ events. script_of program.now text.now ≡ Ok events.items)
+        (λ fault. (fault ≡ ScriptFault.OutOfMemory) ⊎ (script_of program.now text.now ≡ Err fault)) }
+{
+    let tasks = program.tasks();
+    let mut events = Vec::new(alloc);
+    let mut rest = text;
+    let mut line = 0;
+    while !rest.is_empty() {
+        line += 1;
+        let (first, others) = next_line(rest);
+        match event_of(tasks, first) {
+            Ok(event) => events.push(event)?,
+            Err(fault) => return Err(fault.at(line)),
+        }
+        rest = others;
+    }
+    Ok(events)
+}
