@@ -3,8 +3,8 @@ use Rattle.std.proofs.Common.{◌≡◌, ℕ, ◌+◌, ◌*◌, ◌<◌, ◌≤�
 use Rattle.std.specs.Char.{is_ascii_digit, digit_value}
 use Rattle.std.specs.List.{list_all}
 use Rattle.std.specs.Str.Parse.{digits_value, digits_value_after}
-use Rattle.std.proofs.lemmas.Bool.{cond-true, cond-false, le-leb, ne_eqb, and_from, not_from_false}
-use Rattle.std.proofs.lemmas.List.{at_drop_more, at_drop_all}
+use Rattle.std.proofs.lemmas.Bool.{cond-true, le-leb, ne_eqb, and_from, not_from_false}
+use Rattle.std.proofs.lemmas.List.{at_drop_all}
 use Rattle.std.proofs.lemmas.Option.{cond_some}
 use Rattle.event_script.specs.EventScript.{has_leading_zero, is_number, number_in}
 
@@ -21,18 +21,9 @@ number_after_is : (n : ℕ) (ds : List ℕ) → number_after n ds ≡ cond (list
 number_after_is n [] = refl
 number_after_is n (c ∷ cs) = tested (is_ascii_digit c) (list_all is_ascii_digit cs) _ _ (number_after_is (n * 10 + digit_value c) cs)
 
-module _ (ds : List ℕ) (n k : ℕ) where
-  -- one digit on
-  pub digit_more : k < length ds → is_ascii_digit (get_or ds k 0) ≡ true → number_after n (drop k ds) ≡ number_after (n * 10 + digit_value (get_or ds k 0)) (drop (k + 1) ds)
-  digit_more within passes = at_drop_more (number_after n) ds k 0 within ∙ cond-true (is_ascii_digit (get_or ds k 0)) _ _ passes
-
-  -- no digit
-  pub digit_none : k < length ds → is_ascii_digit (get_or ds k 0) ≡ false → number_after n (drop k ds) ≡ None
-  digit_none within fails = at_drop_more (number_after n) ds k 0 within ∙ cond-false (is_ascii_digit (get_or ds k 0)) _ _ fails
-
-  -- the end
-  pub digit_all : length ds ≤ k → number_after n (drop k ds) ≡ Some n
-  digit_all le = at_drop_all (number_after n) ds k le
+-- the end of the digits
+pub digit_all : (ds : List ℕ) (n k : ℕ) → length ds ≤ k → number_after n (drop k ds) ≡ Some n
+digit_all ds n k le = at_drop_all (number_after n) ds k le
 
 no_leading_zero : (ds : List ℕ) → (get_or ds 0 0 ≡ 48 → 1 < length ds → ⊥) → has_leading_zero ds ≡ false
 no_leading_zero [] no_zero = refl
