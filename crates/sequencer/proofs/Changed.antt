@@ -1,6 +1,6 @@
 -- What a change of the queue alone, a new unit and the words handed over are in the model.
-use Rattle.std.proofs.Common.{◌≡◌, ℕ, suc, ◌+◌, ◌<◌, ◌≤◌, ◌≢◌, inl, inr, Bool, true, false, cond, List, ◌∷◌, [], ◌++◌, length, take, get_or, Option, Some, None, refl, sym, ap, ◌∙◌, arith, add-one, unwrap_or, get_or-set_same, get_or-set_other}
-use Rattle.std.specs.Prelude.{map, slice_set, slice_index, nat_eq, if◌then◌else◌}
+use Rattle.std.proofs.Common.{◌≡◌, ℕ, suc, ◌+◌, ◌<◌, ◌≤◌, ◌≢◌, inl, inr, Bool, true, false, cond, List, ◌∷◌, [], ◌++◌, length, take, Option, Some, None, refl, sym, ap, ◌∙◌, arith, add-one, unwrap_or, get_or-set_same, get_or-set_other}
+use Rattle.std.specs.Prelude.{slice_set, slice_index, if◌then◌else◌}
 use Rattle.std.proofs.lemmas.Bool.{cases_eq, cases_lt}
 use Rattle.std.proofs.lemmas.List.{take-map, map-append}
 use Rattle.std.proofs.Math.Path.{fun_ext}

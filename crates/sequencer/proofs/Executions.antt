@@ -1,17 +1,17 @@
 -- One instruction of a unit in a queue is the Exec event of the machine step.
-use Rattle.std.proofs.Common.{◌≡◌, ℕ, zero, suc, ◌<◌, ◌≤◌, ◌⊎◌, inl, inr, Result, Ok, Err, lt-ltb, Bool, true, false, ◌||◌, List, [], ◌∷◌, Option, Some, None, refl, sym, ap, ◌∙◌, subst, arith, cond}
+use Rattle.std.proofs.Common.{◌≡◌, ℕ, zero, suc, ◌<◌, ◌≤◌, ◌⊎◌, inl, inr, Result, Ok, Err, lt-ltb, Bool, true, false, ◌||◌, List, Option, Some, None, refl, sym, ap, ◌∙◌, subst, arith, cond}
 use Rattle.std.specs.Prelude.{slice_get, slice_set, slice_index, nat_eq, nat_lt, is_none, OnOk, OnErr, IfErr}
 use Rattle.std.specs.Option.{option_map, option_or}
 use Rattle.std.proofs.lemmas.Bool.{le-ltb}
 use Rattle.std.proofs.Math.Dec.{eqb-suc-zero}
-use Rattle.mips_plain.specs.Instruction.{reg_a, reg_b, waits}
+use Rattle.mips_plain.specs.Instruction.{reg_a, waits}
 use Rattle.mips_plain.specs.Effect.{may_run_ahead, outcome_after}
 use Rattle.mips_plain.specs.declared.outcome.Outcome.{Outcome}
 use Rattle.mips_plain.specs.declared.outcome.Outcome.TheVariants as outcome
 use Rattle.task_descriptor.specs.Listing.{Listing}
 use Rattle.task_descriptor.specs.declared.descriptor.Marked.{Marked}
 use Rattle.machine_model.specs.Machine.{Active, State, value}
-use Rattle.machine_model.specs.Step.{Next, executed, after_exec}
+use Rattle.machine_model.specs.Step.{Next, executed}
 use Rattle.machine_model.specs.Burst.{StepsAlone, with_arrived}
 use Rattle.machine_model.specs.Laws.{BurstsAreEvents}
 use Rattle.machine_model.specs.Answer.{for_some, for_none, unless, least, instruction_at, operand, refusal, with_queue, most_events}
@@ -19,7 +19,7 @@ use Rattle.machine_events.specs.declared.event.Event.TheVariants.{Exec}
 use Rattle.machine_events.specs.declared.event.Refused.{Refused}
 use Rattle.machine_events.specs.declared.event.Refused.TheVariants as refused
 use Rattle.machine_events.specs.declared.event.Standing.TheVariants.{Running}
-use Rattle.unit_core.specs.UnitStep.{StepsAtHead, wait_of, wait_at, wait_with}
+use Rattle.unit_core.specs.UnitStep.{wait_of, wait_at, wait_with}
 use Rattle.unit_core.specs.Worlds.{WorldView, memory_of}
 use Rattle.sequencer.specs.Seen.{ProcessorView, state_of, actives, HeadStep, AheadStep, Steps, IsRefusedBy, refused_by, exec_refusal}
 use Rattle.sequencer.proofs.Outcomes.{refusal_at}

@@ -1,5 +1,5 @@
 -- The least register of a set that lacks something is the least member of the set of those.
-use Rattle.std.proofs.Common.{◌≡◌, ℕ, zero, suc, ◌+◌, ◌<◌, ◌≤◌, inl, inr, Bool, true, false, cond, not, ◌&&◌, List, [], ◌∷◌, Option, Some, None, refl, sym, ap, ◌∙◌, arith, true≢false}
+use Rattle.std.proofs.Common.{◌≡◌, ℕ, zero, suc, ◌+◌, ◌<◌, ◌≤◌, inl, inr, Bool, true, false, cond, not, ◌&&◌, List, ◌∷◌, Option, Some, None, refl, sym, ap, ◌∙◌, arith, true≢false}
 use Rattle.std.specs.Prelude.{is_some, is_none, IfSome, IfNone}
 use Rattle.std.specs.List.{find, filter, range_with_len}
 use Rattle.std.proofs.lemmas.Bool.{cases_eq}

@@ -3,16 +3,15 @@ use Rattle.std.proofs.Common.{◌≡◌, ℕ, zero, suc, ◌+◌, ◌<◌, ◌�
 use Rattle.std.specs.Prelude.{nat_lt, slice_index, replicate}
 use Rattle.std.specs.Option.{option_or}
 use Rattle.mips_plain.specs.Words.{byte_of}
-use Rattle.task_descriptor.specs.Listing.{Listing}
-use Rattle.machine_model.specs.Machine.{State, opening}
+use Rattle.machine_model.specs.Machine.{State}
 use Rattle.machine_model.specs.Replay.{ReplaysFrom, Replays}
-use Rattle.machine_model.specs.Answer.{unless, is_running, ok_unless, answer, most_events}
+use Rattle.machine_model.specs.Answer.{unless, is_running, ok_unless, most_events}
 use Rattle.machine_events.specs.declared.event.Event.{Event}
 use Rattle.machine_events.specs.declared.event.Refused.{Refused}
 use Rattle.machine_events.specs.declared.event.Refused.TheVariants as refused
 use Rattle.machine_events.specs.declared.event.Standing.{Standing}
 use Rattle.machine_events.specs.declared.event.Standing.TheVariants.{Running, Halted, Trapped, Unlisted}
-use Rattle.sequencer.specs.Seen.{ProcessorView, MachineView, IsMachine, Steps, state_of, state, units_of, answer_to, IsAnswered, later_refusal, takes_memory}
+use Rattle.sequencer.specs.Seen.{ProcessorView, MachineView, IsMachine, Keeps, Steps, state_of, state, units_of, IsAnswered}
 use Rattle.sequencer.proofs.Verdicts.{refused_where_running}
 
 -- an array of zeros
@@ -29,22 +28,28 @@ room_left None true e = refl
 room_left None false e = absurd (cc)
 room_left (Some r) b e = absurd (cc)
 
--- one more event
+-- more events
+
+pub goes_on : (m : MachineView) (es : List Event) (p' : ProcessorView) → IsMachine m → ReplaysFrom m.accepted.program (units_of m) (state m) es (state_of p') → Keeps m.processor p' → length m.history + length es ≤ 1000000
+    → ((units : ℕ) (first second : List Event) (s s' : State) → Replays m.accepted.program units first s → ReplaysFrom m.accepted.program units s second s' → Replays m.accepted.program units (first ++ second) s')
+    → IsMachine (record m { processor = p'; history = m.history ++ es })
+goes_on m es p' h events kept room more =
+    let p = m.accepted.program in
+    record {
+      some_unit = subst (λ (n : ℕ). 0 < n) (sym kept.places) h.some_unit;
+      replay =
+          subst (λ (n : ℕ). Replays p n (m.history ++ es) (state_of p')) (sym kept.places)
+          (more (units_of m) m.history es (state m) (state_of p') h.replay events);
+      room = omega (arith, length-append m.history es);
+      fixed = ap byte_of kept.fixed ∙ h.fixed;
+    }
 
 pub applied : (m : MachineView) (e : Event) (done : Unit {0}) (p' : ProcessorView) → IsMachine m → Steps m.accepted.program m.processor (length m.history) e (Ok done) p'
     → ((units : ℕ) (first second : List Event) (s s' : State) → Replays m.accepted.program units first s → ReplaysFrom m.accepted.program units s second s' → Replays m.accepted.program units (first ++ second) s')
     → IsMachine (record m { processor = p'; history = m.history ++ e ∷ [] })
 applied m e done p' h steps more =
     let room : length m.history < 1000000 = ltb-true (length m.history) 1000000 (room_left _ (nat_lt (length m.history) most_events) steps.allowed) in
-    let p = m.accepted.program in
-    record {
-      some_unit = subst (λ (n : ℕ). 0 < n) (sym steps.kept.places) h.some_unit;
-      replay =
-          subst (λ (n : ℕ). Replays p n (m.history ++ e ∷ []) (state_of p')) (sym steps.kept.places)
-          (more (units_of m) m.history (e ∷ []) (state m) (state_of p') h.replay (state_of p', steps.next, refl));
-      room = omega (arith, length-append m.history (e ∷ []));
-      fixed = ap byte_of steps.kept.fixed ∙ h.fixed;
-    }
+    goes_on m (e ∷ []) p' h (state_of p', steps.next, refl) steps.kept (omega arith) more
 
 -- the answers
 

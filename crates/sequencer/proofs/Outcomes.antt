@@ -1,5 +1,5 @@
 -- What a call answered, taken apart where one answer is out of the question.
-use Rattle.std.proofs.Common.{◌≡◌, ℕ, Bool, List, Option, Some, None, Result, Ok, Err, ◌⊎◌, inl, inr, sym, ap, ◌∙◌}
+use Rattle.std.proofs.Common.{◌≡◌, ℕ, List, Option, Some, None, Result, Ok, Err, ◌⊎◌, inl, inr, sym, ap, ◌∙◌}
 use Rattle.std.specs.Prelude.{MatchResult, IsSome, slice_get, nat_eq}
 use Rattle.std.specs.Option.{option_map}
 use Rattle.machine_model.specs.Answer.{for_some}

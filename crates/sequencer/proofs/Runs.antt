@@ -1,18 +1,16 @@
 -- What follows of a state from its being a replay: by induction on the events, each event by its record.
-use Rattle.std.proofs.Common.{◌≡◌, ℕ, zero, suc, ◌+◌, ◌<◌, ◌≤◌, List, [], ◌∷◌, ◌++◌, length, drop, take, Option, Some, None, refl, sym, ap, ◌∙◌, subst, arith, length-append, length-set, append_assoc}
+use Rattle.std.proofs.Common.{◌≡◌, ℕ, suc, ◌+◌, ◌<◌, ◌≤◌, List, [], ◌∷◌, ◌++◌, length, Some, refl, sym, ap, ◌∙◌, subst, arith, length-append}
 use Rattle.std.specs.Prelude.{slice_get, slice_set}
-use Rattle.std.specs.List.{sum_by}
 use Rattle.std.proofs.lemmas.List.Sums.{sum_by-set, sum_by_push, sum_by-take-le, sum_by-cons}
 use Rattle.std.proofs.lemmas.Option.{slice_get_within, get_or_from_slice_get}
 use Rattle.mips_plain.specs.Words.{address}
-use Rattle.mips_plain.specs.declared.outcome.Read.{Read}
 use Rattle.task_descriptor.specs.Listing.{Listing}
 use Rattle.machine_model.specs.Machine.{Active, State, opening}
 use Rattle.machine_model.specs.Step.{Next, after_exec, put, started, filled, handed_over, retire_leaves}
 use Rattle.machine_model.specs.Replay.{ReplaysFrom, Replays}
 use Rattle.sequencer.specs.Seen.{by_units, executed_by}
 use Rattle.machine_model.specs.Laws.{ReplayCut, EventsCount}
-use Rattle.machine_model.specs.HeadEvent.{active_after, retired_after}
+use Rattle.machine_model.specs.HeadEvent.{active_after}
 use Rattle.machine_events.specs.declared.event.Commit.{Commit}
 use Rattle.machine_events.specs.declared.event.Event.{Event}
 use Rattle.machine_events.specs.declared.event.Event.TheVariants.{Assign, Exec, Transfer, Drain, Squash, Retire, Fault, Drop}

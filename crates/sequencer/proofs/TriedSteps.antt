@@ -1,5 +1,5 @@
 -- A call that takes no memory is a step of the machine where the run goes on.
-use Rattle.std.proofs.Common.{◌≡◌, ℕ, inl, inr, true, Option, Some, None, Result, Ok, Err, refl, sym, ap, ◌∙◌, subst}
+use Rattle.std.proofs.Common.{◌≡◌, ℕ, inl, Option, Some, None, Result, Ok, Err, refl, sym, subst}
 use Rattle.std.specs.Prelude.{nat_lt}
 use Rattle.std.specs.Option.{option_or}
 use Rattle.task_descriptor.specs.Listing.{Listing}

@@ -2,3 +2,4 @@ pub mod Scripts
 pub mod Seen
 pub mod Choices
 pub mod Finish
+pub mod Bursts

@@ -4,7 +4,6 @@ use Rattle.std.specs.Prelude.{◌≡◌, ℕ, ◌+◌, ◌<◌, ◌≤◌, ◌�
 use Rattle.std.specs.Result.{result_err}
 use Rattle.std.specs.List.{sum_by}
 use Rattle.std.specs.Option.{option_map, option_or}
-use Rattle.mips_plain.specs.Contents.{Contents}
 use Rattle.mips_plain.specs.Words.{byte_of}
 use Rattle.mips_plain.specs.declared.outcome.Read.{Read}
 use Rattle.mark_checker.specs.Places.{Checked}

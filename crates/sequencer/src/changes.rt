@@ -1,13 +1,15 @@
 //! What an event that is allowed changes. None of these fails but for want of memory, and then nothing
 //! is changed.
 
-ghost use Rattle.std.specs.Prelude.{◌≡◌, ℕ, ◌+◌, ◌-◌, ◌^◌, ◌<◌, None, Some, OnOk, OnErr, length, slice_get, slice_index};
+ghost use Rattle.std.specs.Prelude.{◌≡◌, ℕ, ◌+◌, ◌-◌, ◌^◌, ◌<◌, None, Some, OnOk, OnErr, length, slice_get, slice_set, slice_index};
 ghost use Rattle.std.specs.Option.{option_and_then};
 ghost use Rattle.machine_model.specs.Machine.{Active, pass};
-ghost use Rattle.machine_model.specs.Answer.{refusal, after, exit_of};
+ghost use Rattle.machine_model.specs.Answer.{refusal, after, exit_of, with_queue};
+ghost use Rattle.machine_model.specs.Burst.{with_arrived};
 ghost use Rattle.machine_events.specs.declared.event.Event.TheVariants as event;
 ghost use Rattle.sequencer.specs.Seen.{state_of, Keeps, ArePlaced};
 ghost use Rattle.unit_core.specs.Units.{active_of};
+ghost use Rattle.unit_core.specs.Bursts.{HasMore};
 
 use crate::listing::created;
 use crate::processor::Processor;
@@ -19,6 +21,7 @@ use register_ring::members::next_member;
 use register_ring::port::Port;
 use std::alloc::Global;
 use task_descriptor::program::Program;
+use unit_core::burst::Burst;
 use unit_core::unit::Unit;
 
 impl Processor {
@@ -35,6 +38,15 @@ impl Processor {
         self.queue
             .push(Unit::new(alloc, accepted, task, self.assigns, port));
         self.assigns += 1;
+    }
+
+    /// The unit at a position, on which the burst was made, takes it over.
+    pub(crate) fn take_burst(&mut self, position: u32, burst: Burst<'_>)
+        ensures state { (u : Active) → slice_get (state_of self.old).queue position ≡ Some u → HasMore (active_of burst.entry.before) u → 0 < burst.entry.steps
+            → state_of self.new ≡ with_queue (state_of self.old) (slice_set (state_of self.old).queue position (with_arrived (active_of burst.entry.after) u.arrived)) }
+        ensures kept { Keeps self.old self.new }
+    {
+        self.queue.take(position as usize, burst);
     }
 
     /// The unit at a position takes a register with the word that the unit before it passes on.

@@ -26,6 +26,7 @@ pub(crate) fn known(accepted: &Accepted)
     ensures grows { (units : ℕ) (s s' : State) (e : Event) → Next accepted.now.program units s e s' → count_h s' ≡ count_h s + growth s e }
     ensures more { (units : ℕ) (first second : List Event) (s s' : State) → Replays accepted.now.program units first s → ReplaysFrom accepted.now.program units s second s' → Replays accepted.now.program units (first ++ second) s' }
     ensures executed { (units : ℕ) (events : List Event) (s : State) → Replays accepted.now.program units events s → executed_by s ≤ length events }
+    ensures fits { (units : ℕ) (events : List Event) (s : State) → Replays accepted.now.program units events s → length s.queue ≤ units }
     ensures assigned { (units : ℕ) (events : List Event) (s : State) → Replays accepted.now.program units events s → s.assigns ≤ length events }
 {
     let _ = accepted.program().start();

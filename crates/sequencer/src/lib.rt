@@ -3,6 +3,7 @@
 #![tactic(auto)]
 
 mod allowed;
+mod bursts;
 mod changes;
 mod head;
 mod history;

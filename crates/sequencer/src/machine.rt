@@ -29,9 +29,9 @@ pub enum MachineFault {
 #[derive(Drop)]
 pub struct Machine<'a> {
     alloc: Global,
-    accepted: &'a Accepted,
-    processor: Processor,
-    history: History,
+    pub(crate) accepted: &'a Accepted,
+    pub(crate) processor: Processor,
+    pub(crate) history: History,
 }
 
 impl<'a> Model for Machine<'a> {
@@ -55,10 +55,10 @@ impl<'a> Machine<'a> {
     ghost use Rattle.machine_events.specs.declared.event.Event.TheVariants.{Retire};
     ghost use Rattle.machine_events.specs.declared.event.Refused.TheVariants as refused;
     ghost use Rattle.machine_events.specs.declared.event.Standing.TheVariants as standing;
-    ghost use Rattle.machine_model.specs.Replay.{Replays};
+    ghost use Rattle.machine_model.specs.Replay.{Replays, ReplaysFrom};
     ghost use Rattle.machine_model.specs.Claims.{Claims, EndsLike, count_c, count_h};
     ghost use Rattle.mips_plain.specs.Words.{byte_of};
-    ghost use Rattle.sequencer.specs.Seen.{ProcessorView, IsMachine, Steps, ArePlaced, executed_by, state, units_of, answer_to, IsAnswered, Applies, SameRing};
+    ghost use Rattle.sequencer.specs.Seen.{ProcessorView, IsMachine, Keeps, Steps, ArePlaced, executed_by, state, state_of, units_of, answer_to, IsAnswered, Applies, SameRing};
     ghost use Rattle.sequencer.specs.Choices.{choices_of, choice_of};
     ghost use Rattle.sequencer.specs.Finish.{RunsByHead};
 
@@ -211,13 +211,16 @@ impl<'a> Machine<'a> {
     }
 
     /// What the laws say of this machine; the call does nothing.
-    fn is_known(&self)
+    pub(crate) fn is_known(&self)
         ensures placed { ArePlaced self.now.accepted (state self.now).queue }
         ensures assigned { (state self.now).assigns ≤ length self.now.history }
         ensures executed { executed_by (state self.now) ≤ length self.now.history }
         ensures room { length self.now.history ≤ 1000000 }
         ensures allowed { (e : Event) (s : State) → Next self.now.accepted.program (units_of self.now) (state self.now) e s → refusal self.now.accepted.program (units_of self.now) (state self.now) e ≡ None }
         ensures grows { (e : Event) (s : State) → Next self.now.accepted.program (units_of self.now) (state self.now) e s → count_h s ≡ count_h (state self.now) + growth (state self.now) e }
+        ensures fits { length (state self.now).queue ≤ units_of self.now }
+        ensures goes_on { (es : List Event) (p : ProcessorView) → ReplaysFrom self.now.accepted.program (units_of self.now) (state self.now) es (state_of p) → Keeps self.now.processor p → length self.now.history + length es ≤ 1000000
+            → IsMachine (record self.now { processor = p; history = self.now.history ++ es }) }
         ensures applied { (e : Event) (done : Unit {0}) (p : ProcessorView) → Steps self.now.accepted.program self.now.processor (length self.now.history) e (Ok done) p
             → IsMachine (record self.now { processor = p; history = self.now.history ++ e ∷ [] }) }
     {
@@ -236,7 +239,7 @@ impl<'a> Machine<'a> {
     }
 
     /// Whether the run goes on.
-    fn is_running(&self) -> bool
+    pub(crate) fn is_running(&self) -> bool
         ensures { IsTrue result ↔ ((state self.now).outcome ≡ standing.Running) }
     {
         self.processor.world.is_running()

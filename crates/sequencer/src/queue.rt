@@ -9,6 +9,7 @@ use mips_plain::number::{Reg, RegSet};
 use std::alloc::{AllocError, Global};
 use std::marker::Model;
 use task_descriptor::program::Program;
+use unit_core::burst::Burst;
 use unit_core::unit::Unit;
 use unit_core::wait::Wait;
 use unit_core::world::World;
@@ -31,15 +32,17 @@ impl Model for Queue {
 }
 
 impl Queue {
-    ghost use Rattle.std.specs.Prelude.{◌≡◌, ℕ, ◌<◌, ◌≤◌, [], ◌∷◌, ◌++◌, None, Some, length, take, drop, slice_get, slice_set, slice_index, IfOk, IfErr, OnOk, OnErr};
+    ghost use Rattle.std.specs.Prelude.{◌≡◌, ℕ, ◌<◌, ◌≤◌, ◌↔◌, IsTrue, [], ◌∷◌, ◌++◌, None, Some, length, take, drop, slice_get, slice_set, slice_index, IfSome, IfNone, IfOk, IfErr, OnOk, OnErr};
     ghost use Rattle.std.specs.Option.{option_copied, option_map};
     ghost use Rattle.std.specs.List.{last_or};
     ghost use Rattle.mips_plain.specs.Words.{has};
     ghost use Rattle.machine_model.specs.Machine.{Active};
     ghost use Rattle.machine_model.specs.Step.{put, is_reserved, filled};
     ghost use Rattle.machine_model.specs.Answer.{operand};
+    ghost use Rattle.machine_model.specs.Burst.{with_arrived};
     ghost use Rattle.unit_core.specs.Units.{active_of};
     ghost use Rattle.unit_core.specs.UnitStep.{drain_fault};
+    ghost use Rattle.unit_core.specs.Bursts.{HasMore};
     ghost use Rattle.sequencer.specs.Seen.{actives, ArePlaced, HeadStep, AheadStep, IsRefusedBy, exec_refusal as exec_refusal_of};
     ghost use Rattle.machine_events.specs.declared.event.Standing.TheVariants as standing;
 
@@ -195,6 +198,42 @@ impl Queue {
             Ok(()) => return Ok(()),
             Err(wait) => return Err(refused_by(wait)),
         }
+    }
+
+    /// The position of a unit that is this one with at most more registers arrived; the serial number
+    /// is compared before all that is long.
+    pub(crate) fn position_of(&self, before: &Unit) -> Option<u32>
+        ensures some { IfSome result (λ k. (u : Active) × (slice_get (actives self.now) k ≡ Some u) × HasMore (active_of before.now) u) }
+        ensures none { IfNone result ((k : ℕ) (u : Active) → slice_get (actives self.now) k ≡ Some u → HasMore (active_of before.now) u → ⊥) }
+    {
+        for position in 0..self.len() {
+            if self.is_at(position as usize, before) {
+                return Some(position);
+            }
+        }
+        None
+    }
+
+    /// Whether the unit at a position is this one with at most more registers arrived.
+    fn is_at(&self, position: usize, before: &Unit) -> bool
+        ensures { IsTrue result ↔ ((u : Active) × (slice_get (actives self.now) position ≡ Some u) × HasMore (active_of before.now) u) }
+    {
+        match self.ring.get(position) {
+            Some(unit) => unit.has_more(before),
+            None => false,
+        }
+    }
+
+    /// The unit at a position, on which the burst was made, takes it over.
+    pub(crate) fn take(&mut self, position: usize, burst: Burst<'_>)
+        ensures active { (u : Active) → slice_get (actives self.old) position ≡ Some u → HasMore (active_of burst.entry.before) u → 0 < burst.entry.steps
+            → actives self.new ≡ slice_set (actives self.old) position (with_arrived (active_of burst.entry.after) u.arrived) }
+        ensures places { self.new.places ≡ self.old.places }
+    {
+        let Some(unit) = self.ring.get_mut(position) else {
+            return;
+        };
+        let _ = unit.take(burst);
     }
 
     /// What the unit at a position is refused an instruction by, want of memory aside.

@@ -1,5 +1,5 @@
-use Rattle.std.proofs.Common.{◌≡◌, ℕ, Bool, not, ◌&&◌, sym, ap, ◌∙◌}
-use Rattle.std.specs.Prelude.{is_some, is_none}
+use Rattle.std.proofs.Common.{ℕ, Bool, not, ◌&&◌, ap, ◌∙◌}
+use Rattle.std.specs.Prelude.{is_none}
 use Rattle.mips_plain.specs.Words.{has}
 use Rattle.machine_model.specs.Machine.{creates}
 use Rattle.unit_core.specs.Units.{active_of}

@@ -1,9 +1,9 @@
-use Rattle.std.proofs.Common.{◌≡◌, ℕ, Option, None, Ok, subst, arith}
+use Rattle.std.proofs.Common.{subst, arith}
 use Rattle.task_descriptor.specs.Listing.{IsWellFormed}
 use Rattle.machine_model.specs.Machine.{State}
 use Rattle.machine_model.specs.Step.{Next}
 use Rattle.machine_model.specs.Answer.{refusal}
-use Rattle.sequencer.proofs.Runs.{replays_more, replay_executes, replay_assigns}
+use Rattle.sequencer.proofs.Runs.{replays_more, replay_executes, replay_assigns, queue_fits}
 use Rattle.sequencer.proofs.Verdicts.{ok_where_running, none_refused}
 use Rattle.sequencer.proofs.known.known.Goals as goal
 
@@ -43,3 +43,6 @@ returns-clause-executed c = λ units events s replay. replay_executes c.args.acc
 
 pub returns-clause-assigned : goal.returns-clause-assigned
 returns-clause-assigned c = λ units events s replay. replay_assigns c.args.accepted.now.program units events s replay
+
+pub returns-clause-fits : goal.returns-clause-fits
+returns-clause-fits c = λ units events s replay. queue_fits c.events_count.ensures c.args.accepted.now.program units events s replay

@@ -1,5 +1,5 @@
 -- The machine has gone from its start by head events; each takes a place of the history's room.
-use Rattle.std.proofs.Common.{ℕ, ◌-◌, length}
+use Rattle.std.proofs.Common.{◌-◌, length}
 use Rattle.sequencer.proofs.HeadRuns.{OnTheWay}
 use Rattle.sequencer.proofs.machine.Machine.finish.Given as goal
 

@@ -1,9 +1,8 @@
-use Rattle.std.proofs.Common.{◌≡◌, ℕ, List, sym, ap, ◌∙◌}
-use Rattle.std.specs.Prelude.{map, slice_index}
+use Rattle.std.proofs.Common.{List, ap, ◌∙◌}
+use Rattle.std.specs.Prelude.{map}
 use Rattle.std.proofs.Math.Path.{fun_ext}
 use Rattle.mips_plain.specs.Contents.{Contents}
 use Rattle.mips_plain.specs.Words.{address, byte_of}
-use Rattle.machine_model.specs.Machine.{Active}
 use Rattle.unit_core.specs.Units.{UnitView, active_of}
 use Rattle.sequencer.proofs.Machines.{zero_at}
 use Rattle.sequencer.proofs.processor.Processor.new.Goals as goal

@@ -1,10 +1,8 @@
-use Rattle.std.proofs.Common.{◌≡◌, ◌<◌, ℕ, Bool, false, refl, sym, ap, ◌∙◌, subst, arith}
-use Rattle.std.specs.Prelude.{nat_eq}
+use Rattle.std.proofs.Common.{◌≡◌, ◌<◌, ℕ, refl, sym, ap, ◌∙◌, subst, arith}
 use Rattle.machine_model.specs.Answer.{most_events}
 use Rattle.machine_events.specs.declared.event.Event.TheVariants.{Exec}
 use Rattle.machine_events.specs.declared.event.Standing.TheVariants.{Running}
-use Rattle.unit_core.specs.Worlds.{WorldView}
-use Rattle.sequencer.specs.Seen.{QueueView, ProcessorView, state_of, actives, ArePlaced, Steps}
+use Rattle.sequencer.specs.Seen.{QueueView, ProcessorView, actives, ArePlaced, Steps}
 use Rattle.sequencer.proofs.Executions.{LeavesRest, head_tried, ahead_tried, on_err, not_zero}
 use Rattle.sequencer.proofs.processor.Processor.try_exec.Goals as goal
 

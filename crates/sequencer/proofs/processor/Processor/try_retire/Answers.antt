@@ -1,4 +1,4 @@
-use Rattle.std.proofs.Common.{◌≡◌, None, Option, Ok, sym, ap, ◌∙◌}
+use Rattle.std.proofs.Common.{None, Option, Ok, ap, ◌∙◌}
 use Rattle.std.specs.Prelude.{nat_lt}
 use Rattle.std.specs.Option.{option_or}
 use Rattle.task_descriptor.specs.Listing.{Listing}
@@ -6,7 +6,7 @@ use Rattle.machine_model.specs.Answer.{refusal, after, unless, most_events}
 use Rattle.machine_events.specs.declared.event.Event.TheVariants.{Retire}
 use Rattle.machine_events.specs.declared.event.Refused.{Refused}
 use Rattle.machine_events.specs.declared.event.Refused.TheVariants as refused
-use Rattle.sequencer.specs.Seen.{ProcessorView, state_of, Does}
+use Rattle.sequencer.specs.Seen.{state_of, Does}
 use Rattle.sequencer.proofs.TriedSteps.{does_steps}
 use Rattle.sequencer.proofs.processor.Processor.try_retire.Goals as goal
 

@@ -1,9 +1,6 @@
-use Rattle.std.proofs.Common.{◌≡◌, None, Result, Ok, Err, sym, ap, ◌∙◌}
-use Rattle.std.specs.Prelude.{Option, MatchResult, IsSome}
-use Rattle.mips_plain.specs.declared.number.Reg.{Reg}
-use Rattle.machine_model.specs.Machine.{Active, Words}
+use Rattle.std.proofs.Common.{◌≡◌, ap, ◌∙◌}
+use Rattle.machine_model.specs.Machine.{Active}
 use Rattle.machine_model.specs.Step.{put}
-use Rattle.register_ring.specs.declared.port.AlreadyThere.{AlreadyThere}
 use Rattle.unit_core.specs.Units.{active_of}
 use Rattle.sequencer.specs.Seen.{QueueView, actives}
 use Rattle.sequencer.proofs.Queues.{unit_is, changed}

@@ -1,4 +1,4 @@
-use Rattle.std.proofs.Common.{◌≡◌, ℕ, zero, suc, ◌<◌, ◌⊎◌, Bool, false, Some, None, refl, sym, ap, ◌∙◌, subst, List, arith}
+use Rattle.std.proofs.Common.{◌≡◌, ◌⊎◌, Bool, false, Some, None, refl, sym, ap, ◌∙◌, subst, List}
 use Rattle.std.specs.Prelude.{slice_set, nat_eq}
 use Rattle.unit_core.specs.UnitStep.{wait_of}
 use Rattle.unit_core.specs.declared.wait.Wait.TheVariants as wait

@@ -1,4 +1,4 @@
-use Rattle.std.proofs.Common.{◌≡◌, Some, refl, sym, ap, ◌∙◌, List}
+use Rattle.std.proofs.Common.{refl, ap, ◌∙◌, List}
 use Rattle.std.specs.Prelude.{slice_set}
 use Rattle.unit_core.specs.Units.{UnitView, active_of}
 use Rattle.sequencer.specs.Seen.{QueueView, actives}

@@ -1,7 +1,6 @@
-use Rattle.std.proofs.Common.{◌≡◌, Option, Some, None, sym, ap, ◌∙◌}
-use Rattle.std.specs.Option.{option_map}
+use Rattle.std.proofs.Common.{Some, None, sym, ap, ◌∙◌}
 use Rattle.unit_core.specs.Units.{active_of}
-use Rattle.sequencer.specs.Seen.{QueueView, actives, refused_by}
+use Rattle.sequencer.specs.Seen.{QueueView, actives}
 use Rattle.sequencer.proofs.Queues.{is_there}
 use Rattle.sequencer.proofs.Outcomes.{refusal_at}
 use Rattle.sequencer.proofs.queue.Queue.exec_refusal.Goals as goal

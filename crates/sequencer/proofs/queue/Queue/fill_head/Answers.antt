@@ -1,4 +1,4 @@
-use Rattle.std.proofs.Common.{◌≡◌, ℕ, List, [], ◌∷◌, Some, None, refl, sym, ap, ◌∙◌}
+use Rattle.std.proofs.Common.{◌≡◌, ℕ, List, [], ◌∷◌, Some, ap, ◌∙◌}
 use Rattle.std.specs.Prelude.{slice_get, slice_set, map}
 use Rattle.machine_model.specs.Machine.{Active}
 use Rattle.machine_model.specs.Step.{filled}

@@ -1,7 +1,7 @@
-use Rattle.std.proofs.Common.{sym, ap, ◌∙◌, Option}
+use Rattle.std.proofs.Common.{ap, ◌∙◌}
 use Rattle.std.specs.Prelude.{slice_get}
 use Rattle.std.specs.Option.{option_map}
-use Rattle.unit_core.specs.Units.{UnitView, active_of}
+use Rattle.unit_core.specs.Units.{active_of}
 use Rattle.sequencer.specs.Seen.{QueueView, actives}
 use Rattle.sequencer.proofs.Queues.{at_map}
 use Rattle.sequencer.proofs.queue.Queue.get.Goals as goal

@@ -1,4 +1,4 @@
-use Rattle.std.proofs.Common.{◌≡◌, ℕ, Bool, ◌||◌, List, sym, ap, ◌∙◌}
+use Rattle.std.proofs.Common.{Bool, ◌||◌, List, sym, ap, ◌∙◌}
 use Rattle.std.specs.Prelude.{map}
 use Rattle.mips_plain.specs.Words.{has}
 use Rattle.machine_model.specs.Step.{is_reserved}

@@ -1,8 +1,8 @@
-use Rattle.std.proofs.Common.{◌≡◌, ℕ, Some, Option, sym, ap, ◌∙◌, subst, unwrap_or}
+use Rattle.std.proofs.Common.{◌≡◌, ℕ, Option, sym, ap, ◌∙◌, unwrap_or}
 use Rattle.machine_model.specs.Machine.{Active}
 use Rattle.machine_model.specs.Step.{put}
 use Rattle.machine_model.specs.Answer.{operand}
-use Rattle.unit_core.specs.Units.{active_of, IsPlaced}
+use Rattle.unit_core.specs.Units.{active_of}
 use Rattle.unit_core.specs.UnitStep.{drain_fault}
 use Rattle.sequencer.specs.Seen.{QueueView, actives}
 use Rattle.sequencer.proofs.Queues.{unit_is, is_there, changed}

@@ -1,7 +1,7 @@
-use Rattle.std.proofs.Common.{None, sym, ap, ◌∙◌, Option}
+use Rattle.std.proofs.Common.{None, ap, ◌∙◌}
 use Rattle.std.specs.Option.{option_map}
 use Rattle.std.specs.List.{last_or}
-use Rattle.unit_core.specs.Units.{UnitView, active_of}
+use Rattle.unit_core.specs.Units.{active_of}
 use Rattle.sequencer.specs.Seen.{QueueView, actives}
 use Rattle.sequencer.proofs.Queues.{last_is, last_map}
 use Rattle.sequencer.proofs.queue.Queue.tail.Goals as goal

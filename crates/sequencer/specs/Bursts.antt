@@ -1,0 +1,45 @@
+-- Units that are lent, and bursts that are handed in (own).
+use Rattle.std.specs.Prelude.{◌≡◌, ℕ, ◌+◌, ◌%◌, ◌<◌, ◌≤◌, ◌⊎◌, ◌++◌, length, replicate, slice_get, Some}
+use Rattle.machine_model.specs.Machine.{Active}
+use Rattle.machine_model.specs.Replay.{ReplaysFrom}
+use Rattle.machine_events.specs.declared.event.Event.TheVariants.{Exec}
+use Rattle.machine_events.specs.declared.event.Refused.{Refused}
+use Rattle.machine_events.specs.declared.event.Refused.TheVariants as refused
+use Rattle.machine_events.specs.declared.event.Spot.TheVariants.{Inside}
+use Rattle.machine_events.specs.declared.event.Standing.TheVariants.{Running}
+use Rattle.unit_core.specs.Units.{active_of}
+use Rattle.unit_core.specs.Bursts.{BurstView, HasMore}
+use Rattle.sequencer.specs.Seen.{MachineView, state, units_of}
+
+-- the unit of the ring with this number is at work as this active task, and has not stopped; the head
+-- has the number of retired tasks, modulo the number of units, and those behind it follow round the ring
+pub record IsAtWork (m : MachineView) (number : ℕ) (u : Active) : Type 0 where
+  pub position : ℕ
+  pub is_number : (length (state m).commits + position) % units_of m ≡ number
+  pub is_unit : slice_get (state m).queue position ≡ Some u
+  pub index : ℕ
+  pub is_inside : u.place ≡ Inside index
+
+-- a burst with a step, made with the machine's program and certificate, and an active unit that is the
+-- one that it was made on with at most more registers arrived
+pub record IsFresh (m : MachineView) (b : BurstView) : Type 0 where
+  pub has_step : 0 < b.steps
+  pub accepted : b.accepted ≡ m.accepted
+  pub position : ℕ
+  pub unit : Active
+  pub is_unit : slice_get (state m).queue position ≡ Some unit
+  pub has_more : HasMore (active_of b.before) unit
+
+-- what refuses a burst: the run has ended; or it is fresh and its steps don't fit into the history
+abbrev pub IsRefusedBurst : MachineView → BurstView → Refused → Type 0
+IsRefusedBurst m b why =
+    ((why ≡ refused.Ended) × ((state m).outcome ≡ Running → ⊥))
+    ⊎ ((why ≡ refused.Full) × ((state m).outcome ≡ Running) × IsFresh m b × (1000000 < length m.history + b.steps))
+
+-- a machine after a fresh burst: its unit executed once for each step, by the machine step, and exactly
+-- these events are behind the history
+pub record Takes (old : MachineView) (b : BurstView) (new : MachineView) : Type 0 where
+  pub fresh : IsFresh old b
+  pub events : ReplaysFrom old.accepted.program (units_of old) (state old) (replicate b.steps (Exec fresh.position)) (state new)
+  pub history : new.history ≡ old.history ++ replicate b.steps (Exec fresh.position)
+  pub fits : length new.history ≤ 1000000
