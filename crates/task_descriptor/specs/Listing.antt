@@ -8,6 +8,7 @@ use Rattle.mips_plain.specs.Instruction.{dests, waits}
 use Rattle.mips_plain.specs.PlainMachine.{Input}
 use Rattle.mips_plain.specs.declared.instruction.Op.{Op}
 use Rattle.mips_plain.specs.declared.instruction.Op.TheVariants.{BranchTwo, BranchOne, Release, Halt}
+use Rattle.task_descriptor.specs.Names.{is_name}
 use Rattle.task_descriptor.specs.declared.descriptor.Stop.{Stop}
 use Rattle.task_descriptor.specs.declared.descriptor.Stop.TheVariants.{None as Never, Always, Taken, NotTaken}
 use Rattle.task_descriptor.specs.declared.descriptor.Marked.{Marked}
@@ -134,12 +135,14 @@ pub record NamesRegisters (m : Marked) : Type 0 where
   pub waits : OfRegisters (waits m.op)
   pub dests : OfRegisters (dests m.op)
 
--- so do all instructions and create masks; the types of the parts see to it, so no refusal tests it
+-- so do all instructions and create masks, and the name of each task is a name; the types of the parts
+-- see to it, so no refusal tests it
 pub record IsInRange (p : Listing) : Type 0 where
   pub code : All NamesRegisters p.code
   pub tasks : All (λ t. OfRegisters (has t.create)) p.tasks
+  pub names : All (λ t. is_name t.name ≡ true) p.tasks
 
--- none of the seven refusals holds, and each register is one
+-- none of the seven refusals holds, and each register and each name is one
 pub record IsWellFormed (p : Listing) : Type 0 where
   pub passes : build_fault p ≡ None
   pub in_range : IsInRange p

@@ -7,6 +7,7 @@ use Rattle.std.proofs.lemmas.List.Elements.{All-get_or}
 use Rattle.std.proofs.lemmas.Option.{get_or_from_slice_get, slice_get_within}
 use Rattle.mips_plain.specs.Instruction.{waits, dests}
 use Rattle.mips_plain.specs.Words.{has}
+use Rattle.task_descriptor.specs.Names.{is_name}
 use Rattle.task_descriptor.specs.Listing.{Listing, OfRegisters, NamesRegisters, IsWellFormed, is_too_many, has_no_task, has_bad_entry, has_duplicate, has_bad_mask, mark_fault, is_bad_mark, starts_at_no_entry}
 use Rattle.task_descriptor.specs.declared.descriptor.Descriptor.{Descriptor}
 use Rattle.task_descriptor.specs.declared.descriptor.Marked.{Marked}
@@ -118,3 +119,7 @@ dests_below p h index m at = (all_at NamesRegisters p.code index m h.in_range.co
 -- a create mask has registers alone
 pub creates_below : (p : Listing) → IsWellFormed p → (t : ℕ) (d : Descriptor) → slice_get p.tasks t ≡ Some d → (r : ℕ) → has d.create r ≡ true → r < 34
 creates_below p h t d at = all_at (λ (u : Descriptor). OfRegisters (has u.create)) p.tasks t d h.in_range.tasks at
+
+-- a task's name is a name
+pub name_is_one : (p : Listing) → IsWellFormed p → (t : ℕ) (d : Descriptor) → slice_get p.tasks t ≡ Some d → is_name d.name ≡ true
+name_is_one p h t d at = all_at (λ (u : Descriptor). is_name u.name ≡ true) p.tasks t d h.in_range.names at

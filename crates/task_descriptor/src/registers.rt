@@ -1,20 +1,24 @@
-//! That parts name registers alone, as their types say. These calls do nothing: their contracts hand
-//! out what the types keep.
+//! That parts name registers alone, and that their tasks' names are names, as their types say. These
+//! calls do nothing: their contracts hand out what the types keep.
 
+ghost use Rattle.std.specs.Prelude.{◌≡◌, true};
 ghost use Rattle.std.specs.List.{All};
 ghost use Rattle.mips_plain.specs.Words.{has};
+ghost use Rattle.task_descriptor.specs.Names.{is_name};
 ghost use Rattle.task_descriptor.specs.Listing.{listing_of, OfRegisters, NamesRegisters, IsInRange};
 
 use crate::descriptor::{Descriptor, Marked};
+use crate::name::Name;
 use crate::program::Parts;
 use mips_plain::number::RegSet;
 
-/// Each register that the parts name is below 34.
+/// Each register that the parts name is below 34, and each task's name is a name.
 pub(crate) fn name_registers(parts: &Parts)
     ensures { IsInRange (listing_of parts.now) }
 {
     all_name_registers(&parts.code);
     all_create_registers(&parts.tasks);
+    all_have_names(&parts.tasks);
 }
 
 fn all_name_registers(code: &[Marked])
@@ -31,6 +35,20 @@ fn all_create_registers(tasks: &[Descriptor])
     for task in tasks {
         has_registers(task.create);
     }
+}
+
+fn all_have_names(tasks: &[Descriptor])
+    ensures { All (λ t. is_name t.name ≡ true) tasks.now }
+{
+    for task in tasks {
+        has_name(&task.name);
+    }
+}
+
+fn has_name(name: &Name)
+    ensures { is_name name.now ≡ true }
+{
+    let _ = name.bytes();
 }
 
 fn names_registers(marked: &Marked)
