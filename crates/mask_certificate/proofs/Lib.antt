@@ -6,4 +6,5 @@ pub mod NameLemmas
 pub mod WriteLemmas
 pub mod AgainLemmas
 pub mod SpelledLemmas
+pub mod ReadLemmas
 pub mod NextEntry

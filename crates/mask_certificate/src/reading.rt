@@ -1,10 +1,11 @@
 //! Reading the text of a certificate.
 
-ghost use Rattle.std.specs.Prelude.{◌≡◌, ◌+◌, ◌^◌, ◌<◌, ◌≤◌, ◌↔◌, List, [], ◌∷◌, true, length, drop, map, slice_index, Some, None, Ok, Err, MatchOption, MatchResult, IfSome, IfOk, SomeIff, IsTrue, OnOk, OnSome, ◌==◌, ◌⊎◌, vec_len};
+ghost use Rattle.std.specs.Prelude.{◌≡◌, ◌≢◌, ℕ, ◌+◌, ◌^◌, ◌<◌, ◌≤◌, ◌↔◌, List, [], ◌∷◌, true, length, drop, map, slice_index, Some, None, Ok, Err, MatchOption, MatchResult, IfSome, IfOk, SomeIff, IsTrue, OnOk, OnSome, ◌==◌, ◌⊎◌, vec_len};
 ghost use Rattle.std.specs.List.{slice_split, position};
 ghost use Rattle.std.specs.Option.{option_copied};
 ghost use Rattle.mask_certificate.specs.declared.fault.Spelling.{Spelling};
 ghost use Rattle.mask_certificate.specs.Lists.{entries_of};
+ghost use Rattle.mask_certificate.specs.CertificateText.{Spells};
 ghost use Rattle.mask_certificate.specs.CertificateReading.{index_in, mask_in, name_in, lines_in, entries_in, behind_task_line, at_end, lists_at, spelling_of, mask_digit, Gives, cert_parse, names_of, names_in, is_newline, entry_line};
 
 use crate::certificate::Cert;
@@ -229,18 +230,29 @@ fn spelling_in(text: &[u8]) -> Option<Spelling>
     }
 }
 
-/// The certificate that a text spells for the tasks of a program, one list for each, in `cert 1` or in
-/// `cert 2`. Else the first fault: `Header`; then the first line with `Line` or `TaskName`; then
-/// `MissingTask`; then `Shape`. `OutOfMemory` may come at any point.
-pub fn read(alloc: Global, text: &[u8], program: &Program) -> Result<Cert, CertFault>
-    ensures { (result ≡ Err CertFault.OutOfMemory) ⊎ (result ≡ cert_parse text.now (names_of program.now)) }
+/// The certificate that a text spells for these tasks, or its first fault.
+fn certificate_of(alloc: Global, text: &[u8], tasks: &[Descriptor]) -> Result<Cert, CertFault>
+    requires { length tasks.now ≤ 1024 }
+    ensures { (result ≡ Err CertFault.OutOfMemory) ⊎ (result ≡ cert_parse text.now (names_in tasks.now)) }
 {
     let Some(spelling) = spelling_in(text) else {
         return Err(CertFault::Header);
     };
-    let lists = lists_of(alloc, spelling, &text[FIRST_LINE..], program.tasks())?;
+    let lists = lists_of(alloc, spelling, &text[FIRST_LINE..], tasks)?;
     match Cert::build(lists) {
         Ok(cert) => Ok(cert),
         Err(_) => Err(CertFault::Shape),
     }
+}
+
+/// The certificate that a text spells for the tasks of a program, one list for each, in `cert 1` or in
+/// `cert 2`. Else the first fault: `Header`; then the first line with `Line` or `TaskName`; then
+/// `MissingTask`; then `Shape`. `OutOfMemory` may come at any point; where it doesn't come, a
+/// certificate is read exactly from a text that spells it.
+pub fn read(alloc: Global, text: &[u8], program: &Program) -> Result<Cert, CertFault>
+    ensures parsed { (result ≡ Err CertFault.OutOfMemory) ⊎ (result ≡ cert_parse text.now (names_of program.now)) }
+    ensures spelled { result ≢ Err CertFault.OutOfMemory
+        → (cert : List (List (ℕ × ℕ))) → (result ≡ Ok cert) ↔ Spells text.now (names_of program.now) cert }
+{
+    certificate_of(alloc, text, program.tasks())
 }
