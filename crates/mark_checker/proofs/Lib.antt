@@ -2,3 +2,4 @@ pub mod Ahead
 pub mod Findings
 pub mod Acceptance
 pub mod PlaceLists
+pub mod Quiet

@@ -4,9 +4,11 @@ ghost use Rattle.std.specs.Prelude.{◌≡◌, ◌∷◌, ◌++◌, ℕ, List, S
 ghost use Rattle.std.specs.List.{flat_map, range_with_len};
 ghost use Rattle.mark_checker.specs.Rules.{rules_at, places, rules, all_rules};
 ghost use Rattle.mark_checker.specs.CheckerSteps.{left_places};
+ghost use Rattle.mark_checker.specs.Looks.{AreLooks};
 
 use crate::append::append_faults;
 use crate::finding::{Finding, Findings, Verdict};
+use crate::look::{Look, is_quiet, looks_of};
 use crate::place::{begun_after, faults_at, is_clean};
 use mask_certificate::certificate::Cert;
 use mask_certificate::masks::Masks;
@@ -30,7 +32,8 @@ pub fn check_task(
     ensures { IfOk result (λ v. v.items ≡ rules program.now cert.now task) }
 {
     let mut list = Vec::new(alloc);
-    append_task(program, cert, task, &mut list)?;
+    let looks = looks_of(program);
+    append_task(program, &looks, cert, task, &mut list)?;
     Ok(list)
 }
 
@@ -42,9 +45,10 @@ pub fn check_task(
 pub fn verdict(alloc: Global, program: &Program, cert: &Cert) -> Result<Verdict, AllocError>
     ensures { IfOk result (λ v. v.findings ≡ all_rules program.now cert.now) }
 {
+    let looks = looks_of(program);
     let mut list = Vec::new(alloc);
     for task in 0..program.tasks().len() {
-        append_task(program, cert, task as u32, &mut list)?;
+        append_task(program, &looks, cert, task as u32, &mut list)?;
     }
     Ok(Verdict {
         findings: Findings::new(list),
@@ -54,15 +58,18 @@ pub fn verdict(alloc: Global, program: &Program, cert: &Cert) -> Result<Verdict,
 /// Appends the findings of one task.
 fn append_task(
     program: &Program,
+    looks: &[Look],
     cert: &Cert,
     task: u32,
     list: &mut Vec<Finding>,
 ) -> Result<(), AllocError>
+    requires { AreLooks program.now looks.now }
     ensures { OnOk result (list.new.items ≡ list.old.items ++ rules program.now cert.now task) }
 {
     match program.tasks().get(task as usize) {
         Some(descriptor) => append_places(
             program,
+            looks,
             &Masks::new(cert.list(task)),
             descriptor,
             task,
@@ -75,11 +82,13 @@ fn append_task(
 /// Appends the findings of the places of one task, whose list this is.
 fn append_places(
     program: &Program,
+    looks: &[Look],
     masks: &Masks<'_>,
     descriptor: &Descriptor,
     task: u32,
     list: &mut Vec<Finding>,
 ) -> Result<(), AllocError>
+    requires { AreLooks program.now looks.now }
     ensures { OnOk result
         (list.new.items
         ≡ list.old.items
@@ -90,6 +99,7 @@ fn append_places(
     for (index, mask) in entries {
         begun = append_next(
             program,
+            looks,
             masks,
             descriptor,
             task,
@@ -115,6 +125,7 @@ fn append_places(
 /// where it is passed over. Answers whether the task's entry is behind.
 fn append_next(
     program: &Program,
+    looks: &[Look],
     masks: &Masks<'_>,
     descriptor: &Descriptor,
     task: u32,
@@ -122,24 +133,45 @@ fn append_next(
     next: (u32, RegSet),
     list: &mut Vec<Finding>,
 ) -> Result<bool, AllocError>
+    requires { AreLooks program.now looks.now }
     ensures { IfOk result
         (λ now. (rest : List (ℕ × ℕ))
         → list.new.items ++ flat_map (rules_at program.now descriptor.now masks.now task) (left_places now descriptor.now.entry rest)
         ≡ list.old.items ++ flat_map (rules_at program.now descriptor.now masks.now task) (left_places begun descriptor.now.entry (next ∷ rest))) }
 {
-    let (index, mask) = next;
     let entry = descriptor.entry.get();
-    match begun_after(begun, index, entry) {
+    match begun_after(begun, next.0, entry) {
         Some(now) => {
-            append_place(program, masks, descriptor, task, (index, Some(mask)), list)?;
+            append_entry(program, looks, masks, descriptor, task, next, list)?;
             Ok(now)
         }
         None => {
             append_place(program, masks, descriptor, task, (entry, None), list)?;
-            append_place(program, masks, descriptor, task, (index, Some(mask)), list)?;
+            append_entry(program, looks, masks, descriptor, task, next, list)?;
             Ok(true)
         }
     }
+}
+
+/// Appends the findings of one entry of the list.
+#[inline]
+fn append_entry(
+    program: &Program,
+    looks: &[Look],
+    masks: &Masks<'_>,
+    descriptor: &Descriptor,
+    task: u32,
+    entry: (u32, RegSet),
+    list: &mut Vec<Finding>,
+) -> Result<(), AllocError>
+    requires { AreLooks program.now looks.now }
+    ensures { OnOk result (list.new.items ≡ list.old.items ++ rules_at program.now descriptor.now masks.now task (entry.0, Some entry.1)) }
+{
+    let (index, mask) = entry;
+    if is_quiet(looks, masks, descriptor, index, mask) {
+        return Ok(());
+    }
+    append_place(program, masks, descriptor, task, (index, Some(mask)), list)
 }
 
 /// Appends the findings of one place.

@@ -11,4 +11,5 @@ mod append;
 pub mod check;
 pub mod finding;
 pub mod laws;
+mod look;
 mod place;

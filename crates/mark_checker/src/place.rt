@@ -38,11 +38,11 @@ pub(crate) struct InsideFaults {
 
 /// What the inner successors of an instruction say.
 #[derive(Clone, Copy)]
-struct Ahead {
+pub(crate) struct Ahead {
     /// One of them has no mask.
-    without_mask: bool,
+    pub(crate) without_mask: bool,
     /// The registers of their masks.
-    masks: RegSet,
+    pub(crate) masks: RegSet,
 }
 
 ghost use Rattle.std.specs.Prelude.{◌≡◌, ℕ, ◌<◌, ◌≤◌, ◌↔◌, true, false, not, ◌&&◌, ◌||◌, length, Some, None, slice_get, is_none, nat_eq, nat_lt, nat_le};
@@ -196,7 +196,7 @@ fn ahead_of(program: &Program, masks: &Masks<'_>, marked: &Marked, index: u32) -
 }
 
 #[inline]
-fn ahead_at(masks: &Masks<'_>, next: Option<u32>) -> Ahead
+pub(crate) fn ahead_at(masks: &Masks<'_>, next: Option<u32>) -> Ahead
     ensures without_mask { result.without_mask ≡ holds_at next (λ j. is_none (mask_at masks.now j)) }
     ensures masks { (r : ℕ) → has result.masks r ≡ holds_at next (λ j. in_mask (mask_at masks.now j) r) }
 {
@@ -271,7 +271,7 @@ fn registers_of(mask: Option<RegSet>) -> RegSet
 }
 
 /// The registers that the instruction forwards, where these are the ones that it writes.
-fn forwarded_by(marked: &Marked, written: RegSet) -> RegSet
+pub(crate) fn forwarded_by(marked: &Marked, written: RegSet) -> RegSet
     requires { (r : ℕ) → has written r ≡ dests marked.now.op r }
     ensures { (r : ℕ) → has result r ≡ (marked.now.forward && dests marked.now.op r) }
 {
@@ -283,7 +283,7 @@ fn forwarded_by(marked: &Marked, written: RegSet) -> RegSet
 }
 
 /// The registers that a `release` names.
-fn released_by(op: &Op) -> RegSet
+pub(crate) fn released_by(op: &Op) -> RegSet
     ensures { (r : ℕ) → has result r ≡ released op.now r }
 {
     match op {
@@ -293,14 +293,14 @@ fn released_by(op: &Op) -> RegSet
 }
 
 /// The registers of both sets.
-fn common(one: RegSet, other: RegSet) -> RegSet
+pub(crate) fn common(one: RegSet, other: RegSet) -> RegSet
     ensures { (r : ℕ) → has result r ≡ (has one r && has other r) }
 {
     one.minus(one.minus(other))
 }
 
 /// Whether a jump to an address in a register doesn't stop always.
-fn goes_on_indirectly(marked: &Marked) -> bool
+pub(crate) fn goes_on_indirectly(marked: &Marked) -> bool
     ensures { result ≡ (is_indirect marked.now.op && not (stops_always marked.now.stop)) }
 {
     match &marked.op {
@@ -351,7 +351,7 @@ fn registers(faults: &Faults) -> RegSet
 }
 
 /// Whether the set has no member; it needs to be looked at below 34 alone.
-fn is_nobody(set: RegSet) -> bool
+pub(crate) fn is_nobody(set: RegSet) -> bool
     ensures all { (result ≡ true) → (r : ℕ) → has set r ≡ false }
     ensures below { ((r : ℕ) → r < 34 → has set r ≡ false) → result ≡ true }
 {

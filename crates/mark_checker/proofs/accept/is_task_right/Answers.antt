@@ -9,7 +9,7 @@ use Rattle.mark_checker.proofs.PlaceLists.{rules_there}
 use Rattle.mark_checker.proofs.accept.is_task_right.Goals as goal
 
 pub is_list_right-requires : goal.is_list_right-requires
-is_list_right-requires c = record { inside = entry_inside c.args.program.now c.args.task c.args.descriptor.now c.requires.well_formed c.requires.there }
+is_list_right-requires c = record { looks = c.requires.looks; inside = entry_inside c.args.program.now c.args.task c.args.descriptor.now c.requires.well_formed c.requires.there }
 
 pub returns-clause-right : goal.returns-clause-right
 returns-clause-right c right =

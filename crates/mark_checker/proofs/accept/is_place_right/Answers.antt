@@ -3,7 +3,7 @@ use Rattle.mark_checker.specs.Rules.{conditions}
 use Rattle.mark_checker.specs.CheckerSteps.{told}
 use Rattle.mark_checker.proofs.Findings.{same_found}
 use Rattle.mark_checker.proofs.PlaceLists.{there, not_there, at_place}
-use Rattle.mark_checker.proofs.accept.is_right.Goals as goal
+use Rattle.mark_checker.proofs.accept.is_place_right.Goals as goal
 
 pub returns-in-Some-clause-nothing : goal.returns-in-Some-clause-nothing
 returns-in-Some-clause-nothing c task nothing =

@@ -1,0 +1,37 @@
+-- Helper vocabulary: what the checker looks at in an instruction, once for all tasks. No contract of
+-- a public function cites a word of this file.
+use Rattle.std.specs.Prelude.{◌≡◌, ℕ, Bool, true, false, not, ◌&&◌, ◌||◌, nat_lt, nat_le, is_none, List, length, slice_get, Some}
+use Rattle.std.specs.List.{list_any}
+use Rattle.mips_plain.specs.Words.{has}
+use Rattle.mips_plain.specs.Instruction.{dests}
+use Rattle.task_descriptor.specs.Listing.{Listing}
+use Rattle.task_descriptor.specs.declared.descriptor.Marked.{Marked}
+use Rattle.task_graph.specs.Edges.{ends_of, sends, is_indirect}
+use Rattle.mask_certificate.specs.Lists.{mask_at}
+use Rattle.mark_checker.specs.Rules.{in_mask, stops_always}
+use Rattle.mark_checker.specs.CheckerSteps.{holds_at}
+use Rattle.mark_checker.specs.declared.look.Look.{Look}
+
+-- either of the two next indices passes the test
+abbrev pub some_next : Look → (ℕ → Bool) → Bool
+some_next look test = holds_at look.next.first test || holds_at look.next.second test
+
+-- what is looked at tells of the instruction m at i
+pub record Tells (p : Listing) (i : ℕ) (m : Marked) (look : Look) : Type 0 where
+  pub next : (test : ℕ → Bool) → some_next look test ≡ list_any (λ j. nat_lt j (length p.code) && test j) (ends_of false m i)
+  pub written : (r : ℕ) → has look.written r ≡ dests m.op r
+  pub sent : (r : ℕ) → has look.sent r ≡ sends m r
+  pub no_exit : look.stays ≡ true → (test : ℕ → Bool) → list_any test (ends_of true m i) ≡ false
+  pub inside : look.stays ≡ true → list_any (λ j. nat_le (length p.code) j) (ends_of false m i) ≡ false
+  pub stops : look.stays ≡ true → (is_indirect m.op && not (stops_always m.stop)) ≡ false
+
+abbrev pub AreLooks : Listing → List Look → Type 0
+AreLooks p looks = (i : ℕ) (m : Marked) (look : Look) → slice_get p.code i ≡ Some m → slice_get looks i ≡ Some look → Tells p i m look
+
+-- an instruction at which no rule beside those of the entry finds anything
+pub record IsQuiet (look : Look) (es : List (ℕ × ℕ)) (create mask : ℕ) : Type 0 where
+  pub stays : look.stays ≡ true
+  pub masked : some_next look (λ j. is_none (mask_at es j)) ≡ false
+  pub lost : (r : ℕ) → ((has look.written r || some_next look (λ j. in_mask (mask_at es j) r)) && not (has mask r)) ≡ false
+  pub again : (r : ℕ) → (has look.sent r && some_next look (λ j. in_mask (mask_at es j) r)) ≡ false
+  pub beside : (r : ℕ) → (has look.sent r && not (has create r)) ≡ false
