@@ -11,8 +11,10 @@ the program does not have yet are named and passed over.
 
 What is timed is the whole process, as a user sees it. Where a figure is given
 per instruction, per event or per byte, the time of the start-up case is taken
-off first. Generated texts are written to a temporary folder and removed.
-Memory of less than this script's own, some 15 megabytes, cannot be told.
+off first. The least user time of the rounds stands beside the median, since
+other work on the machine changes it least. Generated texts are written to a
+temporary folder and removed. Memory of less than this script's own, some 15
+megabytes, cannot be told.
 """
 import argparse
 import itertools
@@ -176,7 +178,8 @@ def steady_script(units, most):
 # Running -------------------------------------------------------------------
 
 class Run:
-    """What one run of the program took: seconds, most memory in bytes, status, output."""
+    """What one run of the program took: seconds, those of the processor in the
+    program itself, most memory in bytes, status, output."""
 
     def __init__(self, program, words, keep):
         sink = subprocess.PIPE if keep else subprocess.DEVNULL
@@ -187,6 +190,7 @@ class Run:
         self.seconds = time.perf_counter() - begin
         child.returncode = os.waitstatus_to_exitcode(status)
         self.status = child.returncode
+        self.user = usage.ru_utime
         self.memory = usage.ru_maxrss * 1024
 
 
@@ -333,12 +337,13 @@ def main():
 
 
 def report(chosen, absent):
-    print(f"{'milliseconds':>12} {'megabytes':>10}  case")
+    print(f"{'milliseconds':>12} {'least user':>10} {'megabytes':>10}  case")
     start = statistics.median(run.seconds for run in chosen[0].runs) if chosen else 0
     for case in chosen:
         seconds = statistics.median(run.seconds for run in case.runs)
         memory = max(run.memory for run in case.runs) / 1e6
-        line = f"{seconds * 1e3:12.2f} {memory:10.1f}  {case.name}"
+        user = min(run.user for run in case.runs)
+        line = f"{seconds * 1e3:12.2f} {user * 1e3:10.2f} {memory:10.1f}  {case.name}"
         if case.count:
             each = max(seconds - start, 0) / case.count * 1e9
             line += f": {each:.2f} ns per {case.per}"
@@ -349,7 +354,7 @@ def report(chosen, absent):
             line += f"  (status {sorted(wrong)}, wanted {case.wanted})"
         print(line)
     for case in absent:
-        print(f"{'-':>12} {'-':>10}  {case.name}: no subcommand {case.subcommand()} yet")
+        print(f"{'-':>12} {'-':>10} {'-':>10}  {case.name}: no subcommand {case.subcommand()} yet")
 
 
 if __name__ == "__main__":
