@@ -3,3 +3,4 @@ pub mod Worlds
 pub mod UnitStep
 pub mod Parts
 pub mod Bursts
+pub mod SentRegisters

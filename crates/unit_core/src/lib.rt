@@ -3,6 +3,7 @@
 #![tactic(auto)]
 
 pub mod burst;
+pub mod laws;
 mod step;
 #[cfg(test)]
 mod tests;

@@ -1,4 +1,4 @@
-use Rattle.std.specs.Prelude.{ℕ, ◌≤◌}
+use Rattle.std.specs.Prelude.{◌≤◌}
 use Rattle.machine_model.specs.Burst.{Burst as IsBurst}
 use Rattle.unit_core.specs.Units.{active_of, IsPlaced}
 use Rattle.unit_core.proofs.burst.run_ahead.Given as goal

@@ -1,4 +1,4 @@
-use Rattle.std.specs.Prelude.{◌≡◌, ℕ, ◌+◌, ◌<◌, ◌≤◌, true, Option}
+use Rattle.std.specs.Prelude.{◌≡◌, ℕ, ◌+◌, true, Option}
 use Rattle.std.specs.Option.{option_or}
 use Rattle.std.proofs.Common.{ap, sym, ◌∙◌, subst, arith}
 use Rattle.mips_plain.specs.Instruction.{dests}

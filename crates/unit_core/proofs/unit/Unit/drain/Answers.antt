@@ -1,11 +1,11 @@
 -- The tests that were passed are those of the model's refusals.
-use Rattle.std.specs.Prelude.{◌≡◌, ℕ, ◌<◌, true, None, Some, length, slice_index_or}
+use Rattle.std.specs.Prelude.{◌≡◌, ◌<◌, true, None, length, slice_index_or}
 use Rattle.std.proofs.Common.{◌∙◌, ap, sym, subst}
 use Rattle.std.proofs.lemmas.List.{get_or_default}
 use Rattle.mips_plain.specs.Words.{has}
 use Rattle.task_descriptor.specs.Listing.{Listing}
 use Rattle.task_descriptor.specs.declared.descriptor.Descriptor.{Descriptor}
-use Rattle.machine_model.specs.Machine.{Active, task_at, no_task, creates}
+use Rattle.machine_model.specs.Machine.{task_at, no_task, creates}
 use Rattle.register_ring.specs.Ports.{sent_of}
 use Rattle.unit_core.specs.Units.{UnitView, active_of}
 use Rattle.unit_core.specs.UnitStep.{drain_fault, Sends}

@@ -1,6 +1,6 @@
 -- Each test that failed says that the units differ in a field; where none did, they have all but
 -- what arrived in common.
-use Rattle.std.specs.Prelude.{◌≡◌, IsTrue, false}
+use Rattle.std.specs.Prelude.{IsTrue, false}
 use Rattle.std.proofs.Common.{sym, ap, ◌∙◌, subst}
 use Rattle.std.proofs.lemmas.Bool.{false≢true}
 use Rattle.machine_model.specs.Machine.{Active}
