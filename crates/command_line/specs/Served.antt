@@ -9,4 +9,5 @@ is_served (Seq budget) = true
 is_served Print = true
 is_served (Annotate emit) = true
 is_served (Check workers) = true
+is_served (Replay units) = true
 is_served _ = false

@@ -70,9 +70,27 @@ pub const REPLAY: &str = "Applies a script of events to a machine of some units"
 
 /// `replay`.
 pub const REPLAY_LONG: &str =
-    "Applies a script of events to a machine of some units, after the check. Writes for each event
-`N ok` or `N refused K Name`, and then the words that `out` sent, how many tasks and instructions
-were retired, and how the run stands.";
+    "Applies a script of events to a machine of some units, after the check. SCRIPT has one event on each
+line, where K is a position in the queue of tasks, 0 for the oldest, and R a register, 0 to 33:
+  assign NAME     the task takes a free unit, behind the youngest
+  exec K          one instruction
+  transfer K $R   the register arrives from the task before
+  drain K $R      a task that has stopped sends a register of its create mask
+  squash K        the tasks behind go, where the next one was predicted wrongly
+  retire          the oldest task is done and goes
+  fault           the oldest task has stopped at an address that is no target of it
+  drop K          the task and all behind it go
+
+Writes for each event, numbered from 1,
+  N ok
+  N refused K Name
+the second with a register where values are waited for. A refused event changes nothing. Then come the
+words that `out` sent, and
+  retired T c C h H
+for T retired tasks with C instructions, which with those of the oldest task are H, and how the run
+stands: running, halted, trapped K Name or unlisted ADDRESS. Of a text that is no script it writes the
+first fault and its line:
+  script refused: K Name LINE";
 
 /// `run`, in one line.
 pub const RUN: &str = "Runs a program in threads, one for each unit";

@@ -89,7 +89,8 @@ fn command<'a>(alloc: Global) -> Result<Command<'a>, AllocError> {
         .subcommand(seq(alloc)?)?
         .subcommand(print(alloc)?)?
         .subcommand(annotate(alloc)?)?
-        .subcommand(check(alloc)?)
+        .subcommand(check(alloc)?)?
+        .subcommand(replay(alloc)?)
 }
 
 // The job of a subcommand; `None` where there is none of that name.
@@ -106,6 +107,7 @@ fn read_job(
         "print" => read_print(alloc, values),
         "annotate" => read_annotate(alloc, values),
         "check" => read_check(alloc, values),
+        "replay" => read_replay(alloc, values),
         _ => Ok(None),
     }
 }
@@ -297,6 +299,7 @@ fn read_check(alloc: Global, values: &ArgMatches<'_>) -> Result<Option<(Job, Pat
 
 fn read_replay(alloc: Global, values: &ArgMatches<'_>) -> Result<Option<(Job, Paths)>, UsageFault>
     ensures files { IfOk result (λ r. IfSome r (λ job. HasFilesOf job.0 job.1)) }
+    ensures served { IfOk result (λ r. IfSome r (λ job. is_served job.0 ≡ true)) }
 {
     let Some(units) = read_units(values) else {
         return Ok(None);

@@ -1,1 +1,3 @@
+mod Addresses
 mod PlainRuns
+mod Plays

@@ -8,9 +8,10 @@ use Rattle.canonical_text.specs.CanonicalText.{canonical_text}
 use Rattle.verdict_report.specs.OutputTexts.{Report, program_refused}
 use Rattle.verdict_report.specs.SeqText.{seq_text}
 use Rattle.verdict_report.specs.CheckText.{check_text}
+use Rattle.verdict_report.specs.ReplayText.{replay_text}
 use Rattle.verdict_report.specs.AnnotateText.{IsAnnotateReport}
 use Rattle.command_line.specs.declared.jobs.Job.{Job}
-use Rattle.command_line.specs.declared.jobs.Job.TheVariants.{Seq, Print, Annotate, Check, Replay, Run}
+use Rattle.command_line.specs.declared.jobs.Job.TheVariants.{Seq, Print, Annotate, Check, Replay}
 use Rattle.command_line.specs.declared.jobs.Texts.{Texts}
 
 abbrev pub print_read : Result Listing AsmFault → Report
@@ -27,6 +28,7 @@ IsReportOf (Seq budget) texts report = report ≡ seq_text budget texts.program.
 IsReportOf Print texts report = report ≡ print_text texts.program.items
 IsReportOf (Annotate emit) texts report = IsAnnotateReport emit texts.program.items report
 IsReportOf (Check workers) texts report = report ≡ check_text texts.program.items texts.certificate.items
+IsReportOf (Replay units) texts report = report ≡ replay_text units texts.program.items texts.certificate.items texts.script.items
 IsReportOf _ texts report = ⊥
 
 -- a job is done: a report of it was added to what the writer holds, and the status is its

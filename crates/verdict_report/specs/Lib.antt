@@ -1,6 +1,12 @@
 pub mod OutputTexts
 pub mod SeqText
 pub mod VerdictTexts
+pub mod JudgedTexts
 pub mod CheckText
 pub mod AnnotateText
+pub mod MachineText
+pub mod ReplayText
 pub mod JobTexts
+pub mod Judging
+pub mod Playing
+pub mod Examples

@@ -1,6 +1,9 @@
 //! The job `check`.
 ghost use Rattle.std.specs.Prelude.{◌≡◌, IfOk};
-ghost use Rattle.verdict_report.specs.CheckText.{check_report, check_text, findings_report};
+ghost use Rattle.mask_certificate.specs.CertificateReading.{cert_parse, names_of};
+ghost use Rattle.verdict_report.specs.VerdictTexts.{program_accepted};
+ghost use Rattle.verdict_report.specs.JudgedTexts.{certificate_judged, findings_judged};
+ghost use Rattle.verdict_report.specs.CheckText.{check_text};
 
 use crate::report::{Report, refused_program};
 use crate::verdict_text::{accepted_program, found_program, refused_certificate};
@@ -26,7 +29,7 @@ pub fn check(alloc: Global, program: &[u8], certificate: &[u8]) -> Result<Report
 
 // What `check` writes of a program and the text of its certificate.
 fn check_program(alloc: Global, program: &Program, certificate: &[u8]) -> Result<Report, AllocError>
-    ensures { IfOk result (λ report. report ≡ check_report program.now certificate.now) }
+    ensures { IfOk result (λ report. report ≡ certificate_judged program_accepted program.now (cert_parse certificate.now (names_of program.now))) }
 {
     match read(alloc, certificate, program) {
         Ok(cert) => {
@@ -44,7 +47,7 @@ fn report_of_findings(
     program: &Program,
     findings: &[Finding],
 ) -> Result<Report, AllocError>
-    ensures { IfOk result (λ report. report ≡ findings_report program.now findings.now) }
+    ensures { IfOk result (λ report. report ≡ findings_judged program_accepted program.now findings.now) }
 {
     if findings.is_empty() {
         accepted_program(alloc, program)

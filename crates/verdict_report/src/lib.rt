@@ -7,8 +7,12 @@
 
 pub mod annotating;
 pub mod checking;
+pub mod event_text;
 pub mod files;
+pub mod judging;
+pub mod machine_text;
 pub mod plain_text;
+pub mod replaying;
 pub mod report;
 pub mod sequential;
 pub mod serve;

@@ -6,6 +6,7 @@ ghost use Rattle.verdict_report.specs.JobTexts.{IsDone, IsReportOf, print_text};
 
 use crate::annotating::annotate;
 use crate::checking::check;
+use crate::replaying::replay;
 use crate::report::{Report, refused_program};
 use crate::sequential::seq;
 use annotated_asm::assembler::assemble;
@@ -61,6 +62,13 @@ fn report_of(alloc: Global, job: &Job, texts: &Texts) -> Result<Report, AllocErr
         Job::Print => print(alloc, program),
         Job::Annotate { emit } => annotate(alloc, *emit, program),
         Job::Check { .. } => check(alloc, program, texts.certificate.as_slice()),
+        Job::Replay { units } => replay(
+            alloc,
+            *units,
+            program,
+            texts.certificate.as_slice(),
+            texts.script.as_slice(),
+        ),
         _ => unreachable!(),
     }
 }

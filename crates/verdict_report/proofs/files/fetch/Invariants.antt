@@ -1,5 +1,5 @@
 -- What was taken from the reader is what is kept, and that is no more than asked for.
-use Rattle.std.proofs.Common.{◌≡◌, ◌≤◌, ◌+◌, ◌-◌, vec_len}
+use Rattle.std.proofs.Common.{◌≤◌, ◌+◌, ◌-◌, vec_len}
 use Rattle.std.specs.Io.KnownBytes.{Consumes}
 use Rattle.verdict_report.proofs.files.fetch.Given as goal
 

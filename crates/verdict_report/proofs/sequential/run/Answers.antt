@@ -1,5 +1,5 @@
 -- The machine has made as many steps as the budget says.
-use Rattle.std.proofs.Common.{◌≡◌, ◌∙◌, ◌+◌, ℕ, subst, rules, arith}
+use Rattle.std.proofs.Common.{◌≡◌, ◌∙◌, ◌+◌, subst, rules, arith}
 use Rattle.std.proofs.lemmas.Grind.{common_steps}
 use Rattle.mips_plain.specs.PlainView.{IsAfter, Makes}
 use Rattle.task_descriptor.specs.Listing.{input}

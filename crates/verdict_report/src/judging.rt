@@ -1,0 +1,73 @@
+//! What every job with a certificate does first.
+ghost use Rattle.std.specs.Prelude.{◌≡◌, ◌≢◌, [], IfOk};
+ghost use Rattle.task_descriptor.specs.Listing.{Listing};
+ghost use Rattle.mask_certificate.specs.CertificateReading.{cert_parse, names_of};
+ghost use Rattle.mark_checker.specs.Rules.{all_rules};
+ghost use Rattle.verdict_report.specs.OutputTexts.{Report as Said};
+ghost use Rattle.verdict_report.specs.VerdictTexts.{program_found};
+ghost use Rattle.verdict_report.specs.JudgedTexts.{certificate_judged, findings_judged};
+ghost use Rattle.verdict_report.specs.Judging.{IsJudged, goes_on};
+
+use crate::report::{Report, refused_program};
+use crate::verdict_text::{found_program, refused_certificate};
+use annotated_asm::assembler::assemble;
+use annotated_asm::fault::AsmFault;
+use mark_checker::accept;
+use mark_checker::check::verdict;
+use mask_certificate::certificate::Cert;
+use mask_certificate::fault::CertFault;
+use mask_certificate::reading::read;
+use std::alloc::{AllocError, Global};
+use task_descriptor::program::Program;
+
+/// What a job with a certificate goes on with.
+#[derive(Debug, Drop)]
+pub enum Judged {
+    /// A text is refused, or the rules find something: what the job writes.
+    Refused(Report),
+    /// The program with its certificate, in which nothing is found.
+    Accepted(accept::Accepted),
+}
+
+/// Judges a program text, then the text of its certificate, and then the one by the other.
+pub fn judge(alloc: Global, program: &[u8], certificate: &[u8]) -> Result<Judged, AllocError>
+    ensures { IfOk result (λ judged. IsJudged program.now certificate.now judged) }
+{
+    match assemble(alloc, program) {
+        Ok(program) => judge_program(alloc, program, certificate),
+        Err(AsmFault::OutOfMemory) => Err(AllocError),
+        Err(fault) => Ok(Judged::Refused(refused_program(alloc, fault)?)),
+    }
+}
+
+// Judges the text of a program's certificate.
+fn judge_program(alloc: Global, program: Program, certificate: &[u8]) -> Result<Judged, AllocError>
+    ensures { IfOk result (λ judged. (rest : Listing → Said) →
+        goes_on rest judged ≡ certificate_judged rest program (cert_parse certificate.now (names_of program))) }
+{
+    match read(alloc, certificate, &program) {
+        Ok(cert) => judge_marks(alloc, program, cert),
+        Err(CertFault::OutOfMemory) => Err(AllocError),
+        Err(fault) => Ok(Judged::Refused(refused_certificate(alloc, fault)?)),
+    }
+}
+
+// Judges a program by its certificate.
+fn judge_marks(alloc: Global, program: Program, cert: Cert) -> Result<Judged, AllocError>
+    ensures { IfOk result (λ judged. (rest : Listing → Said) →
+        goes_on rest judged ≡ findings_judged rest program (all_rules program cert)) }
+{
+    match accept::Accepted::new(program, cert) {
+        Ok(accepted) => Ok(Judged::Accepted(accepted)),
+        Err((program, cert)) => Ok(Judged::Refused(report_findings(alloc, &program, &cert)?)),
+    }
+}
+
+// What the rules find, where they find something.
+fn report_findings(alloc: Global, program: &Program, cert: &Cert) -> Result<Report, AllocError>
+    requires { all_rules program.now cert.now ≢ [] }
+    ensures { IfOk result (λ report. report ≡ program_found program.now (all_rules program.now cert.now)) }
+{
+    let found = verdict(alloc, program, cert)?;
+    found_program(alloc, program, found.findings.as_slice())
+}

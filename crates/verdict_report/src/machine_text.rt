@@ -1,0 +1,55 @@
+//! The text of how a machine of units stands.
+ghost use Rattle.std.specs.Prelude.{◌≡◌, ◌++◌, OnOk};
+ghost use Rattle.std.specs.String.{string_bytes};
+ghost use Rattle.sequencer.specs.Seen.{state};
+ghost use Rattle.verdict_report.specs.MachineText.{machine_text, retired_text, standing_status, standing_text};
+
+use crate::plain_text::{trap_name, write_words};
+use machine_events::event::Standing;
+use sequencer::machine::Machine;
+use std::alloc::AllocError;
+
+// Adds how a run stands.
+fn write_standing(text: &mut String, standing: Standing) -> Result<(), AllocError>
+    ensures { OnOk result (string_bytes text.new ≡ string_bytes text.old ++ standing_text standing) }
+{
+    match standing {
+        Standing::Running => write!(text, "running"),
+        Standing::Halted => write!(text, "halted"),
+        Standing::Trapped(trap) => {
+            let name = trap_name(trap);
+            write!(text, "trapped {name}")
+        }
+        Standing::Unlisted(address) => write!(text, "unlisted {address:08x}"),
+    }
+}
+
+// Adds how many tasks retired, how many instructions these executed, and how many with those of the
+// head.
+fn write_retired(text: &mut String, machine: &Machine<'_>) -> Result<(), AllocError>
+    ensures { OnOk result (string_bytes text.new ≡ string_bytes text.old ++ retired_text (state machine.now)) }
+{
+    let tasks = machine.commits().len();
+    let (committed, executed) = machine.counts();
+    writeln!(text, "retired {tasks} c {committed} h {executed}")
+}
+
+/// Adds the output words of a machine, what retired, and how its run stands.
+pub fn write_machine(text: &mut String, machine: &Machine<'_>) -> Result<(), AllocError>
+    ensures { OnOk result (string_bytes text.new ≡ string_bytes text.old ++ machine_text (state machine.now)) }
+{
+    write_words(text, machine.output())?;
+    write_retired(text, machine)?;
+    write_standing(text, machine.outcome())?;
+    writeln!(text, "")
+}
+
+/// The status of a run that stands so.
+pub fn standing_status_of(standing: Standing) -> u8
+    ensures { result ≡ standing_status standing }
+{
+    match standing {
+        Standing::Running | Standing::Halted => 0,
+        Standing::Trapped(_) | Standing::Unlisted(_) => 1,
+    }
+}
