@@ -6,6 +6,8 @@ pub mod burst;
 pub mod laws;
 mod step;
 #[cfg(test)]
+mod test_programs;
+#[cfg(test)]
 mod tests;
 pub mod unit;
 pub mod wait;

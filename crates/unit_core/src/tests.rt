@@ -1,132 +1,166 @@
-//! The worked examples of one unit, on task A of two programs: a loop of four instructions, and one
-//! with a release.
+//! The worked examples of one unit, on task A of two programs.
+
+ghost use Rattle.std.specs.Prelude.{IfOk};
+ghost use Rattle.unit_core.specs.Units.{active_of, IsPlaced};
 
 use crate::burst::Burst;
+use crate::test_programs::{count, mask, register, release, world};
 use crate::unit::Unit;
 use crate::wait::{DrainFault, Wait};
 use crate::world::World;
+use machine_events::event::Spot;
 use mark_checker::accept::Accepted;
-use mask_certificate::certificate::Cert;
-use mips_plain::instruction::{BranchTwoKind, ImmKind, Op, ThreeKind};
-use mips_plain::memory::Memory;
-use mips_plain::number::{Gpr, Place, Reg, RegSet};
 use register_ring::port::{AlreadyThere, Port};
 use std::alloc::Global;
 use std::test::Fail;
-use task_descriptor::descriptor::{Descriptor, Marked, Stop};
-use task_descriptor::name::Name;
-use task_descriptor::places::Places;
-use task_descriptor::program::{Parts, Program};
 
-fn general(number: u8) -> Result<Gpr, Fail> {
-    Ok(Gpr::new(number).ok_or("register")?)
-}
-
-fn register(number: u8) -> Result<Reg, Fail> {
-    Ok(Reg::new(number).ok_or("register")?)
-}
-
-fn place(index: u32) -> Result<Place, Fail> {
-    Ok(Place::new(index).ok_or("place")?)
-}
-
-fn mask(bits: u64) -> Result<RegSet, Fail> {
-    Ok(RegSet::from_bits(bits).ok_or("mask")?)
-}
-
-fn marked(op: Op, forward: bool, stop: Stop) -> Marked {
-    Marked { op, forward, stop }
-}
-
-fn descriptor(
-    name: &[u8],
-    entry: u32,
-    create: u64,
-    targets: Vec<Place>,
-) -> Result<Descriptor, Fail> {
-    Ok(Descriptor {
-        name: Name::new(name).ok_or("name")?,
-        entry: place(entry)?,
-        create: mask(create)?,
-        targets: Places::new(targets),
-    })
-}
-
-fn accepted(
-    alloc: Global,
-    code: Vec<Marked>,
-    tasks: Vec<Descriptor>,
-    cert: Cert,
-) -> Result<Accepted, Fail> {
-    let parts = Parts {
-        code,
-        bytes: Vec::new(alloc),
-        fixed: Vec::new(alloc),
-        tasks,
-        start: place(0)?,
-    };
-    let program = Program::build(parts).ok().ok_or("refused")?;
-    Ok(Accepted::new(program, cert).ok().ok_or("not accepted")?)
-}
-
-/// The program `count`.
-fn count(alloc: Global) -> Result<Accepted, Fail> {
-    let (r0, r8, r9, r10) = (general(0)?, general(8)?, general(9)?, general(10)?);
-    let code = vec![in alloc;
-        marked(Op::Imm(ImmKind::Addiu, r8, r8, 1), true, Stop::None),
-        marked(Op::Three(ThreeKind::Addu, r9, r9, r8), true, Stop::None),
-        marked(Op::Imm(ImmKind::Slti, r10, r8, 4), false, Stop::None),
-        marked(
-            Op::BranchTwo(BranchTwoKind::Bne, r10, r0, place(0)?),
-            false,
-            Stop::Always
-        ),
-        marked(Op::Out(r9), false, Stop::None),
-        marked(Op::Halt, false, Stop::None),
-    ]?;
-    let targets = vec![in alloc; place(0)?, place(4)?]?;
-    let tasks = vec![in alloc;
-        descriptor(b"A", 0, 0x700, targets)?,
-        descriptor(b"B", 4, 0, Vec::new(alloc))?,
-    ]?;
-    accepted(alloc, code, tasks, count_cert(alloc)?)
-}
-
-fn count_cert(alloc: Global) -> Result<Cert, Fail> {
-    let first = vec![in alloc;
-        (0, mask(0x700)?),
-        (1, mask(0x600)?),
-        (2, mask(0x400)?),
-        (3, mask(0)?),
-    ]?;
-    let second = vec![in alloc; (4, mask(0)?), (5, mask(0)?)]?;
-    let lists = vec![in alloc; first, second]?;
-    if lists.len() > 2 {
-        return Err(Fail::from("lists"));
+/// A unit before task A, with these registers.
+fn unit_of(alloc: Global, accepted: &Accepted, port: Port) -> Result<Unit, Fail>
+    ensures { IfOk result (λ unit. IsPlaced accepted.now (active_of unit)) }
+{
+    if accepted.program().tasks().is_empty() {
+        return Err(Fail::from("tasks"));
     }
-    Ok(Cert::build(lists).ok().ok_or("refused")?)
+    Ok(Unit::new(alloc, accepted, 0, 0, port))
 }
 
-fn world(alloc: Global) -> Result<World, Fail> {
-    Ok(World::new(alloc, Memory::new(alloc, &[], &[]).ok().ok_or("memory")?))
+/// Registers of 0, but for a reserved set.
+fn zeros(reserved: u64) -> Result<Port, Fail> {
+    Ok(Port::fresh(&[0; 34], mask(reserved)?))
+}
+
+/// Registers of 0, but for register 8, which came with 2 and does not come again.
+fn two_in_register_8() -> Result<Port, Fail> {
+    let r8 = register(8)?;
+    let mut port = zeros(0x100)?;
+    if port.arrive(r8, 2).is_err() {
+        return Err(Fail::from("refused"));
+    }
+    match port.arrive(r8, 2) {
+        Ok(()) => Err(Fail::from("arrived again")),
+        Err(AlreadyThere) => Ok(port),
+    }
+}
+
+/// One instruction of the head, in a run that goes on.
+fn step(unit: &mut Unit, accepted: &Accepted, world: &mut World) -> Result<Option<Wait>, Fail>
+    requires { IsPlaced accepted.now (active_of unit.old) }
+    ensures { IsPlaced accepted.now (active_of unit.new) }
+{
+    if !world.is_running() {
+        return Err(Fail::from("ended"));
+    }
+    Ok(unit.exec(accepted, world).err())
+}
+
+/// The answers of the head's next three instructions.
+fn three_steps(
+    unit: &mut Unit,
+    accepted: &Accepted,
+    world: &mut World,
+) -> Result<[Option<Wait>; 3], Fail>
+    requires { IsPlaced accepted.now (active_of unit.old) }
+    ensures { IsPlaced accepted.now (active_of unit.new) }
+{
+    let first = step(unit, accepted, world)?;
+    let second = step(unit, accepted, world)?;
+    let third = step(unit, accepted, world)?;
+    Ok([first, second, third])
+}
+
+fn drained(unit: &mut Unit, accepted: &Accepted, number: u8) -> Result<Option<DrainFault>, Fail>
+    requires { IsPlaced accepted.now (active_of unit.old) }
+    ensures { IsPlaced accepted.now (active_of unit.new) }
+{
+    Ok(unit.drain(accepted, register(number)?).err())
+}
+
+fn drains_of_stopped(unit: &mut Unit, accepted: &Accepted) -> Result<[Option<DrainFault>; 4], Fail>
+    requires { IsPlaced accepted.now (active_of unit.old) }
+{
+    let seventh = drained(unit, accepted, 7)?;
+    let eighth = drained(unit, accepted, 8)?;
+    let tenth = drained(unit, accepted, 10)?;
+    let again = drained(unit, accepted, 10)?;
+    Ok([seventh, eighth, tenth, again])
+}
+
+#[test]
+fn unit_runs_task(rt: HostRuntime) -> Result<(), Fail> {
+    let accepted = count(rt.alloc())?;
+    let mut world = world(rt.alloc())?;
+    let mut unit = unit_of(rt.alloc(), &accepted, zeros(0)?)?;
+    let steps = three_steps(&mut unit, &accepted, &mut world)?;
+    assert_eq!(rt; steps, [None, None, None]);
+    assert_eq!(rt; step(&mut unit, &accepted, &mut world)?, None);
+    assert_eq!(rt; unit.spot(), Spot::Stopped(0x0040_0000));
+    assert_eq!(rt; unit.reads().len(), 4);
+    for number in 8..11 {
+        assert_eq!(rt; unit.value(register(number)?), Some(1));
+    }
+    Ok(())
+}
+
+#[test]
+fn unit_drains(rt: HostRuntime) -> Result<(), Fail> {
+    let accepted = count(rt.alloc())?;
+    let mut world = world(rt.alloc())?;
+    let mut unit = unit_of(rt.alloc(), &accepted, zeros(0)?)?;
+    let _steps = three_steps(&mut unit, &accepted, &mut world)?;
+    let _fourth = step(&mut unit, &accepted, &mut world)?;
+    let stopped = step(&mut unit, &accepted, &mut world)?;
+    assert_eq!(rt; stopped, Some(Wait::Stopped));
+    let wanted = [
+        Some(DrainFault::NotInCreate),
+        Some(DrainFault::AlreadySent),
+        None,
+        Some(DrainFault::AlreadySent),
+    ];
+    assert_eq!(rt; drains_of_stopped(&mut unit, &accepted)?, wanted);
+    Ok(())
+}
+
+#[test]
+fn unit_drain_no_value(rt: HostRuntime) -> Result<(), Fail> {
+    let accepted = release(rt.alloc())?;
+    let mut world = world(rt.alloc())?;
+    let mut unit = unit_of(rt.alloc(), &accepted, zeros(0x80)?)?;
+    let steps = three_steps(&mut unit, &accepted, &mut world)?;
+    assert_eq!(rt; steps, [None, None, None]);
+    assert_eq!(rt;
+        drained(&mut unit, &accepted, 7)?,
+        Some(DrainFault::NoValue)
+    );
+    Ok(())
 }
 
 #[test]
 fn unit_waits(rt: HostRuntime) -> Result<(), Fail> {
     let accepted = count(rt.alloc())?;
     let mut world = world(rt.alloc())?;
-    if accepted.program().tasks().is_empty() || !world.is_running() {
-        return Err(Fail::from("tasks"));
-    }
     let r8 = register(8)?;
-    let mut port = Port::fresh(&[0; 34], mask(0x100)?);
-    let mut unit = Unit::new(rt.alloc(), &accepted, 0, 0, port);
-    assert_eq!(rt; unit.drain(&accepted, r8), Err(DrainFault::NotStopped));
+    let mut unit = unit_of(rt.alloc(), &accepted, zeros(0x100)?)?;
+    assert_eq!(rt;
+        drained(&mut unit, &accepted, 8)?,
+        Some(DrainFault::NotStopped)
+    );
+    assert_eq!(rt;
+        step(&mut unit, &accepted, &mut world)?,
+        Some(Wait::Waiting(r8))
+    );
     assert_eq!(rt; unit.exec_ahead(&accepted), Err(Wait::Waiting(r8)));
-    assert_eq!(rt; unit.exec(&accepted, &mut world), Err(Wait::Waiting(r8)));
-    assert_eq!(rt; port.arrive(r8, 2), Ok(()));
-    assert_eq!(rt; port.arrive(r8, 2), Err(AlreadyThere));
-    let mut unit = Unit::new(rt.alloc(), &accepted, 0, 0, port);
+    Ok(())
+}
+
+#[test]
+fn arrived_register_is_used(rt: HostRuntime) -> Result<(), Fail> {
+    let accepted = count(rt.alloc())?;
+    let mut world = world(rt.alloc())?;
+    let r8 = register(8)?;
+    let mut unit = unit_of(rt.alloc(), &accepted, two_in_register_8()?)?;
+    assert_eq!(rt; step(&mut unit, &accepted, &mut world)?, None);
+    assert_eq!(rt; unit.value(r8), Some(3));
+    let mut unit = unit_of(rt.alloc(), &accepted, two_in_register_8()?)?;
     assert_eq!(rt; unit.exec_ahead(&accepted), Ok(()));
     assert_eq!(rt; unit.value(r8), Some(3));
     Ok(())
@@ -135,16 +169,7 @@ fn unit_waits(rt: HostRuntime) -> Result<(), Fail> {
 #[test]
 fn burst_is_taken_once(rt: HostRuntime) -> Result<(), Fail> {
     let accepted = count(rt.alloc())?;
-    if accepted.program().tasks().is_empty() {
-        return Err(Fail::from("tasks"));
-    }
-    let mut unit = Unit::new(
-        rt.alloc(),
-        &accepted,
-        0,
-        0,
-        Port::fresh(&[0; 34], mask(0x20)?),
-    );
+    let mut unit = unit_of(rt.alloc(), &accepted, zeros(0x20)?)?;
     let burst = Burst::run(unit.lease(&accepted)?, 64);
     let again = Burst::run(unit.lease(&accepted)?, 2);
     assert_eq!(rt; (burst.steps(), again.steps()), (4, 2));
