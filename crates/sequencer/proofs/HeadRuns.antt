@@ -7,8 +7,9 @@ use Rattle.machine_model.specs.Step.{Next}
 use Rattle.machine_model.specs.Claims.{count_h}
 use Rattle.machine_model.specs.HeadEvent.{head_event, growth}
 use Rattle.machine_events.specs.declared.event.Event.{Event}
+use Rattle.machine_events.specs.declared.event.Refused.{Refused}
 use Rattle.machine_events.specs.declared.event.Event.TheVariants.{Assign, Exec, Transfer, Drain, Squash, Retire, Fault, Drop}
-use Rattle.sequencer.specs.Finish.{RunsByHead}
+use Rattle.sequencer.specs.Finish.{RunsByHead, IsHeadRefused}
 use Rattle.sequencer.specs.Seen.{MachineView, Applies, SameRing, state, units_of}
 
 -- one more head event
@@ -92,3 +93,8 @@ pub takes_room : (mid new : MachineView) → HeadApplied mid new → length new.
 takes_room mid new head room =
     let longer : length new.history ≡ length mid.history + 1 = ap length head.2.history ∙ length-append mid.history (head.0 ∷ []) in
     omega arith
+
+-- what refuses the head event refuses it in the state that the refusal leaves, too
+pub stops : (mid new : MachineView) (why : Refused) (goal : ℕ) → count_h (state mid) < goal → IsHeadRefused mid why → new ≡ mid → (count_h (state new) < goal) × IsHeadRefused new why
+stops mid new why goal below refuses same =
+    subst (λ (m : MachineView). (count_h (state m) < goal) × IsHeadRefused m why) (sym same) (below, refuses)

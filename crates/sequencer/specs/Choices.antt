@@ -1,12 +1,12 @@
 -- What may be assigned next (own): the targets of a tail that runs on, else the one task that may
 -- follow.
-use Rattle.std.specs.Prelude.{ℕ, List, [], slice_get, length, ◌%◌, if◌then◌else◌, Option, Some, None}
+use Rattle.std.specs.Prelude.{◌≡◌, ℕ, ◌<◌, List, [], slice_get, length, ◌%◌, true, if◌then◌else◌, Option, Some, None}
 use Rattle.std.specs.Option.{option_map, option_and_then}
 use Rattle.std.specs.List.{last_or}
 use Rattle.mips_plain.specs.Words.{address}
 use Rattle.task_descriptor.specs.Listing.{Listing}
 use Rattle.machine_model.specs.Machine.{Active, State, task_at}
-use Rattle.machine_model.specs.Step.{is_listed}
+use Rattle.machine_model.specs.Step.{is_listed, follows}
 use Rattle.machine_model.specs.Answer.{is_running}
 use Rattle.machine_model.specs.HeadEvent.{task_beginning}
 use Rattle.machine_events.specs.declared.event.Event.{Event}
@@ -43,3 +43,7 @@ task_behind p next (Some tail) answer = task_at_spot p tail.task tail.place answ
 abbrev pub choice_of : Listing → State → (answer : ℕ) → Option Event
 choice_of p s answer =
     if is_running s.outcome then option_map Assign (task_behind p s.next (last_or None s.queue) answer) else None
+
+-- the task is one that may follow the tail, or begin on an empty queue, by the machine step
+abbrev pub MayFollow : Listing → State → (t : ℕ) → Type 0
+MayFollow p s t = (t < length p.tasks) × (follows p s.next t (last_or None s.queue) ≡ true)

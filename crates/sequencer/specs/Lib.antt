@@ -1,5 +1,6 @@
 pub mod Scripts
 pub mod Seen
+pub mod Rings
 pub mod Choices
 pub mod Finish
 pub mod Bursts

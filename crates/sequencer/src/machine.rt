@@ -52,15 +52,16 @@ impl<'a> Machine<'a> {
     ghost use Rattle.machine_model.specs.Answer.{after, refusal};
     ghost use Rattle.machine_model.specs.HeadEvent.{head_event as head_event_of, event_of_queue, growth};
     ghost use Rattle.machine_events.specs.declared.event.Event.{Event};
-    ghost use Rattle.machine_events.specs.declared.event.Event.TheVariants.{Retire};
+    ghost use Rattle.machine_events.specs.declared.event.Event.TheVariants.{Assign, Exec, Retire};
     ghost use Rattle.machine_events.specs.declared.event.Refused.TheVariants as refused;
     ghost use Rattle.machine_events.specs.declared.event.Standing.TheVariants as standing;
     ghost use Rattle.machine_model.specs.Replay.{Replays, ReplaysFrom};
     ghost use Rattle.machine_model.specs.Claims.{Claims, EndsLike, count_c, count_h};
     ghost use Rattle.mips_plain.specs.Words.{byte_of};
     ghost use Rattle.sequencer.specs.Seen.{ProcessorView, IsMachine, Keeps, Steps, ArePlaced, executed_by, state, state_of, units_of, answer_to, IsAnswered, Applies, SameRing};
-    ghost use Rattle.sequencer.specs.Choices.{choices_of, choice_of};
-    ghost use Rattle.sequencer.specs.Finish.{RunsByHead};
+    ghost use Rattle.sequencer.specs.Choices.{choices_of, choice_of, MayFollow};
+    ghost use Rattle.sequencer.specs.Finish.{RunsByHead, IsHeadRefused};
+    ghost use Rattle.sequencer.specs.Rings.{unit_for};
 
     /// A machine at the start of the program, with so many units, 1 to 16, none of them at work. It
     /// reserves the room of its history, once.
@@ -152,15 +153,16 @@ impl<'a> Machine<'a> {
     ///
     /// # Errors
     ///
-    /// `Full` with a history of 1,000,000 events, and `OutOfMemory`; the events before the refused one
-    /// stay.
+    /// It stops at a head event that is refused, before h has grown by `k`: by `Full` with a history of
+    /// 1,000,000 events, else by `OutOfMemory`, which only Exec and Retire may want. The events before
+    /// it stay.
     pub fn finish(&mut self, k: u64) -> Result<(), Refused>
         ensures kept { SameRing self.old self.new }
         ensures runs { (es : List Event) × (self.new.history ≡ self.old.history ++ es)
             × RunsByHead self.old.accepted.program (units_of self.old) (count_h (state self.old) + k) (state self.old) es (state self.new) }
         ensures done { OnOk result (((state self.new).outcome ≡ standing.Running → ⊥) ⊎ (count_h (state self.old) + k ≤ count_h (state self.new))) }
         ensures beyond { count_h (state self.old) + k < count_h (state self.new) → (before : List Event) × (self.new.history ≡ before ++ Retire ∷ []) }
-        ensures refused { IfErr result (λ why. ((why ≡ refused.Full) × (length self.new.history ≡ 1000000)) ⊎ (why ≡ refused.OutOfMemory)) }
+        ensures refused { IfErr result (λ why. (count_h (state self.new) < count_h (state self.old) + k) × IsHeadRefused self.new why) }
     {
         let (_, start) = self.counts();
         while self.counts().1 - start < k {
@@ -175,13 +177,14 @@ impl<'a> Machine<'a> {
     ///
     /// # Errors
     ///
-    /// `Full` with a history of 1,000,000 events, and `OutOfMemory`; nothing is changed then.
+    /// What refuses the head event: `Full` with a history of 1,000,000 events, else `OutOfMemory`, which
+    /// only Exec and Retire may want; nothing is changed then.
     fn apply_head_event(&mut self) -> Result<bool, Refused>
         ensures kept { SameRing self.old self.new }
         ensures applied { IfOk result (λ did. did ≡ true → (e : Event) × (head_event_of self.old.accepted.program (state self.old) ≡ Some e) × Applies self.old e self.new × (count_h (state self.new) ≡ count_h (state self.old) + growth (state self.old) e)) }
         ensures ended { IfOk result (λ did. did ≡ false → (self.new ≡ self.old) × ((state self.new).outcome ≡ standing.Running → ⊥)) }
         ensures room { length self.new.history ≤ 1000000 }
-        ensures refused { IfErr result (λ why. ((why ≡ refused.Full) × (length self.new.history ≡ 1000000)) ⊎ (why ≡ refused.OutOfMemory)) }
+        ensures refused { IfErr result (λ why. IsHeadRefused self.old why) }
         ensures err { OnErr result (self.new ≡ self.old) }
     {
         self.is_known();
@@ -346,11 +349,12 @@ impl<'a> Machine<'a> {
         }
     }
 
-    /// The position of a unit of the ring, by its number; `None` where it is not at work or there is no
-    /// such unit. The head is at the number of retired tasks, modulo the number of units.
+    /// The position of a unit of the ring, by its number: an Exec at that position belongs to it. `None`
+    /// where it is not at work or there is no such unit. The head is at the number of retired tasks,
+    /// modulo the number of units.
     pub fn position(&self, unit: u32) -> Option<u32>
-        ensures position { IfSome result (λ k. (k < length (state self.now).queue) × ((length (state self.now).commits + k) % units_of self.now ≡ unit)) }
-        ensures none { IfNone result ((k : ℕ) → k < length (state self.now).queue → (length (state self.now).commits + k) % units_of self.now ≡ unit → ⊥) }
+        ensures position { IfSome result (λ k. (k < length (state self.now).queue) × (unit_for self.now (Exec k) ≡ unit)) }
+        ensures none { IfNone result ((k : ℕ) → k < length (state self.now).queue → unit_for self.now (Exec k) ≡ unit → ⊥) }
     {
         let _ = &self.alloc;
         let units = self.processor.queue.places() as usize;
@@ -365,7 +369,7 @@ impl<'a> Machine<'a> {
 
     /// The number of the unit that the next Assign fills; `None` where all are at work.
     pub fn next_unit(&self) -> Option<u32>
-        ensures { result ≡ (if nat_lt (length (state self.now).queue) (units_of self.now) then Some ((length (state self.now).commits + length (state self.now).queue) % units_of self.now) else None) }
+        ensures { (task : ℕ) → result ≡ (if nat_lt (length (state self.now).queue) (units_of self.now) then Some (unit_for self.now (Assign task)) else None) }
     {
         let _ = &self.alloc;
         let units = self.processor.queue.places();
@@ -394,6 +398,16 @@ impl<'a> Machine<'a> {
     /// queue, the one that the machine step allows by task and place, whatever the answer. `None` once
     /// the run has ended. A full ring does not matter to it.
     pub fn choice(&self, answer: u32) -> Option<Event>
+        ensures value { result ≡ choice_of self.now.accepted.program (state self.now) answer }
+        ensures follows { IfSome result (λ e. (task : ℕ) × (e ≡ Assign task) × MayFollow self.now.accepted.program (state self.now) task) }
+        ensures none { IfNone result ((state self.now).outcome ≡ standing.Running → choices_of self.now.accepted.program (state self.now) ≡ []
+            → (task : ℕ) → MayFollow self.now.accepted.program (state self.now) task → ⊥) }
+    {
+        self.chosen(answer)
+    }
+
+    /// The Assign that may follow, by an answer.
+    fn chosen(&self, answer: u32) -> Option<Event>
         ensures { result ≡ choice_of self.now.accepted.program (state self.now) answer }
     {
         if !self.processor.world.is_running() {

@@ -1,7 +1,8 @@
 use Rattle.std.proofs.Common.{◌+◌, ◌<◌, ◌≤◌, arith, inr}
+use Rattle.std.proofs.lemmas.Result.{err_from_is_err_and}
 use Rattle.machine_model.specs.Claims.{count_h}
 use Rattle.sequencer.specs.Seen.{state}
-use Rattle.sequencer.proofs.HeadRuns.{begins_here, stays, goes_on, takes_room}
+use Rattle.sequencer.proofs.HeadRuns.{begins_here, stays, goes_on, stops, takes_room}
 use Rattle.sequencer.proofs.machine.Machine.finish.Goals as goal
 
 pub loop-self-init : goal.loop-self-init
@@ -18,6 +19,14 @@ returns-in_err-apply_head_event-clause-runs c = (stays c.args.self.now c.loop-se
 
 pub returns-in_err-apply_head_event-clause-beyond : goal.returns-in_err-apply_head_event-clause-beyond
 returns-in_err-apply_head_event-clause-beyond c = (stays c.args.self.now c.loop-self.self c.apply_head_event.new.self c.args.k c.loop-self.invariant c.in_err-apply_head_event.ensures.err).beyond
+
+pub returns-in_err-apply_head_event-clause-refused : goal.returns-in_err-apply_head_event-clause-refused
+returns-in_err-apply_head_event-clause-refused c =
+    let below : count_h (state c.loop-self.self) < count_h (state c.args.self.now) + c.args.k =
+    omega (arith, c.loop-self.invariant.grown, c.counts-start.ensures.head, c.counts.ensures.head, c.loop-self-test.true) in
+    let why = err_from_is_err_and c.from_residual.result c.from_residual.ensures.1 in
+    rw (why.1, why.2)
+    (stops c.loop-self.self c.apply_head_event.new.self _ (count_h (state c.args.self.now) + c.args.k) below c.in_err-apply_head_event.ensures.refused c.in_err-apply_head_event.ensures.err)
 
 pub returns-then-not-branch-clause-kept : goal.returns-then-not-branch-clause-kept
 returns-then-not-branch-clause-kept c = (stays c.args.self.now c.loop-self.self c.apply_head_event.new.self c.args.k c.loop-self.invariant (c.in_ok-apply_head_event.ensures.ended c.if-not-branch.true).0).kept
