@@ -1,7 +1,7 @@
 -- A task that is chosen begins where its tail goes on, so it may follow by the machine step's own
 -- condition; where there is nothing to choose from and none was found, none begins there.
-use Rattle.std.proofs.Common.{◌≡◌, ℕ, ◌+◌, ◌%◌, ◌<◌, ◌≤◌, inl, inr, Bool, true, false, cond, ◌&&◌, List, [], ◌∷◌, length, Option, Some, None, refl, sym, ap, ◌∙◌, subst, arith, true≢false, eq-eqb, eqb-true, ltb-false}
-use Rattle.std.specs.Prelude.{slice_get, slice_index_or, nat_eq, nat_lt, IfSome, IfNone, if◌then◌else◌}
+use Rattle.std.proofs.Common.{◌≡◌, ℕ, ◌%◌, ◌<◌, ◌≤◌, inl, inr, Bool, true, false, cond, ◌&&◌, List, [], length, Option, Some, None, refl, sym, ap, ◌∙◌, arith, true≢false, eq-eqb, eqb-true, ltb-false}
+use Rattle.std.specs.Prelude.{slice_get, nat_eq, nat_lt, IfSome, IfNone}
 use Rattle.std.specs.List.{list_any, last_or, position_or_len}
 use Rattle.std.specs.Option.{option_map, option_and_then}
 use Rattle.std.proofs.lemmas.Option.{slice_get_cases}
@@ -21,7 +21,7 @@ use Rattle.machine_events.specs.declared.event.Spot.{Spot}
 use Rattle.machine_events.specs.declared.event.Spot.TheVariants.{Inside, Stopped}
 use Rattle.machine_events.specs.declared.event.Standing.{Standing}
 use Rattle.machine_events.specs.declared.event.Standing.TheVariants.{Running}
-use Rattle.sequencer.specs.Choices.{targets_at, targets_behind, choices_of, task_chosen, task_at_spot, task_behind, choice_of, MayFollow}
+use Rattle.sequencer.specs.Choices.{targets_at, targets_behind, choices_of, task_at_spot, task_behind, choice_of, MayFollow}
 
 address_back : (i j : ℕ) → address i ≡ address j → i ≡ j
 unfolding address

@@ -4,3 +4,4 @@ pub mod Rings
 pub mod Choices
 pub mod Finish
 pub mod Bursts
+pub mod Examples

@@ -105,7 +105,8 @@ exec_refusal p us k =
 abbrev pub IsRefusedBy : Refused → Option Refused → Type 0
 IsRefusedBy why refusal = (refusal ≡ Some why) ⊎ ((why ≡ refused.OutOfMemory) × (refusal ≡ None))
 
--- what every machine keeps: it is the replay of its history, on at least one unit and at most 16
+-- what every machine keeps: it is the replay of its history, on at least one unit (at most 16 is what
+-- its queue keeps)
 pub record IsMachine (m : MachineView) : Type 0 where
   pub some_unit : 0 < m.processor.queue.places
   pub replay : Replays m.accepted.program m.processor.queue.places m.history (state_of m.processor)

@@ -202,7 +202,6 @@ impl<'a> Machine<'a> {
         ensures replay { Replays self.now.accepted.program (units_of self.now) self.now.history (state self.now) }
         ensures room { length self.now.history ≤ 1000000 }
     {
-        let _ = &self.alloc;
         self.history.as_slice()
     }
 
@@ -228,6 +227,7 @@ impl<'a> Machine<'a> {
             → IsMachine (record self.now { processor = p; history = self.now.history ++ e ∷ [] }) }
     {
         known(self.accepted);
+        // What a machine keeps is known where one of its fields is read.
         let _ = &self.processor;
     }
 
@@ -308,7 +308,6 @@ impl<'a> Machine<'a> {
         ensures headline { Claims self.now.accepted.program (state self.now) }
     {
         self.claims();
-        let _ = &self.alloc;
         self.processor.world.memory()
     }
 
@@ -356,7 +355,6 @@ impl<'a> Machine<'a> {
         ensures position { IfSome result (λ k. (k < length (state self.now).queue) × (unit_for self.now (Exec k) ≡ unit)) }
         ensures none { IfNone result ((k : ℕ) → k < length (state self.now).queue → unit_for self.now (Exec k) ≡ unit → ⊥) }
     {
-        let _ = &self.alloc;
         let units = self.processor.queue.places() as usize;
         let retired = self.processor.commits.len();
         for position in 0..self.processor.queue.len() {
@@ -371,7 +369,6 @@ impl<'a> Machine<'a> {
     pub fn next_unit(&self) -> Option<u32>
         ensures { (task : ℕ) → result ≡ (if nat_lt (length (state self.now).queue) (units_of self.now) then Some (unit_for self.now (Assign task)) else None) }
     {
-        let _ = &self.alloc;
         let units = self.processor.queue.places();
         let active = self.processor.queue.len();
         if active < units {
