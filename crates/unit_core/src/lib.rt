@@ -5,10 +5,6 @@
 pub mod burst;
 pub mod laws;
 mod step;
-#[cfg(test)]
-mod test_programs;
-#[cfg(test)]
-mod tests;
 pub mod unit;
 pub mod wait;
 pub mod world;

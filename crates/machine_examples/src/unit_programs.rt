@@ -1,6 +1,5 @@
 //! The programs of the tests: `count`, a loop of four instructions, and one with a release.
 
-use crate::world::World;
 use mark_checker::accept::Accepted;
 use mask_certificate::certificate::Cert;
 use mips_plain::instruction::{BranchTwoKind, ImmKind, Op, ThreeKind};
@@ -12,6 +11,7 @@ use task_descriptor::descriptor::{Descriptor, Marked, Stop};
 use task_descriptor::name::Name;
 use task_descriptor::places::Places;
 use task_descriptor::program::{Parts, Program};
+use unit_core::world::World;
 
 fn general(number: u8) -> Result<Gpr, Fail> {
     Ok(Gpr::new(number).ok_or("register")?)

@@ -3,16 +3,16 @@
 ghost use Rattle.std.specs.Prelude.{IfOk};
 ghost use Rattle.unit_core.specs.Units.{active_of, IsPlaced};
 
-use crate::burst::Burst;
-use crate::test_programs::{count, mask, register, release, world};
-use crate::unit::Unit;
-use crate::wait::{DrainFault, Wait};
-use crate::world::World;
+use crate::unit_programs::{count, mask, register, release, world};
 use machine_events::event::Spot;
 use mark_checker::accept::Accepted;
 use register_ring::port::{AlreadyThere, Port};
 use std::alloc::Global;
 use std::test::Fail;
+use unit_core::burst::Burst;
+use unit_core::unit::Unit;
+use unit_core::wait::{DrainFault, Wait};
+use unit_core::world::World;
 
 /// A unit before task A, with these registers.
 fn unit_of(alloc: Global, accepted: &Accepted, port: Port) -> Result<Unit, Fail>
