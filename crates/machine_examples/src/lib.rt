@@ -3,6 +3,10 @@
 #![tactic(auto)]
 
 #[cfg(test)]
+mod calls;
+#[cfg(test)]
+mod programs;
+#[cfg(test)]
 mod unit_programs;
 #[cfg(test)]
 mod units;
