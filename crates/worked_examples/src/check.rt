@@ -1,12 +1,12 @@
 //! `check`: what it writes of programs and certificates.
 
-use crate::answers::expect_certified;
+use crate::answers::{expect_certified, widened};
 use crate::programs::{
     COUNT, COUNT_CERTIFICATE, COUNT_CERTIFICATE_LACKING, COUNT_CREATES_LESS, COUNT_LISTS_LESS,
     COUNT_WITHOUT_HALT, COUNT_WRITTEN_AGAIN, FIVE_FINDINGS, FIVE_FINDINGS_CERTIFICATE, PRODUCT,
     PRODUCT_CERTIFICATE, READ_ONLY, READ_ONLY_CERTIFICATE, RELEASE, RELEASE_CERTIFICATE,
 };
-use std::alloc::{AllocError, Global};
+use std::alloc::Global;
 use std::process::Abort;
 use std::test::Fail;
 
@@ -199,20 +199,6 @@ const CASES: [Case; 26] = [
         expected: "program refused: 4 Mnemonic line 1\n",
     },
 ];
-
-// A certificate in `cert 1` as it is spelled in `cert 2`: each mask with eight zeros before it.
-fn widened(alloc: Global, certificate: &str) -> Result<String, AllocError> {
-    let mut text = String::new(alloc);
-    for line in certificate.lines() {
-        match line.split_once(' ') {
-            Some(("cert", _)) => writeln!(text, "cert 2")?,
-            Some(("task", name)) => writeln!(text, "task {name}")?,
-            Some((index, mask)) => writeln!(text, "{index} 00000000{mask}")?,
-            None => writeln!(text, "{line}")?,
-        }
-    }
-    Ok(text)
-}
 
 // Asserts what a run writes, and that a certificate in `cert 1` gives the same in `cert 2`.
 fn expect_case(rt: &impl Abort, alloc: Global, case: &Case) -> Result<(), Fail> {

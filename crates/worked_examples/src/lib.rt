@@ -22,6 +22,12 @@ mod print;
 #[cfg(test)]
 mod programs;
 #[cfg(test)]
+mod replay;
+#[cfg(test)]
+mod replayed_values;
+#[cfg(test)]
+mod scripts;
+#[cfg(test)]
 mod seq;
 #[cfg(test)]
 mod words;

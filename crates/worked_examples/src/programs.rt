@@ -277,3 +277,33 @@ task C
 6 00000000
 7 00000000
 ";
+
+/// The certificate of `WRONG_PATH_LOAD`.
+pub const WRONG_PATH_LOAD_CERTIFICATE: &str = "cert 1
+task A
+0 00000100
+1 00000000
+task B
+2 00000800
+task C
+3 00000000
+4 00000000
+";
+
+/// The certificate of `UNLISTED_JUMP`.
+pub const UNLISTED_JUMP_CERTIFICATE: &str = "cert 1
+task A
+0 80000000
+1 80000000
+2 00000000
+";
+
+/// The certificate of `WRONG_PATH_SPIN`.
+pub const WRONG_PATH_SPIN_CERTIFICATE: &str = "cert 1
+task A
+0 00000000
+task B
+1 00000000
+task C
+2 00000000
+";

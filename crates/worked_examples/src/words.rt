@@ -45,6 +45,26 @@ fn reads_checks(rt: HostRuntime) -> Result<(), Fail> {
 }
 
 #[test]
+fn reads_replays(rt: HostRuntime) -> Result<(), Fail> {
+    for (line, wanted) in [
+        ("replay a.s a.cert a.events", 4),
+        ("replay a.s a.cert a.events --units 16", 16),
+        ("replay --units 1 a.s a.cert a.events", 1),
+    ] {
+        let (replay, paths) = job(rt.alloc(), line)?;
+        assert!(rt;
+            matches!(replay, Job::Replay { units } if units.get() == wanted),
+            "{line}"
+        );
+        assert!(rt; paths.program.as_str() == "a.s", "{line}");
+        assert!(rt; paths.certificate.as_str() == "a.cert", "{line}");
+        assert!(rt; paths.script.as_str() == "a.events", "{line}");
+        assert!(rt; replay.has_certificate() && replay.has_script(), "{line}");
+    }
+    Ok(())
+}
+
+#[test]
 fn reads_annotates(rt: HostRuntime) -> Result<(), Fail> {
     for (line, wanted) in [
         ("annotate a.s", Emit::Text),
@@ -84,6 +104,11 @@ fn refuses_words(rt: HostRuntime) -> Result<(), Fail> {
         "check a.s a.cert --workers 0",
         "check a.s a.cert --workers 17",
         "check a.s a.cert --units 2",
+        "replay a.s a.cert",
+        "replay a.s a.cert a.events b.events",
+        "replay a.s a.cert a.events --units 0",
+        "replay a.s a.cert a.events --units 17",
+        "replay a.s a.cert a.events --budget 3",
         "foo",
     ] {
         assert!(rt;
