@@ -1,8 +1,8 @@
 # A load of read-only data may be made ahead of the oldest task.
 #
 # A always goes to C. A unit that was given B can load the word at K at once,
-# since no step changes read-only data. Its second load is not aligned and has
-# to wait, as `wrong-path-load` shows.
+# since no step changes read-only data. Its second load, at address 8, is outside
+# of read-only data and has to wait, as the load of `wrong-path-load` has.
 
 .task A create=$8 targets=B,C
 .task B create=$9,$10 targets=C

@@ -151,7 +151,7 @@ pub jump_unlisted_shows : Shows unlisted_jump 1 jump_unlisted (ok ∷ ok ∷ ok 
 unfolding address index_of region effective least
 jump_unlisted_shows = record { answers_are = refl; output_is = refl; c_is = refl; h_is = refl; outcome_is = refl }
 
--- Task B, predicted wrongly, loads a word of read-only data, and then one that is not aligned
+-- Task B, predicted wrongly, loads a word of read-only data, and then one at an address in no region
 abbrev pub read_only : Listing
 read_only = record {
   code = forwards (Imm Addiu 8 0 (pos 1)) ∷ stops (BranchTwo Bne 8 0 6) ∷ bare (Lui 9 0x1000) ∷ bare (Logic Ori 9 9 0) ∷ forwards (Load Lw 9 9 (pos 0)) ∷ forwards_and_stops (Load Lw 10 9 (pos 1)) ∷ bare (Out 8) ∷ bare Halt ∷ [];

@@ -119,7 +119,7 @@ pub const COUNT_DROPPED: [Answered; 7] = [
     ("assign A", "ok"),
 ];
 
-/// A load of read-only data runs ahead of the head, a misaligned one waits: `READ_ONLY` on 2 units.
+/// A load of read-only data runs ahead of the head, one outside of it waits: `READ_ONLY` on 2 units.
 pub const READ_AHEAD: [Answered; 14] = [
     ("assign A", "ok"),
     ("assign B", "ok"),
