@@ -3,7 +3,7 @@
 
     machine.py [--rounds N]
 
-It puts machine.rt into the repository as a crate of its own, builds it (proved,
+It puts machine.rt.txt into the repository as a crate of its own, builds it (proved,
 which takes a minute or two where the crates below are proved already), takes it
 away again, and times the program. The least processor time of the rounds counts.
 """
@@ -26,7 +26,7 @@ def built(folder):
     before = listed.read_text()
     try:
         (crate / "src").mkdir(parents=True)
-        shutil.copy(HERE / "machine.rt", crate / "src" / "main.rt")
+        shutil.copy(HERE / "machine.rt.txt", crate / "src" / "main.rt")
         listed.write_text(before.rstrip("\n") + "\n" + LINE)
         run = subprocess.run(["rt", "run", "--", "events", "1", "0"], cwd=crate, capture_output=True, text=True)
         if run.returncode:
