@@ -2,4 +2,5 @@ pub mod Ahead
 pub mod Findings
 pub mod Acceptance
 pub mod PlaceLists
-pub mod Quiet
+pub mod QuietEntries
+mod Entries

@@ -1,12 +1,13 @@
 -- Helper vocabulary: what the checker looks at in an instruction, once for all tasks. No contract of
 -- a public function cites a word of this file.
-use Rattle.std.specs.Prelude.{◌≡◌, ℕ, Bool, true, false, not, ◌&&◌, ◌||◌, nat_lt, nat_le, is_none, List, length, slice_get, Some}
+use Rattle.std.specs.Prelude.{◌≡◌, ℕ, ◌≤◌, Bool, true, false, not, ◌&&◌, ◌||◌, nat_lt, nat_le, is_none, List, length, slice_get, get_or, Some}
 use Rattle.std.specs.List.{list_any}
 use Rattle.mips_plain.specs.Words.{has}
 use Rattle.mips_plain.specs.Instruction.{dests}
 use Rattle.task_descriptor.specs.Listing.{Listing}
 use Rattle.task_descriptor.specs.declared.descriptor.Marked.{Marked}
 use Rattle.task_graph.specs.Edges.{ends_of, sends, is_indirect}
+use Rattle.task_graph.specs.Soundness.{is_entry}
 use Rattle.mask_certificate.specs.Lists.{mask_at}
 use Rattle.mark_checker.specs.Rules.{in_mask, stops_always}
 use Rattle.mark_checker.specs.CheckerSteps.{holds_at}
@@ -27,6 +28,10 @@ pub record Tells (p : Listing) (i : ℕ) (m : Marked) (look : Look) : Type 0 whe
 
 abbrev pub AreLooks : Listing → List Look → Type 0
 AreLooks p looks = (i : ℕ) (m : Marked) (look : Look) → slice_get p.code i ≡ Some m → slice_get looks i ≡ Some look → Tells p i m look
+
+-- for each index whether a task begins there
+abbrev pub AreEntries : Listing → List Bool → Type 0
+AreEntries p begins = (length begins ≡ 4097) × ((j : ℕ) → j ≤ 4096 → get_or begins j false ≡ is_entry p j)
 
 -- an instruction at which no rule beside those of the entry finds anything
 pub record IsQuiet (look : Look) (es : List (ℕ × ℕ)) (create mask : ℕ) : Type 0 where

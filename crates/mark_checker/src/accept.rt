@@ -6,10 +6,10 @@ ghost use Rattle.task_descriptor.specs.Listing.{IsWellFormed};
 ghost use Rattle.mask_certificate.specs.Lists.{list_of};
 ghost use Rattle.mark_checker.specs.Rules.{rules_at, places, rules, all_rules};
 ghost use Rattle.mark_checker.specs.Places.{IsRight, AllRight, IsAccepted};
-ghost use Rattle.mark_checker.specs.Looks.{AreLooks};
 
-use crate::look::{Look, is_quiet, looks_of};
 use crate::place::{begun_after, faults_at, is_clean};
+use crate::quiet::is_quiet;
+use crate::survey::Survey;
 use mask_certificate::certificate::Cert;
 use mask_certificate::masks::Masks;
 use mips_plain::number::RegSet;
@@ -23,9 +23,9 @@ pub fn accepts(program: &Program, cert: &Cert) -> bool
     ensures exact { (result ≡ true) ↔ (all_rules program.now cert.now ≡ []) }
     ensures accepted { (result ≡ true) → IsAccepted program.now cert.now }
 {
-    let looks = looks_of(program);
+    let survey = Survey::new(program);
     for (task, descriptor) in program.tasks().iter().enumerate() {
-        if !is_task_right(program, &looks, cert, descriptor, task as u32) {
+        if !is_task_right(&survey, cert, descriptor, task as u32) {
             return false;
         }
     }
@@ -33,33 +33,20 @@ pub fn accepts(program: &Program, cert: &Cert) -> bool
 }
 
 /// Whether the rules find nothing in one task.
-fn is_task_right(
-    program: &Program,
-    looks: &[Look],
-    cert: &Cert,
-    descriptor: &Descriptor,
-    task: u32,
-) -> bool
-    requires looks { AreLooks program.now looks.now }
-    requires there { slice_get program.now.tasks task ≡ Some descriptor.now }
-    requires well_formed { IsWellFormed program.now }
-    ensures right { (result ≡ true) → AllRight program.now descriptor.now (list_of cert.now task) (places descriptor.now.entry (list_of cert.now task)) }
-    ensures nothing { rules program.now cert.now task ≡ [] → result ≡ true }
+fn is_task_right(survey: &Survey<'_>, cert: &Cert, descriptor: &Descriptor, task: u32) -> bool
+    requires there { slice_get survey.now.tasks task ≡ Some descriptor.now }
+    requires well_formed { IsWellFormed survey.now }
+    ensures right { (result ≡ true) → AllRight survey.now descriptor.now (list_of cert.now task) (places descriptor.now.entry (list_of cert.now task)) }
+    ensures nothing { rules survey.now cert.now task ≡ [] → result ≡ true }
 {
-    is_list_right(program, looks, &Masks::new(cert.list(task)), descriptor)
+    is_list_right(survey, &Masks::new(cert.list(task)), descriptor)
 }
 
 /// Whether the rules find nothing at the places of one task, whose list this is.
-fn is_list_right(
-    program: &Program,
-    looks: &[Look],
-    masks: &Masks<'_>,
-    descriptor: &Descriptor,
-) -> bool
-    requires looks { AreLooks program.now looks.now }
-    requires inside { descriptor.now.entry < length program.now.code }
-    ensures right { (result ≡ true) → AllRight program.now descriptor.now masks.now (places descriptor.now.entry masks.now) }
-    ensures nothing { (task : ℕ) → flat_map (rules_at program.now descriptor.now masks.now task) (places descriptor.now.entry masks.now) ≡ [] → result ≡ true }
+fn is_list_right(survey: &Survey<'_>, masks: &Masks<'_>, descriptor: &Descriptor) -> bool
+    requires inside { descriptor.now.entry < length survey.now.code }
+    ensures right { (result ≡ true) → AllRight survey.now descriptor.now masks.now (places descriptor.now.entry masks.now) }
+    ensures nothing { (task : ℕ) → flat_map (rules_at survey.now descriptor.now masks.now task) (places descriptor.now.entry masks.now) ≡ [] → result ≡ true }
 {
     let entry = descriptor.entry.get();
     let entries = masks.entries();
@@ -69,7 +56,7 @@ fn is_list_right(
             return false;
         };
         begun = now;
-        if !is_right(program, looks, masks, descriptor, *index, *mask) {
+        if !is_right(survey, masks, descriptor, *index, *mask) {
             return false;
         }
     }
@@ -79,36 +66,34 @@ fn is_list_right(
 /// Whether the rules find nothing at one entry of the list.
 #[inline]
 fn is_right(
-    program: &Program,
-    looks: &[Look],
+    survey: &Survey<'_>,
     masks: &Masks<'_>,
     descriptor: &Descriptor,
     index: u32,
     mask: RegSet,
 ) -> bool
-    requires { AreLooks program.now looks.now }
-    ensures right { (result ≡ true) → IsRight program.now descriptor.now masks.now (index, Some mask) }
-    ensures nothing { (task : ℕ) → rules_at program.now descriptor.now masks.now task (index, Some mask) ≡ [] → result ≡ true }
+    ensures right { (result ≡ true) → IsRight survey.now descriptor.now masks.now (index, Some mask) }
+    ensures nothing { (task : ℕ) → rules_at survey.now descriptor.now masks.now task (index, Some mask) ≡ [] → result ≡ true }
 {
-    if is_quiet(looks, masks, descriptor, index, mask) {
+    if is_quiet(survey, masks, descriptor, index, mask) {
         return true;
     }
-    is_place_right(program, masks, descriptor, index, Some(mask))
+    is_place_right(survey, masks, descriptor, index, Some(mask))
 }
 
 /// Whether the rules find nothing at one place.
 fn is_place_right(
-    program: &Program,
+    survey: &Survey<'_>,
     masks: &Masks<'_>,
     descriptor: &Descriptor,
     index: u32,
     mask: Option<RegSet>,
 ) -> bool
-    ensures right { (result ≡ true) → IsRight program.now descriptor.now masks.now (index, mask) }
-    ensures nothing { (task : ℕ) → rules_at program.now descriptor.now masks.now task (index, mask) ≡ [] → result ≡ true }
+    ensures right { (result ≡ true) → IsRight survey.now descriptor.now masks.now (index, mask) }
+    ensures nothing { (task : ℕ) → rules_at survey.now descriptor.now masks.now task (index, mask) ≡ [] → result ≡ true }
 {
-    match program.code().get(index as usize) {
-        Some(marked) => is_clean(&faults_at(program, masks, descriptor, marked, index, mask)),
+    match survey.program().code().get(index as usize) {
+        Some(marked) => is_clean(&faults_at(survey, masks, descriptor, marked, index, mask)),
         None => true,
     }
 }

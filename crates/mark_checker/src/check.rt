@@ -4,12 +4,12 @@ ghost use Rattle.std.specs.Prelude.{◌≡◌, ◌∷◌, ◌++◌, ℕ, List, S
 ghost use Rattle.std.specs.List.{flat_map, range_with_len};
 ghost use Rattle.mark_checker.specs.Rules.{rules_at, places, rules, all_rules};
 ghost use Rattle.mark_checker.specs.CheckerSteps.{left_places};
-ghost use Rattle.mark_checker.specs.Looks.{AreLooks};
 
 use crate::append::append_faults;
 use crate::finding::{Finding, Findings, Verdict};
-use crate::look::{Look, is_quiet, looks_of};
 use crate::place::{begun_after, faults_at, is_clean};
+use crate::quiet::is_quiet;
+use crate::survey::Survey;
 use mask_certificate::certificate::Cert;
 use mask_certificate::masks::Masks;
 use mips_plain::number::RegSet;
@@ -32,8 +32,8 @@ pub fn check_task(
     ensures { IfOk result (λ v. v.items ≡ rules program.now cert.now task) }
 {
     let mut list = Vec::new(alloc);
-    let looks = looks_of(program);
-    append_task(program, &looks, cert, task, &mut list)?;
+    let survey = Survey::new(program);
+    append_task(&survey, cert, task, &mut list)?;
     Ok(list)
 }
 
@@ -45,10 +45,10 @@ pub fn check_task(
 pub fn verdict(alloc: Global, program: &Program, cert: &Cert) -> Result<Verdict, AllocError>
     ensures { IfOk result (λ v. v.findings ≡ all_rules program.now cert.now) }
 {
-    let looks = looks_of(program);
+    let survey = Survey::new(program);
     let mut list = Vec::new(alloc);
     for task in 0..program.tasks().len() {
-        append_task(program, &looks, cert, task as u32, &mut list)?;
+        append_task(&survey, cert, task as u32, &mut list)?;
     }
     Ok(Verdict {
         findings: Findings::new(list),
@@ -57,19 +57,16 @@ pub fn verdict(alloc: Global, program: &Program, cert: &Cert) -> Result<Verdict,
 
 /// Appends the findings of one task.
 fn append_task(
-    program: &Program,
-    looks: &[Look],
+    survey: &Survey<'_>,
     cert: &Cert,
     task: u32,
     list: &mut Vec<Finding>,
 ) -> Result<(), AllocError>
-    requires { AreLooks program.now looks.now }
-    ensures { OnOk result (list.new.items ≡ list.old.items ++ rules program.now cert.now task) }
+    ensures { OnOk result (list.new.items ≡ list.old.items ++ rules survey.now cert.now task) }
 {
-    match program.tasks().get(task as usize) {
+    match survey.program().tasks().get(task as usize) {
         Some(descriptor) => append_places(
-            program,
-            looks,
+            survey,
             &Masks::new(cert.list(task)),
             descriptor,
             task,
@@ -81,25 +78,22 @@ fn append_task(
 
 /// Appends the findings of the places of one task, whose list this is.
 fn append_places(
-    program: &Program,
-    looks: &[Look],
+    survey: &Survey<'_>,
     masks: &Masks<'_>,
     descriptor: &Descriptor,
     task: u32,
     list: &mut Vec<Finding>,
 ) -> Result<(), AllocError>
-    requires { AreLooks program.now looks.now }
     ensures { OnOk result
         (list.new.items
         ≡ list.old.items
-        ++ flat_map (rules_at program.now descriptor.now masks.now task) (places descriptor.now.entry masks.now)) }
+        ++ flat_map (rules_at survey.now descriptor.now masks.now task) (places descriptor.now.entry masks.now)) }
 {
     let entries = masks.entries();
     let mut begun = false;
     for (index, mask) in entries {
         begun = append_next(
-            program,
-            looks,
+            survey,
             masks,
             descriptor,
             task,
@@ -112,7 +106,7 @@ fn append_places(
         return Ok(());
     }
     append_place(
-        program,
+        survey,
         masks,
         descriptor,
         task,
@@ -124,8 +118,7 @@ fn append_places(
 /// Appends the findings of the next entry of the task's list, and before them those of the task's entry
 /// where it is passed over. Answers whether the task's entry is behind.
 fn append_next(
-    program: &Program,
-    looks: &[Look],
+    survey: &Survey<'_>,
     masks: &Masks<'_>,
     descriptor: &Descriptor,
     task: u32,
@@ -133,21 +126,20 @@ fn append_next(
     next: (u32, RegSet),
     list: &mut Vec<Finding>,
 ) -> Result<bool, AllocError>
-    requires { AreLooks program.now looks.now }
     ensures { IfOk result
         (λ now. (rest : List (ℕ × ℕ))
-        → list.new.items ++ flat_map (rules_at program.now descriptor.now masks.now task) (left_places now descriptor.now.entry rest)
-        ≡ list.old.items ++ flat_map (rules_at program.now descriptor.now masks.now task) (left_places begun descriptor.now.entry (next ∷ rest))) }
+        → list.new.items ++ flat_map (rules_at survey.now descriptor.now masks.now task) (left_places now descriptor.now.entry rest)
+        ≡ list.old.items ++ flat_map (rules_at survey.now descriptor.now masks.now task) (left_places begun descriptor.now.entry (next ∷ rest))) }
 {
     let entry = descriptor.entry.get();
     match begun_after(begun, next.0, entry) {
         Some(now) => {
-            append_entry(program, looks, masks, descriptor, task, next, list)?;
+            append_entry(survey, masks, descriptor, task, next, list)?;
             Ok(now)
         }
         None => {
-            append_place(program, masks, descriptor, task, (entry, None), list)?;
-            append_entry(program, looks, masks, descriptor, task, next, list)?;
+            append_place(survey, masks, descriptor, task, (entry, None), list)?;
+            append_entry(survey, masks, descriptor, task, next, list)?;
             Ok(true)
         }
     }
@@ -156,39 +148,37 @@ fn append_next(
 /// Appends the findings of one entry of the list.
 #[inline]
 fn append_entry(
-    program: &Program,
-    looks: &[Look],
+    survey: &Survey<'_>,
     masks: &Masks<'_>,
     descriptor: &Descriptor,
     task: u32,
     entry: (u32, RegSet),
     list: &mut Vec<Finding>,
 ) -> Result<(), AllocError>
-    requires { AreLooks program.now looks.now }
-    ensures { OnOk result (list.new.items ≡ list.old.items ++ rules_at program.now descriptor.now masks.now task (entry.0, Some entry.1)) }
+    ensures { OnOk result (list.new.items ≡ list.old.items ++ rules_at survey.now descriptor.now masks.now task (entry.0, Some entry.1)) }
 {
     let (index, mask) = entry;
-    if is_quiet(looks, masks, descriptor, index, mask) {
+    if is_quiet(survey, masks, descriptor, index, mask) {
         return Ok(());
     }
-    append_place(program, masks, descriptor, task, (index, Some(mask)), list)
+    append_place(survey, masks, descriptor, task, (index, Some(mask)), list)
 }
 
 /// Appends the findings of one place.
 fn append_place(
-    program: &Program,
+    survey: &Survey<'_>,
     masks: &Masks<'_>,
     descriptor: &Descriptor,
     task: u32,
     place: (u32, Option<RegSet>),
     list: &mut Vec<Finding>,
 ) -> Result<(), AllocError>
-    ensures { OnOk result (list.new.items ≡ list.old.items ++ rules_at program.now descriptor.now masks.now task place) }
+    ensures { OnOk result (list.new.items ≡ list.old.items ++ rules_at survey.now descriptor.now masks.now task place) }
 {
     let (index, mask) = place;
-    match program.code().get(index as usize) {
+    match survey.program().code().get(index as usize) {
         Some(marked) => {
-            let faults = faults_at(program, masks, descriptor, marked, index, mask);
+            let faults = faults_at(survey, masks, descriptor, marked, index, mask);
             if is_clean(&faults) {
                 return Ok(());
             }

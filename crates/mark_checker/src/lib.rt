@@ -13,3 +13,5 @@ pub mod finding;
 pub mod laws;
 mod look;
 mod place;
+mod quiet;
+mod survey;

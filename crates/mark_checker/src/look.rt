@@ -1,10 +1,9 @@
 //! What the rules look at in an instruction. It is the same for every task, so it is found out once for
 //! a program; what is left for each entry of a list is to compare a few sets.
 
-use crate::place::{ahead_at, common, forwarded_by, goes_on_indirectly, is_nobody, released_by};
-use mask_certificate::masks::Masks;
+use crate::place::{forwarded_by, goes_on_indirectly, released_by};
 use mips_plain::number::RegSet;
-use task_descriptor::descriptor::{Descriptor, Marked};
+use task_descriptor::descriptor::Marked;
 use task_descriptor::program::Program;
 use task_graph::edges::{Next, exits_of, next_inside};
 
@@ -12,21 +11,17 @@ use task_graph::edges::{Next, exits_of, next_inside};
 #[derive(Clone, Copy)]
 pub(crate) struct Look {
     /// The inner successors.
-    next: Next,
+    pub(crate) next: Next,
     /// The registers that it writes.
-    written: RegSet,
+    pub(crate) written: RegSet,
     /// The registers that it sends: forwards or releases.
-    sent: RegSet,
+    pub(crate) sent: RegSet,
     /// It has no exit with an index, it doesn't fall off the code, and it doesn't go on indirectly.
-    stays: bool,
+    pub(crate) stays: bool,
 }
 
-ghost use Rattle.std.specs.Prelude.{◌≡◌, ℕ, ◌<◌, true, Some, slice_get};
-ghost use Rattle.mark_checker.specs.Rules.{conditions};
-ghost use Rattle.mark_checker.specs.Places.{IsClean};
-ghost use Rattle.task_descriptor.specs.Listing.{Listing};
-ghost use Rattle.task_descriptor.specs.declared.descriptor.Marked.{Marked};
-ghost use Rattle.mark_checker.specs.Looks.{Tells, AreLooks, IsQuiet};
+ghost use Rattle.std.specs.Prelude.{◌≡◌, Some, slice_get};
+ghost use Rattle.mark_checker.specs.Looks.{Tells, AreLooks};
 
 /// What is looked at in each instruction of a program, at its index. Takes no memory.
 pub(crate) fn looks_of(program: &Program) -> [Look; 4096]
@@ -83,42 +78,4 @@ fn has_index(next: Next) -> bool
     ensures { result ≡ (is_some next.first || is_some next.second) }
 {
     next.first.is_some() || next.second.is_some()
-}
-
-/// Whether it is plain from these looks that no rule finds anything at an entry of a task's list. `false`
-/// says nothing.
-#[inline]
-pub(crate) fn is_quiet(
-    looks: &[Look],
-    masks: &Masks<'_>,
-    descriptor: &Descriptor,
-    index: u32,
-    mask: RegSet,
-) -> bool
-    ensures { result ≡ true → (p : Listing) → AreLooks p looks.now → (m : Marked) → slice_get p.code index ≡ Some m
-        → IsClean (conditions p descriptor.now masks.now index m (Some mask)) }
-{
-    match looks.get(index as usize) {
-        Some(look) => {
-            index != descriptor.entry.get() && is_quiet_inside(look, masks, descriptor.create, mask)
-        }
-        None => false,
-    }
-}
-
-/// Whether no rule beside those of the entry finds anything at an instruction that is looked at.
-#[inline]
-fn is_quiet_inside(look: &Look, masks: &Masks<'_>, create: RegSet, mask: RegSet) -> bool
-    ensures { result ≡ true → IsQuiet look.now masks.now create mask }
-{
-    let first = ahead_at(masks, look.next.first);
-    let second = ahead_at(masks, look.next.second);
-    if !look.stays || first.without_mask || second.without_mask {
-        return false;
-    }
-    let next = first.masks.union(second.masks);
-    let lost = look.written.union(next).minus(mask);
-    let again = common(look.sent, next);
-    let beside = look.sent.minus(create);
-    is_nobody(lost.union(again.union(beside)))
 }

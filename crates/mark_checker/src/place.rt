@@ -1,5 +1,6 @@
 //! What the rules say of one place: an instruction of a task with its mask.
 
+use crate::survey::Survey;
 use mask_certificate::masks::Masks;
 use mips_plain::instruction::Op;
 use mips_plain::number::RegSet;
@@ -59,35 +60,35 @@ ghost use Rattle.mark_checker.specs.CheckerSteps.{holds_at, told, Same};
 /// What the rules say of an instruction at its index, with its mask or none.
 #[inline]
 pub(crate) fn faults_at(
-    program: &Program,
+    survey: &Survey<'_>,
     masks: &Masks<'_>,
     descriptor: &Descriptor,
     marked: &Marked,
     index: u32,
     mask: Option<RegSet>,
 ) -> Faults
-    requires { slice_get program.now.code index ≡ Some marked.now }
-    ensures { Same (told result) (conditions program.now descriptor.now masks.now index marked.now mask) }
+    requires { slice_get survey.now.code index ≡ Some marked.now }
+    ensures { Same (told result) (conditions survey.now descriptor.now masks.now index marked.now mask) }
 {
     let inside = match &mask {
-        Some(mask) => masked_faults(program, masks, descriptor, marked, index, *mask),
+        Some(mask) => masked_faults(survey.program(), masks, descriptor, marked, index, *mask),
         None => maskless_faults(),
     };
-    let entry = entry_faults(program, descriptor, index, mask);
+    let entry = entry_faults(survey, descriptor, index, mask);
     Faults { entry, inside }
 }
 
 /// What the rules of the entry say of a place.
 #[inline]
 fn entry_faults(
-    program: &Program,
+    survey: &Survey<'_>,
     descriptor: &Descriptor,
     index: u32,
     mask: Option<RegSet>,
 ) -> EntryFaults
     ensures without_mask { result.without_mask ≡ (nat_eq index descriptor.now.entry && is_none mask) }
     ensures exceeds_create { (r : ℕ) → has result.exceeds_create r ≡ (nat_eq index descriptor.now.entry && (in_mask mask r && not (has descriptor.now.create r))) }
-    ensures target_not_entry { result.target_not_entry ≡ (nat_eq index descriptor.now.entry && list_any (λ j. not (is_entry program.now j)) descriptor.now.targets) }
+    ensures target_not_entry { result.target_not_entry ≡ (nat_eq index descriptor.now.entry && list_any (λ j. not (is_entry survey.now j)) descriptor.now.targets) }
 {
     if index != descriptor.entry.get() {
         return EntryFaults {
@@ -99,7 +100,7 @@ fn entry_faults(
     EntryFaults {
         without_mask: mask.is_none(),
         exceeds_create: registers_of(mask).minus(descriptor.create),
-        target_not_entry: has_bad_target(program, descriptor),
+        target_not_entry: has_bad_target(survey, descriptor),
     }
 }
 
@@ -244,20 +245,14 @@ fn is_listed(descriptor: &Descriptor, index: u32) -> bool
 }
 
 /// Whether a listed target is no task's entry.
-fn has_bad_target(program: &Program, descriptor: &Descriptor) -> bool
-    ensures { result ≡ list_any (λ j. not (is_entry program.now j)) descriptor.now.targets }
+fn has_bad_target(survey: &Survey<'_>, descriptor: &Descriptor) -> bool
+    ensures { result ≡ list_any (λ j. not (is_entry survey.now j)) descriptor.now.targets }
 {
     descriptor
         .targets
         .as_slice()
         .iter()
-        .any(|target| !begins_task(program, target.get()))
-}
-
-fn begins_task(program: &Program, index: u32) -> bool
-    ensures { result ≡ is_entry program.now index }
-{
-    program.task_at(index).is_some()
+        .any(|target| !survey.begins_task(*target))
 }
 
 /// The registers of a mask; none of none.

@@ -1,6 +1,7 @@
-use Rattle.std.proofs.Common.{◌≡◌, ◌<◌, ℕ, Some, true, List, refl, sym, ap, subst, arith, length, slice_get, inl, inr, rules as all}
+use Rattle.std.proofs.Common.{◌≡◌, ◌<◌, ℕ, Some, true, List, refl, sym, ◌∙◌, ap, subst, arith, length, slice_get, inl, inr, rules as all}
 use Rattle.std.proofs.lemmas.Bool.{not-false, cases_lt}
 use Rattle.std.proofs.lemmas.Option.{slice_get_read}
+use Rattle.task_descriptor.specs.Listing.{Listing}
 use Rattle.task_descriptor.specs.declared.descriptor.Descriptor.{Descriptor}
 use Rattle.mask_certificate.specs.Lists.{list_of}
 use Rattle.mark_checker.specs.Rules.{rules, places}
@@ -15,7 +16,9 @@ returns-then-not-is_task_right-clause-exact c = (
       let p = c.args.program.now in
       let less : c.loop-task.task < length p.tasks = subst (λ (xs : List Descriptor). c.loop-task.task < length xs) c.tasks-descriptor-items.ensures.value c.loop-task-test.true in
       let right : c.is_task_right.result ≡ true =
-      c.is_task_right.ensures.nothing (nothing_in_range (rules p c.args.cert.now) 0 (length p.tasks) nothing c.loop-task.task (omega arith) (omega arith)) in
+      c.is_task_right.ensures.nothing
+      (ap (λ (q : Listing). rules q c.args.cert.now c.loop-task.task) c.new-survey.ensures
+      ∙ nothing_in_range (rules p c.args.cert.now) 0 (length p.tasks) nothing c.loop-task.task (omega arith) (omega arith)) in
       let wrong = c.if-not-is_task_right.true in
       first_of (cc (right, wrong), grind arith),
 )
@@ -37,7 +40,8 @@ loop-task-preserved c t d less is =
           let d_same : item ≡ d = cc (here, is_item) in
           subst (λ (n : ℕ). AllRight p d (list_of c.args.cert.now n) (places d.entry (list_of c.args.cert.now n))) (sym same)
           (subst (λ (e : Descriptor). AllRight p e (list_of c.args.cert.now c.loop-task.task) (places e.entry (list_of c.args.cert.now c.loop-task.task))) d_same
-          (c.is_task_right.ensures.right right))
+          (subst (λ (q : Listing). AllRight q item (list_of c.args.cert.now c.loop-task.task) (places item.entry (list_of c.args.cert.now c.loop-task.task))) c.new-survey.ensures
+          (c.is_task_right.ensures.right right)))
     ]
 
 pub returns-clause-exact : goal.returns-clause-exact

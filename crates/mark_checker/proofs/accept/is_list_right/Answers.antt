@@ -6,7 +6,7 @@ use Rattle.mark_checker.proofs.accept.is_list_right.Goals as goal
 
 pub returns-in_default-clause-nothing : goal.returns-in_default-clause-nothing
 returns-in_default-clause-nothing c task nothing =
-    let p = c.args.program.now in
+    let p = c.args.survey.now in
     let d = c.args.descriptor.now in
     let x = c.loop-index-item.result in
     let step : begun_after c.loop-index.begun x.0 d.entry ≡ None =
@@ -17,7 +17,7 @@ returns-in_default-clause-nothing c task nothing =
 
 pub returns-then-not-is_right-clause-nothing : goal.returns-then-not-is_right-clause-nothing
 returns-then-not-is_right-clause-nothing c task nothing =
-    let p = c.args.program.now in
+    let p = c.args.survey.now in
     let d = c.args.descriptor.now in
     let x = c.loop-index-item.result in
     let step : begun_after c.loop-index.begun x.0 d.entry ≡ Some c.in-Some.now =
@@ -31,7 +31,7 @@ returns-then-not-is_right-clause-nothing c task nothing =
 
 pub loop-index-preserved : goal.loop-index-preserved
 loop-index-preserved c =
-    let p = c.args.program.now in
+    let p = c.args.survey.now in
     let d = c.args.descriptor.now in
     let es = c.args.masks.now in
     let entries = c.entries-entries.result.now in
@@ -49,7 +49,7 @@ loop-index-preserved c =
 
 pub returns-clause-nothing : goal.returns-clause-nothing
 returns-clause-nothing c task nothing =
-    let p = c.args.program.now in
+    let p = c.args.survey.now in
     let d = c.args.descriptor.now in
     ends_begun p d c.args.masks.now c.entries-entries.result.now task c.loop-index.begun c.loop-index.index-index
     (omega arith) c.requires.inside

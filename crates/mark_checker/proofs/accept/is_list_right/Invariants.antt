@@ -7,8 +7,8 @@ use Rattle.mark_checker.proofs.accept.is_list_right.Given as goal
 
 abbrev pub invariant-loop-index : goal.invariant-loop-index
 invariant-loop-index l = record {
-  right : AllRight l.program l.descriptor l.masks (left_places l.begun l.descriptor.entry (drop l.index-index l.entries))
-      → AllRight l.program l.descriptor l.masks (places l.descriptor.entry l.masks);
-  nothing : (task : ℕ) → flat_map (rules_at l.program l.descriptor l.masks task) (places l.descriptor.entry l.masks) ≡ []
-      → flat_map (rules_at l.program l.descriptor l.masks task) (left_places l.begun l.descriptor.entry (drop l.index-index l.entries)) ≡ [];
+  right : AllRight l.survey l.descriptor l.masks (left_places l.begun l.descriptor.entry (drop l.index-index l.entries))
+      → AllRight l.survey l.descriptor l.masks (places l.descriptor.entry l.masks);
+  nothing : (task : ℕ) → flat_map (rules_at l.survey l.descriptor l.masks task) (places l.descriptor.entry l.masks) ≡ []
+      → flat_map (rules_at l.survey l.descriptor l.masks task) (left_places l.begun l.descriptor.entry (drop l.index-index l.entries)) ≡ [];
 }

@@ -6,5 +6,5 @@ use Rattle.mark_checker.proofs.check.append_places.Given as goal
 
 abbrev pub invariant-loop-index : goal.invariant-loop-index
 invariant-loop-index l =
-    l.list.items ++ flat_map (rules_at l.program l.descriptor l.masks l.task) (left_places l.begun l.descriptor.entry (drop l.index-index l.entries))
-    ≡ l.initial.list.items ++ flat_map (rules_at l.program l.descriptor l.masks l.task) (places l.descriptor.entry l.masks)
+    l.list.items ++ flat_map (rules_at l.survey l.descriptor l.masks l.task) (left_places l.begun l.descriptor.entry (drop l.index-index l.entries))
+    ≡ l.initial.list.items ++ flat_map (rules_at l.survey l.descriptor l.masks l.task) (places l.descriptor.entry l.masks)

@@ -6,4 +6,5 @@ loop-task-preserved c =
     let appended = c.in_ok-append_task.ensures in
     let before = c.loop-task.invariant in
     let more = one_task_more c.args.program.now c.args.cert.now c.loop-task.task in
-    cc (appended, before, more)
+    let same = c.new-survey.ensures in
+    cc (appended, before, more, same)

@@ -1,7 +1,7 @@
 -- The successors and exits that the code has are those of the instruction's edges.
-use Rattle.std.proofs.Common.{◌≡◌, ℕ, Bool, true, ◌||◌, not, sym, ◌∙◌}
+use Rattle.std.proofs.Common.{◌||◌, sym, ◌∙◌}
 use Rattle.mark_checker.proofs.Ahead.{any_inside, any_exit, any_beyond}
-use Rattle.mark_checker.proofs.Quiet.{none_of, no_holds}
+use Rattle.mark_checker.proofs.QuietEntries.{none_of, no_holds}
 use Rattle.mark_checker.proofs.look.look_at.Goals as goal
 
 pub returns : goal.returns

@@ -4,7 +4,7 @@ use Rattle.std.proofs.Math.ListN.{length-set}
 use Rattle.std.proofs.lemmas.Option.{slice_get_read, slice_get_within}
 use Rattle.task_descriptor.specs.WellFormed.{limits}
 use Rattle.task_descriptor.specs.declared.descriptor.Marked.{Marked}
-use Rattle.mark_checker.proofs.Quiet.{looks_more}
+use Rattle.mark_checker.proofs.QuietEntries.{looks_more}
 use Rattle.mark_checker.proofs.look.looks_of.Goals as goal
 
 pub loop-index-preserved : goal.loop-index-preserved

@@ -1,6 +1,6 @@
 -- What is looked at in the instructions so far.
 use Rattle.std.proofs.Common.{◌≡◌, length}
-use Rattle.mark_checker.proofs.Quiet.{LooksBelow}
+use Rattle.mark_checker.proofs.QuietEntries.{LooksBelow}
 use Rattle.mark_checker.proofs.look.looks_of.Given as goal
 
 abbrev pub invariant-loop-index : goal.invariant-loop-index

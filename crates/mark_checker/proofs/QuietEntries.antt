@@ -1,6 +1,6 @@
 -- Where the sets that are compared say nothing, no condition holds: each condition is one of them, or a
 -- part of one.
-use Rattle.std.proofs.Common.{◌≡◌, ℕ, ◌+◌, ◌<◌, ◌≤◌, Bool, true, false, not, ◌&&◌, ◌||◌, nat_eq, nat_lt, Option, Some, None, List, length, slice_get, refl, sym, ◌∙◌, ap, subst, arith, inl, inr, get_or}
+use Rattle.std.proofs.Common.{◌≡◌, ℕ, ◌+◌, ◌<◌, Bool, true, false, not, ◌&&◌, ◌||◌, nat_eq, Option, Some, None, List, length, slice_get, refl, sym, ◌∙◌, ap, subst, arith, inl, inr, get_or}
 use Rattle.std.specs.Prelude.{is_none, is_some, slice_set}
 use Rattle.std.specs.List.{list_any}
 use Rattle.std.proofs.Math.ListN.{length-set}

@@ -1,0 +1,11 @@
+-- At first nothing is marked and all tasks are left; one task more marks its entry; at the end none is left.
+use Rattle.std.proofs.Common.{◌||◌, Bool, false, refl, ap, arith}
+use Rattle.std.proofs.lemmas.List.{get_or-replicate}
+use Rattle.mark_checker.proofs.Entries.{begins_from}
+use Rattle.mark_checker.proofs.survey.entries_of.Goals as goal
+
+pub loop-descriptor-init : goal.loop-descriptor-init
+loop-descriptor-init c = record {
+  sized = refl;
+  so_far = λ j inside. ap (λ (b : Bool). b || begins_from c.args.program.now.tasks 0 j) (get_or-replicate 4097 j false false (omega arith));
+}
