@@ -1,3 +1,1 @@
-pub mod Files
 pub mod Words
-pub mod Served

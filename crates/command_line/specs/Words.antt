@@ -1,13 +1,13 @@
 -- What the values of `--predict` and `--emit` stand for (own choice).
-use Rattle.std.specs.Prelude.{ℕ, ◌+◌, ◌-◌, ◌*◌, ◌==◌, ◌&&◌, nat_le, if◌then◌else◌, Bool, true, false, List, [], ◌∷◌, length, map, Option, Some, None, codes}
+use Rattle.std.specs.Prelude.{ℕ, ◌+◌, ◌-◌, ◌*◌, ◌==◌, ◌&&◌, nat_le, if◌then◌else◌, List, [], ◌∷◌, length, map, Option, Some, None, codes}
 use Rattle.std.specs.Char.{is_ascii_digit}
 use Rattle.std.specs.Option.{option_map}
 use Rattle.std.specs.List.{slice_split}
 use Rattle.std.specs.Str.{bytes_eq}
-use Rattle.command_line.specs.declared.jobs.Emit.{Emit}
-use Rattle.command_line.specs.declared.jobs.Emit.TheVariants.{Text, Cert, Keep}
-use Rattle.command_line.specs.declared.jobs.Prediction.{Prediction}
-use Rattle.command_line.specs.declared.jobs.Prediction.TheVariants.{First, Last, List as Answers}
+use Rattle.jobs.specs.declared.job.Emit.{Emit}
+use Rattle.jobs.specs.declared.job.Emit.TheVariants.{Text, Cert, Keep}
+use Rattle.jobs.specs.declared.job.Prediction.{Prediction}
+use Rattle.jobs.specs.declared.job.Prediction.TheVariants.{First, Last, List as Answers}
 
 -- a number 0..=15, written with one or two decimal digits
 abbrev pub answer_of : List ℕ → Option ℕ

@@ -2,6 +2,4 @@
 #![tactic(auto)]
 
 pub mod help;
-pub mod jobs;
-pub mod ranges;
 pub mod words;

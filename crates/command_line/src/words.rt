@@ -3,17 +3,17 @@ ghost use Rattle.std.specs.Prelude.{◌≡◌, ◌≤◌, ◌==◌, IfOk, IfSome
 ghost use Rattle.std.specs.String.{string_bytes};
 ghost use Rattle.std.specs.List.{slice_split};
 ghost use Rattle.command_line.specs.Words.{answer_of, answers_of, all_there, prediction_of, emit_of};
-ghost use Rattle.command_line.specs.Files.{HasFilesOf};
+ghost use Rattle.jobs.specs.Files.{HasFilesOf};
 ghost use Rattle.command_line.specs.declared.words.UsageFault.TheVariants.{OutOfMemory};
-ghost use Rattle.command_line.specs.Served.{is_served};
+ghost use Rattle.jobs.specs.Served.{is_served};
 
 use crate::help;
-use crate::jobs::{Emit, Job, Paths, Prediction};
-use crate::ranges::{
-    Answers, Budget, MOST_ANSWER, MOST_ANSWERS, MOST_BUDGET, MOST_UNITS, Units, Workers,
-};
 use clap::error::ErrorKind;
 use clap::{Arg, ArgAction, ArgMatches, Command, value_parser};
+use jobs::job::{Emit, Job, Paths, Prediction};
+use jobs::ranges::{
+    Answers, Budget, MOST_ANSWER, MOST_ANSWERS, MOST_BUDGET, MOST_UNITS, Units, Workers,
+};
 use std::alloc::{AllocError, Global};
 use thiserror::Error;
 

@@ -4,7 +4,7 @@
 
 ghost use Rattle.std.specs.Prelude.{◌≤◌};
 
-use command_line::jobs::{Paths, Texts};
+use jobs::job::{Paths, Texts};
 use command_line::words::{UsageFault, job_of};
 use std::process::ExitCode;
 use std::{env, fs, io};

@@ -9,8 +9,8 @@ use Rattle.mask_certificate.specs.CertificateText.{cert_text}
 use Rattle.mask_certificate.specs.CertificateReading.{names_of}
 use Rattle.annotator.specs.Least.{IsLeast}
 use Rattle.annotator.specs.Proposed.{IsProposed}
-use Rattle.command_line.specs.declared.jobs.Emit.{Emit}
-use Rattle.command_line.specs.declared.jobs.Emit.TheVariants.{Text, Cert, Keep}
+use Rattle.jobs.specs.declared.job.Emit.{Emit}
+use Rattle.jobs.specs.declared.job.Emit.TheVariants.{Text, Cert, Keep}
 use Rattle.verdict_report.specs.OutputTexts.{Report, program_refused}
 
 -- the bytes are the canonical text of the program that is proposed for p

@@ -10,9 +10,9 @@ use Rattle.verdict_report.specs.SeqText.{seq_text}
 use Rattle.verdict_report.specs.CheckText.{check_text}
 use Rattle.verdict_report.specs.ReplayText.{replay_text}
 use Rattle.verdict_report.specs.AnnotateText.{IsAnnotateReport}
-use Rattle.command_line.specs.declared.jobs.Job.{Job}
-use Rattle.command_line.specs.declared.jobs.Job.TheVariants.{Seq, Print, Annotate, Check, Replay}
-use Rattle.command_line.specs.declared.jobs.Texts.{Texts}
+use Rattle.jobs.specs.declared.job.Job.{Job}
+use Rattle.jobs.specs.declared.job.Job.TheVariants.{Seq, Print, Annotate, Check, Replay}
+use Rattle.jobs.specs.declared.job.Texts.{Texts}
 
 abbrev pub print_read : Result Listing AsmFault → Report
 print_read (Ok p) = record { bytes = canonical_text p; status = 0 }

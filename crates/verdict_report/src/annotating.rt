@@ -8,7 +8,7 @@ use annotated_asm::fault::AsmFault;
 use annotator::certify::certify;
 use annotator::propose::propose;
 use canonical_text::print::print;
-use command_line::jobs::Emit;
+use jobs::job::Emit;
 use mask_certificate::writing::write;
 use std::alloc::{AllocError, Global};
 use task_descriptor::program::Program;

@@ -11,7 +11,7 @@ use crate::event_text::{refused_script, write_answer};
 use crate::judging::{Judged, judge};
 use crate::machine_text::{standing_status_of, write_machine};
 use crate::report::Report;
-use command_line::ranges::Units;
+use jobs::ranges::Units;
 use event_script::fault::ScriptFault;
 use event_script::reading::read;
 use machine_events::event::{Event, Refused};

@@ -1,7 +1,7 @@
 //! Doing a job: its text is built whole, and then written.
 ghost use Rattle.std.specs.Prelude.{◌≡◌, ◌≢◌, true, Err, IfOk, OnOk, OnErr};
 ghost use Rattle.std.specs.Io.KnownBytes.{Appends, Keeps};
-ghost use Rattle.command_line.specs.Served.{is_served};
+ghost use Rattle.jobs.specs.Served.{is_served};
 ghost use Rattle.verdict_report.specs.JobTexts.{IsDone, IsReportOf, print_text};
 
 use crate::annotating::annotate;
@@ -11,7 +11,7 @@ use crate::report::{Report, refused_program};
 use crate::sequential::seq;
 use annotated_asm::assembler::assemble;
 use annotated_asm::fault::AsmFault;
-use command_line::jobs::{Job, Texts};
+use jobs::job::{Job, Texts};
 use std::alloc::{AllocError, Global};
 use std::io::Write;
 use thiserror::Error;

@@ -1,6 +1,6 @@
 //! One run of a job, as the program does it, but for its files.
 
-use command_line::jobs::Texts;
+use jobs::job::Texts;
 use command_line::words::job_of;
 use std::alloc::{AllocError, Global};
 use std::process::Abort;

@@ -1,6 +1,6 @@
 //! Readers and writers that fail.
 
-use command_line::jobs::{Job, Texts};
+use jobs::job::{Job, Texts};
 use std::alloc::Global;
 use std::io;
 use std::io::{ErrorKind, Read, Write};

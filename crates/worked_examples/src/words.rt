@@ -1,7 +1,7 @@
 //! Which words give which job, and which are refused.
 
 use crate::answers::words_of;
-use command_line::jobs::{Emit, Job, Paths};
+use jobs::job::{Emit, Job, Paths};
 use command_line::words::{UsageFault, job_of};
 use std::alloc::Global;
 use std::test::Fail;

@@ -1,5 +1,5 @@
 -- The pieces are those of the text, and an answer's range is what `Answers::new` asks for.
-use Rattle.std.proofs.Common.{◌≡◌, ◌∙◌, ◌≤◌, sym, ap, subst, map, Some, None, MatchOption, rules, arith, length, All}
+use Rattle.std.proofs.Common.{◌≡◌, ◌∙◌, ◌≤◌, sym, map, Some, None, rules, arith, length, All}
 use Rattle.command_line.specs.Words.{answer_of, all_there}
 use Rattle.command_line.proofs.Predictions.{answers_of-pieces, answers_of-many, some_is, pieces-some}
 use Rattle.command_line.proofs.words.read_answers.Goals as goal

@@ -60,7 +60,7 @@ impl Budget {
 /// is this project's own choice).
 #[derive(Clone, Copy, Debug, PartialEq, Eq)]
 pub struct Units {
-    number: u32,
+    size: u32,
 }
 
 impl Model for Units {
@@ -68,21 +68,21 @@ impl Model for Units {
 
     ghost Value = { ℕ };
 
-    ghost view = { λ u. u.number };
+    ghost view = { λ u. u.size };
 
-    ghost invariant = { λ u. (1 ≤ u.number) × (u.number ≤ 16) };
+    ghost invariant = { λ u. (1 ≤ u.size) × (u.size ≤ 16) };
 
-    ghost inverse = { λ n. record { number = n } };
+    ghost inverse = { λ n. record { size = n } };
 }
 
 impl Units {
     /// This many units; `None` outside 1..=16.
-    pub fn new(number: u32) -> Option<Units>
-        ensures some { IsSome result ↔ ((1 ≤ number) × (number ≤ 16)) }
-        ensures value { IfSome result (λ units. units ≡ number) }
+    pub fn new(size: u32) -> Option<Units>
+        ensures some { IsSome result ↔ ((1 ≤ size) × (size ≤ 16)) }
+        ensures value { IfSome result (λ units. units ≡ size) }
     {
-        if (1..=MOST_UNITS).contains(&number) {
-            Some(Units { number })
+        if (1..=MOST_UNITS).contains(&size) {
+            Some(Units { size })
         } else {
             None
         }
@@ -94,7 +94,7 @@ impl Units {
         ensures least { 1 ≤ result }
         ensures most { result ≤ 16 }
     {
-        self.number
+        self.size
     }
 }
 

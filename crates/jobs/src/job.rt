@@ -55,7 +55,7 @@ pub enum Job {
 
 impl Job {
     ghost use Rattle.std.specs.Prelude.{◌≡◌};
-    ghost use Rattle.command_line.specs.Files.{has_certificate, has_script};
+    ghost use Rattle.jobs.specs.Files.{has_certificate, has_script};
 
     /// Whether the job has a certificate beside its program.
     pub fn has_certificate(&self) -> bool

@@ -1,9 +1,9 @@
 -- Which files a job has (own choice).
 use Rattle.std.specs.Prelude.{◌≡◌, Bool, true, false, []}
 use Rattle.std.specs.String.{string_bytes}
-use Rattle.command_line.specs.declared.jobs.Job.{Job}
-use Rattle.command_line.specs.declared.jobs.Job.TheVariants.{Seq, Print, Annotate, Check, Replay, Run}
-use Rattle.command_line.specs.declared.jobs.Paths.{Paths}
+use Rattle.jobs.specs.declared.job.Job.{Job}
+use Rattle.jobs.specs.declared.job.Job.TheVariants.{Check, Replay, Run}
+use Rattle.jobs.specs.declared.job.Paths.{Paths}
 
 -- the job has a certificate beside its program
 abbrev pub has_certificate : Job → Bool

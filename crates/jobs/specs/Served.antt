@@ -1,7 +1,7 @@
 -- Which jobs the program does so far.
 use Rattle.std.specs.Prelude.{Bool, true, false}
-use Rattle.command_line.specs.declared.jobs.Job.{Job}
-use Rattle.command_line.specs.declared.jobs.Job.TheVariants.{Seq, Print, Annotate, Check, Replay, Run}
+use Rattle.jobs.specs.declared.job.Job.{Job}
+use Rattle.jobs.specs.declared.job.Job.TheVariants.{Seq, Print, Annotate, Check, Replay}
 
 -- `job_of` answers no other job, and what each of these writes is in the crate `verdict_report`
 abbrev pub is_served : Job → Bool
