@@ -2,11 +2,12 @@
 use Rattle.std.proofs.Common.{◌≡◌, ℕ, ◌+◌, List, ◌∷◌, ◌++◌, Result, Ok, Err, ap, sym, ◌∙◌, subst}
 use Rattle.annotated_asm.specs.declared.fault.AsmFault.{AsmFault}
 use Rattle.annotated_asm.specs.declared.fault.AsmFault.TheVariants as text
-use Rattle.annotated_asm.specs.declared.statement.Item.{Item}
-use Rattle.annotated_asm.specs.declared.statement.Section.{Section}
-use Rattle.annotated_asm.specs.Steps.{◌>>=◌, FailsText}
+use Rattle.annotated_asm.specs.declared.item.Item.{Item}
+use Rattle.program_statements.specs.declared.statement.Section.{Section}
+use Rattle.program_statements.specs.Steps.{◌>>=◌}
+use Rattle.annotated_asm.specs.Steps.{FailsText}
 use Rattle.annotated_asm.specs.Items.{with_items, line_items, items_from}
-use Rattle.annotated_asm.proofs.Fronts.{with_front, regroup_many}
+use Rattle.program_statements.proofs.Fronts.{with_front, regroup_many}
 
 abbrev done : List Item × Section → Result (List Item × Section) AsmFault
 done x = Ok x

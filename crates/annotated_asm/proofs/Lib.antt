@@ -1,4 +1,2 @@
-pub mod Fronts
-pub mod SetBits
 pub mod ItemSteps
 pub mod TableRows

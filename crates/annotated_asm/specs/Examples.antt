@@ -11,9 +11,9 @@ use Rattle.task_descriptor.specs.declared.program.BuildFault.TheVariants.{NoTask
 use Rattle.program_tokens.specs.Numbers.{number_of, magnitude_of, number_in}
 use Rattle.program_tokens.specs.Registers.{register_of, register_named}
 use Rattle.program_tokens.specs.Grammar.{line_tokens, tokens_after, token_of, kind_of}
-use Rattle.annotated_asm.specs.Operands.{base_at, operand_at, after_one, after_two, operands_of}
-use Rattle.annotated_asm.specs.Rows.{three, imm, branch_two, jump, out, halt}
-use Rattle.annotated_asm.specs.Statements.{registers_of, registers_at, places_of, targets_of, task_of}
+use Rattle.program_statements.specs.Operands.{base_at, operand_at, after_one, after_two, operands_of}
+use Rattle.program_statements.specs.Rows.{three, imm, branch_two, jump, out, halt}
+use Rattle.program_statements.specs.Statements.{registers_of, registers_at, places_of, targets_of, task_of}
 use Rattle.annotated_asm.specs.Items.{line_items, items_from}
 use Rattle.annotated_asm.specs.ProgramText.{program_of, parse}
 use Rattle.annotated_asm.specs.declared.fault.AsmFault.TheVariants as fault

@@ -3,23 +3,31 @@
 use Rattle.std.specs.Prelude.{ℕ, ◌+◌, List, [], ◌∷◌, ◌++◌, map, Result, Ok, Err}
 use Rattle.program_tokens.specs.Grammar.{line_tokens}
 use Rattle.program_tokens.specs.declared.token.Token.{Token}
+use Rattle.program_tokens.specs.declared.token.Token.TheVariants as token
 use Rattle.program_tokens.specs.declared.token.LineFault.{LineFault as TokenFault}
 use Rattle.program_tokens.specs.declared.token.LineFault.TheVariants as token_fault
-use Rattle.annotated_asm.specs.Steps.{◌>>=◌}
-use Rattle.annotated_asm.specs.Statements.{labels_of, after_labels, statement_of}
-use Rattle.annotated_asm.specs.declared.fault.LineFault.{LineFault}
-use Rattle.annotated_asm.specs.declared.fault.LineFault.TheVariants as line_fault
+use Rattle.program_statements.specs.Steps.{◌>>=◌}
+use Rattle.program_statements.specs.Statements.{statement_of}
+use Rattle.program_statements.specs.declared.fault.LineFault.{LineFault}
+use Rattle.program_statements.specs.declared.fault.LineFault.TheVariants as line_fault
 use Rattle.annotated_asm.specs.declared.fault.AsmFault.{AsmFault}
 use Rattle.annotated_asm.specs.declared.fault.AsmFault.TheVariants as fault
-use Rattle.annotated_asm.specs.declared.statement.Section.{Section}
-use Rattle.annotated_asm.specs.declared.statement.Statement.{Statement}
-use Rattle.annotated_asm.specs.declared.statement.Statement.TheVariants as statement
-use Rattle.annotated_asm.specs.declared.statement.Item.{Item}
+use Rattle.program_statements.specs.declared.statement.Section.{Section}
+use Rattle.program_statements.specs.declared.statement.Statement.{Statement}
+use Rattle.program_statements.specs.declared.statement.Statement.TheVariants as statement
+use Rattle.annotated_asm.specs.declared.item.Item.{Item}
 
--- a fault of a line as one of the text
+-- the names before the statement, each with a colon, and the tokens behind them
+abbrev pub labels_of : List Token → List (List ℕ)
+labels_of (token.Name name ∷ token.Colon ∷ rest) = name ∷ labels_of rest
+labels_of _ = []
+
+abbrev pub after_labels : List Token → List Token
+after_labels (token.Name name ∷ token.Colon ∷ rest) = after_labels rest
+after_labels tokens = tokens
+
+-- a fault of a statement as one of the text
 abbrev pub at_line : ℕ → LineFault → AsmFault
-at_line n line_fault.NotAscii = fault.NotAscii n
-at_line n line_fault.Token = fault.Token n
 at_line n line_fault.Mnemonic = fault.Mnemonic n
 at_line n line_fault.Operand = fault.Operand n
 at_line n line_fault.Number = fault.Number n

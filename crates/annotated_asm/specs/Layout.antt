@@ -1,15 +1,15 @@
 -- Where labels stand, and what is defined twice.
 use Rattle.std.specs.Prelude.{ℕ, ◌+◌, ◌-◌, ◌^◌, min, Bool, true, false, List, [], ◌∷◌, ◌++◌, length, is_some, Result, Ok, Err, nat_lt, ◌||◌}
-use Rattle.annotated_asm.specs.Steps.{◌>>=◌}
+use Rattle.program_statements.specs.Steps.{◌>>=◌}
 use Rattle.annotated_asm.specs.declared.fault.AsmFault.{AsmFault}
 use Rattle.annotated_asm.specs.declared.fault.AsmFault.TheVariants as fault
 use Rattle.annotated_asm.specs.declared.table.Symbol.{Symbol}
-use Rattle.annotated_asm.specs.declared.statement.Section.{Section}
-use Rattle.annotated_asm.specs.declared.statement.Section.TheVariants as section
-use Rattle.annotated_asm.specs.declared.statement.Instruction.{Instruction}
-use Rattle.annotated_asm.specs.declared.statement.Instruction.TheVariants as instruction
-use Rattle.annotated_asm.specs.declared.statement.Statement.TheVariants as statement
-use Rattle.annotated_asm.specs.declared.statement.Item.{Item}
+use Rattle.program_statements.specs.declared.statement.Section.{Section}
+use Rattle.program_statements.specs.declared.statement.Section.TheVariants as section
+use Rattle.program_statements.specs.declared.statement.Instruction.{Instruction}
+use Rattle.program_statements.specs.declared.statement.Instruction.TheVariants as instruction
+use Rattle.program_statements.specs.declared.statement.Statement.TheVariants as statement
+use Rattle.annotated_asm.specs.declared.item.Item.{Item}
 use Rattle.annotated_asm.specs.declared.layout.Sizes.{Sizes}
 use Rattle.annotated_asm.specs.declared.layout.Layout.{Layout}
 use Rattle.annotated_asm.specs.Tables.{lookup}

@@ -1,9 +1,4 @@
 pub mod Steps
-pub mod Ranges
-pub mod Operands
-pub mod Mnemonics
-pub mod Rows
-pub mod Statements
 pub mod Items
 pub mod Tables
 pub mod Layout

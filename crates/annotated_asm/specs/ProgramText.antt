@@ -4,14 +4,14 @@ use Rattle.program_tokens.specs.Lines.{lines}
 use Rattle.task_descriptor.specs.Listing.{Listing, build_fault}
 use Rattle.task_descriptor.specs.declared.program.BuildFault.{BuildFault}
 use Rattle.task_descriptor.specs.declared.program.BuildFault.TheVariants.{TooMany}
-use Rattle.annotated_asm.specs.Steps.{◌>>=◌}
+use Rattle.program_statements.specs.Steps.{◌>>=◌}
 use Rattle.annotated_asm.specs.Items.{items_from}
 use Rattle.annotated_asm.specs.Layout.{laid, no_layout, is_beyond}
 use Rattle.annotated_asm.specs.Resolve.{known, parts, no_parts}
 use Rattle.annotated_asm.specs.declared.fault.AsmFault.{AsmFault}
 use Rattle.annotated_asm.specs.declared.fault.AsmFault.TheVariants as fault
-use Rattle.annotated_asm.specs.declared.statement.Section.TheVariants.{Text}
-use Rattle.annotated_asm.specs.declared.statement.Item.{Item}
+use Rattle.program_statements.specs.declared.statement.Section.TheVariants.{Text}
+use Rattle.annotated_asm.specs.declared.item.Item.{Item}
 use Rattle.annotated_asm.specs.declared.layout.Layout.{Layout}
 
 -- a well-formed program

@@ -8,23 +8,23 @@ use Rattle.task_descriptor.specs.Listing.{Listing}
 use Rattle.task_descriptor.specs.declared.descriptor.Marked.{Marked}
 use Rattle.task_descriptor.specs.declared.descriptor.Descriptor.{Descriptor}
 use Rattle.task_descriptor.specs.declared.program.BuildFault.TheVariants.{TooMany}
-use Rattle.annotated_asm.specs.Steps.{◌>>=◌}
+use Rattle.program_statements.specs.Steps.{◌>>=◌}
 use Rattle.annotated_asm.specs.Tables.{Names, lookup}
-use Rattle.annotated_asm.specs.Statements.{no_marks}
+use Rattle.program_statements.specs.Statements.{no_marks}
 use Rattle.annotated_asm.specs.declared.fault.AsmFault.{AsmFault}
 use Rattle.annotated_asm.specs.declared.fault.AsmFault.TheVariants as fault
 use Rattle.annotated_asm.specs.declared.table.Symbol.{Symbol}
-use Rattle.annotated_asm.specs.declared.statement.Section.{Section}
-use Rattle.annotated_asm.specs.declared.statement.Section.TheVariants as section
-use Rattle.annotated_asm.specs.declared.statement.Target.{Target}
-use Rattle.annotated_asm.specs.declared.statement.Target.TheVariants as target
-use Rattle.annotated_asm.specs.declared.statement.Marks.{Marks}
-use Rattle.annotated_asm.specs.declared.statement.Instruction.{Instruction}
-use Rattle.annotated_asm.specs.declared.statement.Instruction.TheVariants as instruction
-use Rattle.annotated_asm.specs.declared.statement.Statement.{Statement}
-use Rattle.annotated_asm.specs.declared.statement.Statement.TheVariants as statement
-use Rattle.annotated_asm.specs.declared.statement.Task.{Task}
-use Rattle.annotated_asm.specs.declared.statement.Item.{Item}
+use Rattle.program_statements.specs.declared.statement.Section.{Section}
+use Rattle.program_statements.specs.declared.statement.Section.TheVariants as section
+use Rattle.program_statements.specs.declared.statement.Target.{Target}
+use Rattle.program_statements.specs.declared.statement.Target.TheVariants as target
+use Rattle.program_statements.specs.declared.statement.Marks.{Marks}
+use Rattle.program_statements.specs.declared.statement.Instruction.{Instruction}
+use Rattle.program_statements.specs.declared.statement.Instruction.TheVariants as instruction
+use Rattle.program_statements.specs.declared.statement.Statement.{Statement}
+use Rattle.program_statements.specs.declared.statement.Statement.TheVariants as statement
+use Rattle.program_statements.specs.declared.statement.Task.{Task}
+use Rattle.annotated_asm.specs.declared.item.Item.{Item}
 
 -- What names stand for.
 

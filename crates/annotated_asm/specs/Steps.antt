@@ -1,32 +1,9 @@
--- Stages of reading: each gives a value, or the first fault.
+-- Stages of reading a text: each answers a value, or the first fault.
 use Rattle.std.specs.Prelude.{◌≡◌, Result, Ok, Err}
-use Rattle.annotated_asm.specs.declared.fault.LineFault.{LineFault}
-use Rattle.annotated_asm.specs.declared.fault.LineError.{LineError}
-use Rattle.annotated_asm.specs.declared.fault.LineError.TheVariants as errors
 use Rattle.annotated_asm.specs.declared.fault.AsmFault.{AsmFault}
 use Rattle.annotated_asm.specs.declared.fault.AsmFault.TheVariants as text
 
--- the next stage, where there was no fault
-infixl 10 ◌>>=◌
-abbrev pub ◌>>=◌ : {A B F : Type 0} → Result A F → (A → Result B F) → Result B F
-(Ok x) >>= f = f x
-(Err e) >>= f = Err e
-
--- what a function returned, seen by view, is what a stage gives
-abbrev pub Shows : {X Y F : Type 0} → (X → Y) → Result X F → Result Y F → Type 0
-Shows view (Ok x) stage = stage ≡ Ok (view x)
-Shows view (Err f) stage = stage ≡ Err f
-
--- the same, or memory ran out
-abbrev pub Fails : {Y : Type 0} → LineError → Result Y LineFault → Type 0
-Fails errors.OutOfMemory stage = Unit {0}
-Fails (errors.Fault f) stage = stage ≡ Err f
-
-abbrev pub Gives : {X Y : Type 0} → (X → Y) → Result X LineError → Result Y LineFault → Type 0
-Gives view (Ok x) stage = stage ≡ Ok (view x)
-Gives view (Err e) stage = Fails e stage
-
--- the same for a whole text
+-- what a function returned, seen by view, is what a stage answers, or memory ran out
 abbrev pub FailsText : {Y : Type 0} → AsmFault → Result Y AsmFault → Type 0
 FailsText text.OutOfMemory stage = Unit {0}
 FailsText fault stage = stage ≡ Err fault

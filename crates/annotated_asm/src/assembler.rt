@@ -6,10 +6,9 @@ ghost use Rattle.annotated_asm.specs.Steps.{Answers};
 ghost use Rattle.annotated_asm.specs.ProgramText.{program_of, parse, Spells};
 
 use crate::fault::AsmFault;
-use crate::item::{MOST_TEXT, items_of};
+use crate::item::{Item, MOST_TEXT, items_of};
 use crate::layout::{Layout, is_beyond, laid_out};
 use crate::resolve::{check_names, parts_of};
-use crate::statement::Item;
 use std::alloc::Global;
 use task_descriptor::program::{BuildFault, Program};
 

@@ -1,53 +1,10 @@
 //! What is wrong with a program text.
 
 ghost use Rattle.std.specs.Prelude.{◌≡◌};
-ghost use Rattle.annotated_asm.specs.declared.fault.LineError.TheVariants.{OutOfMemory};
-ghost use Rattle.annotated_asm.specs.declared.fault.AsmFault.TheVariants.{OutOfMemory as NoMemory};
+ghost use Rattle.annotated_asm.specs.declared.fault.AsmFault.TheVariants.{OutOfMemory};
 
 use std::alloc::{AllocError, AllocFailed};
 use task_descriptor::program::BuildFault;
-
-/// What is wrong with one line, judged by itself and its section.
-#[derive(Clone, Copy, Debug, PartialEq, Eq)]
-pub enum LineFault {
-    /// 2: a byte that no text has.
-    NotAscii,
-    /// 3: bytes that are no token.
-    Token,
-    /// 4: the statement is none that the section has.
-    Mnemonic,
-    /// 5: the operands are not of the statement's number and kinds.
-    Operand,
-    /// 6: a number is out of its range.
-    Number,
-    /// 7: a mark is unknown, repeated, or on a directive.
-    Mark,
-}
-
-/// Why a line was not read.
-#[derive(Debug, Drop)]
-pub enum LineError {
-    /// It is wrong.
-    Fault(LineFault),
-    /// There was no memory for it.
-    OutOfMemory,
-}
-
-impl From<AllocError> for LineError {
-    ghost from_gives = { λ _ e. e ≡ OutOfMemory };
-
-    fn from(_e: AllocError) -> LineError {
-        LineError::OutOfMemory
-    }
-}
-
-impl<T: Drop> From<AllocFailed<T>> for LineError {
-    ghost from_gives = { λ _ e. e ≡ OutOfMemory };
-
-    fn from(_e: AllocFailed<T>) -> LineError {
-        LineError::OutOfMemory
-    }
-}
 
 /// What is wrong with a program text; lines are counted from 1. After 1 the first line with a fault of 2
 /// to 7 is told, by its lowest number; then the first line of 8, then of 9, then 10. Want of memory may
@@ -79,7 +36,7 @@ pub enum AsmFault {
 }
 
 impl From<AllocError> for AsmFault {
-    ghost from_gives = { λ _ e. e ≡ NoMemory };
+    ghost from_gives = { λ _ e. e ≡ OutOfMemory };
 
     fn from(_e: AllocError) -> AsmFault {
         AsmFault::OutOfMemory
@@ -87,7 +44,7 @@ impl From<AllocError> for AsmFault {
 }
 
 impl<T: Drop> From<AllocFailed<T>> for AsmFault {
-    ghost from_gives = { λ _ e. e ≡ NoMemory };
+    ghost from_gives = { λ _ e. e ≡ OutOfMemory };
 
     fn from(_e: AllocFailed<T>) -> AsmFault {
         AsmFault::OutOfMemory

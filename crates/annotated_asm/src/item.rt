@@ -4,12 +4,12 @@ ghost use Rattle.std.specs.Prelude.{◌≡◌, ◌≤◌, ◌++◌, List, map, l
 ghost use Rattle.program_tokens.specs.Grammar.{line_tokens};
 ghost use Rattle.program_tokens.specs.Lines.{lines};
 ghost use Rattle.annotated_asm.specs.Steps.{Answers};
-ghost use Rattle.annotated_asm.specs.Statements.{labels_of, after_labels};
-ghost use Rattle.annotated_asm.specs.Items.{at_line, label_item, statement_items, section_after, tokens_on_line, line_items, items_from, with_items};
+ghost use Rattle.annotated_asm.specs.Items.{labels_of, after_labels, at_line, label_item, statement_items, section_after, tokens_on_line, line_items, items_from, with_items};
 
-use crate::fault::{AsmFault, LineError, LineFault};
-use crate::line::statement_of;
-use crate::statement::{Item, Section, Statement};
+use crate::fault::AsmFault;
+use program_statements::fault::{LineError, LineFault};
+use program_statements::line::statement_of;
+use program_statements::statement::{Section, Statement};
 use program_tokens::line::{first_line, read_tokens};
 use program_tokens::token::{Token, TokenFault};
 use std::alloc::{AllocError, Global};
@@ -17,13 +17,22 @@ use std::alloc::{AllocError, Global};
 /// The longest text, in bytes.
 pub const MOST_TEXT: usize = 4_194_304;
 
-/// A fault of a line as one of the text.
+/// A label or a statement, with its place in the text.
+#[derive(Debug, Drop)]
+pub struct Item {
+    /// The line, from 1 on.
+    pub line: u32,
+    /// The section of the line.
+    pub section: Section,
+    /// What stands there.
+    pub statement: Statement,
+}
+
+/// A fault of a statement as one of the text.
 fn at_line(line: u32, fault: LineFault) -> AsmFault
     ensures { result ≡ at_line line fault }
 {
     match fault {
-        LineFault::NotAscii => AsmFault::NotAscii(line),
-        LineFault::Token => AsmFault::Token(line),
         LineFault::Mnemonic => AsmFault::Mnemonic(line),
         LineFault::Operand => AsmFault::Operand(line),
         LineFault::Number => AsmFault::Number(line),
@@ -122,7 +131,7 @@ fn add_line(
 }
 
 /// The items of a text.
-#[tactic(auto, using(crate::proofs::Fronts::no_front, crate::proofs::ItemSteps::goes_on, crate::proofs::ItemSteps::ends), unfolding(crate::specs::Items::items_from))]
+#[tactic(auto, using(program_statements::proofs::Fronts::no_front, crate::proofs::ItemSteps::goes_on, crate::proofs::ItemSteps::ends), unfolding(crate::specs::Items::items_from))]
 pub fn items_of(alloc: Global, text: &[u8]) -> Result<Vec<Item>, AsmFault>
     requires { length text.now ≤ 4194304 }
     ensures { Answers (λ items. items.items) result (items_from 1 Section.Text (lines text.now)) }

@@ -5,8 +5,9 @@ ghost use Rattle.annotated_asm.specs.Steps.{Answers};
 ghost use Rattle.annotated_asm.specs.Layout.{instruction_count, grown, symbol_at, with_item, no_layout, laid, is_beyond};
 
 use crate::fault::AsmFault;
-use crate::statement::{Instruction, Item, Section, Statement};
+use crate::item::Item;
 use crate::table::{Symbol, Table};
+use program_statements::statement::{Instruction, Section, Statement};
 use std::alloc::Global;
 
 /// How many instructions there are, and how many bytes of data and of read-only data.

@@ -3,17 +3,8 @@
 #![tactic(auto)]
 
 pub mod assembler;
-mod directive;
 pub mod fault;
 mod item;
 mod layout;
-mod line;
-mod list;
-mod marks;
-mod mnemonic;
-mod operand;
-mod range;
 mod resolve;
-mod row;
-mod statement;
 mod table;

@@ -10,11 +10,13 @@ ghost use Rattle.annotated_asm.specs.Resolve.{index_of_symbol, code_label, addre
 ghost use Rattle.annotated_asm.specs.Expansions.{ops_of};
 
 use crate::fault::AsmFault;
-use crate::marks::no_marks;
-use crate::statement::{Instruction, Item, Marks, Section, Statement, Target, Targets, Task};
+use crate::item::Item;
 use crate::table::{Symbol, Table};
 use mips_plain::instruction::{LogicKind, Op};
 use mips_plain::number::{Gpr, Place};
+use program_statements::statement::{
+    Instruction, Marks, Section, Statement, Target, Targets, Task,
+};
 use std::alloc::Global;
 use task_descriptor::descriptor::{Descriptor, Marked};
 use task_descriptor::name::Name;
@@ -198,7 +200,7 @@ fn spelled(labels: &Table, line: u32, instruction: &Instruction) -> Result<Expan
 }
 
 /// The places of a task's targets.
-#[tactic(auto, using(crate::proofs::Fronts::regroup, crate::proofs::Fronts::no_front))]
+#[tactic(auto, using(program_statements::proofs::Fronts::regroup, program_statements::proofs::Fronts::no_front))]
 fn target_places(
     alloc: Global,
     labels: &Table,
@@ -282,7 +284,7 @@ fn add_code(parts: &mut Parts, marks: Marks, code: Expansion) -> Result<(), AsmF
     match code {
         Expansion::One(only) => push_marked(&mut parts.code, only, marks),
         Expansion::Two(first, last) => {
-            push_marked(&mut parts.code, first, no_marks())?;
+            push_marked(&mut parts.code, first, Marks::NONE)?;
             push_marked(&mut parts.code, last, marks)
         }
     }

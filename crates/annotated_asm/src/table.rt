@@ -1,7 +1,7 @@
 //! Names and where they stand.
 
-use crate::statement::Section;
 use indexmap::IndexMap;
+use program_statements::statement::Section;
 use std::alloc::{AllocError, Global};
 use std::marker::Model;
 use task_descriptor::name::Name;

@@ -8,14 +8,14 @@ use Rattle.program_tokens.specs.Grammar.{line_tokens, tokens_after}
 use Rattle.program_tokens.specs.declared.token.Token.{Token}
 use Rattle.program_tokens.specs.declared.token.LineFault.{LineFault as TokenFault}
 use Rattle.canonical_text.specs.CanonicalText.{line}
-use Rattle.annotated_asm.specs.Steps.{◌>>=◌}
-use Rattle.annotated_asm.specs.Statements.{labels_of, after_labels, statement_of}
-use Rattle.annotated_asm.specs.Items.{label_item, statement_items, section_after, tokens_on_line, on_line, line_items, items_from}
+use Rattle.program_statements.specs.Steps.{◌>>=◌}
+use Rattle.program_statements.specs.Statements.{statement_of}
+use Rattle.annotated_asm.specs.Items.{labels_of, after_labels, label_item, statement_items, section_after, tokens_on_line, on_line, line_items, items_from}
 use Rattle.annotated_asm.specs.declared.fault.AsmFault.{AsmFault}
-use Rattle.annotated_asm.specs.declared.fault.LineFault.{LineFault}
-use Rattle.annotated_asm.specs.declared.statement.Item.{Item}
-use Rattle.annotated_asm.specs.declared.statement.Section.{Section}
-use Rattle.annotated_asm.specs.declared.statement.Statement.{Statement}
+use Rattle.program_statements.specs.declared.fault.LineFault.{LineFault}
+use Rattle.annotated_asm.specs.declared.item.Item.{Item}
+use Rattle.program_statements.specs.declared.statement.Section.{Section}
+use Rattle.program_statements.specs.declared.statement.Statement.{Statement}
 use Rattle.canonical_round_trip.proofs.Spelling.{Reads, line_reads, no_newline}
 
 -- items in front of a reading

@@ -13,14 +13,15 @@ use Rattle.task_descriptor.specs.declared.descriptor.Stop.TheVariants as stop
 use Rattle.program_tokens.specs.declared.token.Token.{Token}
 use Rattle.program_tokens.specs.declared.token.Token.TheVariants as token
 use Rattle.canonical_text.specs.CanonicalText.{members}
-use Rattle.annotated_asm.specs.Steps.{◌>>=◌}
-use Rattle.annotated_asm.specs.Statements.{is_mark, labels_of, after_labels, no_marks, unmarked, with_marks, statement_of}
-use Rattle.annotated_asm.specs.declared.fault.LineFault.{LineFault}
-use Rattle.annotated_asm.specs.declared.statement.Section.TheVariants as section
-use Rattle.annotated_asm.specs.declared.statement.Marks.{Marks}
-use Rattle.annotated_asm.specs.declared.statement.Instruction.{Instruction}
-use Rattle.annotated_asm.specs.declared.statement.Statement.{Statement}
-use Rattle.annotated_asm.specs.declared.statement.Statement.TheVariants as statement
+use Rattle.program_statements.specs.Steps.{◌>>=◌}
+use Rattle.program_statements.specs.Statements.{is_mark, no_marks, unmarked, with_marks, statement_of}
+use Rattle.annotated_asm.specs.Items.{labels_of, after_labels}
+use Rattle.program_statements.specs.declared.fault.LineFault.{LineFault}
+use Rattle.program_statements.specs.declared.statement.Section.TheVariants as section
+use Rattle.program_statements.specs.declared.statement.Marks.{Marks}
+use Rattle.program_statements.specs.declared.statement.Instruction.{Instruction}
+use Rattle.program_statements.specs.declared.statement.Statement.{Statement}
+use Rattle.program_statements.specs.declared.statement.Statement.TheVariants as statement
 use Rattle.canonical_round_trip.proofs.Operations.{comma_tokens, register_tokens, place_token_named, op_tokens, mark_tokens}
 use Rattle.canonical_round_trip.specs.Ranges.{IsInRange}
 use Rattle.canonical_round_trip.proofs.Meanings.{written, op_means}

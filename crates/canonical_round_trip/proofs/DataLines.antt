@@ -12,13 +12,13 @@ use Rattle.program_tokens.specs.declared.token.Directive.{Directive}
 use Rattle.program_tokens.specs.declared.token.Directive.TheVariants as directive
 use Rattle.program_tokens.specs.declared.token.Number.TheVariants.{Small}
 use Rattle.canonical_text.specs.CanonicalText.{hexadecimal}
-use Rattle.annotated_asm.specs.Steps.{◌>>=◌}
-use Rattle.annotated_asm.specs.Statements.{numbers_of, words_of, bytes_of, word_statement, byte_statement, statement_of, in_data, with_marks}
-use Rattle.annotated_asm.specs.declared.fault.LineFault.{LineFault}
-use Rattle.annotated_asm.specs.declared.fault.LineFault.TheVariants as fault
-use Rattle.annotated_asm.specs.declared.statement.Section.{Section}
-use Rattle.annotated_asm.specs.declared.statement.Statement.{Statement}
-use Rattle.annotated_asm.specs.declared.statement.Statement.TheVariants as statement
+use Rattle.program_statements.specs.Steps.{◌>>=◌}
+use Rattle.program_statements.specs.Statements.{numbers_of, words_of, bytes_of, word_statement, byte_statement, statement_of, in_data, with_marks}
+use Rattle.program_statements.specs.declared.fault.LineFault.{LineFault}
+use Rattle.program_statements.specs.declared.fault.LineFault.TheVariants as fault
+use Rattle.program_statements.specs.declared.statement.Section.{Section}
+use Rattle.program_statements.specs.declared.statement.Statement.{Statement}
+use Rattle.program_statements.specs.declared.statement.Statement.TheVariants as statement
 use Rattle.canonical_round_trip.proofs.Spelling.{Reads, blank, joined, directive_stops, token as one_token}
 use Rattle.canonical_round_trip.proofs.Pieces.{hexadecimal_reads}
 

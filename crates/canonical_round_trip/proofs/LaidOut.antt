@@ -11,15 +11,15 @@ use Rattle.mips_plain.specs.declared.instruction.Op.TheVariants.{Three, ShiftBy,
 use Rattle.task_descriptor.specs.Listing.{Listing, collide, has_duplicate}
 use Rattle.task_descriptor.specs.declared.descriptor.Descriptor.{Descriptor}
 use Rattle.task_descriptor.specs.declared.descriptor.Marked.{Marked}
-use Rattle.annotated_asm.specs.Steps.{◌>>=◌}
+use Rattle.program_statements.specs.Steps.{◌>>=◌}
 use Rattle.annotated_asm.specs.Tables.{Names, lookup}
 use Rattle.annotated_asm.specs.Layout.{instruction_count, counted, grown, if_new, with_item, no_layout, laid, is_beyond}
 use Rattle.annotated_asm.specs.declared.fault.AsmFault.{AsmFault}
 use Rattle.annotated_asm.specs.declared.layout.Layout.{Layout}
 use Rattle.annotated_asm.specs.declared.layout.Sizes.{Sizes}
-use Rattle.annotated_asm.specs.declared.statement.Item.{Item}
-use Rattle.annotated_asm.specs.declared.statement.Section.{Section}
-use Rattle.annotated_asm.specs.declared.statement.Section.TheVariants as section
+use Rattle.annotated_asm.specs.declared.item.Item.{Item}
+use Rattle.program_statements.specs.declared.statement.Section.{Section}
+use Rattle.program_statements.specs.declared.statement.Section.TheVariants as section
 use Rattle.annotated_asm.specs.declared.table.Symbol.{Symbol}
 use Rattle.canonical_round_trip.proofs.Meanings.{written}
 use Rattle.canonical_round_trip.proofs.Layouts.{found, swap_bytes, code_symbol, label_rows, rows, lookup-append, other_label}

@@ -10,7 +10,7 @@ use Rattle.task_descriptor.specs.declared.descriptor.Descriptor.{Descriptor}
 use Rattle.task_descriptor.specs.declared.descriptor.Marked.{Marked}
 use Rattle.annotated_asm.specs.Tables.{Names, lookup}
 use Rattle.annotated_asm.specs.declared.table.Symbol.{Symbol}
-use Rattle.annotated_asm.specs.declared.statement.Section.TheVariants as section
+use Rattle.program_statements.specs.declared.statement.Section.TheVariants as section
 
 -- Tasks have entries and names of their own.
 

@@ -8,9 +8,9 @@ use Rattle.std.proofs.lemmas.List.{reverse-append, length-take-le}
 use Rattle.std.proofs.lemmas.List.Sums.{prefix_len-le-length}
 use Rattle.std.proofs.lemmas.List.Sorted.{IsPermutation-reverse, list_any-IsPermutation}
 use Rattle.program_tokens.specs.declared.token.Token.{Token}
-use Rattle.annotated_asm.specs.Steps.{◌>>=◌}
-use Rattle.annotated_asm.specs.Statements.{is_mark, mark_count, unmarked, with_marks, statement_of}
-use Rattle.annotated_asm.specs.declared.statement.Section.{Section}
+use Rattle.program_statements.specs.Steps.{◌>>=◌}
+use Rattle.program_statements.specs.Statements.{is_mark, mark_count, unmarked, with_marks, statement_of}
+use Rattle.program_statements.specs.declared.statement.Section.{Section}
 
 run_length : {X : Type 0} (p : X → Bool) (front rest : List X) → list_all p front ≡ true → prefix_len p rest ≡ 0
     → prefix_len p (front ++ rest) ≡ length front

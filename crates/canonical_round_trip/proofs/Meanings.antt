@@ -34,23 +34,23 @@ use Rattle.program_tokens.specs.declared.token.Token.{Token}
 use Rattle.program_tokens.specs.declared.token.Token.TheVariants as token
 use Rattle.program_tokens.specs.declared.token.Number.TheVariants.{Small}
 use Rattle.canonical_text.specs.CanonicalText.{members, three_name, shift_by_name, shift_var_name, imm_name, logic_name, mult_name, move_from_name, move_to_name, load_name, store_name, branch_two_name, branch_one_name}
-use Rattle.annotated_asm.specs.Steps.{◌>>=◌}
-use Rattle.annotated_asm.specs.Operands.{operands_of, operand_at, base_at, after_one, after_two}
-use Rattle.annotated_asm.specs.Mnemonics.{mnemonic_named, mnemonics}
-use Rattle.annotated_asm.specs.Rows.{three, shift_by, shift_var, imm, logic, lui, mult as mult_of, move_from, move_to, load, store, branch_two, branch_one, jump, jump_link, jump_reg, jump_link_reg, out, halt}
-use Rattle.annotated_asm.specs.Statements.{registers_at, release_of, unmarked, of_mnemonic, no_marks, instruction_of}
-use Rattle.annotated_asm.specs.declared.fault.LineFault.{LineFault}
-use Rattle.annotated_asm.specs.declared.mnemonic.Mnemonic.{Mnemonic}
-use Rattle.annotated_asm.specs.declared.mnemonic.Mnemonic.TheVariants as mnemonic
-use Rattle.annotated_asm.specs.declared.statement.Section.TheVariants as section
-use Rattle.annotated_asm.specs.declared.statement.Target.{Target}
-use Rattle.annotated_asm.specs.declared.statement.Target.TheVariants as target
-use Rattle.annotated_asm.specs.declared.statement.Instruction.{Instruction}
-use Rattle.annotated_asm.specs.declared.statement.Instruction.TheVariants as instruction
-use Rattle.annotated_asm.specs.declared.statement.Statement.TheVariants as statement
-use Rattle.annotated_asm.specs.Ranges.{signed_half}
-use Rattle.annotated_asm.specs.Statements.{with_registers, registers_of}
-use Rattle.annotated_asm.specs.declared.fault.LineFault.TheVariants as fault
+use Rattle.program_statements.specs.Steps.{◌>>=◌}
+use Rattle.program_statements.specs.Operands.{operands_of, operand_at, base_at, after_one, after_two}
+use Rattle.program_statements.specs.Mnemonics.{mnemonic_named, mnemonics}
+use Rattle.program_statements.specs.Rows.{three, shift_by, shift_var, imm, logic, lui, mult as mult_of, move_from, move_to, load, store, branch_two, branch_one, jump, jump_link, jump_reg, jump_link_reg, out, halt}
+use Rattle.program_statements.specs.Statements.{registers_at, release_of, unmarked, of_mnemonic, no_marks, instruction_of}
+use Rattle.program_statements.specs.declared.fault.LineFault.{LineFault}
+use Rattle.program_statements.specs.declared.mnemonic.Mnemonic.{Mnemonic}
+use Rattle.program_statements.specs.declared.mnemonic.Mnemonic.TheVariants as mnemonic
+use Rattle.program_statements.specs.declared.statement.Section.TheVariants as section
+use Rattle.program_statements.specs.declared.statement.Target.{Target}
+use Rattle.program_statements.specs.declared.statement.Target.TheVariants as target
+use Rattle.program_statements.specs.declared.statement.Instruction.{Instruction}
+use Rattle.program_statements.specs.declared.statement.Instruction.TheVariants as instruction
+use Rattle.program_statements.specs.declared.statement.Statement.TheVariants as statement
+use Rattle.program_statements.specs.Ranges.{signed_half}
+use Rattle.program_statements.specs.Statements.{with_registers, registers_of}
+use Rattle.program_statements.specs.declared.fault.LineFault.TheVariants as fault
 use Rattle.std.proofs.lemmas.List.{append-nil}
 use Rattle.mips_plain.specs.Words.{has}
 use Rattle.task_descriptor.specs.Listing.{release_fits, registers}

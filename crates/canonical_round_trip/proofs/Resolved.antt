@@ -9,15 +9,15 @@ use Rattle.mips_plain.specs.declared.instruction.Op.TheVariants.{Three, ShiftBy,
 use Rattle.task_descriptor.specs.Listing.{Listing}
 use Rattle.task_descriptor.specs.declared.descriptor.Descriptor.{Descriptor}
 use Rattle.task_descriptor.specs.declared.descriptor.Marked.{Marked}
-use Rattle.annotated_asm.specs.Steps.{◌>>=◌}
+use Rattle.program_statements.specs.Steps.{◌>>=◌}
 use Rattle.annotated_asm.specs.Tables.{Names}
 use Rattle.annotated_asm.specs.Resolve.{code_label, is_known_target, is_known_instruction, is_known, known, place_of, target_place, spelled, all_marked, target_places, descriptor, with_part, with_data, parts, no_parts}
 use Rattle.annotated_asm.specs.declared.fault.AsmFault.{AsmFault}
 use Rattle.annotated_asm.specs.declared.fault.AsmFault.TheVariants as fault
-use Rattle.annotated_asm.specs.declared.statement.Item.{Item}
-use Rattle.annotated_asm.specs.declared.statement.Section.{Section}
-use Rattle.annotated_asm.specs.declared.statement.Section.TheVariants as section
-use Rattle.annotated_asm.specs.declared.statement.Statement.TheVariants as statement
+use Rattle.annotated_asm.specs.declared.item.Item.{Item}
+use Rattle.program_statements.specs.declared.statement.Section.{Section}
+use Rattle.program_statements.specs.declared.statement.Section.TheVariants as section
+use Rattle.program_statements.specs.declared.statement.Statement.TheVariants as statement
 use Rattle.task_descriptor.specs.declared.program.BuildFault.TheVariants.{TooMany}
 use Rattle.canonical_round_trip.proofs.Operations.{found_passes}
 use Rattle.canonical_round_trip.proofs.Meanings.{target_named, target_of, written}

@@ -11,7 +11,7 @@ use Rattle.task_descriptor.specs.declared.descriptor.Descriptor.{Descriptor}
 use Rattle.task_descriptor.specs.declared.descriptor.Marked.{Marked}
 use Rattle.program_tokens.specs.Lines.{lines}
 use Rattle.canonical_text.specs.CanonicalText.{canonical_text}
-use Rattle.annotated_asm.specs.Steps.{◌>>=◌}
+use Rattle.program_statements.specs.Steps.{◌>>=◌}
 use Rattle.annotated_asm.specs.Items.{items_from}
 use Rattle.annotated_asm.specs.Layout.{laid, no_layout, is_beyond}
 use Rattle.annotated_asm.specs.Resolve.{index_of_symbol, code_label, parts, no_parts}
@@ -19,8 +19,8 @@ use Rattle.annotated_asm.specs.ProgramText.{built, program_of, parse}
 use Rattle.annotated_asm.specs.declared.fault.AsmFault.{AsmFault}
 use Rattle.annotated_asm.specs.declared.fault.AsmFault.TheVariants as fault
 use Rattle.annotated_asm.specs.declared.layout.Layout.{Layout}
-use Rattle.annotated_asm.specs.declared.statement.Item.{Item}
-use Rattle.annotated_asm.specs.declared.statement.Section.TheVariants as section
+use Rattle.annotated_asm.specs.declared.item.Item.{Item}
+use Rattle.program_statements.specs.declared.statement.Section.TheVariants as section
 use Rattle.task_descriptor.specs.declared.program.BuildFault.TheVariants.{TooMany}
 use Rattle.canonical_round_trip.specs.Ranges.{IsInRange, IsTaskInRange}
 use Rattle.canonical_round_trip.proofs.Layouts.{rows, lookup_rows}

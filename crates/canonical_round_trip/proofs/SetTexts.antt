@@ -9,8 +9,8 @@ use Rattle.mips_plain.specs.Words.{has}
 use Rattle.mips_plain.proofs.SetLemmas.{has-insert, has-empty, has-above, same_set}
 use Rattle.task_descriptor.specs.Listing.{registers}
 use Rattle.canonical_text.specs.CanonicalText.{members}
-use Rattle.annotated_asm.specs.Steps.{◌>>=◌}
-use Rattle.annotated_asm.specs.Statements.{registers_of, with_registers}
+use Rattle.program_statements.specs.Steps.{◌>>=◌}
+use Rattle.program_statements.specs.Statements.{registers_of, with_registers}
 use Rattle.program_tokens.specs.declared.token.Token.{Token}
 use Rattle.program_tokens.specs.declared.token.Token.TheVariants as token
 use Rattle.canonical_round_trip.proofs.Operations.{comma_tokens, register_tokens, members_below}

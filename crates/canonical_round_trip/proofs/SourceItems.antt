@@ -4,11 +4,11 @@ use Rattle.std.specs.Prelude.{◌==◌, find}
 use Rattle.task_descriptor.specs.Listing.{Listing}
 use Rattle.task_descriptor.specs.declared.descriptor.Marked.{Marked}
 use Rattle.task_descriptor.specs.declared.descriptor.Descriptor.{Descriptor}
-use Rattle.annotated_asm.specs.declared.statement.Item.{Item}
-use Rattle.annotated_asm.specs.declared.statement.Section.{Section}
-use Rattle.annotated_asm.specs.declared.statement.Section.TheVariants as section
-use Rattle.annotated_asm.specs.declared.statement.Statement.{Statement}
-use Rattle.annotated_asm.specs.declared.statement.Statement.TheVariants as statement
+use Rattle.annotated_asm.specs.declared.item.Item.{Item}
+use Rattle.program_statements.specs.declared.statement.Section.{Section}
+use Rattle.program_statements.specs.declared.statement.Section.TheVariants as section
+use Rattle.program_statements.specs.declared.statement.Statement.{Statement}
+use Rattle.program_statements.specs.declared.statement.Statement.TheVariants as statement
 use Rattle.canonical_round_trip.proofs.Meanings.{target_of, written}
 
 abbrev pub item : ℕ → Section → Statement → Item

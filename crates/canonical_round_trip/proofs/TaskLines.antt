@@ -13,15 +13,15 @@ use Rattle.program_tokens.specs.declared.token.Token.TheVariants as token
 use Rattle.program_tokens.specs.declared.token.Directive.TheVariants as directive
 use Rattle.program_tokens.specs.declared.token.Number.TheVariants.{Small}
 use Rattle.canonical_text.specs.CanonicalText.{line, listed, register_text, members, place_text, task_line}
-use Rattle.annotated_asm.specs.Steps.{◌>>=◌}
-use Rattle.annotated_asm.specs.Statements.{registers_at, with_registers, places_of, targets_of, create_at, targets_at, task_of, with_marks, statement_of}
-use Rattle.annotated_asm.specs.declared.fault.LineFault.{LineFault}
-use Rattle.annotated_asm.specs.declared.operand.Operand.{Operand}
-use Rattle.annotated_asm.specs.declared.operand.Operand.TheVariants as operand
-use Rattle.annotated_asm.specs.declared.statement.Section.TheVariants as section
-use Rattle.annotated_asm.specs.declared.statement.Target.{Target}
-use Rattle.annotated_asm.specs.declared.statement.Target.TheVariants as target
-use Rattle.annotated_asm.specs.declared.statement.Statement.{Statement}
+use Rattle.program_statements.specs.Steps.{◌>>=◌}
+use Rattle.program_statements.specs.Statements.{registers_at, with_registers, places_of, targets_of, create_at, targets_at, task_of, with_marks, statement_of}
+use Rattle.program_statements.specs.declared.fault.LineFault.{LineFault}
+use Rattle.program_statements.specs.declared.operand.Operand.{Operand}
+use Rattle.program_statements.specs.declared.operand.Operand.TheVariants as operand
+use Rattle.program_statements.specs.declared.statement.Section.TheVariants as section
+use Rattle.program_statements.specs.declared.statement.Target.{Target}
+use Rattle.program_statements.specs.declared.statement.Target.TheVariants as target
+use Rattle.program_statements.specs.declared.statement.Statement.{Statement}
 use Rattle.canonical_round_trip.proofs.Spelling.{Reads, blank, joined, directive_stops, token as one_token}
 use Rattle.canonical_round_trip.proofs.Pieces.{name_reads, equals, minus}
 use Rattle.canonical_round_trip.proofs.Operations.{ReadEach, done, more, comma_tokens, commas_read, register_tokens, registers_read, members_below, place_token_named, place_token, place_reads}

@@ -9,9 +9,9 @@ use Rattle.task_descriptor.specs.declared.descriptor.Descriptor.{Descriptor}
 use Rattle.program_tokens.specs.Lines.{lines}
 use Rattle.canonical_text.specs.CanonicalText.{line, start_line, task_line, label_line, marked_text, code_lines, word_line, byte_line, data_lines, section, canonical_text}
 use Rattle.annotated_asm.specs.Items.{label_item, items_from}
-use Rattle.annotated_asm.specs.declared.statement.Section.{Section}
-use Rattle.annotated_asm.specs.declared.statement.Section.TheVariants as section
-use Rattle.annotated_asm.specs.declared.statement.Statement.TheVariants as statement
+use Rattle.program_statements.specs.declared.statement.Section.{Section}
+use Rattle.program_statements.specs.declared.statement.Section.TheVariants as section
+use Rattle.program_statements.specs.declared.statement.Statement.TheVariants as statement
 use Rattle.canonical_round_trip.proofs.Spelling.{blank, nothing, joined as joined_texts}
 use Rattle.canonical_round_trip.proofs.Pieces.{name_reads, colon}
 use Rattle.canonical_round_trip.proofs.Operations.{found_passes, op_reads, marks_read}

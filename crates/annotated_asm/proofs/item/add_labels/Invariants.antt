@@ -1,7 +1,6 @@
 -- The labels added so far, with those in front of the rest, are all labels of the line.
 use Rattle.std.proofs.Common.{◌≡◌, ◌++◌, length, map}
-use Rattle.annotated_asm.specs.Statements.{labels_of, after_labels}
-use Rattle.annotated_asm.specs.Items.{label_item}
+use Rattle.annotated_asm.specs.Items.{labels_of, after_labels, label_item}
 use Rattle.annotated_asm.proofs.item.add_labels.Given as goal
 
 abbrev pub invariant-loop-rest : goal.invariant-loop-rest

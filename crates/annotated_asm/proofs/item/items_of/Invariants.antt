@@ -1,9 +1,9 @@
 -- The items so far, in front of those of the rest, are all items; each line before the rest took a byte.
 use Rattle.std.proofs.Common.{◌≡◌, ◌+◌, ◌≤◌, length}
 use Rattle.program_tokens.specs.Lines.{lines}
-use Rattle.annotated_asm.specs.declared.statement.Section.TheVariants.{Text}
+use Rattle.program_statements.specs.declared.statement.Section.TheVariants.{Text}
 use Rattle.annotated_asm.specs.Items.{items_from}
-use Rattle.annotated_asm.proofs.Fronts.{with_front}
+use Rattle.program_statements.proofs.Fronts.{with_front}
 use Rattle.annotated_asm.proofs.item.items_of.Given as goal
 
 abbrev pub invariant-lines : goal.invariant-lines

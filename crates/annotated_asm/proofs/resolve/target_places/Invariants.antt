@@ -1,7 +1,7 @@
 -- The places so far, in front of those that are left, are all places.
 use Rattle.std.proofs.Common.{◌≡◌, drop}
 use Rattle.annotated_asm.specs.Resolve.{target_places}
-use Rattle.annotated_asm.proofs.Fronts.{with_front}
+use Rattle.program_statements.proofs.Fronts.{with_front}
 use Rattle.annotated_asm.proofs.resolve.target_places.Given as goal
 
 abbrev pub invariant-loop-target : goal.invariant-loop-target

@@ -1,8 +1,0 @@
--- What was made, in front of what is left, is what the whole list gives.
-use Rattle.std.proofs.Common.{◌≡◌, drop}
-use Rattle.annotated_asm.specs.Statements.{targets_of}
-use Rattle.annotated_asm.proofs.Fronts.{with_front}
-use Rattle.annotated_asm.proofs.list.targets_of.Given as goal
-
-abbrev pub invariant-loop-place : goal.invariant-loop-place
-invariant-loop-place l = with_front l.targets.items (targets_of (drop l.place-index l.places)) ≡ targets_of l.places

@@ -1,0 +1,8 @@
+-- What was made, in front of what is left, is what the whole list gives.
+use Rattle.std.proofs.Common.{◌≡◌, drop}
+use Rattle.program_statements.specs.Statements.{words_of}
+use Rattle.program_statements.proofs.Fronts.{with_front}
+use Rattle.program_statements.proofs.list.words_of.Given as goal
+
+abbrev pub invariant-loop-number : goal.invariant-loop-number
+invariant-loop-number l = with_front l.bytes.items (words_of (drop l.number-index l.numbers)) ≡ words_of l.numbers

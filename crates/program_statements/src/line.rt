@@ -1,0 +1,106 @@
+//! The statement of a line.
+
+ghost use Rattle.std.specs.Prelude.{◌≡◌};
+ghost use Rattle.program_statements.specs.Steps.{Gives};
+ghost use Rattle.program_statements.specs.Mnemonics.{mnemonic_named, mnemonics};
+ghost use Rattle.program_statements.specs.Statements.{release_of, instruction_of, of_mnemonic, in_code, unmarked, with_marks, statement_of};
+
+use crate::directive::directive_of;
+use crate::fault::{LineError, LineFault};
+use crate::list::registers_at;
+use crate::marks::{mark_count, marks_after};
+use crate::mnemonic::{Mnemonic, mnemonic_of};
+use crate::row;
+use crate::statement::{Instruction, Marks, Section, Statement};
+use mips_plain::instruction::Op;
+use program_tokens::token::Token;
+use std::alloc::Global;
+use task_descriptor::name::Name;
+
+/// `release r,r,..`
+#[tactic(auto, unfolding(crate::specs::Statements::release_of))]
+fn release_of(tokens: &[Token]) -> Result<Instruction, LineFault>
+    ensures { result ≡ release_of tokens.now }
+{
+    match registers_at(tokens) {
+        Ok((set, [])) => Ok(Instruction::One(Op::Release(set))),
+        Ok((_, [_, ..])) => Err(LineFault::Operand),
+        Err(fault) => Err(fault),
+    }
+}
+
+/// The instruction of a mnemonic with the tokens behind it.
+fn instruction_of(mnemonic: Mnemonic, tokens: &[Token]) -> Result<Instruction, LineFault>
+    ensures { result ≡ instruction_of mnemonic tokens.now }
+{
+    if let Mnemonic::Release = mnemonic {
+        return release_of(tokens);
+    }
+    row::with_operands(mnemonic, tokens)
+}
+
+/// The instruction of a name with the tokens behind it, in a section.
+fn code_of(section: Section, name: &Name, tokens: &[Token]) -> Result<Statement, LineFault>
+    ensures { result ≡ in_code section (of_mnemonic (mnemonic_named name.now mnemonics) tokens.now) }
+{
+    if section != Section::Text {
+        return Err(LineFault::Mnemonic);
+    }
+    match mnemonic_of(name) {
+        None => Err(LineFault::Mnemonic),
+        Some(mnemonic) => Ok(Statement::Code(instruction_of(mnemonic, tokens)?, Marks::NONE)),
+    }
+}
+
+/// The statement of the tokens before the marks.
+fn unmarked(alloc: Global, section: Section, tokens: &[Token]) -> Result<Statement, LineError>
+    ensures { Gives (λ statement. statement) result (unmarked section tokens.now) }
+{
+    match tokens {
+        [Token::Name(name), rest @ ..] => match code_of(section, name, rest) {
+            Ok(statement) => Ok(statement),
+            Err(fault) => Err(LineError::Fault(fault)),
+        },
+        [Token::Directive(directive), rest @ ..] => directive_of(alloc, section, *directive, rest),
+        _ => Err(LineError::Fault(LineFault::Mnemonic)),
+    }
+}
+
+/// The statement with its marks, which an instruction alone may have.
+fn with_marks(marks: &[Token], statement: Statement) -> Result<Statement, LineFault>
+    ensures { result ≡ with_marks marks.now statement }
+{
+    match statement {
+        Statement::Code(instruction, none) => {
+            Ok(Statement::Code(instruction, marks_after(none, marks)?))
+        }
+        other => {
+            if marks.is_empty() {
+                Ok(other)
+            } else {
+                Err(LineFault::Mark)
+            }
+        }
+    }
+}
+
+/// The statement of a line in this section, which its tokens behind the labels spell, or its first fault:
+/// the number and kinds of the operands are judged first, then the ranges of the numbers, then the marks.
+/// Want of memory may be told in place of any of these.
+pub fn statement_of(
+    alloc: Global,
+    section: Section,
+    tokens: &[Token],
+) -> Result<Statement, LineError>
+    ensures { Gives (λ statement. statement) result (statement_of section tokens.now) }
+{
+    if tokens.is_empty() {
+        return Ok(Statement::Empty);
+    }
+    let (front, marks) = tokens.split_at(tokens.len() - mark_count(tokens));
+    let statement = unmarked(alloc, section, front)?;
+    match with_marks(marks, statement) {
+        Ok(statement) => Ok(statement),
+        Err(fault) => Err(LineError::Fault(fault)),
+    }
+}

@@ -1,0 +1,73 @@
+//! The marks at the end of a statement.
+
+ghost use Rattle.std.specs.Prelude.{◌≡◌, ◌≤◌, length};
+ghost use Rattle.program_statements.specs.Statements.{with_stop, with_mark, marks_after, is_mark, mark_count};
+
+use crate::fault::LineFault;
+use crate::statement::Marks;
+use program_tokens::token::{Mark, Token};
+use task_descriptor::descriptor::Stop;
+
+/// The marks with a stop, where there is none yet.
+fn with_stop(marks: Marks, stop: Stop) -> Result<Marks, LineFault>
+    ensures { result ≡ with_stop marks stop }
+{
+    match marks.stop {
+        Stop::None => Ok(Marks {
+            forward: marks.forward,
+            stop,
+        }),
+        Stop::Always | Stop::Taken | Stop::NotTaken => Err(LineFault::Mark),
+    }
+}
+
+/// The marks with one more.
+fn with_mark(marks: Marks, token: Token) -> Result<Marks, LineFault>
+    ensures { result ≡ with_mark marks token }
+{
+    match token {
+        Token::Mark(Mark::Forward) => {
+            if marks.forward {
+                Err(LineFault::Mark)
+            } else {
+                Ok(Marks {
+                    forward: true,
+                    stop: marks.stop,
+                })
+            }
+        }
+        Token::Mark(Mark::Always) => with_stop(marks, Stop::Always),
+        Token::Mark(Mark::Taken) => with_stop(marks, Stop::Taken),
+        Token::Mark(Mark::NotTaken) => with_stop(marks, Stop::NotTaken),
+        _ => Err(LineFault::Mark),
+    }
+}
+
+/// The marks with these.
+pub fn marks_after(none: Marks, tokens: &[Token]) -> Result<Marks, LineFault>
+    ensures { result ≡ marks_after none tokens.now }
+{
+    let mut marks = none;
+    for token in tokens {
+        marks = with_mark(marks, *token)?;
+    }
+    Ok(marks)
+}
+
+fn is_mark(token: &Token) -> bool
+    ensures { result ≡ is_mark token.now }
+{
+    matches!(token, Token::Mark(_))
+}
+
+/// How many marks stand at the end.
+pub fn mark_count(tokens: &[Token]) -> usize
+    ensures value { result ≡ mark_count tokens.now }
+    ensures within { result ≤ length tokens.now }
+{
+    tokens
+        .iter()
+        .rev()
+        .take_while(|token| is_mark(token))
+        .count()
+}

@@ -1,0 +1,124 @@
+//! The operands of an instruction: what stands between its commas.
+
+ghost use Rattle.std.specs.Prelude.{◌≡◌};
+ghost use Rattle.std.specs.Option.{option_map};
+ghost use Rattle.program_statements.specs.Steps.{Shows};
+ghost use Rattle.program_statements.specs.Operands.{general, base_at, operand_at, after_one, after_two, operands_of};
+
+use crate::fault::LineFault;
+use mips_plain::number::{Gpr, Reg};
+use program_tokens::token::{Number, Token};
+use task_descriptor::name::Name;
+
+/// An operand of an instruction.
+#[derive(Clone, Copy, Debug)]
+pub enum Operand {
+    /// A general register.
+    Register(Gpr),
+    /// A number.
+    Number(Number),
+    /// `n(base)`: a number and the general register that it is added to.
+    Offset(Number, Gpr),
+    /// A label.
+    Label(Name),
+    /// `@n`: the index of an instruction.
+    Index(Number),
+}
+
+/// The operands of an instruction, at most three.
+#[derive(Clone, Copy, Debug)]
+pub enum Operands {
+    /// No operand.
+    Zero,
+    /// One operand.
+    One(Operand),
+    /// Two operands.
+    Two(Operand, Operand),
+    /// Three operands.
+    Three(Operand, Operand, Operand),
+}
+
+/// The base of an offset, as `($8)`, and the tokens behind it.
+#[tactic(auto, unfolding(crate::specs::Operands::base_at))]
+fn base_at(tokens: &[Token]) -> Option<(Gpr, &[Token])>
+    ensures { option_map (λ x. (x.0, x.1.now)) result ≡ base_at tokens.now }
+{
+    match tokens {
+        [Token::Open, Token::Register(base), Token::Close, rest @ ..] => {
+            Some((Gpr::new(base.get())?, rest))
+        }
+        _ => None,
+    }
+}
+
+/// The general register of this number; HI and LO are no operands.
+fn general_of(register: Reg) -> Result<Gpr, LineFault>
+    ensures { result ≡ general register }
+{
+    Gpr::new(register.get()).ok_or(LineFault::Operand)
+}
+
+/// The first operand of these tokens, and the tokens behind it.
+#[tactic(auto, unfolding(crate::specs::Operands::operand_at))]
+fn operand_at(tokens: &[Token]) -> Result<(Operand, &[Token]), LineFault>
+    ensures { Shows (λ x. (x.0, x.1.now)) result (operand_at tokens.now) }
+{
+    match tokens {
+        [Token::Register(register), rest @ ..] => Ok((
+            Operand::Register(general_of(*register)?),
+            rest,
+        )),
+        [Token::Number(number), rest @ ..] => match base_at(rest) {
+            None => Ok((Operand::Number(*number), rest)),
+            Some((base, rest)) => Ok((Operand::Offset(*number, base), rest)),
+        },
+        [Token::Name(name), rest @ ..] => Ok((Operand::Label(*name), rest)),
+        [Token::Index(number), rest @ ..] => Ok((Operand::Index(*number), rest)),
+        _ => Err(LineFault::Operand),
+    }
+}
+
+/// The operands, the first two of which are known, and these tokens stand behind them.
+#[tactic(auto, unfolding(crate::specs::Operands::after_two))]
+fn after_two(first: Operand, second: Operand, tokens: &[Token]) -> Result<Operands, LineFault>
+    ensures { result ≡ after_two first second tokens.now }
+{
+    match tokens {
+        [] => Ok(Operands::Two(first, second)),
+        [Token::Comma, rest @ ..] => match operand_at(rest) {
+            Ok((third, [])) => Ok(Operands::Three(first, second, third)),
+            Ok((_, [_, ..])) => Err(LineFault::Operand),
+            Err(fault) => Err(fault),
+        },
+        _ => Err(LineFault::Operand),
+    }
+}
+
+/// The operands, the first of which is known, and these tokens stand behind it.
+#[tactic(auto, unfolding(crate::specs::Operands::after_one))]
+fn after_one(first: Operand, tokens: &[Token]) -> Result<Operands, LineFault>
+    ensures { result ≡ after_one first tokens.now }
+{
+    match tokens {
+        [] => Ok(Operands::One(first)),
+        [Token::Comma, rest @ ..] => match operand_at(rest) {
+            Ok((second, rest)) => after_two(first, second, rest),
+            Err(fault) => Err(fault),
+        },
+        _ => Err(LineFault::Operand),
+    }
+}
+
+/// The operands that these tokens spell.
+#[tactic(auto, unfolding(crate::specs::Operands::operands_of))]
+pub fn operands_of(tokens: &[Token]) -> Result<Operands, LineFault>
+    ensures { result ≡ operands_of tokens.now }
+{
+    if tokens.is_empty() {
+        return Ok(Operands::Zero);
+    }
+    match operand_at(tokens) {
+        Ok((first, rest)) => after_one(first, rest),
+        Err(fault) => Err(fault),
+    }
+}
