@@ -21,7 +21,8 @@ use Rattle.machine_events.specs.declared.event.Spot.{Spot}
 use Rattle.machine_events.specs.declared.event.Spot.TheVariants.{Inside, Stopped}
 use Rattle.machine_events.specs.declared.event.Standing.{Standing}
 use Rattle.machine_events.specs.declared.event.Standing.TheVariants.{Running}
-use Rattle.sequencer.specs.Choices.{targets_at, targets_behind, choices_of, task_at_spot, task_behind, choice_of, MayFollow}
+use Rattle.processor_steps.specs.Choices.{targets_at, targets_behind, task_at_spot, task_behind}
+use Rattle.sequencer.specs.Choices.{choices_of, choice_of, MayFollow}
 
 address_back : (i j : ℕ) → address i ≡ address j → i ≡ j
 unfolding address

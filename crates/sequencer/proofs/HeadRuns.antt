@@ -4,6 +4,7 @@ use Rattle.task_descriptor.specs.Listing.{Listing}
 use Rattle.mark_checker.specs.Places.{Checked}
 use Rattle.machine_model.specs.Machine.{State}
 use Rattle.machine_model.specs.Step.{Next}
+use Rattle.machine_model.specs.Answer.{most_events}
 use Rattle.machine_model.specs.Claims.{count_h}
 use Rattle.machine_model.specs.HeadEvent.{head_event, growth}
 use Rattle.machine_events.specs.declared.event.Event.{Event}
@@ -89,7 +90,7 @@ goes_on old mid new k h below same head =
 
 -- each event takes a place of the history's room
 
-pub takes_room : (mid new : MachineView) → HeadApplied mid new → length new.history ≤ 1000000 → 1000000 - length new.history < 1000000 - length mid.history
+pub takes_room : (mid new : MachineView) → HeadApplied mid new → length new.history ≤ most_events → most_events - length new.history < most_events - length mid.history
 takes_room mid new head room =
     let longer : length new.history ≡ length mid.history + 1 = ap length head.2.history ∙ length-append mid.history (head.0 ∷ []) in
     omega arith

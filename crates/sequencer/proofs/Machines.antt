@@ -1,6 +1,6 @@
 -- A machine stays the replay of its history: at its start, and after one more event.
-use Rattle.std.proofs.Common.{◌≡◌, ℕ, zero, suc, ◌+◌, ◌<◌, ◌≤◌, inl, inr, Bool, true, false, List, [], ◌∷◌, ◌++◌, length, Option, Some, None, Result, Ok, Err, refl, sym, ap, ◌∙◌, subst, arith, length-append, ltb-true}
-use Rattle.std.specs.Prelude.{nat_lt, slice_index, replicate}
+use Rattle.std.proofs.Common.{◌≡◌, ℕ, ◌+◌, ◌<◌, ◌≤◌, inl, inr, Bool, true, false, List, [], ◌∷◌, ◌++◌, length, Option, Some, None, Result, Ok, Err, refl, sym, ap, ◌∙◌, subst, arith, length-append, ltb-true}
+use Rattle.std.specs.Prelude.{nat_lt}
 use Rattle.std.specs.Option.{option_or}
 use Rattle.mips_plain.specs.Words.{byte_of}
 use Rattle.machine_model.specs.Machine.{State}
@@ -11,15 +11,9 @@ use Rattle.machine_events.specs.declared.event.Refused.{Refused}
 use Rattle.machine_events.specs.declared.event.Refused.TheVariants as refused
 use Rattle.machine_events.specs.declared.event.Standing.{Standing}
 use Rattle.machine_events.specs.declared.event.Standing.TheVariants.{Running, Halted, Trapped, Unlisted}
-use Rattle.sequencer.specs.Seen.{ProcessorView, MachineView, IsMachine, Keeps, Steps, state_of, state, units_of, IsAnswered}
+use Rattle.processor_steps.specs.Seen.{ProcessorView, Keeps, Steps, state_of}
+use Rattle.sequencer.specs.Seen.{MachineView, IsMachine, state, units_of, IsAnswered}
 use Rattle.sequencer.proofs.Verdicts.{refused_where_running}
-
--- an array of zeros
-
-pub zero_at : (n r : ℕ) → slice_index (replicate n 0) r ≡ 0
-zero_at zero r = refl
-zero_at (suc n) zero = refl
-zero_at (suc n) (suc r) = zero_at n r
 
 -- room that the test found
 
@@ -30,7 +24,7 @@ room_left (Some r) b e = absurd (cc)
 
 -- more events
 
-pub goes_on : (m : MachineView) (es : List Event) (p' : ProcessorView) → IsMachine m → ReplaysFrom m.accepted.program (units_of m) (state m) es (state_of p') → Keeps m.processor p' → length m.history + length es ≤ 1000000
+pub goes_on : (m : MachineView) (es : List Event) (p' : ProcessorView) → IsMachine m → ReplaysFrom m.accepted.program (units_of m) (state m) es (state_of p') → Keeps m.processor p' → length m.history + length es ≤ most_events
     → ((units : ℕ) (first second : List Event) (s s' : State) → Replays m.accepted.program units first s → ReplaysFrom m.accepted.program units s second s' → Replays m.accepted.program units (first ++ second) s')
     → IsMachine (record m { processor = p'; history = m.history ++ es })
 goes_on m es p' h events kept room more =
@@ -48,7 +42,7 @@ pub applied : (m : MachineView) (e : Event) (done : Unit {0}) (p' : ProcessorVie
     → ((units : ℕ) (first second : List Event) (s s' : State) → Replays m.accepted.program units first s → ReplaysFrom m.accepted.program units s second s' → Replays m.accepted.program units (first ++ second) s')
     → IsMachine (record m { processor = p'; history = m.history ++ e ∷ [] })
 applied m e done p' h steps more =
-    let room : length m.history < 1000000 = ltb-true (length m.history) 1000000 (room_left _ (nat_lt (length m.history) most_events) steps.allowed) in
+    let room : length m.history < most_events = ltb-true (length m.history) most_events (room_left _ (nat_lt (length m.history) most_events) steps.allowed) in
     goes_on m (e ∷ []) p' h (state_of p', steps.next, refl) steps.kept (omega arith) more
 
 -- the answers

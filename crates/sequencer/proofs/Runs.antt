@@ -8,7 +8,7 @@ use Rattle.task_descriptor.specs.Listing.{Listing}
 use Rattle.machine_model.specs.Machine.{Active, State, opening}
 use Rattle.machine_model.specs.Step.{Next, after_exec, put, started, filled, handed_over, retire_leaves}
 use Rattle.machine_model.specs.Replay.{ReplaysFrom, Replays}
-use Rattle.sequencer.specs.Seen.{by_units, executed_by}
+use Rattle.processor_steps.specs.Seen.{by_units, executed_by}
 use Rattle.machine_model.specs.Laws.{ReplayCut, EventsCount}
 use Rattle.machine_model.specs.HeadEvent.{active_after}
 use Rattle.machine_events.specs.declared.event.Commit.{Commit}

@@ -8,12 +8,6 @@ use Rattle.machine_events.specs.declared.event.Refused.TheVariants as refused
 use Rattle.machine_events.specs.declared.event.Standing.{Standing}
 use Rattle.machine_events.specs.declared.event.Standing.TheVariants.{Running}
 
--- where the run goes on, nothing refuses the event and there is room, the answer is Ok
-pub ok_where_running : (o : Standing) (r : Option Refused) → o ≡ Running → r ≡ None → ok_unless (unless (is_running o) refused.Ended (option_or r (unless (nat_lt 0 most_events) refused.Full None))) ≡ Ok tt
-ok_where_running o r runs none =
-    ap (λ (x : Standing). ok_unless (unless (is_running x) refused.Ended (option_or r (unless (nat_lt 0 most_events) refused.Full None)))) runs
-    ∙ ap (λ (x : Option Refused). ok_unless (option_or x (unless (nat_lt 0 most_events) refused.Full None))) none
-
 pub refused_where_running : (o : Standing) (later : Option Refused) → o ≡ Running → unless (is_running o) refused.Ended later ≡ later
 refused_where_running o later runs = ap (λ (x : Standing). unless (is_running x) refused.Ended later) runs
 

@@ -1,6 +1,7 @@
 -- Units that are lent, and bursts that are handed in (own).
 use Rattle.std.specs.Prelude.{◌≡◌, ℕ, ◌+◌, ◌%◌, ◌<◌, ◌≤◌, ◌⊎◌, ◌++◌, length, replicate, slice_get, Some}
 use Rattle.machine_model.specs.Machine.{Active}
+use Rattle.machine_model.specs.Answer.{most_events}
 use Rattle.machine_model.specs.Replay.{ReplaysFrom}
 use Rattle.machine_events.specs.declared.event.Event.TheVariants.{Exec}
 use Rattle.machine_events.specs.declared.event.Refused.{Refused}
@@ -34,7 +35,7 @@ pub record IsFresh (m : MachineView) (b : BurstView) : Type 0 where
 abbrev pub IsRefusedBurst : MachineView → BurstView → Refused → Type 0
 IsRefusedBurst m b why =
     ((why ≡ refused.Ended) × ((state m).outcome ≡ Running → ⊥))
-    ⊎ ((why ≡ refused.Full) × ((state m).outcome ≡ Running) × IsFresh m b × (1000000 < length m.history + b.steps))
+    ⊎ ((why ≡ refused.Full) × ((state m).outcome ≡ Running) × IsFresh m b × (most_events < length m.history + b.steps))
 
 -- a machine after a fresh burst: its unit executed once for each step, by the machine step, and exactly
 -- these events are behind the history
@@ -42,4 +43,4 @@ pub record Takes (old : MachineView) (b : BurstView) (new : MachineView) : Type 
   pub fresh : IsFresh old b
   pub events : ReplaysFrom old.accepted.program (units_of old) (state old) (replicate b.steps (Exec fresh.position)) (state new)
   pub history : new.history ≡ old.history ++ replicate b.steps (Exec fresh.position)
-  pub fits : length new.history ≤ 1000000
+  pub fits : length new.history ≤ most_events

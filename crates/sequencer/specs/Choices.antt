@@ -1,45 +1,21 @@
 -- What may be assigned next (own): the targets of a tail that runs on, else the one task that may
 -- follow.
-use Rattle.std.specs.Prelude.{◌≡◌, ℕ, ◌<◌, List, [], slice_get, length, ◌%◌, true, if◌then◌else◌, Option, Some, None}
-use Rattle.std.specs.Option.{option_map, option_and_then}
+use Rattle.std.specs.Prelude.{◌≡◌, ℕ, ◌<◌, List, [], length, true, if◌then◌else◌, Option, None}
+use Rattle.std.specs.Option.{option_map}
 use Rattle.std.specs.List.{last_or}
-use Rattle.mips_plain.specs.Words.{address}
 use Rattle.task_descriptor.specs.Listing.{Listing}
-use Rattle.machine_model.specs.Machine.{Active, State, task_at}
-use Rattle.machine_model.specs.Step.{is_listed, follows}
+use Rattle.machine_model.specs.Machine.{State}
+use Rattle.machine_model.specs.Step.{follows}
 use Rattle.machine_model.specs.Answer.{is_running}
-use Rattle.machine_model.specs.HeadEvent.{task_beginning}
 use Rattle.machine_events.specs.declared.event.Event.{Event}
 use Rattle.machine_events.specs.declared.event.Event.TheVariants.{Assign}
-use Rattle.machine_events.specs.declared.event.Spot.{Spot}
-use Rattle.machine_events.specs.declared.event.Spot.TheVariants.{Inside, Stopped}
+use Rattle.processor_steps.specs.Choices.{targets_behind, task_behind}
 
--- the targets of a tail that has not stopped
-abbrev pub targets_at : Listing → (task : ℕ) → Spot → List ℕ
-targets_at p task (Inside index) = (task_at p task).targets
-targets_at p task (Stopped at) = []
-
-abbrev pub targets_behind : Listing → Option Active → List ℕ
-targets_behind p None = []
-targets_behind p (Some tail) = targets_at p tail.task tail.place
-
+-- the targets to choose from; none once the run has ended
 abbrev pub choices_of : Listing → State → List ℕ
 choices_of p s = if is_running s.outcome then targets_behind p (last_or None s.queue) else []
 
--- the task that begins at the target at this position, modulo their number
-abbrev pub task_chosen : Listing → (targets : List ℕ) → (answer : ℕ) → Option ℕ
-task_chosen p targets answer =
-    option_and_then (λ target. task_beginning p (address target)) (slice_get targets (answer % length targets))
-
--- the task that may follow a tail, by the answer where it has not stopped
-abbrev pub task_at_spot : Listing → (tail : ℕ) → Spot → (answer : ℕ) → Option ℕ
-task_at_spot p tail (Inside index) answer = task_chosen p (task_at p tail).targets answer
-task_at_spot p tail (Stopped at) answer = if is_listed p tail at then task_beginning p at else None
-
-abbrev pub task_behind : Listing → (next : ℕ) → Option Active → (answer : ℕ) → Option ℕ
-task_behind p next None answer = task_beginning p next
-task_behind p next (Some tail) answer = task_at_spot p tail.task tail.place answer
-
+-- the Assign of the task that may come next, by the answer
 abbrev pub choice_of : Listing → State → (answer : ℕ) → Option Event
 choice_of p s answer =
     if is_running s.outcome then option_map Assign (task_behind p s.next (last_or None s.queue) answer) else None

@@ -1,12 +1,12 @@
 //! Units lent by a machine, and the bursts that are made on them handed in: work outside the lock of a
 //! machine that is shared.
 
-use crate::history::MOST_EVENTS;
 use crate::machine::Machine;
 use machine_events::event::{Refused, Spot};
 use machine_model::laws::bursts_are_events;
 use mark_checker::accept::Accepted;
 use mips_plain::outcome::OutOfMemory;
+use processor_steps::processor::MOST_EVENTS;
 use unit_core::burst::{Burst, Lease};
 
 impl<'a> Machine<'a> {
@@ -33,7 +33,7 @@ impl<'a> Machine<'a> {
         let Some(position) = self.position(unit) else {
             return Ok(None);
         };
-        let Some(found) = self.processor.queue.get(position as usize) else {
+        let Some(found) = self.processor.unit(position) else {
             return Ok(None);
         };
         match found.spot() {
@@ -89,7 +89,7 @@ impl<'a> Machine<'a> {
         if burst.steps() == 0 {
             return None;
         }
-        let position = self.processor.queue.position_of(burst.before())?;
+        let position = self.processor.position_of(burst.before())?;
         if is_same(self.accepted, burst.accepted()) {
             Some(position)
         } else {

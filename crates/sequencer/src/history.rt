@@ -1,11 +1,9 @@
 //! The events of a machine so far, in room that is reserved once.
 
 use machine_events::event::Event;
+use processor_steps::processor::MOST_EVENTS;
 use std::alloc::{AllocError, Global};
 use std::marker::Model;
-
-/// The most events of a machine.
-pub const MOST_EVENTS: usize = 1_000_000;
 
 /// The events so far. Their number and the spare places add up to at least 1,000,000, so an event that
 /// fits takes no memory.
@@ -16,17 +14,19 @@ pub(crate) struct History {
 
 impl Model for History {
     ghost use Rattle.std.specs.Prelude.{◌≤◌, List, vec_capacity};
+    ghost use Rattle.machine_model.specs.Answer.{most_events};
     ghost use Rattle.machine_events.specs.declared.event.Event.{Event};
 
     ghost Value = { List Event };
 
     ghost view = { λ h. h.events.items };
 
-    ghost invariant = { λ h. 1000000 ≤ vec_capacity h.events };
+    ghost invariant = { λ h. most_events ≤ vec_capacity h.events };
 }
 
 impl History {
     ghost use Rattle.std.specs.Prelude.{◌≡◌, ◌+◌, ◌<◌, ◌≤◌, ◌↔◌, [], ◌∷◌, ◌++◌, length, replicate, IfOk, IsTrue};
+    ghost use Rattle.machine_model.specs.Answer.{most_events};
 
     /// No event, with its room reserved.
     pub(crate) fn new(alloc: Global) -> Result<History, AllocError>
@@ -55,7 +55,7 @@ impl History {
     /// Whether there are as many events as there may be.
     #[inline]
     pub(crate) fn is_full(&self) -> bool
-        ensures { IsTrue result ↔ (1000000 ≤ length self.now) }
+        ensures { IsTrue result ↔ (most_events ≤ length self.now) }
     {
         self.events.len() >= MOST_EVENTS
     }
@@ -63,7 +63,7 @@ impl History {
     /// Appends an event.
     #[inline]
     pub(crate) fn push(&mut self, event: Event)
-        requires { length self.old < 1000000 }
+        requires { length self.old < most_events }
         ensures { self.new ≡ self.old ++ event ∷ [] }
     {
         self.events.push_reserved(event);
@@ -71,7 +71,7 @@ impl History {
 
     /// Appends so many instructions of the unit at a position.
     pub(crate) fn push_execs(&mut self, position: u32, count: u32)
-        requires { length self.old + count ≤ 1000000 }
+        requires { length self.old + count ≤ most_events }
         ensures { self.new ≡ self.old ++ replicate count (Event.Exec position) }
     {
         append_execs(&mut self.events, position, count);

@@ -8,8 +8,7 @@ ghost use Rattle.machine_model.specs.Answer.{refusal, after};
 ghost use Rattle.machine_model.specs.Claims.{count_h};
 ghost use Rattle.machine_model.specs.HeadEvent.{growth};
 ghost use Rattle.machine_events.specs.declared.event.Event.{Event};
-ghost use Rattle.machine_events.specs.declared.event.Standing.TheVariants as standing;
-ghost use Rattle.sequencer.specs.Seen.{ArePlaced, executed_by};
+ghost use Rattle.processor_steps.specs.Seen.{ArePlaced, executed_by};
 
 use accepted_laws::laws::replayed_places_masked;
 use machine_model::laws::{
@@ -20,7 +19,6 @@ use mark_checker::accept::Accepted;
 /// Each clause is a law of the replays of an accepted program; the call does nothing.
 pub(crate) fn known(accepted: &Accepted)
     ensures placed { (units : ℕ) (events : List Event) (s : State) → Replays accepted.now.program units events s → ArePlaced accepted.now s.queue }
-    ensures step { (units : ℕ) (s : State) (e : Event) → s.outcome ≡ standing.Running → refusal accepted.now.program units s e ≡ None → Next accepted.now.program units s e (after accepted.now.program s e) }
     ensures is_after { (units : ℕ) (s s' : State) (e : Event) → Next accepted.now.program units s e s' → s' ≡ after accepted.now.program s e }
     ensures allowed { (units : ℕ) (s s' : State) (e : Event) → Next accepted.now.program units s e s' → refusal accepted.now.program units s e ≡ None }
     ensures grows { (units : ℕ) (s s' : State) (e : Event) → Next accepted.now.program units s e s' → count_h s' ≡ count_h s + growth s e }
@@ -29,6 +27,7 @@ pub(crate) fn known(accepted: &Accepted)
     ensures fits { (units : ℕ) (events : List Event) (s : State) → Replays accepted.now.program units events s → length s.queue ≤ units }
     ensures assigned { (units : ℕ) (events : List Event) (s : State) → Replays accepted.now.program units events s → s.assigns ≤ length events }
 {
+    // A program says that it is well formed, which the laws ask for, where its start is read.
     let _ = accepted.program().start();
     replayed_places_masked(accepted);
     places_are_valid();

@@ -1,14 +1,14 @@
 //! The machine: units on a ring over one accepted program, changed by events alone.
 
-use crate::history::{History, MOST_EVENTS};
+use crate::history::History;
 use crate::known::known;
-use crate::processor::Processor;
 use accepted_laws::laws::{accepted_headline, accepted_never_stuck};
 use machine_events::event::{Commit, Event, Refused, Standing};
 use mark_checker::accept::Accepted;
 use mips_plain::memory::Memory;
 use mips_plain::number::{Place, Reg};
 use mips_plain::outcome::Read;
+use processor_steps::processor::{MOST_EVENTS, Processor};
 use std::alloc::Global;
 use std::marker::Model;
 
@@ -49,7 +49,7 @@ impl<'a> Machine<'a> {
     ghost use Rattle.std.specs.Option.{option_and_then};
     ghost use Rattle.machine_model.specs.Machine.{State, opening, value as value_of};
     ghost use Rattle.machine_model.specs.Step.{Next};
-    ghost use Rattle.machine_model.specs.Answer.{after, refusal};
+    ghost use Rattle.machine_model.specs.Answer.{after, refusal, most_events};
     ghost use Rattle.machine_model.specs.HeadEvent.{head_event as head_event_of, event_of_queue, growth};
     ghost use Rattle.machine_events.specs.declared.event.Event.{Event};
     ghost use Rattle.machine_events.specs.declared.event.Event.TheVariants.{Assign, Exec, Retire};
@@ -58,7 +58,8 @@ impl<'a> Machine<'a> {
     ghost use Rattle.machine_model.specs.Replay.{Replays, ReplaysFrom};
     ghost use Rattle.machine_model.specs.Claims.{Claims, EndsLike, count_c, count_h};
     ghost use Rattle.mips_plain.specs.Words.{byte_of};
-    ghost use Rattle.sequencer.specs.Seen.{ProcessorView, IsMachine, Keeps, Steps, ArePlaced, executed_by, state, state_of, units_of, answer_to, IsAnswered, Applies, SameRing};
+    ghost use Rattle.processor_steps.specs.Seen.{ProcessorView, Keeps, Steps, ArePlaced, executed_by, state_of};
+    ghost use Rattle.sequencer.specs.Seen.{IsMachine, state, units_of, answer_to, IsAnswered, Applies, SameRing};
     ghost use Rattle.sequencer.specs.Choices.{choices_of, choice_of, MayFollow};
     ghost use Rattle.sequencer.specs.Finish.{RunsByHead, IsHeadRefused};
     ghost use Rattle.sequencer.specs.Rings.{unit_for};
@@ -111,7 +112,7 @@ impl<'a> Machine<'a> {
         ensures kept { SameRing self.old self.new }
     {
         self.is_known();
-        if !self.processor.world.is_running() {
+        if !self.processor.world().is_running() {
             return Err(Refused::Ended);
         }
         let alloc = self.alloc;
@@ -183,7 +184,7 @@ impl<'a> Machine<'a> {
         ensures kept { SameRing self.old self.new }
         ensures applied { IfOk result (λ did. did ≡ true → (e : Event) × (head_event_of self.old.accepted.program (state self.old) ≡ Some e) × Applies self.old e self.new × (count_h (state self.new) ≡ count_h (state self.old) + growth (state self.old) e)) }
         ensures ended { IfOk result (λ did. did ≡ false → (self.new ≡ self.old) × ((state self.new).outcome ≡ standing.Running → ⊥)) }
-        ensures room { length self.new.history ≤ 1000000 }
+        ensures room { length self.new.history ≤ most_events }
         ensures refused { IfErr result (λ why. IsHeadRefused self.old why) }
         ensures err { OnErr result (self.new ≡ self.old) }
     {
@@ -200,7 +201,7 @@ impl<'a> Machine<'a> {
     pub fn history(&self) -> &[Event]
         ensures value { result.now ≡ self.now.history }
         ensures replay { Replays self.now.accepted.program (units_of self.now) self.now.history (state self.now) }
-        ensures room { length self.now.history ≤ 1000000 }
+        ensures room { length self.now.history ≤ most_events }
     {
         self.history.as_slice()
     }
@@ -217,11 +218,11 @@ impl<'a> Machine<'a> {
         ensures placed { ArePlaced self.now.accepted (state self.now).queue }
         ensures assigned { (state self.now).assigns ≤ length self.now.history }
         ensures executed { executed_by (state self.now) ≤ length self.now.history }
-        ensures room { length self.now.history ≤ 1000000 }
+        ensures room { length self.now.history ≤ most_events }
         ensures allowed { (e : Event) (s : State) → Next self.now.accepted.program (units_of self.now) (state self.now) e s → refusal self.now.accepted.program (units_of self.now) (state self.now) e ≡ None }
         ensures grows { (e : Event) (s : State) → Next self.now.accepted.program (units_of self.now) (state self.now) e s → count_h s ≡ count_h (state self.now) + growth (state self.now) e }
         ensures fits { length (state self.now).queue ≤ units_of self.now }
-        ensures goes_on { (es : List Event) (p : ProcessorView) → ReplaysFrom self.now.accepted.program (units_of self.now) (state self.now) es (state_of p) → Keeps self.now.processor p → length self.now.history + length es ≤ 1000000
+        ensures goes_on { (es : List Event) (p : ProcessorView) → ReplaysFrom self.now.accepted.program (units_of self.now) (state self.now) es (state_of p) → Keeps self.now.processor p → length self.now.history + length es ≤ most_events
             → IsMachine (record self.now { processor = p; history = self.now.history ++ es }) }
         ensures applied { (e : Event) (done : Unit {0}) (p : ProcessorView) → Steps self.now.accepted.program self.now.processor (length self.now.history) e (Ok done) p
             → IsMachine (record self.now { processor = p; history = self.now.history ++ e ∷ [] }) }
@@ -245,7 +246,7 @@ impl<'a> Machine<'a> {
     pub(crate) fn is_running(&self) -> bool
         ensures { IsTrue result ↔ ((state self.now).outcome ≡ standing.Running) }
     {
-        self.processor.world.is_running()
+        self.processor.world().is_running()
     }
 
     /// Whether nothing but the run's end and the history's room can refuse an event.
@@ -278,7 +279,7 @@ impl<'a> Machine<'a> {
         ensures headline { Claims self.now.accepted.program (state self.now) }
     {
         self.claims();
-        &self.processor.commits
+        self.processor.commits()
     }
 
     /// What the instructions of the retired tasks read, the first first. They are the reads of the
@@ -288,7 +289,7 @@ impl<'a> Machine<'a> {
         ensures headline { Claims self.now.accepted.program (state self.now) }
     {
         self.claims();
-        &self.processor.reads
+        self.processor.reads()
     }
 
     /// The words that were put out, the first first. They are the plain machine's after h instructions.
@@ -297,7 +298,7 @@ impl<'a> Machine<'a> {
         ensures headline { Claims self.now.accepted.program (state self.now) }
     {
         self.claims();
-        self.processor.world.output()
+        self.processor.world().output()
     }
 
     /// Data memory, which is the plain machine's after h instructions, and read-only data, which no
@@ -308,7 +309,7 @@ impl<'a> Machine<'a> {
         ensures headline { Claims self.now.accepted.program (state self.now) }
     {
         self.claims();
-        self.processor.world.memory()
+        self.processor.world().memory()
     }
 
     /// How many instructions the retired tasks executed, c, and how many these and the head, h.
@@ -318,8 +319,8 @@ impl<'a> Machine<'a> {
         ensures headline { Claims self.now.accepted.program (state self.now) }
     {
         self.claims();
-        let retired = self.processor.reads.len() as u64;
-        match self.processor.queue.get(0) {
+        let retired = self.processor.reads().len() as u64;
+        match self.processor.unit(0) {
             Some(head) => (retired, retired + head.reads().len() as u64),
             None => (retired, retired),
         }
@@ -332,7 +333,7 @@ impl<'a> Machine<'a> {
         ensures ends { EndsLike self.now.accepted.program (state self.now) result }
     {
         self.claims();
-        self.processor.world.outcome()
+        self.processor.world().outcome()
     }
 
     /// The value of a register at a position from the head; `None` where no unit is there or the
@@ -342,7 +343,7 @@ impl<'a> Machine<'a> {
         ensures headline { Claims self.now.accepted.program (state self.now) }
     {
         self.claims();
-        match self.processor.queue.get(position as usize) {
+        match self.processor.unit(position) {
             Some(unit) => unit.value(register),
             None => None,
         }
@@ -355,9 +356,9 @@ impl<'a> Machine<'a> {
         ensures position { IfSome result (λ k. (k < length (state self.now).queue) × (unit_for self.now (Exec k) ≡ unit)) }
         ensures none { IfNone result ((k : ℕ) → k < length (state self.now).queue → unit_for self.now (Exec k) ≡ unit → ⊥) }
     {
-        let units = self.processor.queue.places() as usize;
-        let retired = self.processor.commits.len();
-        for position in 0..self.processor.queue.len() {
+        let units = self.processor.places() as usize;
+        let retired = self.processor.commits().len();
+        for position in 0..self.processor.active() {
             if (retired + position as usize) % units == unit as usize {
                 return Some(position);
             }
@@ -369,10 +370,10 @@ impl<'a> Machine<'a> {
     pub fn next_unit(&self) -> Option<u32>
         ensures { (task : ℕ) → result ≡ (if nat_lt (length (state self.now).queue) (units_of self.now) then Some (unit_for self.now (Assign task)) else None) }
     {
-        let units = self.processor.queue.places();
-        let active = self.processor.queue.len();
+        let units = self.processor.places();
+        let active = self.processor.active();
         if active < units {
-            Some(((self.processor.commits.len() + active as usize) % units as usize) as u32)
+            Some(((self.processor.commits().len() + active as usize) % units as usize) as u32)
         } else {
             None
         }
@@ -383,7 +384,7 @@ impl<'a> Machine<'a> {
     pub fn choices(&self) -> &[Place]
         ensures { result.now ≡ choices_of self.now.accepted.program (state self.now) }
     {
-        if self.processor.world.is_running() {
+        if self.processor.world().is_running() {
             self.processor.targets_of_tail(self.accepted.program())
         } else {
             &[]
@@ -407,7 +408,7 @@ impl<'a> Machine<'a> {
     fn chosen(&self, answer: u32) -> Option<Event>
         ensures { result ≡ choice_of self.now.accepted.program (state self.now) answer }
     {
-        if !self.processor.world.is_running() {
+        if !self.processor.world().is_running() {
             return None;
         }
         match self

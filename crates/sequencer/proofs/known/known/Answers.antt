@@ -4,7 +4,7 @@ use Rattle.machine_model.specs.Machine.{State}
 use Rattle.machine_model.specs.Step.{Next}
 use Rattle.machine_model.specs.Answer.{refusal}
 use Rattle.sequencer.proofs.Runs.{replays_more, replay_executes, replay_assigns, queue_fits}
-use Rattle.sequencer.proofs.Verdicts.{ok_where_running, none_refused}
+use Rattle.sequencer.proofs.Verdicts.{none_refused}
 use Rattle.sequencer.proofs.known.known.Goals as goal
 
 pub returns-clause-placed : goal.returns-clause-placed
@@ -14,12 +14,6 @@ returns-clause-placed c = λ units events s replay k u at.
     let valid = c.places_are_valid.ensures p units events s formed c.program.ensures.sound replay k u at in
     let masked = c.replayed_places_masked.ensures units events s replay k u at in
     record { is_task = valid.is_task; inside = λ i e. valid.is_instruction i e; masked = λ i e. (masked i e).1 }
-
-pub returns-clause-step : goal.returns-clause-step
-returns-clause-step c = λ units s e runs none.
-    let p = c.args.accepted.now.program in
-    let formed : IsWellFormed p = subst IsWellFormed c.program.ensures.value c.start.ensures.well_formed in
-    ((c.answer_is_next.ensures p units s 0 e formed).0 (ok_where_running s.outcome (refusal p units s e) runs none)).0
 
 pub returns-clause-is_after : goal.returns-clause-is_after
 returns-clause-is_after c = λ units s s' e next. c.next_is_after.ensures c.args.accepted.now.program units s s' e next

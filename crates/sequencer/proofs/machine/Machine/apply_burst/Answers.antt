@@ -6,7 +6,8 @@ use Rattle.machine_events.specs.declared.event.Event.TheVariants.{Exec}
 use Rattle.machine_events.specs.declared.event.Standing.TheVariants.{Running}
 use Rattle.unit_core.specs.Units.{active_of}
 use Rattle.unit_core.specs.Bursts.{BurstView, HasMore}
-use Rattle.sequencer.specs.Seen.{MachineView, IsMachine, Keeps, state}
+use Rattle.processor_steps.specs.Seen.{Keeps}
+use Rattle.sequencer.specs.Seen.{MachineView, IsMachine, state}
 use Rattle.sequencer.specs.Bursts.{IsFresh, Takes}
 use Rattle.sequencer.proofs.TakenBursts.{takes, is_machine}
 use Rattle.sequencer.proofs.machine.Machine.apply_burst.Goals as goal

@@ -3,10 +3,11 @@ use Rattle.machine_events.specs.declared.event.Event.{Event}
 use Rattle.machine_model.specs.Machine.{State}
 use Rattle.machine_model.specs.Step.{Next}
 use Rattle.machine_model.specs.Replay.{ReplaysFrom}
-use Rattle.machine_model.specs.Answer.{refusal}
+use Rattle.machine_model.specs.Answer.{refusal, most_events}
 use Rattle.machine_model.specs.Claims.{count_h}
 use Rattle.machine_model.specs.HeadEvent.{growth}
-use Rattle.sequencer.specs.Seen.{MachineView, ProcessorView, IsMachine, Keeps, Steps, ArePlaced, state, state_of, units_of}
+use Rattle.processor_steps.specs.Seen.{ProcessorView, Keeps, Steps, ArePlaced, state_of}
+use Rattle.sequencer.specs.Seen.{MachineView, IsMachine, state, units_of}
 use Rattle.sequencer.proofs.Machines.{applied, goes_on}
 use Rattle.sequencer.proofs.machine.Machine.is_known.Goals as goal
 
@@ -39,7 +40,7 @@ pub returns-clause-goes_on : goal.returns-clause-goes_on
 returns-clause-goes_on c =
     let i = c.self.inside in
     let m : MachineView = record { accepted = i.accepted.now; processor = i.processor; history = i.history } in
-    subst (λ (x : MachineView). (es : List Event) (p : ProcessorView) → ReplaysFrom x.accepted.program (units_of x) (state x) es (state_of p) → Keeps x.processor p → length x.history + length es ≤ 1000000 → IsMachine (record x { processor = p; history = x.history ++ es })) c.self.view_is
+    subst (λ (x : MachineView). (es : List Event) (p : ProcessorView) → ReplaysFrom x.accepted.program (units_of x) (state x) es (state_of p) → Keeps x.processor p → length x.history + length es ≤ most_events → IsMachine (record x { processor = p; history = x.history ++ es })) c.self.view_is
     (λ es p events kept room. goes_on m es p c.self.invariant events kept room c.known.ensures.more)
 
 pub returns-clause-fits : goal.returns-clause-fits

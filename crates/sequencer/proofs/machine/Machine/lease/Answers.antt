@@ -2,17 +2,15 @@ use Rattle.std.proofs.Common.{◌≡◌, Some, sym, ap, ◌∙◌}
 use Rattle.std.specs.Prelude.{slice_get}
 use Rattle.machine_events.specs.declared.event.Spot.TheVariants.{Stopped}
 use Rattle.unit_core.specs.Units.{active_of}
-use Rattle.sequencer.specs.declared.machine.Machine.TheInside.{Inside}
-use Rattle.sequencer.specs.Seen.{MachineView, actives, state}
+use Rattle.sequencer.specs.Seen.{MachineView, state}
 use Rattle.sequencer.proofs.LentUnits.{not_stopped}
 use Rattle.sequencer.proofs.machine.Machine.lease.Goals as goal
 
 pub returns-in-Stopped-clause-none : goal.returns-in-Stopped-clause-none
 returns-in-Stopped-clause-none c = λ u work.
     let k = c.in-Some.position in
-    let found = active_of c.in-Some-get.found.now in
+    let found = active_of c.in-Some-unit.found.now in
     let here : slice_get (state c.args.self.now).queue k ≡ Some found =
-    ap (λ (m : MachineView). slice_get (state m).queue k) (sym c.self.view_is)
-    ∙ ap (λ (x : Inside). slice_get (actives x.processor.queue) k) (sym c.self-inside.view_is) ∙ sym c.in-Some-get.ensures.active in
+    ap (λ (m : MachineView). slice_get (state m).queue k) (sym c.self.view_is) ∙ sym c.in-Some-unit.ensures in
     let stopped : found.place ≡ Stopped c.in-Stopped.field-0 = sym c.spot.ensures ∙ c.in-Stopped.is in
     not_stopped c.args.self.now c.args.unit k c.in-Stopped.field-0 u found c.is_known.ensures.fits c.in-Some.ensures.position.0 c.in-Some.ensures.position.1 here stopped work

@@ -1,0 +1,6 @@
+pub mod Queues
+pub mod Leasts
+pub mod Outcomes
+pub mod Executions
+pub mod TriedSteps
+pub mod Changed

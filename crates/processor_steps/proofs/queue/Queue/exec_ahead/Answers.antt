@@ -1,0 +1,46 @@
+use Rattle.std.proofs.Common.{◌≡◌, ◌⊎◌, Bool, false, Some, None, refl, sym, ap, ◌∙◌, subst, List}
+use Rattle.std.specs.Prelude.{slice_set, nat_eq}
+use Rattle.unit_core.specs.UnitStep.{wait_of}
+use Rattle.unit_core.specs.declared.wait.Wait.TheVariants as wait
+use Rattle.processor_steps.proofs.Executions.{not_zero}
+use Rattle.unit_core.specs.Units.{UnitView, active_of}
+use Rattle.processor_steps.specs.Seen.{QueueView, actives}
+use Rattle.processor_steps.proofs.Queues.{is_there, changed, set_back}
+use Rattle.processor_steps.proofs.Outcomes.{refused_at}
+use Rattle.processor_steps.proofs.queue.Queue.exec_ahead.Goals as goal
+
+pub exec_ahead-requires : goal.exec_ahead-requires
+exec_ahead-requires c =
+    let x = c.in-Some.unit.now in
+    c.requires.placed c.args.position (active_of x)
+    (is_there c.self.inside.ring.items c.args.self.now c.args.position x (ap (λ (q : QueueView). actives q) c.self.view_is) c.in-Some.ensures.value)
+
+pub returns-in-Ok-clause-ok : goal.returns-in-Ok-clause-ok
+returns-in-Ok-clause-ok c =
+    let items = c.self.inside.ring.items in
+    let x = c.in-Some.unit.now in
+    let v = c.exec_ahead.new.self in
+    let same = ap (λ (q : QueueView). actives q) c.self.view_is in
+    record {
+      unit = active_of x;
+      is_unit = is_there items c.args.self.now c.args.position x same c.in-Some.ensures.value;
+      may = c.in-Ok.ensures.allowed;
+      after = active_of v;
+      step = c.in-Ok.ensures.step;
+      is = changed items c.args.self.now c.args.position v (active_of v) same refl;
+    }
+
+pub returns-in-Err-clause-refused : goal.returns-in-Err-clause-refused
+returns-in-Err-clause-refused c =
+    let x = c.in-Some.unit.now in
+    let there = is_there c.self.inside.ring.items c.args.self.now c.args.position x (ap (λ (q : QueueView). actives q) c.self.view_is) c.in-Some.ensures.value in
+    let behind : nat_eq c.args.position 0 ≡ false = not_zero c.args.position c.requires.behind in
+    refused_at c.args.accepted.now.program (actives c.args.self.now) c.args.position (active_of x) c.in-Err.wait c.refused_by.result there c.refused_by.ensures
+    (subst (λ (b : Bool). (wait_of c.args.accepted.now.program b (active_of x) ≡ Some c.in-Err.wait) ⊎ ((c.in-Err.wait ≡ wait.OutOfMemory) × (wait_of c.args.accepted.now.program b (active_of x) ≡ None))) (sym behind) c.in-Err.ensures.refused)
+
+pub returns-in-Err-clause-err : goal.returns-in-Err-clause-err
+returns-in-Err-clause-err c =
+    let items = c.self.inside.ring.items in
+    let x = c.in-Some.unit.now in
+    let queue_of : List UnitView → QueueView = λ us. record { units = us; places = c.self.inside.ring.capacity } in
+    ap (λ (us : List UnitView). queue_of us) (ap (λ (v : UnitView). slice_set items c.args.position v) c.in-Err.ensures.kept ∙ set_back items c.args.position x c.in-Some.ensures.value) ∙ c.self.view_is

@@ -1,0 +1,87 @@
+-- The processor as contracts see it: lists for its arrays and vectors, and one word from them to the
+-- state that the machine step speaks of.
+use Rattle.std.specs.Prelude.{◌≡◌, ℕ, ◌+◌, ◌⊎◌, List, map, length, slice_index, slice_get, nat_lt, Bool, true, false, Option, Some, None, Result, OnOk, OnErr, IfErr}
+use Rattle.std.specs.List.{sum_by}
+use Rattle.std.specs.Option.{option_or}
+use Rattle.mips_plain.specs.declared.outcome.Read.{Read}
+use Rattle.task_descriptor.specs.Listing.{Listing}
+use Rattle.mark_checker.specs.Places.{Checked}
+use Rattle.machine_model.specs.Machine.{Active, State}
+use Rattle.machine_model.specs.Step.{Next}
+use Rattle.machine_model.specs.Answer.{unless, refusal, most_events}
+use Rattle.machine_model.specs.Claims.{committed}
+use Rattle.machine_events.specs.declared.event.Commit.{Commit}
+use Rattle.machine_events.specs.declared.event.Event.{Event}
+use Rattle.machine_events.specs.declared.event.Event.TheVariants.{Exec, Retire}
+use Rattle.machine_events.specs.declared.event.Refused.{Refused}
+use Rattle.machine_events.specs.declared.event.Refused.TheVariants as refused
+use Rattle.unit_core.specs.Units.{UnitView, active_of, IsPlaced}
+use Rattle.unit_core.specs.Worlds.{WorldView, memory_of}
+
+-- the units from the head to the tail, and how many there may be
+pub record QueueView : Type 0 where
+  pub units : List UnitView
+  pub places : ℕ
+
+abbrev pub actives : QueueView → List Active
+actives q = map active_of q.units
+
+-- what the events change
+pub record ProcessorView : Type 0 where
+  pub queue : QueueView
+  pub registers : List ℕ
+  pub world : WorldView
+  pub next : ℕ
+  pub reads : List Read
+  pub commits : List Commit
+  pub assigns : ℕ
+
+abbrev pub state_of : ProcessorView → State
+state_of v = record {
+  queue = actives v.queue;
+  regs = λ r. slice_index v.registers r;
+  memory = memory_of v.world;
+  output = v.world.output;
+  outcome = v.world.outcome;
+  next = v.next;
+  reads = v.reads;
+  commits = v.commits;
+  assigns = v.assigns;
+}
+
+-- no event changes the number of units or read-only data
+pub record Keeps (old new : ProcessorView) : Type 0 where
+  pub places : new.queue.places ≡ old.queue.places
+  pub fixed : new.world.contents.fixed ≡ old.world.contents.fixed
+
+-- each active task stands at a valid place
+abbrev pub ArePlaced : Checked → List Active → Type 0
+ArePlaced a us = (k : ℕ) (u : Active) → slice_get us k ≡ Some u → IsPlaced a u
+
+-- the events that may take memory
+abbrev pub takes_memory : Event → Bool
+takes_memory (Exec k) = true
+takes_memory Retire = true
+takes_memory _ = false
+
+-- what refuses an event with n before it where the run goes on
+abbrev pub later_refusal : Listing → (units : ℕ) → State → (n : ℕ) → Event → Option Refused
+later_refusal p units s n e = option_or (refusal p units s e) (unless (nat_lt n most_events) refused.Full None)
+
+-- a call on a processor where the run goes on: it answers what refuses the event, or for one that
+-- takes memory that it is wanted; Ok leaves a state by the machine step, else nothing is changed
+pub record Steps (p : Listing) (old : ProcessorView) (n : ℕ) (e : Event) (result : Result (Unit {0}) Refused) (new : ProcessorView) : Type 0 where
+  pub allowed : OnOk result (later_refusal p old.queue.places (state_of old) n e ≡ None)
+  pub refused : IfErr result (λ why.
+      (later_refusal p old.queue.places (state_of old) n e ≡ Some why)
+      ⊎ ((takes_memory e ≡ true) × (why ≡ refused.OutOfMemory) × (later_refusal p old.queue.places (state_of old) n e ≡ None)))
+  pub next : OnOk result (Next p old.queue.places (state_of old) e (state_of new))
+  pub kept : Keeps old new
+  pub err : OnErr result (new ≡ old)
+
+-- how many instructions the active tasks, and with the retired ones all tasks, executed
+abbrev pub by_units : List Active → ℕ
+by_units us = sum_by (λ u. length u.log) us
+
+abbrev pub executed_by : State → ℕ
+executed_by s = committed s.commits + by_units s.queue

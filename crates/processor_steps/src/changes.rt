@@ -1,0 +1,167 @@
+//! What an event that is allowed changes. None of these fails but for want of memory, and then nothing
+//! is changed.
+
+ghost use Rattle.std.specs.Prelude.{◌≡◌, ℕ, ◌+◌, ◌-◌, ◌^◌, ◌<◌, None, Some, OnOk, OnErr, length, slice_get, slice_set, slice_index};
+ghost use Rattle.std.specs.Option.{option_and_then};
+ghost use Rattle.machine_model.specs.Machine.{Active, pass};
+ghost use Rattle.machine_model.specs.Answer.{refusal, after, exit_of, with_queue};
+ghost use Rattle.machine_model.specs.Burst.{with_arrived};
+ghost use Rattle.machine_events.specs.declared.event.Event.TheVariants as event;
+ghost use Rattle.processor_steps.specs.Seen.{state_of, Keeps, ArePlaced};
+ghost use Rattle.unit_core.specs.Units.{active_of};
+ghost use Rattle.unit_core.specs.Bursts.{HasMore};
+
+use crate::listing::created;
+use crate::processor::Processor;
+use machine_events::event::{Commit, Standing};
+use mark_checker::accept::Accepted;
+use mips_plain::number::{Reg, RegSet};
+use mips_plain::outcome::{OutOfMemory, Read};
+use register_ring::members::next_member;
+use register_ring::port::Port;
+use std::alloc::Global;
+use task_descriptor::program::Program;
+use unit_core::burst::Burst;
+use unit_core::unit::Unit;
+
+impl Processor {
+    /// A unit begins with a task, behind the tail.
+    pub(crate) fn assign(&mut self, alloc: Global, accepted: &Accepted, task: u32)
+        requires there { task < length accepted.now.program.tasks }
+        requires free { length self.old.queue.units < self.old.queue.places }
+        requires room { self.old.assigns + 1 < 2 ^ 32 }
+        ensures state { state_of self.new ≡ after accepted.now.program (state_of self.old) (event.Assign task) }
+        ensures kept { Keeps self.old self.new }
+    {
+        let reserved = self.queue.reserved(accepted.program());
+        let port = Port::fresh(&self.registers, reserved);
+        self.queue
+            .push(Unit::new(alloc, accepted, task, self.assigns, port));
+        self.assigns += 1;
+    }
+
+    /// The unit at a position, on which the burst was made, takes it over.
+    pub fn take_burst(&mut self, position: u32, burst: Burst<'_>)
+        ensures state { (u : Active) → slice_get (state_of self.old).queue position ≡ Some u → HasMore (active_of burst.entry.before) u → 0 < burst.entry.steps
+            → state_of self.new ≡ with_queue (state_of self.old) (slice_set (state_of self.old).queue position (with_arrived (active_of burst.entry.after) u.arrived)) }
+        ensures kept { Keeps self.old self.new }
+    {
+        self.queue.take(position as usize, burst);
+    }
+
+    /// The unit at a position takes a register with the word that the unit before it passes on.
+    #[inline]
+    pub(crate) fn take_word(&mut self, program: &Program, position: u32, register: Reg, word: u32)
+        requires allowed { refusal program.now self.old.queue.places (state_of self.old) (event.Transfer position register) ≡ None }
+        requires word { option_and_then (λ giver. pass program.now giver register) (slice_get (state_of self.old).queue (position - 1)) ≡ Some word }
+        ensures state { state_of self.new ≡ after program.now (state_of self.old) (event.Transfer position register) }
+        ensures kept { Keeps self.old self.new }
+    {
+        // The contract speaks of the program, which the change itself has no need of.
+        let _ = program.start();
+        self.queue.arrive(position as usize, register, word);
+    }
+
+    /// The unit at a position, which has stopped, sends a register.
+    #[inline]
+    pub(crate) fn send_word(&mut self, accepted: &Accepted, position: u32, register: Reg)
+        requires allowed { refusal accepted.now.program self.old.queue.places (state_of self.old) (event.Drain position register) ≡ None }
+        requires placed { ArePlaced accepted.now (state_of self.old).queue }
+        ensures state { state_of self.new ≡ after accepted.now.program (state_of self.old) (event.Drain position register) }
+        ensures kept { Keeps self.old self.new }
+    {
+        self.queue.send(position as usize, accepted, register);
+    }
+
+    /// All units behind a position go.
+    pub(crate) fn squash(&mut self, program: &Program, position: u32)
+        ensures state { state_of self.new ≡ after program.now (state_of self.old) (event.Squash position) }
+        ensures kept { Keeps self.old self.new }
+    {
+        // The contract speaks of the program, which the change itself has no need of.
+        let _ = program.start();
+        self.queue.keep(position as usize + 1);
+    }
+
+    /// The unit at a position and all behind it go.
+    pub(crate) fn drop_from(&mut self, program: &Program, position: u32)
+        ensures state { state_of self.new ≡ after program.now (state_of self.old) (event.Drop position) }
+        ensures kept { Keeps self.old self.new }
+    {
+        // The contract speaks of the program, which the change itself has no need of.
+        let _ = program.start();
+        self.queue.keep(position as usize);
+    }
+
+    /// The run ends at an address that is not listed, at which the head has stopped.
+    pub(crate) fn fault(&mut self, program: &Program, exit: u32)
+        requires { option_and_then (λ u. exit_of u.place) (slice_get (state_of self.old).queue 0) ≡ Some exit }
+        ensures state { state_of self.new ≡ after program.now (state_of self.old) event.Fault }
+        ensures kept { Keeps self.old self.new }
+    {
+        // The contract speaks of the program, which the change itself has no need of.
+        let _ = program.start();
+        self.world.end(Standing::Unlisted(exit));
+    }
+
+    /// The head hands its registers and reads over at an exit, and goes; the next unit takes what has
+    /// not arrived.
+    ///
+    /// # Errors
+    ///
+    /// `OutOfMemory` where its reads or its commit find no room; nothing is changed then.
+    pub(crate) fn retire(&mut self, program: &Program, exit: u32) -> Result<(), OutOfMemory>
+        requires exit { option_and_then (λ u. exit_of u.place) (slice_get (state_of self.old).queue 0) ≡ Some exit }
+        requires small { (u : Active) → slice_get (state_of self.old).queue 0 ≡ Some u → length u.log < 2 ^ 32 }
+        ensures state { OnOk result (state_of self.new ≡ after program.now (state_of self.old) event.Retire) }
+        ensures kept { Keeps self.old self.new }
+        ensures err { OnErr result (self.new ≡ self.old) }
+    {
+        let Some(head) = self.queue.get(0) else {
+            return Ok(());
+        };
+        let commit = Commit {
+            task: head.task(),
+            exit,
+            count: head.reads().len() as u32,
+        };
+        keep(&mut self.reads, &mut self.commits, head.reads(), commit)?;
+        hand_over(head, created(program, head.task()), &mut self.registers);
+        self.queue.pop();
+        self.queue.fill_head(&self.registers);
+        self.next = exit;
+        Ok(())
+    }
+}
+
+ghost use Rattle.std.specs.Prelude.{◌++◌, ◌∷◌, [], if◌then◌else◌, unwrap_or};
+ghost use Rattle.mips_plain.specs.Words.{has};
+
+/// Keeps what a retired task read, and its commit; nothing where there is no room for both.
+fn keep(
+    reads: &mut Vec<Read>,
+    commits: &mut Vec<Commit>,
+    log: &[Read],
+    commit: Commit,
+) -> Result<(), OutOfMemory>
+    ensures reads { OnOk result (reads.new.items ≡ reads.old.items ++ log.now) }
+    ensures commits { OnOk result (commits.new.items ≡ commits.old.items ++ commit ∷ []) }
+    ensures err { OnErr result ((reads.new.items ≡ reads.old.items) × (commits.new.items ≡ commits.old.items)) }
+{
+    commits.reserve(1)?;
+    reads.extend_from_slice(log)?;
+    commits.push_reserved(commit);
+    Ok(())
+}
+
+/// Puts the words that a unit sent of its create mask into the registers.
+fn hand_over(head: &Unit, create: RegSet, registers: &mut [u32; 34])
+    ensures { (r : ℕ) → slice_index registers.new r ≡ unwrap_or (if has create r then (active_of head.now).sent r else None) (slice_index registers.old r) }
+{
+    let mut from = 0;
+    while let Some(register) = next_member(create, from) {
+        let place = usize::from(register.get());
+        registers[place] = head.sent(register).unwrap_or(registers[place]);
+        from = register.get() + 1;
+    }
+}

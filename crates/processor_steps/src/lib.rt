@@ -1,0 +1,12 @@
+//! The processor at one moment: a queue of units on a ring, memory, and what retired; and each event's
+//! change of it.
+#![tactic(auto)]
+
+mod allowed;
+mod changes;
+mod head;
+mod known;
+mod listing;
+pub mod processor;
+mod queue;
+mod tries;

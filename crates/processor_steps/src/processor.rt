@@ -1,0 +1,141 @@
+//! What the events of a machine change: the queue of units, registers, memory and output, and what
+//! retired; and how it is read.
+
+use crate::queue::Queue;
+use machine_events::event::Commit;
+use mips_plain::memory::Memory;
+use mips_plain::number::REGISTERS;
+use mips_plain::outcome::{OutOfMemory, Read};
+use std::alloc::Global;
+use std::marker::Model;
+use task_descriptor::program::Program;
+use unit_core::unit::Unit;
+use unit_core::world::World;
+
+/// The most events of a machine: with as many before it, an event is refused.
+pub const MOST_EVENTS: usize = 1_000_000;
+
+/// What the events of a machine change.
+#[derive(Debug, Drop)]
+pub struct Processor {
+    /// The units at work.
+    pub(crate) queue: Queue,
+    /// The registers that the head's task began with.
+    pub(crate) registers: [u32; 34],
+    /// Memory, output and outcome.
+    pub(crate) world: World,
+    /// The address at which the next task after the retired ones begins.
+    pub(crate) next: u32,
+    /// What the retired tasks read.
+    pub(crate) reads: Vec<Read>,
+    /// One commit for each retired task.
+    pub(crate) commits: Vec<Commit>,
+    /// How many times a task was assigned.
+    pub(crate) assigns: u32,
+}
+
+impl Model for Processor {
+    ghost use Rattle.processor_steps.specs.Seen.{ProcessorView};
+
+    ghost Value = { ProcessorView };
+
+    ghost view = { λ p. record {
+      queue = p.queue;
+      registers = p.registers;
+      world = p.world;
+      next = p.next;
+      reads = p.reads.items;
+      commits = p.commits.items;
+      assigns = p.assigns;
+    } };
+}
+
+impl Processor {
+    ghost use Rattle.std.specs.Prelude.{◌≡◌, ℕ, ◌≤◌, Some, length, slice_get, IfOk, IfSome, IfNone};
+    ghost use Rattle.std.specs.Option.{option_copied, option_map};
+    ghost use Rattle.mips_plain.specs.Words.{byte_of};
+    ghost use Rattle.machine_model.specs.Machine.{Active, opening};
+    ghost use Rattle.unit_core.specs.Units.{active_of};
+    ghost use Rattle.unit_core.specs.Bursts.{HasMore};
+    ghost use Rattle.processor_steps.specs.Seen.{state_of};
+
+    /// A processor at the start of a program, with so many units, none of them at work.
+    pub fn new(alloc: Global, program: &Program, units: u32) -> Result<Processor, OutOfMemory>
+        requires { units ≤ 16 }
+        ensures opening { IfOk result (λ processor. state_of processor ≡ opening program.now) }
+        ensures places { IfOk result (λ processor. processor.queue.places ≡ units) }
+        ensures fixed { IfOk result (λ processor. byte_of processor.world.contents.fixed ≡ byte_of program.now.fixed) }
+    {
+        let queue = Queue::new(alloc, units)?;
+        match Memory::new(alloc, program.bytes(), program.fixed()) {
+            Ok(memory) => Ok(Processor {
+                queue,
+                registers: [0; REGISTERS],
+                world: World::new(alloc, memory),
+                next: program.address(program.start()),
+                reads: Vec::new(alloc),
+                commits: Vec::new(alloc),
+                assigns: 0,
+            }),
+            Err(_) => Err(OutOfMemory),
+        }
+    }
+
+    /// How many units there are, at work or not.
+    #[inline]
+    pub fn places(&self) -> u32
+        ensures places { result ≡ self.now.queue.places }
+        ensures within { self.now.queue.places ≤ 16 }
+    {
+        self.queue.places()
+    }
+
+    /// How many units are at work.
+    #[inline]
+    pub fn active(&self) -> u32
+        ensures active { result ≡ length (state_of self.now).queue }
+        ensures within { length (state_of self.now).queue ≤ self.now.queue.places }
+    {
+        self.queue.len()
+    }
+
+    /// The unit at a position from the head, 0 being the head.
+    #[inline]
+    pub fn unit(&self, position: u32) -> Option<&Unit>
+        ensures { option_map active_of (option_copied result) ≡ slice_get (state_of self.now).queue position }
+    {
+        self.queue.get(position as usize)
+    }
+
+    /// The position of a unit that is this one with at most more registers arrived.
+    pub fn position_of(&self, before: &Unit) -> Option<u32>
+        ensures some { IfSome result (λ k. (u : Active) × (slice_get (state_of self.now).queue k ≡ Some u) × HasMore (active_of before.now) u) }
+        ensures none { IfNone result ((k : ℕ) (u : Active) → slice_get (state_of self.now).queue k ≡ Some u → HasMore (active_of before.now) u → ⊥) }
+    {
+        self.queue.position_of(before)
+    }
+
+    /// Memory, output and outcome.
+    #[inline]
+    pub fn world(&self) -> &World
+        ensures { result.now ≡ self.now.world }
+    {
+        &self.world
+    }
+
+    /// What the retired tasks read, the first first.
+    #[inline]
+    pub fn reads(&self) -> &[Read]
+        ensures { result.now ≡ self.now.reads }
+    {
+        &self.reads
+    }
+
+    /// One commit for each retired task, the first first.
+    #[inline]
+    pub fn commits(&self) -> &[Commit]
+        ensures { result.now ≡ self.now.commits }
+    {
+        &self.commits
+    }
+}

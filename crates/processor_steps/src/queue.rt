@@ -1,0 +1,283 @@
+//! The queue of units from the head to the tail: a ring with one place for each unit (Sohi, Breach,
+//! Vijaykumar, ISCA 1995, section 2: a circular queue of units with a head and a tail).
+
+use crate::listing::created;
+use circular_buffer::HeapCircularBuffer;
+use machine_events::event::Refused;
+use mark_checker::accept::Accepted;
+use mips_plain::number::{Reg, RegSet};
+use std::alloc::{AllocError, Global};
+use std::marker::Model;
+use task_descriptor::program::Program;
+use unit_core::burst::Burst;
+use unit_core::unit::Unit;
+use unit_core::wait::Wait;
+use unit_core::world::World;
+
+/// The units at work, in a ring with one place for each unit that there is.
+#[derive(Debug, Drop)]
+pub(crate) struct Queue {
+    ring: HeapCircularBuffer<Unit>,
+}
+
+impl Model for Queue {
+    ghost use Rattle.std.specs.Prelude.{◌≤◌, length};
+    ghost use Rattle.processor_steps.specs.Seen.{QueueView};
+
+    ghost Value = { QueueView };
+
+    ghost view = { λ q. record { units = q.ring.items; places = q.ring.capacity } };
+
+    ghost invariant = { λ q. (length q.ring.items ≤ q.ring.capacity) × (q.ring.capacity ≤ 16) };
+}
+
+impl Queue {
+    ghost use Rattle.std.specs.Prelude.{◌≡◌, ℕ, ◌<◌, ◌≤◌, ◌↔◌, IsTrue, [], ◌∷◌, ◌++◌, None, Some, length, take, drop, slice_get, slice_set, slice_index, IfSome, IfNone, IfOk, IfErr, OnOk, OnErr};
+    ghost use Rattle.std.specs.Option.{option_copied, option_map};
+    ghost use Rattle.std.specs.List.{last_or};
+    ghost use Rattle.mips_plain.specs.Words.{has};
+    ghost use Rattle.machine_model.specs.Machine.{Active};
+    ghost use Rattle.machine_model.specs.Step.{put, is_reserved, filled};
+    ghost use Rattle.machine_model.specs.Answer.{operand};
+    ghost use Rattle.machine_model.specs.Burst.{with_arrived};
+    ghost use Rattle.unit_core.specs.Units.{active_of};
+    ghost use Rattle.unit_core.specs.UnitStep.{drain_fault};
+    ghost use Rattle.unit_core.specs.Bursts.{HasMore};
+    ghost use Rattle.processor_steps.specs.Seen.{actives, ArePlaced};
+    ghost use Rattle.processor_steps.specs.Parts.{HeadStep, AheadStep, IsRefusedBy, exec_refusal as exec_refusal_of};
+    ghost use Rattle.machine_events.specs.declared.event.Standing.TheVariants as standing;
+
+    /// A queue without a unit, with so many places.
+    pub(crate) fn new(alloc: Global, places: u32) -> Result<Queue, AllocError>
+        requires { places ≤ 16 }
+        ensures { IfOk result (λ queue. (queue.units ≡ []) × (queue.places ≡ places)) }
+    {
+        let ring = HeapCircularBuffer::with_capacity(alloc, places as usize)?;
+        Ok(Queue { ring })
+    }
+
+    /// How many units are at work.
+    #[inline]
+    pub(crate) fn len(&self) -> u32
+        ensures len { result ≡ length self.now.units }
+        ensures within { (length self.now.units ≤ self.now.places) × (self.now.places ≤ 16) }
+    {
+        self.ring.len() as u32
+    }
+
+    /// How many there may be, 1 to 16.
+    #[inline]
+    pub(crate) fn places(&self) -> u32
+        ensures places { result ≡ self.now.places }
+        ensures within { (length self.now.units ≤ self.now.places) × (self.now.places ≤ 16) }
+    {
+        self.ring.capacity() as u32
+    }
+
+    /// The unit at a position from the head, 0 being the head.
+    #[inline]
+    pub(crate) fn get(&self, position: usize) -> Option<&Unit>
+        ensures unit { option_copied result ≡ slice_get self.now.units position }
+        ensures active { option_map active_of (option_copied result) ≡ slice_get (actives self.now) position }
+    {
+        self.ring.get(position)
+    }
+
+    /// The unit behind all others.
+    #[inline]
+    pub(crate) fn tail(&self) -> Option<&Unit>
+        ensures active { option_map active_of (option_copied result) ≡ last_or None (actives self.now) }
+    {
+        self.ring.back()
+    }
+
+    /// Puts a unit behind all others.
+    pub(crate) fn push(&mut self, unit: Unit)
+        requires { length self.old.units < self.old.places }
+        ensures { self.new ≡ record self.old { units = self.old.units ++ unit ∷ [] } }
+    {
+        let _ = self.ring.try_push_back(unit);
+    }
+
+    /// Takes the head away.
+    pub(crate) fn pop(&mut self)
+        ensures { self.new ≡ record self.old { units = drop 1 self.old.units } }
+    {
+        let _ = self.ring.pop_front();
+    }
+
+    /// Keeps so many units from the head on.
+    pub(crate) fn keep(&mut self, count: usize)
+        ensures { self.new ≡ record self.old { units = take count self.old.units } }
+    {
+        self.ring.truncate_back(count);
+    }
+
+    /// The registers that the units at work may produce: their create masks together.
+    pub(crate) fn reserved(&self, program: &Program) -> RegSet
+        ensures { (r : ℕ) → has result r ≡ is_reserved program.now (actives self.now) r }
+    {
+        let (front, back) = self.ring.as_slices();
+        created_by(program, front).union(created_by(program, back))
+    }
+
+    /// The unit at a position takes a register that has not arrived, with a word.
+    #[inline]
+    pub(crate) fn arrive(&mut self, position: usize, register: Reg, word: u32)
+        ensures active { (u : Active) → slice_get (actives self.old) position ≡ Some u → u.arrived register ≡ None
+            → actives self.new ≡ slice_set (actives self.old) position (record u { arrived = put register word u.arrived }) }
+        ensures places { self.new.places ≡ self.old.places }
+    {
+        let Some(unit) = self.ring.get_mut(position) else {
+            return;
+        };
+        let _ = unit.arrive(register, word);
+    }
+
+    /// The unit at a position sends a register, where it may.
+    #[inline]
+    pub(crate) fn send(&mut self, position: usize, accepted: &Accepted, register: Reg)
+        requires { ArePlaced accepted.now (actives self.old) }
+        ensures active { (u : Active) → slice_get (actives self.old) position ≡ Some u → drain_fault accepted.now.program u register ≡ None
+            → actives self.new ≡ slice_set (actives self.old) position (record u { sent = put register (operand u register) u.sent }) }
+        ensures places { self.new.places ≡ self.old.places }
+    {
+        let Some(unit) = self.ring.get_mut(position) else {
+            return;
+        };
+        let _ = unit.drain(accepted, register);
+    }
+
+    /// Each register that has not arrived at the head arrives there, with its word of these.
+    pub(crate) fn fill_head(&mut self, words: &[u32; 34])
+        ensures active { actives self.new ≡ filled (λ r. slice_index words.now r) (actives self.old) }
+        ensures places { self.new.places ≡ self.old.places }
+    {
+        let Some(head) = self.ring.get_mut(0) else {
+            return;
+        };
+        head.fill(words);
+    }
+
+    /// The head executes one instruction.
+    #[inline]
+    pub(crate) fn exec_head(
+        &mut self,
+        accepted: &Accepted,
+        world: &mut World,
+    ) -> Result<(), Refused>
+        requires placed { ArePlaced accepted.now (actives self.old) }
+        requires runs { world.old.outcome ≡ standing.Running }
+        ensures ok { OnOk result (HeadStep accepted.now.program (actives self.old) (actives self.new) world.old world.new) }
+        ensures refused { IfErr result (λ why. IsRefusedBy why (exec_refusal_of accepted.now.program (actives self.old) 0)) }
+        ensures err { OnErr result ((self.new ≡ self.old) × (world.new ≡ world.old)) }
+        ensures places { self.new.places ≡ self.old.places }
+    {
+        let Some(head) = self.ring.get_mut(0) else {
+            return Err(Refused::NoSuch);
+        };
+        match head.exec(accepted, world) {
+            Ok(()) => return Ok(()),
+            Err(wait) => return Err(refused_by(wait)),
+        }
+    }
+
+    /// The unit at a position behind the head executes one instruction.
+    #[inline]
+    pub(crate) fn exec_ahead(&mut self, position: usize, accepted: &Accepted) -> Result<(), Refused>
+        requires behind { 0 < position }
+        requires placed { ArePlaced accepted.now (actives self.old) }
+        ensures ok { OnOk result (AheadStep accepted.now.program position (actives self.old) (actives self.new)) }
+        ensures refused { IfErr result (λ why. IsRefusedBy why (exec_refusal_of accepted.now.program (actives self.old) position)) }
+        ensures err { OnErr result (self.new ≡ self.old) }
+        ensures places { self.new.places ≡ self.old.places }
+    {
+        let Some(unit) = self.ring.get_mut(position) else {
+            return Err(Refused::NoSuch);
+        };
+        match unit.exec_ahead(accepted) {
+            Ok(()) => return Ok(()),
+            Err(wait) => return Err(refused_by(wait)),
+        }
+    }
+
+    /// The position of a unit that is this one with at most more registers arrived; the serial number
+    /// is compared before all that is long.
+    pub(crate) fn position_of(&self, before: &Unit) -> Option<u32>
+        ensures some { IfSome result (λ k. (u : Active) × (slice_get (actives self.now) k ≡ Some u) × HasMore (active_of before.now) u) }
+        ensures none { IfNone result ((k : ℕ) (u : Active) → slice_get (actives self.now) k ≡ Some u → HasMore (active_of before.now) u → ⊥) }
+    {
+        for position in 0..self.len() {
+            if self.is_at(position as usize, before) {
+                return Some(position);
+            }
+        }
+        None
+    }
+
+    /// Whether the unit at a position is this one with at most more registers arrived.
+    fn is_at(&self, position: usize, before: &Unit) -> bool
+        ensures { IsTrue result ↔ ((u : Active) × (slice_get (actives self.now) position ≡ Some u) × HasMore (active_of before.now) u) }
+    {
+        match self.ring.get(position) {
+            Some(unit) => unit.has_more(before),
+            None => false,
+        }
+    }
+
+    /// The unit at a position, on which the burst was made, takes it over.
+    pub(crate) fn take(&mut self, position: usize, burst: Burst<'_>)
+        ensures active { (u : Active) → slice_get (actives self.old) position ≡ Some u → HasMore (active_of burst.entry.before) u → 0 < burst.entry.steps
+            → actives self.new ≡ slice_set (actives self.old) position (with_arrived (active_of burst.entry.after) u.arrived) }
+        ensures places { self.new.places ≡ self.old.places }
+    {
+        let Some(unit) = self.ring.get_mut(position) else {
+            return;
+        };
+        let _ = unit.take(burst);
+    }
+
+    /// What the unit at a position is refused an instruction by, want of memory aside.
+    pub(crate) fn exec_refusal(&self, position: usize, accepted: &Accepted) -> Option<Refused>
+        requires { ArePlaced accepted.now (actives self.now) }
+        ensures { result ≡ exec_refusal_of accepted.now.program (actives self.now) position }
+    {
+        let Some(unit) = self.ring.get(position) else {
+            return Some(Refused::NoSuch);
+        };
+        match unit.wait(accepted, position == 0) {
+            Some(wait) => Some(refused_by(wait)),
+            None => None,
+        }
+    }
+}
+
+ghost use Rattle.std.specs.Prelude.{◌≡◌, ℕ, map};
+ghost use Rattle.mips_plain.specs.Words.{has};
+ghost use Rattle.machine_model.specs.Step.{is_reserved};
+ghost use Rattle.unit_core.specs.Units.{active_of};
+ghost use Rattle.processor_steps.specs.Parts.{refused_by as refused_by_wait};
+
+/// The create masks of the tasks of some units together.
+fn created_by(program: &Program, units: &[Unit]) -> RegSet
+    ensures { (r : ℕ) → has result r ≡ is_reserved program.now (map active_of units.now) r }
+{
+    let mut set = RegSet::empty();
+    for unit in units {
+        set = set.union(created(program, unit.task()));
+    }
+    set
+}
+
+/// The refusal of an event whose unit waits.
+#[inline]
+pub(crate) fn refused_by(wait: Wait) -> Refused
+    ensures { result ≡ refused_by_wait wait }
+{
+    match wait {
+        Wait::Stopped => Refused::Stopped,
+        Wait::Waiting(register) => Refused::Waiting(register),
+        Wait::NotHead => Refused::NotHead,
+        Wait::OutOfMemory => Refused::OutOfMemory,
+    }
+}

@@ -1,0 +1,223 @@
+//! One event on a processor: what refuses it, in order, or else what it changes.
+
+ghost use Rattle.std.specs.Prelude.{◌≡◌, ℕ, ◌+◌, ◌^◌, ◌<◌, ◌↔◌, Some, None, IsTrue};
+ghost use Rattle.std.specs.Option.{option_or};
+ghost use Rattle.machine_model.specs.Answer.{refusal};
+ghost use Rattle.machine_events.specs.declared.event.Refused.TheVariants as refused;
+ghost use Rattle.machine_events.specs.declared.event.Event.TheVariants as events;
+ghost use Rattle.machine_events.specs.declared.event.Standing.TheVariants as standing;
+ghost use Rattle.processor_steps.specs.Seen.{state_of, ArePlaced, Steps, executed_by};
+ghost use Rattle.processor_steps.specs.Parts.{Does};
+
+use crate::allowed::room_behind;
+use crate::known::known;
+use crate::processor::{MOST_EVENTS, Processor};
+use machine_events::event::{Event, Refused};
+use machine_model::laws::bursts_are_events;
+use mark_checker::accept::Accepted;
+use mips_plain::number::Reg;
+use std::alloc::Global;
+use task_descriptor::program::Program;
+
+impl Processor {
+    /// Assign, behind so many events.
+    pub(crate) fn try_assign(
+        &mut self,
+        alloc: Global,
+        accepted: &Accepted,
+        count: usize,
+        task: u32,
+    ) -> Result<(), Refused>
+        requires { self.old.assigns + 1 < 2 ^ 32 }
+        ensures { Does accepted.now.program self.old count (events.Assign task) result self.new }
+    {
+        self.may_assign(accepted.program(), task)?;
+        room_behind(count)?;
+        self.assign(alloc, accepted, task);
+        Ok(())
+    }
+
+    /// Transfer, behind so many events.
+    #[inline]
+    pub(crate) fn try_transfer(
+        &mut self,
+        program: &Program,
+        count: usize,
+        position: u32,
+        register: Reg,
+    ) -> Result<(), Refused>
+        ensures { Does program.now self.old count (events.Transfer position register) result self.new }
+    {
+        let word = self.word_to_take(program, position, register)?;
+        room_behind(count)?;
+        self.take_word(program, position, register, word);
+        Ok(())
+    }
+
+    /// Drain, behind so many events.
+    #[inline]
+    pub(crate) fn try_drain(
+        &mut self,
+        accepted: &Accepted,
+        count: usize,
+        position: u32,
+        register: Reg,
+    ) -> Result<(), Refused>
+        requires { ArePlaced accepted.now (state_of self.old).queue }
+        ensures { Does accepted.now.program self.old count (events.Drain position register) result self.new }
+    {
+        self.may_send(accepted.program(), position, register)?;
+        room_behind(count)?;
+        self.send_word(accepted, position, register);
+        Ok(())
+    }
+
+    /// Squash, behind so many events.
+    pub(crate) fn try_squash(
+        &mut self,
+        program: &Program,
+        count: usize,
+        position: u32,
+    ) -> Result<(), Refused>
+        ensures { Does program.now self.old count (events.Squash position) result self.new }
+    {
+        self.may_squash(program, position)?;
+        room_behind(count)?;
+        self.squash(program, position);
+        Ok(())
+    }
+
+    /// Fault, behind so many events.
+    pub(crate) fn try_fault(&mut self, program: &Program, count: usize) -> Result<(), Refused>
+        ensures { Does program.now self.old count events.Fault result self.new }
+    {
+        let exit = self.unlisted_exit(program)?;
+        room_behind(count)?;
+        self.fault(program, exit);
+        Ok(())
+    }
+
+    /// Drop, behind so many events.
+    pub(crate) fn try_drop(
+        &mut self,
+        program: &Program,
+        count: usize,
+        position: u32,
+    ) -> Result<(), Refused>
+        ensures { Does program.now self.old count (events.Drop position) result self.new }
+    {
+        self.may_drop(program, position)?;
+        room_behind(count)?;
+        self.drop_from(program, position);
+        Ok(())
+    }
+
+    /// Exec, behind so many events.
+    #[inline]
+    pub(crate) fn try_exec(
+        &mut self,
+        accepted: &Accepted,
+        count: usize,
+        position: u32,
+    ) -> Result<(), Refused>
+        requires runs { self.old.world.outcome ≡ standing.Running }
+        requires placed { ArePlaced accepted.now (state_of self.old).queue }
+        ensures { Steps accepted.now.program self.old count (events.Exec position) result self.new }
+    {
+        bursts_are_events();
+        if count >= MOST_EVENTS {
+            return Err(self.exec_when_full(accepted, position));
+        }
+        if position == 0 {
+            self.queue.exec_head(accepted, &mut self.world)
+        } else {
+            self.queue.exec_ahead(position as usize, accepted)
+        }
+    }
+
+    /// What refuses an Exec where the history is full.
+    fn exec_when_full(&self, accepted: &Accepted, position: u32) -> Refused
+        requires { ArePlaced accepted.now (state_of self.now).queue }
+        ensures { Some result ≡ option_or (refusal accepted.now.program self.now.queue.places (state_of self.now) (events.Exec position)) (Some refused.Full) }
+    {
+        match self.queue.exec_refusal(position as usize, accepted) {
+            Some(refused) => refused,
+            None => Refused::Full,
+        }
+    }
+
+    /// Retire, behind so many events.
+    pub(crate) fn try_retire(&mut self, accepted: &Accepted, count: usize) -> Result<(), Refused>
+        requires runs { self.old.world.outcome ≡ standing.Running }
+        requires executed { executed_by (state_of self.old) < 2 ^ 32 }
+        ensures { Steps accepted.now.program self.old count events.Retire result self.new }
+    {
+        known(accepted);
+        let exit = self.exit_to_retire_at(accepted.program())?;
+        room_behind(count)?;
+        match self.retire(accepted.program(), exit) {
+            Ok(()) => Ok(()),
+            Err(_) => Err(Refused::OutOfMemory),
+        }
+    }
+
+    /// One event where the run goes on, behind so many events. Exec and Retire may take memory, no other
+    /// event does.
+    ///
+    /// # Errors
+    ///
+    /// The first refusal that holds, `Full` the last of them, else for Exec and Retire alone
+    /// `OutOfMemory`; nothing is changed then.
+    #[inline]
+    pub fn step(
+        &mut self,
+        alloc: Global,
+        accepted: &Accepted,
+        count: usize,
+        event: &Event,
+    ) -> Result<(), Refused>
+        requires runs { self.old.world.outcome ≡ standing.Running }
+        requires placed { ArePlaced accepted.now (state_of self.old).queue }
+        requires assigned { self.old.assigns + 1 < 2 ^ 32 }
+        requires executed { executed_by (state_of self.old) < 2 ^ 32 }
+        ensures { Steps accepted.now.program self.old count event.now result self.new }
+    {
+        known(accepted);
+        let program = accepted.program();
+        match *event {
+            Event::Assign(task) => self.try_assign(alloc, accepted, count, task),
+            Event::Exec(position) => self.try_exec(accepted, count, position),
+            Event::Transfer(position, register) => self.try_transfer(
+                program, count, position, register,
+            ),
+            Event::Drain(position, register) => self.try_drain(accepted, count, position, register),
+            Event::Squash(position) => self.try_squash(program, count, position),
+            Event::Retire => self.try_retire(accepted, count),
+            Event::Fault => self.try_fault(program, count),
+            Event::Drop(position) => self.try_drop(program, count, position),
+        }
+    }
+
+    /// Whether nothing but the run's end and the history's room can refuse an event.
+    pub fn is_allowed(&self, accepted: &Accepted, event: Event) -> bool
+        requires { ArePlaced accepted.now (state_of self.now).queue }
+        ensures { IsTrue result ↔ (refusal accepted.now.program self.now.queue.places (state_of self.now) event ≡ None) }
+    {
+        let program = accepted.program();
+        match event {
+            Event::Assign(task) => self.may_assign(program, task).is_ok(),
+            Event::Exec(position) => self
+                .queue
+                .exec_refusal(position as usize, accepted)
+                .is_none(),
+            Event::Transfer(position, register) => self
+                .word_to_take(program, position, register)
+                .is_ok(),
+            Event::Drain(position, register) => self.may_send(program, position, register).is_ok(),
+            Event::Squash(position) => self.may_squash(program, position).is_ok(),
+            Event::Retire => self.exit_to_retire_at(program).is_ok(),
+            Event::Fault => self.unlisted_exit(program).is_ok(),
+            Event::Drop(position) => self.may_drop(program, position).is_ok(),
+        }
+    }
+}
