@@ -26,4 +26,6 @@ mod proposals;
 #[cfg(test)]
 mod round_trip;
 #[cfg(test)]
+mod statements;
+#[cfg(test)]
 mod tokens;
