@@ -392,15 +392,18 @@ impl<'a> Machine<'a> {
     }
 
     /// The Assign that may follow: behind a tail that has not stopped that of the target at this
-    /// position modulo their number, `None` where it has none; behind a stopped tail, and on an empty
-    /// queue, the one that the machine step allows by task and place, whatever the answer. `None` once
-    /// the run has ended. A full ring does not matter to it.
+    /// position modulo their number; behind a stopped tail, and on an empty queue, the one that the
+    /// machine step allows by task and place, whatever the answer. `None` once the run has ended, and
+    /// else only where no task may follow, so never where there are choices. A full ring does not matter
+    /// to it.
     pub fn choice(&self, answer: u32) -> Option<Event>
         ensures value { result ≡ choice_of self.now.accepted.program (state self.now) answer }
         ensures follows { IfSome result (λ e. (task : ℕ) × (e ≡ Assign task) × MayFollow self.now.accepted.program (state self.now) task) }
-        ensures none { IfNone result ((state self.now).outcome ≡ standing.Running → choices_of self.now.accepted.program (state self.now) ≡ []
-            → (task : ℕ) → MayFollow self.now.accepted.program (state self.now) task → ⊥) }
+        ensures none { IfNone result ((state self.now).outcome ≡ standing.Running → (task : ℕ) → MayFollow self.now.accepted.program (state self.now) task → ⊥) }
+        ensures choices { IfNone result (choices_of self.now.accepted.program (state self.now) ≡ []) }
     {
+        // Where the program is read it says that its marks are sound, so a task begins at each target.
+        let _ = self.accepted.program();
         self.chosen(answer)
     }
 
