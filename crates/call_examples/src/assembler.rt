@@ -4,7 +4,9 @@ use annotated_asm::assembler::assemble;
 use annotated_asm::fault::AsmFault;
 use mips_plain::instruction::{ImmKind, LogicKind, Op};
 use mips_plain::number::Gpr;
-use std::test::Fail;
+use std::alloc::Global;
+use std::process::Abort;
+use task_descriptor::program::Program;
 
 const COUNT: &[u8] = b"
 .start A
@@ -17,13 +19,16 @@ bne $10,$0,A !s
 B: out $9
 halt";
 
+fn assembled(rt: &impl Abort, alloc: Global, text: &[u8]) -> Program {
+    assemble(alloc, text).ok().expect(rt, "a program")
+}
+
 #[test]
-fn two_tasks(rt: HostRuntime) -> Result<(), Fail> {
-    let program = assemble(rt.alloc(), COUNT)?;
+fn two_tasks(rt: HostRuntime) {
+    let program = assembled(&rt, rt.alloc(), COUNT);
     assert_eq!(rt; program.code().len(), 6);
     assert_eq!(rt; program.tasks().len(), 2);
     assert_eq!(rt; program.start().get(), 0);
-    Ok(())
 }
 
 const PSEUDO: &[u8] = b".task A create=$8 targets=-
@@ -36,37 +41,45 @@ halt
 .space 3
 D: .word 258";
 
+fn gpr(rt: &impl Abort, number: u8) -> Gpr {
+    Gpr::new(number).expect(rt, "a register")
+}
+
 #[test]
-fn pseudo_instructions(rt: HostRuntime) -> Result<(), Fail> {
-    let program = assemble(rt.alloc(), PSEUDO)?;
-    let zero = Gpr::new(0).ok_or("0")?;
-    let register = Gpr::new(8).ok_or("8")?;
-    let code = program.code();
-    assert_eq!(rt; code.len(), 7);
-    assert_eq!(rt; code[0].op, Op::Lui(register, 1));
-    assert!(rt; !code[0].forward);
-    assert_eq!(rt;
-        code[1].op,
-        Op::Logic(LogicKind::Ori, register, register, 0)
-    );
-    assert!(rt; code[1].forward);
-    assert_eq!(rt;
-        code[2].op,
-        Op::Logic(LogicKind::Ori, register, zero, 40_000)
-    );
-    assert_eq!(rt; code[3].op, Op::Imm(ImmKind::Addiu, register, zero, -1));
-    assert_eq!(rt; code[4].op, Op::Lui(register, 0x1001));
-    assert_eq!(rt;
-        code[5].op,
-        Op::Logic(LogicKind::Ori, register, register, 3)
-    );
+fn pseudo_instructions(rt: HostRuntime) {
+    let program = assembled(&rt, rt.alloc(), PSEUDO);
+    let (zero, eight) = (gpr(&rt, 0), gpr(&rt, 8));
+    let wanted = [
+        Op::Lui(eight, 1),
+        Op::Logic(LogicKind::Ori, eight, eight, 0),
+        Op::Logic(LogicKind::Ori, eight, zero, 40_000),
+        Op::Imm(ImmKind::Addiu, eight, zero, -1),
+        Op::Lui(eight, 0x1001),
+        Op::Logic(LogicKind::Ori, eight, eight, 3),
+        Op::Halt,
+    ];
+    assert_eq!(rt; program.code().len(), 7);
+    for (marked, op) in program.code().iter().zip(wanted) {
+        assert_eq!(rt; marked.op, op);
+    }
+    expect_second_marked(&rt, &program);
     assert_eq!(rt; program.bytes(), [0, 0, 0, 2, 1, 0, 0].as_slice());
-    Ok(())
+}
+
+// Asserts that the mark of a pseudo-instruction stands at the second one that it is.
+fn expect_second_marked(rt: &impl Abort, program: &Program) {
+    let forwards = [false, true];
+    for (marked, forward) in program.code().iter().zip(forwards) {
+        assert!(rt; marked.forward == forward);
+    }
 }
 
 #[test]
 fn faults(rt: HostRuntime) {
-    assert!(rt; matches!(assemble(rt.alloc(), b"foo $8"), Err(AsmFault::Mnemonic(1))));
-    assert!(rt; matches!(assemble(rt.alloc(), b"A:\nA:"), Err(AsmFault::Duplicate(2))));
-    assert!(rt; matches!(assemble(rt.alloc(), b"nop\nj B"), Err(AsmFault::Unknown(2))));
+    let mnemonic = assemble(rt.alloc(), b"foo $8");
+    assert!(rt; matches!(mnemonic, Err(AsmFault::Mnemonic(1))));
+    let duplicate = assemble(rt.alloc(), b"A:\nA:");
+    assert!(rt; matches!(duplicate, Err(AsmFault::Duplicate(2))));
+    let unknown = assemble(rt.alloc(), b"nop\nj B");
+    assert!(rt; matches!(unknown, Err(AsmFault::Unknown(2))));
 }

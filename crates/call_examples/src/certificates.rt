@@ -7,32 +7,47 @@ use mask_certificate::fault::CertFault;
 use mask_certificate::reading::read;
 use mask_certificate::writing::write;
 use mips_plain::number::RegSet;
-use std::test::Fail;
+use std::alloc::Global;
+use std::process::Abort;
+use task_descriptor::program::Program;
 
 const WIDE: &[u8] =
     b"cert 2\ntask A\n0 0000000000000700\n1 0000000000000600\n2 0000000000000400\n3 0000000000000000\ntask B\n4 0000000000000000\n5 0000000000000000\n";
 
-const NARROW: &[u8] =
+/// The certificate of the program.
+pub(crate) const NARROW: &[u8] =
     b"cert 1\ntask A\n0 00000700\n1 00000600\n2 00000400\n3 00000000\ntask B\n4 00000000\n5 00000000\n";
 
-fn mask(bits: u64) -> Result<RegSet, Fail> {
-    Ok(RegSet::from_bits(bits).ok_or("mask")?)
+/// The certificate that a text spells for the program.
+pub(crate) fn cert(rt: &impl Abort, alloc: Global, program: &Program, text: &[u8]) -> Cert {
+    let cert = read(alloc, text, program).ok();
+    cert.expect(rt, "a certificate")
+}
+
+fn mask(rt: &impl Abort, bits: u64) -> RegSet {
+    RegSet::from_bits(bits).expect(rt, "a mask")
 }
 
 #[test]
-fn both_spellings_are_read(rt: HostRuntime) -> Result<(), Fail> {
-    let program = program(rt.alloc())?;
+fn both_spellings_are_read(rt: HostRuntime) {
+    let program = program(&rt, rt.alloc());
     for text in [WIDE, NARROW] {
-        let cert = read(rt.alloc(), text, &program).ok().ok_or("refused")?;
-        assert_eq!(rt; cert.list(0).len(), 4);
-        assert_eq!(rt; cert.list(1).len(), 2);
-        assert_eq!(rt; cert.list(2).len(), 0);
-        assert_eq!(rt; cert.mask(0, 1), Some(mask(0x600)?));
-        assert_eq!(rt; cert.mask(1, 5), Some(mask(0)?));
-        assert_eq!(rt; cert.mask(0, 4), None);
-        assert_eq!(rt; write(rt.alloc(), &cert, &program)?.as_slice(), WIDE);
+        let cert = cert(&rt, rt.alloc(), &program, text);
+        expect_lists(&rt, &cert);
+        let written = write(rt.alloc(), &cert, &program).ok();
+        let written = written.expect(&rt, "room for a text");
+        assert_eq!(rt; written.as_slice(), WIDE);
     }
-    Ok(())
+}
+
+fn expect_lists(rt: &impl Abort, cert: &Cert) {
+    for (task, length) in [(0, 4), (1, 2), (2, 0)] {
+        assert_eq!(rt; cert.list(task).len(), length, "task {task}");
+    }
+    for (task, index, bits) in [(0, 1, Some(0x600)), (1, 5, Some(0)), (0, 4, None)] {
+        let found = cert.mask(task, index).map(RegSet::bits);
+        assert_eq!(rt; found, bits, "task {task} index {index}");
+    }
 }
 
 /// What the first bytes of a text with 9 lines are: their lines, and whether the last one is whole.
@@ -50,61 +65,81 @@ fn answer_of_beginning(text: &[u8]) -> Option<CertFault> {
 }
 
 #[test]
-fn beginnings_are_refused(rt: HostRuntime) -> Result<(), Fail> {
-    let program = program(rt.alloc())?;
-    for text in [WIDE, NARROW] {
-        for len in 0..text.len() {
-            let beginning = &text[..len];
-            let answer = read(rt.alloc(), beginning, &program).err();
-            assert_eq!(rt; answer, answer_of_beginning(beginning));
-        }
-    }
-    Ok(())
+fn beginnings_are_refused(rt: HostRuntime) {
+    let program = program(&rt, rt.alloc());
+    expect_beginnings(&rt, rt.alloc(), &program, WIDE);
+    expect_beginnings(&rt, rt.alloc(), &program, NARROW);
 }
 
+// Asserts what is said of each beginning of a text.
+fn expect_beginnings(rt: &impl Abort, alloc: Global, program: &Program, text: &[u8]) {
+    for len in 0..text.len() {
+        let beginning = &text[..len];
+        let answer = read(alloc, beginning, program).err();
+        assert_eq!(rt; answer, answer_of_beginning(beginning));
+    }
+}
+
+const BAD_TEXTS: [(&[u8], CertFault); 7] = [
+    (b"cert 1\ntask A\n", CertFault::MissingTask),
+    (
+        b"cert 1\ntask A\n1 00000600\n1 00000600\ntask B\n",
+        CertFault::Shape,
+    ),
+    (b"cert 2\ntask A\n0 00000700\n", CertFault::Line(3)),
+    (b"cert 3\ntask A\n", CertFault::Header),
+    (b"cert 1\ntask A\n0 00000700\n1 600\n", CertFault::Line(4)),
+    (b"cert 1\ntask C\n", CertFault::TaskName(2)),
+    (
+        b"cert 2\ntask A\n0 0000000400000100\ntask B\n",
+        CertFault::Line(3),
+    ),
+];
+
 #[test]
-fn bad_texts_are_refused(rt: HostRuntime) -> Result<(), Fail> {
-    let program = program(rt.alloc())?;
-    let cases: [(&[u8], CertFault); 7] = [
-        (b"cert 1\ntask A\n", CertFault::MissingTask),
-        (
-            b"cert 1\ntask A\n1 00000600\n1 00000600\ntask B\n",
-            CertFault::Shape,
-        ),
-        (b"cert 2\ntask A\n0 00000700\n", CertFault::Line(3)),
-        (b"cert 3\ntask A\n", CertFault::Header),
-        (b"cert 1\ntask A\n0 00000700\n1 600\n", CertFault::Line(4)),
-        (b"cert 1\ntask C\n", CertFault::TaskName(2)),
-        (
-            b"cert 2\ntask A\n0 0000000400000100\ntask B\n",
-            CertFault::Line(3),
-        ),
-    ];
-    for (text, fault) in cases {
+fn bad_texts_are_refused(rt: HostRuntime) {
+    let program = program(&rt, rt.alloc());
+    for (text, fault) in BAD_TEXTS {
         assert_eq!(rt; read(rt.alloc(), text, &program).err(), Some(fault));
     }
-    Ok(())
+}
+
+// The list of these indices and masks.
+fn list(rt: &impl Abort, alloc: Global, entries: &[(u32, u64)]) -> Vec<(u32, RegSet)> {
+    let mut list = Vec::new(alloc);
+    for (index, bits) in entries {
+        assert!(rt; list.push((*index, mask(rt, *bits))).is_ok());
+    }
+    list
+}
+
+// The certificate with this list behind so many empty ones, or what is wrong and how many lists came
+// back.
+fn build(
+    rt: &impl Abort,
+    alloc: Global,
+    empty: u32,
+    entries: &[(u32, u64)],
+) -> Result<Cert, (usize, ListFault)> {
+    let mut lists = Vec::new(alloc);
+    for _ in 0..empty {
+        assert!(rt; lists.push(Vec::new(alloc)).is_ok());
+    }
+    assert!(rt; lists.push(list(rt, alloc, entries)).is_ok());
+    assert!(rt; lists.len() <= 2);
+    match Cert::build(lists) {
+        Ok(cert) => Ok(cert),
+        Err((lists, fault)) => Err((lists.len(), fault)),
+    }
 }
 
 #[test]
-fn lists_are_built(rt: HostRuntime) -> Result<(), Fail> {
-    let alloc = rt.alloc();
-    let lists = vec![in alloc; vec![in alloc; (0, mask(1)?), (4095, mask(2)?)]?]?;
-    let cert = Cert::build(lists).ok().ok_or("refused")?;
-    assert_eq!(rt; cert.mask(0, 4095), Some(mask(2)?));
-    let lists = vec![in alloc;
-        Vec::new(alloc),
-        vec![in alloc; (3, mask(1)?), (3, mask(1)?)]?,
-    ]?;
-    let Err((lists, fault)) = Cert::build(lists) else {
-        return Err(Fail::from("built"));
-    };
-    assert_eq!(rt; lists.len(), 2);
-    assert_eq!(rt; fault, ListFault::NotRising(1, 1));
-    let lists = vec![in alloc; vec![in alloc; (4096, mask(1)?)]?]?;
-    let Err((_, fault)) = Cert::build(lists) else {
-        return Err(Fail::from("built"));
-    };
-    assert_eq!(rt; fault, ListFault::OutOfCode(0, 0));
-    Ok(())
+fn lists_are_built(rt: HostRuntime) {
+    let cert = build(&rt, rt.alloc(), 0, &[(0, 1), (4095, 2)]).ok();
+    let cert = cert.expect(&rt, "a certificate");
+    assert_eq!(rt; cert.mask(0, 4095), Some(mask(&rt, 2)));
+    let equal = build(&rt, rt.alloc(), 1, &[(3, 1), (3, 1)]).err();
+    assert_eq!(rt; equal, Some((2, ListFault::NotRising(1, 1))));
+    let beyond = build(&rt, rt.alloc(), 0, &[(4096, 1)]).err();
+    assert_eq!(rt; beyond, Some((1, ListFault::OutOfCode(0, 0))));
 }

@@ -18,9 +18,11 @@ mod descriptors;
 #[cfg(test)]
 mod graph;
 #[cfg(test)]
-mod plain_machine;
+mod memory;
 #[cfg(test)]
-mod ports;
+mod operations;
+#[cfg(test)]
+mod plain_machine;
 #[cfg(test)]
 mod proposals;
 #[cfg(test)]

@@ -8,7 +8,9 @@ use annotator::propose::propose;
 use annotator::soundness::is_sound;
 use mark_checker::accept::accepts;
 use mips_plain::number::RegSet;
-use std::test::Fail;
+use std::alloc::Global;
+use std::process::Abort;
+use task_descriptor::program::Program;
 
 const BARE: &[u8] = b".task A create=- targets=A,B
 .task B create=- targets=-
@@ -23,40 +25,60 @@ halt
 .rodata
 .byte 9";
 
-#[test]
-fn count_has_the_least_masks(rt: HostRuntime) -> Result<(), Fail> {
-    let program = assemble(rt.alloc(), BARE)?;
-    let cert = certify(rt.alloc(), &program)?;
-    let wanted = [(0, 0x700), (1, 0x600), (2, 0x400), (3, 0)];
-    assert_eq!(rt; cert.list(0).len(), 4);
-    for (index, bits) in wanted {
-        assert_eq!(rt; cert.mask(0, index), RegSet::from_bits(bits));
-    }
-    assert_eq!(rt; cert.mask(0, 4), None);
-    assert_eq!(rt; cert.list(1).len(), 2);
-    assert_eq!(rt; cert.mask(1, 5), RegSet::from_bits(0));
-    assert_eq!(rt; cert.list(2).len(), 0);
-    Ok(())
+fn bare(rt: &impl Abort, alloc: Global) -> Program {
+    assemble(alloc, BARE).ok().expect(rt, "a program")
 }
 
 #[test]
-fn count_is_marked(rt: HostRuntime) -> Result<(), Fail> {
-    let program = assemble(rt.alloc(), BARE)?;
-    assert!(rt; !is_sound(rt.alloc(), &program)?);
-    let (proposed, cert) = propose(rt.alloc(), program).ok().ok_or("refused")?;
-    let wanted = [true, true, true, false, false, false];
-    assert_eq!(rt; proposed.code().len(), 6);
-    for (marked, forward) in proposed.code().iter().zip(wanted) {
-        assert_eq!(rt; marked.forward, forward);
+fn count_has_the_least_masks(rt: HostRuntime) {
+    let cert = certify(rt.alloc(), &bare(&rt, rt.alloc())).ok();
+    let cert = cert.expect(&rt, "room for a certificate");
+    for (task, length) in [(0, 4), (1, 2), (2, 0)] {
+        assert_eq!(rt; cert.list(task).len(), length, "task {task}");
     }
-    assert_eq!(rt; proposed.tasks().len(), 2);
-    assert_eq!(rt; proposed.tasks()[0].create.bits(), 0x700);
-    assert_eq!(rt; proposed.tasks()[1].create.bits(), 0);
+    for (task, index, bits) in [
+        (0, 0, Some(0x700)),
+        (0, 1, Some(0x600)),
+        (0, 2, Some(0x400)),
+        (0, 3, Some(0)),
+        (0, 4, None),
+        (1, 5, Some(0)),
+    ] {
+        let found = cert.mask(task, index).map(RegSet::bits);
+        assert_eq!(rt; found, bits, "task {task} index {index}");
+    }
+}
+
+fn is_sound_program(rt: &impl Abort, alloc: Global, program: &Program) -> bool {
+    is_sound(alloc, program)
+        .ok()
+        .expect(rt, "room for a verdict")
+}
+
+#[test]
+fn count_is_marked(rt: HostRuntime) {
+    let program = bare(&rt, rt.alloc());
+    assert!(rt; !is_sound_program(&rt, rt.alloc(), &program));
+    let proposed = propose(rt.alloc(), program).ok();
+    let (proposed, cert) = proposed.expect(&rt, "a proposal");
+    expect_marks(&rt, &proposed);
     assert_eq!(rt; proposed.bytes(), [7, 8].as_slice());
     assert_eq!(rt; proposed.fixed(), [9].as_slice());
     assert!(rt; accepts(&proposed, &cert));
-    assert!(rt; is_sound(rt.alloc(), &proposed)?);
-    Ok(())
+    assert!(rt; is_sound_program(&rt, rt.alloc(), &proposed));
+}
+
+fn expect_marks(rt: &impl Abort, proposed: &Program) {
+    let forwards = [true, true, true, false, false, false];
+    assert_eq!(rt; proposed.code().len(), 6);
+    for (marked, forward) in proposed.code().iter().zip(forwards) {
+        assert!(rt; marked.forward == forward);
+    }
+    let creates = [0x700, 0];
+    assert_eq!(rt; proposed.tasks().len(), 2);
+    for (task, bits) in proposed.tasks().iter().zip(creates) {
+        assert_eq!(rt; task.create.bits(), bits);
+    }
 }
 
 #[test]

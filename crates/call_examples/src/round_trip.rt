@@ -2,7 +2,8 @@
 
 use annotated_asm::assembler::assemble;
 use canonical_round_trip::laws::print_and_assemble;
-use std::test::Fail;
+use std::process::Abort;
+use task_descriptor::program::Program;
 
 const TEXT: &[u8] = b"
 .start B
@@ -21,14 +22,18 @@ halt
 .word 0x12345678,9";
 
 #[test]
-fn comes_back(rt: HostRuntime) -> Result<(), Fail> {
-    let program = assemble(rt.alloc(), TEXT)?;
-    let again = print_and_assemble(rt.alloc(), &program)?;
+fn comes_back(rt: HostRuntime) {
+    let program = assemble(rt.alloc(), TEXT).ok().expect(&rt, "a program");
+    let again = print_and_assemble(rt.alloc(), &program).ok();
+    let again = again.expect(&rt, "room for a program");
+    expect_same(&rt, &again, &program);
+    assert_eq!(rt; again.tasks().len(), 2);
+    assert_eq!(rt; again.tasks()[0].targets.as_slice().len(), 3);
+}
+
+fn expect_same(rt: &impl Abort, again: &Program, program: &Program) {
     assert!(rt; again.code() == program.code());
     assert!(rt; again.bytes() == program.bytes());
     assert!(rt; again.fixed() == program.fixed());
     assert!(rt; again.start() == program.start());
-    assert_eq!(rt; again.tasks().len(), 2);
-    assert_eq!(rt; again.tasks()[0].targets.as_slice().len(), 3);
-    Ok(())
 }

@@ -4,34 +4,42 @@
 use mips_plain::number::Reg;
 use program_tokens::line::{first_line, line_tokens, read_tokens};
 use program_tokens::token::{Directive, Mark, Number, Token, TokenFault};
-use std::test::Fail;
+use std::process::Abort;
 
-#[test]
-fn an_instruction(rt: HostRuntime) -> Result<(), Fail> {
-    let tokens = line_tokens(rt.alloc(), b"addiu$8,$ra,-0x1!f # $99")?;
-    assert_eq!(rt; tokens.len(), 7);
-    assert_eq!(rt; tokens[1], Token::Register(Reg::new(8).ok_or("8")?));
-    assert_eq!(rt; tokens[2], Token::Comma);
-    assert_eq!(rt; tokens[3], Token::Register(Reg::new(31).ok_or("31")?));
-    assert_eq!(rt; tokens[5], Token::Number(Number::Small(-1)));
-    assert_eq!(rt; tokens[6], Token::Mark(Mark::Forward));
-    Ok(())
+fn register(rt: &impl Abort, number: u8) -> Token {
+    Token::Register(Reg::new(number).expect(rt, "a register"))
 }
 
 #[test]
-fn lines_of_a_text(rt: HostRuntime) -> Result<(), Fail> {
-    let (line, rest) = first_line(b".word1,2\r\n1a");
+fn an_instruction(rt: HostRuntime) {
+    let tokens = line_tokens(rt.alloc(), b"addiu$8,$ra,-0x1!f # $99").ok();
+    let tokens = tokens.expect(&rt, "tokens");
+    let wanted = [
+        register(&rt, 8),
+        Token::Comma,
+        register(&rt, 31),
+        Token::Comma,
+        Token::Number(Number::Small(-1)),
+        Token::Mark(Mark::Forward),
+    ];
+    assert_eq!(rt; tokens.len(), 7);
+    for (token, want) in tokens.iter().skip(1).zip(wanted) {
+        assert!(rt; *token == want);
+    }
+}
+
+#[test]
+fn lines_of_a_text(rt: HostRuntime) {
     let mut tokens = Vec::new(rt.alloc());
-    read_tokens(&mut tokens, line)?;
+    let (line, rest) = first_line(b".word1,2\r\n1a");
+    assert!(rt; read_tokens(&mut tokens, line).is_ok());
     assert_eq!(rt; tokens.len(), 4);
-    assert_eq!(rt; tokens[0], Token::Directive(Directive::Word));
-    let (line, rest) = first_line(rest.ok_or("one line")?);
-    assert_eq!(rt; read_tokens(&mut tokens, line), Err(TokenFault::Token));
-    assert_eq!(rt;
-        read_tokens(&mut tokens, b"# \xC3"),
-        Err(TokenFault::NotAscii)
-    );
+    assert!(rt; tokens[0] == Token::Directive(Directive::Word));
+    let (line, rest) = first_line(rest.expect(&rt, "a second line"));
+    let number = read_tokens(&mut tokens, line);
+    assert!(rt; matches!(number, Err(TokenFault::Token)));
+    let byte = read_tokens(&mut tokens, b"# \xC3");
+    assert!(rt; matches!(byte, Err(TokenFault::NotAscii)));
     assert!(rt; tokens.is_empty());
     assert!(rt; rest.is_none());
-    Ok(())
 }

@@ -1,7 +1,7 @@
 //! The calls of a machine: events one by one, head events, units lent and bursts handed in, and the
 //! predictors.
 
-use crate::programs::{COUNT, COUNT_CERTIFICATE, DIAMOND, DIAMOND_CERTIFICATE};
+use crate::programs::{COUNT, COUNT_CERTIFICATE, COUNT_FORWARDED, DIAMOND, DIAMOND_CERTIFICATE};
 use annotated_asm::assembler::assemble;
 use machine_events::event::{Commit, Event, Refused, Standing};
 use mark_checker::accept::Accepted;
@@ -40,9 +40,13 @@ fn machine<'a>(rt: &impl Abort, alloc: Global, accepted: &'a Accepted, units: u3
 // Asserts that each event is answered Ok, and that `enabled` says so before.
 fn apply_all(rt: &impl Abort, machine: &mut Machine<'_>, events: &[Event]) {
     for event in events {
-        assert!(rt; machine.enabled(*event));
-        assert_eq!(rt; machine.apply(*event), Ok(()));
+        expect_applied(rt, machine, event);
     }
+}
+
+fn expect_applied(rt: &impl Abort, machine: &mut Machine<'_>, event: &Event) {
+    assert!(rt; machine.enabled(*event));
+    assert!(rt; machine.apply(*event).is_ok());
 }
 
 // Lends a unit, makes a burst of at most 64 steps on it, and asserts how many it has.
@@ -62,7 +66,17 @@ fn expect_taken(
     length: usize,
 ) {
     assert_eq!(rt; machine.apply_burst(burst).ok(), Some(events));
+    expect_length(rt, machine, length);
+}
+
+fn expect_length(rt: &impl Abort, machine: &Machine<'_>, length: usize) {
     assert_eq!(rt; machine.length(), length);
+}
+
+// Asserts the value of a register at a position.
+fn expect_value(rt: &impl Abort, machine: &Machine<'_>, position: u32, number: u8, value: u32) {
+    let register = register(rt, number);
+    assert_eq!(rt; machine.value(position, register), Some(value));
 }
 
 #[test]
@@ -85,7 +99,7 @@ fn stale_burst(rt: HostRuntime) {
     squash_behind_a_lease(&rt, &mut machine);
     let fresh = burst_on(&rt, &machine, 2, 1);
     expect_taken(&rt, &mut machine, fresh, 1, 9);
-    assert_eq!(rt; machine.value(2, register(&rt, 9)), Some(7));
+    expect_value(&rt, &machine, 2, 9, 7);
 }
 
 // The unit that a burst was made on is squashed, and another one is at work on the same task.
@@ -101,25 +115,28 @@ fn squash_behind_a_lease(rt: &impl Abort, machine: &mut Machine<'_>) {
         Event::Assign(3),
     ];
     apply_all(rt, machine, &elsewhere);
-    assert_eq!(rt; machine.length(), 8);
+    expect_length(rt, machine, 8);
     expect_taken(rt, machine, stale, 0, 8);
-    assert_eq!(rt; machine.value(2, register(rt, 9)), Some(0));
+    expect_value(rt, machine, 2, 9, 0);
 }
 
 // The same serial number and registers, and another program: one mark differs.
 #[test]
 fn burst_of_another_program(rt: HostRuntime) {
-    let marked = COUNT.replace(rt.alloc(), "slti $10,$8,4", "slti $10,$8,4 !f");
-    let marked = marked.ok().expect(&rt, "room for a text");
-    let other = accepted(&rt, rt.alloc(), marked.as_str(), COUNT_CERTIFICATE);
+    let other = accepted(&rt, rt.alloc(), COUNT_FORWARDED, COUNT_CERTIFICATE);
     let accepted = accepted(&rt, rt.alloc(), COUNT, COUNT_CERTIFICATE);
-    let mut lender = machine(&rt, rt.alloc(), &accepted, 1);
-    apply_all(&rt, &mut lender, &[Event::Assign(0)]);
+    let lender = begun_on_one_unit(&rt, rt.alloc(), &accepted);
     let burst = burst_on(&rt, &lender, 0, 4);
-    let mut machine = machine(&rt, rt.alloc(), &other, 1);
-    apply_all(&rt, &mut machine, &[Event::Assign(0)]);
+    let mut machine = begun_on_one_unit(&rt, rt.alloc(), &other);
     expect_taken(&rt, &mut machine, burst, 0, 1);
-    assert_eq!(rt; machine.value(0, register(&rt, 8)), Some(0));
+    expect_value(&rt, &machine, 0, 8, 0);
+}
+
+// A machine of one unit with its first task assigned.
+fn begun_on_one_unit<'a>(rt: &impl Abort, alloc: Global, accepted: &'a Accepted) -> Machine<'a> {
+    let mut machine = machine(rt, alloc, accepted, 1);
+    expect_applied(rt, &mut machine, &Event::Assign(0));
+    machine
 }
 
 // The second unit waits for a register of the first, and there is no third one.
@@ -131,8 +148,12 @@ fn burst_with_no_step(rt: HostRuntime) {
     apply_all(&rt, &mut machine, &begun);
     let burst = burst_on(&rt, &machine, 1, 0);
     expect_taken(&rt, &mut machine, burst, 0, 3);
-    let third = machine.lease(2).ok().expect(&rt, "room for a lease");
-    assert!(rt; third.is_none());
+    expect_no_lease(&rt, &machine, 2);
+}
+
+fn expect_no_lease(rt: &impl Abort, machine: &Machine<'_>, unit: u32) {
+    let lent = machine.lease(unit).ok().expect(rt, "room for a lease");
+    assert!(rt; lent.is_none());
 }
 
 #[test]
@@ -141,30 +162,52 @@ fn finishes_count(rt: HostRuntime) {
     let mut machine = machine(&rt, rt.alloc(), &accepted, 1);
     expect_finished(&rt, &mut machine, 4, (0, 4));
     let drain = Event::Drain(0, register(&rt, 10));
-    assert_eq!(rt; machine.head_event(), Some(drain));
+    expect_head_event(&rt, &machine, Some(drain));
     expect_finished(&rt, &mut machine, 1, (4, 5));
     expect_finished(&rt, &mut machine, 100, (16, 18));
     expect_counted(&rt, &machine);
+    expect_commits_of_count(&rt, &machine);
+    expect_reads_of_count(&rt, &machine);
 }
 
 // Applies head events until h has grown by `k`, and asserts c and h behind them.
 fn expect_finished(rt: &impl Abort, machine: &mut Machine<'_>, k: u64, counts: (u64, u64)) {
-    assert_eq!(rt; machine.finish(k), Ok(()));
+    assert!(rt; machine.finish(k).is_ok());
+    expect_counts(rt, machine, counts);
+}
+
+// Asserts c and h.
+fn expect_counts(rt: &impl Abort, machine: &Machine<'_>, counts: (u64, u64)) {
     assert_eq!(rt; machine.counts(), counts);
 }
 
-// Asserts what the whole run of `COUNT` leaves.
+fn expect_head_event(rt: &impl Abort, machine: &Machine<'_>, event: Option<Event>) {
+    assert_eq!(rt; machine.head_event(), event);
+}
+
+// Asserts how the whole run of `COUNT` ends, and what it puts out.
 fn expect_counted(rt: &impl Abort, machine: &Machine<'_>) {
     assert_eq!(rt; machine.outcome(), Standing::Halted);
-    assert_eq!(rt; machine.head_event(), None);
+    expect_head_event(rt, machine, None);
     assert_eq!(rt; machine.output(), [10].as_slice());
-    let commits = [
-        round_to(0x0040_0000),
-        round_to(0x0040_0000),
-        round_to(0x0040_0000),
-        round_to(0x0040_0010),
-    ];
-    assert_eq!(rt; machine.commits(), commits.as_slice());
+}
+
+// Asserts the commits of the whole run of `COUNT`: the rounds, of four instructions each.
+fn expect_commits_of_count(rt: &impl Abort, machine: &Machine<'_>) {
+    let exits = [0x0040_0000, 0x0040_0000, 0x0040_0000, 0x0040_0010];
+    assert_eq!(rt; machine.commits().len(), exits.len());
+    for (commit, exit) in machine.commits().iter().zip(exits) {
+        let round = Commit {
+            task: 0,
+            exit,
+            count: 4,
+        };
+        assert_eq!(rt; *commit, round);
+    }
+}
+
+// Asserts how many reads the whole run of `COUNT` commits, and the first one.
+fn expect_reads_of_count(rt: &impl Abort, machine: &Machine<'_>) {
     assert_eq!(rt; machine.reads().len(), 16);
     let first = Read {
         pc: 0x0040_0000,
@@ -174,33 +217,28 @@ fn expect_counted(rt: &impl Abort, machine: &Machine<'_>) {
     assert_eq!(rt; machine.reads().first().copied(), Some(first));
 }
 
-// The commit of a round of `COUNT` that goes on at an address.
-fn round_to(exit: u32) -> Commit {
-    Commit {
-        task: 0,
-        exit,
-        count: 4,
-    }
-}
-
 // The Retire by which h grows brings what the next unit had executed ahead.
 #[test]
 fn finishes_where_a_unit_ran_ahead(rt: HostRuntime) {
     let accepted = accepted(&rt, rt.alloc(), COUNT, COUNT_CERTIFICATE);
     let mut machine = machine(&rt, rt.alloc(), &accepted, 2);
     run_ahead(&rt, &mut machine);
-    assert_eq!(rt; (machine.counts(), machine.length()), ((0, 4), 10));
+    expect_counts(&rt, &machine, (0, 4));
+    expect_length(&rt, &machine, 10);
     expect_finished(&rt, &mut machine, 1, (4, 6));
-    assert_eq!(rt; machine.length(), 12);
-    assert_eq!(rt; machine.history().last().copied(), Some(Event::Retire));
+    expect_length(&rt, &machine, 12);
+    expect_last(&rt, &machine, Event::Retire);
+}
+
+fn expect_last(rt: &impl Abort, machine: &Machine<'_>, event: Event) {
+    assert_eq!(rt; machine.history().last().copied(), Some(event));
 }
 
 // The first unit executes its task, and the second one two instructions.
 fn run_ahead(rt: &impl Abort, machine: &mut Machine<'_>) {
     let (r8, r9) = (register(rt, 8), register(rt, 9));
     apply_all(rt, machine, &[Event::Assign(0), Event::Assign(0)]);
-    assert!(rt; !machine.enabled(Event::Exec(1)));
-    assert_eq!(rt; machine.apply(Event::Exec(1)), Err(Refused::Waiting(r8)));
+    expect_refused(rt, machine, &Event::Exec(1), Refused::Waiting(r8));
     let ahead = [
         Event::Exec(0),
         Event::Transfer(1, r8),
@@ -214,13 +252,18 @@ fn run_ahead(rt: &impl Abort, machine: &mut Machine<'_>) {
     apply_all(rt, machine, &ahead);
 }
 
+fn expect_refused(rt: &impl Abort, machine: &mut Machine<'_>, event: &Event, why: Refused) {
+    assert!(rt; !machine.enabled(*event));
+    assert_eq!(rt; machine.apply(*event).err(), Some(why));
+}
+
 #[test]
 fn finishes_nothing(rt: HostRuntime) {
     let accepted = accepted(&rt, rt.alloc(), COUNT, COUNT_CERTIFICATE);
     let mut machine = machine(&rt, rt.alloc(), &accepted, 1);
     expect_finished(&rt, &mut machine, 0, (0, 0));
-    assert_eq!(rt; machine.length(), 0);
-    assert_eq!(rt; machine.head_event(), Some(Event::Assign(0)));
+    expect_length(&rt, &machine, 0);
+    expect_head_event(&rt, &machine, Some(Event::Assign(0)));
 }
 
 // The units of the ring: the head's number follows the retired tasks, round the ring.
@@ -228,17 +271,26 @@ fn finishes_nothing(rt: HostRuntime) {
 fn units_go_round_the_ring(rt: HostRuntime) {
     let accepted = accepted(&rt, rt.alloc(), COUNT, COUNT_CERTIFICATE);
     let mut machine = machine(&rt, rt.alloc(), &accepted, 2);
-    assert_eq!(rt; (machine.position(0), machine.next_unit()), (None, Some(0)));
+    expect_ring(&rt, &machine, 0, None, Some(0));
     // One task retired, and the next one assigned.
     expect_finished(&rt, &mut machine, 5, (4, 5));
-    assert_eq!(rt;
-        (machine.position(1), machine.next_unit()),
-        (Some(0), Some(0))
-    );
-    apply_all(&rt, &mut machine, &[Event::Assign(1)]);
-    assert_eq!(rt; (machine.position(0), machine.next_unit()), (Some(1), None));
-    assert_eq!(rt; machine.position(2), None);
+    expect_ring(&rt, &machine, 1, Some(0), Some(0));
+    expect_applied(&rt, &mut machine, &Event::Assign(1));
+    expect_ring(&rt, &machine, 0, Some(1), None);
+    expect_ring(&rt, &machine, 2, None, None);
     expect_no_data(&rt, &machine);
+}
+
+// Asserts the position of a unit, and which unit is free next.
+fn expect_ring(
+    rt: &impl Abort,
+    machine: &Machine<'_>,
+    unit: u32,
+    position: Option<u32>,
+    next_unit: Option<u32>,
+) {
+    assert_eq!(rt; machine.position(unit), position);
+    assert_eq!(rt; machine.next_unit(), next_unit);
 }
 
 // Asserts that the first word of data memory is 0.
@@ -253,7 +305,7 @@ fn choices_behind_the_tail(rt: HostRuntime) {
     let accepted = accepted(&rt, rt.alloc(), DIAMOND, DIAMOND_CERTIFICATE);
     let mut machine = machine(&rt, rt.alloc(), &accepted, 1);
     expect_choice(&rt, &machine, &[], 7, 0);
-    apply_all(&rt, &mut machine, &[Event::Assign(0)]);
+    expect_applied(&rt, &mut machine, &Event::Assign(0));
     let targets = [place(&rt, 2), place(&rt, 3)];
     expect_choice(&rt, &machine, &targets, 0, 1);
     expect_choice(&rt, &machine, &targets, 3, 2);
@@ -286,10 +338,8 @@ fn expect_chosen<P: Predict>(rt: &impl Abort, predictor: P, expected: &[u32]) {
 fn predictors_choose(rt: HostRuntime) {
     expect_chosen(&rt, First, &[0, 0]);
     expect_chosen(&rt, Last, &[2, 2]);
-    let answers = [1, 0]
-        .to_vec(rt.alloc())
-        .ok()
-        .expect(&rt, "room for answers");
+    let answers = [1, 0].to_vec(rt.alloc()).ok();
+    let answers = answers.expect(&rt, "room for answers");
     expect_chosen(&rt, Script::new(answers), &[1, 0, 1, 0]);
     expect_chosen(&rt, Script::new(Vec::new(rt.alloc())), &[0, 0]);
 }

@@ -14,7 +14,21 @@ out $9
 halt
 ";
 
-/// The certificate of `COUNT`.
+/// `COUNT`, where $10 is forwarded as well.
+pub const COUNT_FORWARDED: &str = ".start A
+.task A create=$8,$9,$10 targets=A,B
+.task B create=- targets=-
+A:
+addiu $8,$8,1 !f
+addu $9,$9,$8 !f
+slti $10,$8,4 !f
+bne $10,$0,A !s
+B:
+out $9
+halt
+";
+
+/// The certificate of both.
 pub const COUNT_CERTIFICATE: &str = "cert 1
 task A
 0 00000700

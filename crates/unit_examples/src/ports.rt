@@ -5,7 +5,6 @@ use register_ring::held::RegisterWords;
 use register_ring::members::next_member;
 use register_ring::port::{AlreadyThere, Port};
 use std::process::Abort;
-use std::test::Fail;
 
 /// A port as two arrays.
 #[derive(Drop)]
@@ -74,15 +73,25 @@ fn next_draw(draw: u32) -> u32 {
     draw.wrapping_mul(1_664_525).wrapping_add(1_013_904_223)
 }
 
-fn mask(draw: u32) -> Result<RegSet, Fail> {
-    Ok(RegSet::from_bits(u64::from(draw) << 2 | u64::from(draw) >> 30).ok_or("mask")?)
+/// A word for each register, no two of them the same.
+fn words_from(draw: u32) -> [u32; 34] {
+    let mut draw = draw;
+    let mut words = [0; 34];
+    for word in &mut words {
+        draw = next_draw(draw);
+        *word = draw;
+    }
+    words
+}
+
+fn mask(rt: &impl Abort, draw: u32) -> RegSet {
+    let bits = u64::from(draw) << 2 | u64::from(draw) >> 30;
+    RegSet::from_bits(bits).expect(rt, "a mask")
 }
 
 /// One call on both, by a drawn number, with the same answer.
 fn call(rt: &impl Abort, port: &mut Port, plain: &mut PlainPort, create: RegSet, draw: u32) {
-    let Some(register) = Reg::new(((draw >> 16) % 34) as u8) else {
-        return;
-    };
+    let register = Reg::new(((draw >> 16) % 34) as u8).expect(rt, "a register");
     match (draw >> 8) % 32 {
         0..=9 => assert_eq!(rt; port.arrive(register, draw), plain.arrive(register, draw)),
         10..=19 => {
@@ -91,8 +100,9 @@ fn call(rt: &impl Abort, port: &mut Port, plain: &mut PlainPort, create: RegSet,
         }
         20..=30 => assert_eq!(rt; port.pass(create, register), plain.pass(create, register)),
         _ => {
-            port.fill(&[draw; 34]);
-            plain.fill(&[draw; 34]);
+            let words = words_from(draw);
+            port.fill(&words);
+            plain.fill(&words);
         }
     }
 }
@@ -100,37 +110,51 @@ fn call(rt: &impl Abort, port: &mut Port, plain: &mut PlainPort, create: RegSet,
 /// Both hold the same of each register.
 fn compare(rt: &impl Abort, port: &Port, plain: &PlainPort) {
     for index in 0..34usize {
-        if let Some(register) = Reg::new(index as u8) {
-            assert_eq!(rt; port.arrived(register), plain.arrived[index]);
-            assert_eq!(rt; port.sent(register), plain.sent[index]);
-        }
+        let register = Reg::new(index as u8).expect(rt, "a register");
+        assert_eq!(rt; port.arrived(register), plain.arrived[index]);
+        assert_eq!(rt; port.sent(register), plain.sent[index]);
     }
 }
 
+/// Forty calls on a port and on its plain form, and the same in both behind them; answers the last
+/// number that was drawn.
+fn run_both(rt: &impl Abort, draw: u32) -> u32 {
+    let mut draw = draw;
+    let accum = mask(rt, draw);
+    let create = mask(rt, next_draw(draw));
+    let words = words_from(draw);
+    let mut port = Port::fresh(&words, accum);
+    let mut plain = PlainPort::fresh(&words, accum);
+    for _ in 0..40 {
+        draw = next_draw(draw);
+        call(rt, &mut port, &mut plain, create, draw);
+    }
+    compare(rt, &port, &plain);
+    draw
+}
+
 #[test]
-fn port_two_representations(rt: HostRuntime) -> Result<(), Fail> {
+fn port_two_representations(rt: HostRuntime) {
     let mut draw = 1995;
     for _ in 0..1_000 {
-        draw = next_draw(draw);
-        let accum = mask(draw)?;
-        let create = mask(next_draw(draw))?;
-        let words = [draw; 34];
-        let mut port = Port::fresh(&words, accum);
-        let mut plain = PlainPort::fresh(&words, accum);
-        for _ in 0..40 {
-            draw = next_draw(draw);
-            call(&rt, &mut port, &mut plain, create, draw);
-        }
-        compare(&rt, &port, &plain);
+        draw = run_both(&rt, next_draw(draw));
     }
-    Ok(())
+}
+
+/// The words 38, 37 and so on; that of LO, the last one, is 5.
+fn down_to_five() -> [u32; 34] {
+    let mut words = [0; 34];
+    for index in 0..34u32 {
+        words[index as usize] = 38 - index;
+    }
+    words
 }
 
 #[test]
-fn each_call_once(rt: HostRuntime) -> Result<(), Fail> {
-    let (r8, r33) = (Reg::new(8).ok_or("register")?, Reg::LO);
+fn each_call_of_a_port_once(rt: HostRuntime) {
+    let (r8, r33) = (Reg::new(8).expect(&rt, "a register"), Reg::LO);
     let eight = RegSet::empty().insert(r8);
-    let mut port = Port::fresh(&[5; 34], Port::accum(&[RegSet::empty(), eight]));
+    let mut port = Port::fresh(&down_to_five(), Port::accum(&[RegSet::empty(), eight]));
     assert_eq!(rt; port.arrived(r8), None);
     assert_eq!(rt; port.arrive(r8, 2), Ok(()));
     assert_eq!(rt; port.arrive(r8, 3), Err(AlreadyThere));
@@ -138,13 +162,21 @@ fn each_call_once(rt: HostRuntime) -> Result<(), Fail> {
     port.send(r33, 9);
     assert_eq!(rt; port.pass(eight.insert(r33), r33), Some(7));
     assert_eq!(rt; port.pass(eight, r33), Some(5));
-    assert!(rt; port.arrived_set().has(r8));
-    assert!(rt; port.sent_set().has(r33));
-    assert!(rt;
-        Port::fresh(&[5; 34], eight)
-            .with_sent(&port)
-            .is_within(&port)
-    );
+    expect_sets(&rt, &port, r8, r33);
+    let fresh = Port::fresh(&down_to_five(), eight);
+    assert!(rt; fresh.with_sent(&port).is_within(&port));
+}
+
+/// Asserts that one register has arrived, and that another was sent.
+fn expect_sets(rt: &impl Abort, port: &Port, arrived: Reg, sent: Reg) {
+    assert!(rt; port.arrived_set().has(arrived));
+    assert!(rt; port.sent_set().has(sent));
+}
+
+#[test]
+fn each_call_of_a_set_and_words_once(rt: HostRuntime) {
+    let r8 = Reg::new(8).expect(&rt, "a register");
+    let eight = RegSet::empty().insert(r8);
     assert_eq!(rt; next_member(eight, 0), Some(r8));
     assert_eq!(rt; next_member(eight, 9), None);
     let mut words = RegisterWords::all_but(&[1; 34], eight);
@@ -152,5 +184,4 @@ fn each_call_once(rt: HostRuntime) -> Result<(), Fail> {
     words.put(r8, 4);
     words.fill(&[6; 34]);
     assert_eq!(rt; words.get(r8), Some(4));
-    Ok(())
 }

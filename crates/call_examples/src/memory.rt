@@ -1,0 +1,164 @@
+//! Loads and stores: the bytes of words and halves, the traps, and read-only data.
+
+use mips_plain::instruction::{LoadKind, Op, StoreKind};
+use mips_plain::memory::{Memory, MemoryFault};
+use mips_plain::number::Gpr;
+use mips_plain::outcome::Trap;
+use std::alloc::Global;
+use std::process::Abort;
+
+// The first bytes of data memory, and the read-only data.
+const BYTES: [u8; 4] = [0x80, 0xff, 0x7f, 0x01];
+
+fn memory(rt: &impl Abort, alloc: Global) -> Memory {
+    Memory::new(alloc, &BYTES, &BYTES)
+        .ok()
+        .expect(rt, "room for a memory")
+}
+
+fn gpr(rt: &impl Abort, number: u8) -> Gpr {
+    Gpr::new(number).expect(rt, "a register")
+}
+
+fn load(rt: &impl Abort, memory: &Memory, kind: LoadKind, address: u32) -> Result<u32, Trap> {
+    memory.load(&Op::Load(kind, gpr(rt, 8), gpr(rt, 9), 0), address)
+}
+
+// What a load of read-only data gives, if it is one.
+fn fixed_load(rt: &impl Abort, kind: LoadKind, address: u32, fixed: &[u8]) -> Option<u32> {
+    Op::Load(kind, gpr(rt, 8), gpr(rt, 9), 0).fixed_load(address, fixed)
+}
+
+fn store(
+    rt: &impl Abort,
+    memory: &mut Memory,
+    kind: StoreKind,
+    address: u32,
+    word: u32,
+) -> Result<(), Trap> {
+    memory.store(&Op::Store(kind, gpr(rt, 8), gpr(rt, 9), 0), address, word)
+}
+
+// What is loaded at an offset of either region.
+const LOADS: [(LoadKind, u16, u32); 8] = [
+    (LoadKind::Lw, 0, 0x017f_ff80),
+    (LoadKind::Lh, 0, 0xffff_ff80),
+    (LoadKind::Lhu, 0, 0xff80),
+    (LoadKind::Lh, 2, 0x017f),
+    (LoadKind::Lb, 0, 0xffff_ff80),
+    (LoadKind::Lbu, 0, 0x80),
+    (LoadKind::Lb, 2, 0x7f),
+    (LoadKind::Lw, 0xfffc, 0),
+];
+
+#[test]
+fn loads(rt: HostRuntime) {
+    let memory = memory(&rt, rt.alloc());
+    for (kind, offset, word) in LOADS {
+        let offset = u32::from(offset);
+        for region in [0x1000_0000u32, 0x1001_0000] {
+            let address = region.wrapping_add(offset);
+            assert_eq!(rt; load(&rt, &memory, kind, address), Ok(word), "{address:#x}");
+        }
+    }
+}
+
+#[test]
+fn loads_of_read_only_data(rt: HostRuntime) {
+    let memory = memory(&rt, rt.alloc());
+    for (kind, offset, word) in LOADS {
+        let fixed = 0x1000_0000 + u32::from(offset);
+        let data = 0x1001_0000 + u32::from(offset);
+        for (address, bytes, answer) in [
+            (fixed, memory.fixed(), Some(word)),
+            (fixed, BYTES.as_slice(), Some(word)),
+            (data, memory.fixed(), None),
+        ] {
+            assert_eq!(rt;
+                fixed_load(&rt, kind, address, bytes),
+                answer,
+                "{address:#x}"
+            );
+        }
+    }
+}
+
+#[test]
+fn loads_that_trap(rt: HostRuntime) {
+    let memory = memory(&rt, rt.alloc());
+    for (address, trap) in [
+        (0x0fff_fffe, Trap::Unaligned),
+        (0x1001_fffe, Trap::Unaligned),
+        (0xffff_ffff, Trap::Unaligned),
+        (0, Trap::OutOfRange),
+        (0x0fff_fffc, Trap::OutOfRange),
+        (0x1002_0000, Trap::OutOfRange),
+        (0xffff_fffc, Trap::OutOfRange),
+    ] {
+        let answer = load(&rt, &memory, LoadKind::Lw, address);
+        assert_eq!(rt; answer, Err(trap), "{address:#x}");
+    }
+}
+
+#[test]
+fn stores_that_trap(rt: HostRuntime) {
+    let mut memory = memory(&rt, rt.alloc());
+    for (address, trap) in [
+        (0x1001_0001, Trap::Unaligned),
+        (0x1002_0000, Trap::OutOfRange),
+        (0x1000_0000, Trap::ReadOnly),
+    ] {
+        let answer = store(&rt, &mut memory, StoreKind::Sh, address, 0);
+        assert_eq!(rt; answer, Err(trap), "{address:#x}");
+    }
+}
+
+// Each store changes the word of the one before.
+#[test]
+fn stores(rt: HostRuntime) {
+    let mut memory = memory(&rt, rt.alloc());
+    for (kind, address, word, at, loaded) in [
+        (
+            StoreKind::Sh,
+            0x1001_0002,
+            0x1234_5678,
+            0x1001_0000,
+            0x5678_ff80,
+        ),
+        (
+            StoreKind::Sb,
+            0x1001_0001,
+            0x1234_5678,
+            0x1001_0000,
+            0x5678_7880,
+        ),
+        (
+            StoreKind::Sw,
+            0x1001_fffc,
+            0x8765_4321,
+            0x1001_fffc,
+            0x8765_4321,
+        ),
+    ] {
+        let answer = store(&rt, &mut memory, kind, address, word);
+        assert_eq!(rt; answer, Ok(()), "{address:#x}");
+        assert_eq!(rt; load(&rt, &memory, LoadKind::Lw, at), Ok(loaded), "{at:#x}");
+    }
+    assert_eq!(rt; memory.bytes().len(), 65_536);
+}
+
+#[test]
+fn too_many_bytes(rt: HostRuntime) {
+    for (size, fault) in [(65_536, None), (65_537, Some(MemoryFault::TooMuch))] {
+        let bytes = zeros(&rt, rt.alloc(), size);
+        assert_eq!(rt; Memory::new(rt.alloc(), &bytes, &[]).err(), fault);
+    }
+}
+
+/// This many bytes of 0.
+pub(crate) fn zeros(rt: &impl Abort, alloc: Global, size: usize) -> Vec<u8> {
+    let mut bytes = Vec::new(alloc);
+    let grown = bytes.resize(size, 0);
+    assert!(rt; grown.is_ok());
+    bytes
+}

@@ -1,0 +1,327 @@
+//! The words of the MIPS manual's definitions at the corners of their ranges, worked out with integers of
+//! any size, outside this program.
+
+use mips_plain::instruction::{
+    BranchOneKind, BranchTwoKind, ImmKind, LogicKind, MultKind, Op, ShiftByKind, ShiftVarKind,
+    ThreeKind,
+};
+use mips_plain::number::{Amount, Gpr, Place, Reg};
+use std::process::Abort;
+
+/// The address of each instruction.
+const PC: u32 = 0x0040_0000;
+
+fn gpr(rt: &impl Abort, number: u8) -> Gpr {
+    Gpr::new(number).expect(rt, "a register")
+}
+
+fn place(rt: &impl Abort, index: u32) -> Place {
+    Place::new(index).expect(rt, "a place")
+}
+
+// Asserts which word an operation leaves in a register.
+fn expect_word(rt: &impl Abort, op: &Op, a: u32, b: u32, to: Reg, word: u32) {
+    assert_eq!(rt; op.alu(a, b, PC, to), Some(word), "{op:?} {a:#x} {b:#x}");
+}
+
+// Asserts which word an operation leaves in register 8.
+fn expect_in_8(rt: &impl Abort, op: Op, a: u32, b: u32, word: u32) {
+    expect_word(rt, &op, a, b, Reg::from(gpr(rt, 8)), word);
+}
+
+// Two operands, and what an operation computes of them.
+const THREE: [(ThreeKind, u32, u32, u32); 64] = [
+    (ThreeKind::Addu, 0, 0, 0),
+    (ThreeKind::Addu, 1, 0xffff_ffff, 0),
+    (ThreeKind::Addu, 0x7fff_ffff, 1, 0x8000_0000),
+    (ThreeKind::Addu, 0x8000_0000, 0x8000_0000, 0),
+    (ThreeKind::Addu, 0x8000_0000, 0x7fff_ffff, 0xffff_ffff),
+    (ThreeKind::Addu, 0xffff_8000, 0x8000, 0),
+    (ThreeKind::Addu, 0xffff_ffff, 0xffff, 0xfffe),
+    (ThreeKind::Addu, 0x7fff_ffff, 0x8000_0000, 0xffff_ffff),
+    (ThreeKind::Subu, 0, 0, 0),
+    (ThreeKind::Subu, 1, 0xffff_ffff, 2),
+    (ThreeKind::Subu, 0x7fff_ffff, 1, 0x7fff_fffe),
+    (ThreeKind::Subu, 0x8000_0000, 0x8000_0000, 0),
+    (ThreeKind::Subu, 0x8000_0000, 0x7fff_ffff, 1),
+    (ThreeKind::Subu, 0xffff_8000, 0x8000, 0xffff_0000),
+    (ThreeKind::Subu, 0xffff_ffff, 0xffff, 0xffff_0000),
+    (ThreeKind::Subu, 0x7fff_ffff, 0x8000_0000, 0xffff_ffff),
+    (ThreeKind::And, 0, 0, 0),
+    (ThreeKind::And, 1, 0xffff_ffff, 1),
+    (ThreeKind::And, 0x7fff_ffff, 1, 1),
+    (ThreeKind::And, 0x8000_0000, 0x8000_0000, 0x8000_0000),
+    (ThreeKind::And, 0x8000_0000, 0x7fff_ffff, 0),
+    (ThreeKind::And, 0xffff_8000, 0x8000, 0x8000),
+    (ThreeKind::And, 0xffff_ffff, 0xffff, 0xffff),
+    (ThreeKind::And, 0x7fff_ffff, 0x8000_0000, 0),
+    (ThreeKind::Or, 0, 0, 0),
+    (ThreeKind::Or, 1, 0xffff_ffff, 0xffff_ffff),
+    (ThreeKind::Or, 0x7fff_ffff, 1, 0x7fff_ffff),
+    (ThreeKind::Or, 0x8000_0000, 0x8000_0000, 0x8000_0000),
+    (ThreeKind::Or, 0x8000_0000, 0x7fff_ffff, 0xffff_ffff),
+    (ThreeKind::Or, 0xffff_8000, 0x8000, 0xffff_8000),
+    (ThreeKind::Or, 0xffff_ffff, 0xffff, 0xffff_ffff),
+    (ThreeKind::Or, 0x7fff_ffff, 0x8000_0000, 0xffff_ffff),
+    (ThreeKind::Xor, 0, 0, 0),
+    (ThreeKind::Xor, 1, 0xffff_ffff, 0xffff_fffe),
+    (ThreeKind::Xor, 0x7fff_ffff, 1, 0x7fff_fffe),
+    (ThreeKind::Xor, 0x8000_0000, 0x8000_0000, 0),
+    (ThreeKind::Xor, 0x8000_0000, 0x7fff_ffff, 0xffff_ffff),
+    (ThreeKind::Xor, 0xffff_8000, 0x8000, 0xffff_0000),
+    (ThreeKind::Xor, 0xffff_ffff, 0xffff, 0xffff_0000),
+    (ThreeKind::Xor, 0x7fff_ffff, 0x8000_0000, 0xffff_ffff),
+    (ThreeKind::Nor, 0, 0, 0xffff_ffff),
+    (ThreeKind::Nor, 1, 0xffff_ffff, 0),
+    (ThreeKind::Nor, 0x7fff_ffff, 1, 0x8000_0000),
+    (ThreeKind::Nor, 0x8000_0000, 0x8000_0000, 0x7fff_ffff),
+    (ThreeKind::Nor, 0x8000_0000, 0x7fff_ffff, 0),
+    (ThreeKind::Nor, 0xffff_8000, 0x8000, 0x7fff),
+    (ThreeKind::Nor, 0xffff_ffff, 0xffff, 0),
+    (ThreeKind::Nor, 0x7fff_ffff, 0x8000_0000, 0),
+    (ThreeKind::Slt, 0, 0, 0),
+    (ThreeKind::Slt, 1, 0xffff_ffff, 0),
+    (ThreeKind::Slt, 0x7fff_ffff, 1, 0),
+    (ThreeKind::Slt, 0x8000_0000, 0x8000_0000, 0),
+    (ThreeKind::Slt, 0x8000_0000, 0x7fff_ffff, 1),
+    (ThreeKind::Slt, 0xffff_8000, 0x8000, 1),
+    (ThreeKind::Slt, 0xffff_ffff, 0xffff, 1),
+    (ThreeKind::Slt, 0x7fff_ffff, 0x8000_0000, 0),
+    (ThreeKind::Sltu, 0, 0, 0),
+    (ThreeKind::Sltu, 1, 0xffff_ffff, 1),
+    (ThreeKind::Sltu, 0x7fff_ffff, 1, 0),
+    (ThreeKind::Sltu, 0x8000_0000, 0x8000_0000, 0),
+    (ThreeKind::Sltu, 0x8000_0000, 0x7fff_ffff, 0),
+    (ThreeKind::Sltu, 0xffff_8000, 0x8000, 0),
+    (ThreeKind::Sltu, 0xffff_ffff, 0xffff, 0),
+    (ThreeKind::Sltu, 0x7fff_ffff, 0x8000_0000, 1),
+];
+
+#[test]
+fn operations_on_two_registers(rt: HostRuntime) {
+    for (kind, a, b, word) in THREE {
+        let op = Op::Three(kind, gpr(&rt, 8), gpr(&rt, 9), gpr(&rt, 10));
+        expect_in_8(&rt, op, a, b, word);
+    }
+}
+
+// An operand, by how many bits it is shifted, and the word.
+const SHIFT_BY: [(ShiftByKind, u32, u8, u32); 18] = [
+    (ShiftByKind::Sll, 1, 0, 1),
+    (ShiftByKind::Sll, 1, 31, 0x8000_0000),
+    (ShiftByKind::Sll, 0x8000_0000, 1, 0),
+    (ShiftByKind::Sll, 0x8000_0000, 31, 0),
+    (ShiftByKind::Sll, 0xffff_8000, 1, 0xffff_0000),
+    (ShiftByKind::Sll, 0x7fff_ffff, 31, 0x8000_0000),
+    (ShiftByKind::Srl, 1, 0, 1),
+    (ShiftByKind::Srl, 1, 31, 0),
+    (ShiftByKind::Srl, 0x8000_0000, 1, 0x4000_0000),
+    (ShiftByKind::Srl, 0x8000_0000, 31, 1),
+    (ShiftByKind::Srl, 0xffff_8000, 1, 0x7fff_c000),
+    (ShiftByKind::Srl, 0x7fff_ffff, 31, 0),
+    (ShiftByKind::Sra, 1, 0, 1),
+    (ShiftByKind::Sra, 1, 31, 0),
+    (ShiftByKind::Sra, 0x8000_0000, 1, 0xc000_0000),
+    (ShiftByKind::Sra, 0x8000_0000, 31, 0xffff_ffff),
+    (ShiftByKind::Sra, 0xffff_8000, 1, 0xffff_c000),
+    (ShiftByKind::Sra, 0x7fff_ffff, 31, 0),
+];
+
+#[test]
+fn shifts_by_an_amount(rt: HostRuntime) {
+    for (kind, a, bits, word) in SHIFT_BY {
+        let amount = Amount::new(bits).expect(&rt, "an amount");
+        let op = Op::ShiftBy(kind, gpr(&rt, 8), gpr(&rt, 9), amount);
+        expect_in_8(&rt, op, a, 0, word);
+    }
+}
+
+// The same where the second operand says by how many bits, of which the last five count.
+const SHIFT_VAR: [(ShiftVarKind, u32, u32, u32); 18] = [
+    (ShiftVarKind::Sllv, 0x8000_0001, 0, 0x8000_0001),
+    (ShiftVarKind::Sllv, 0x8000_0001, 1, 2),
+    (ShiftVarKind::Sllv, 0x8000_0001, 31, 0x8000_0000),
+    (ShiftVarKind::Sllv, 0x8000_0001, 32, 0x8000_0001),
+    (ShiftVarKind::Sllv, 0x8000_0001, 33, 2),
+    (ShiftVarKind::Sllv, 0x7fff_ffff, 0xffff_ffff, 0x8000_0000),
+    (ShiftVarKind::Srlv, 0x8000_0001, 0, 0x8000_0001),
+    (ShiftVarKind::Srlv, 0x8000_0001, 1, 0x4000_0000),
+    (ShiftVarKind::Srlv, 0x8000_0001, 31, 1),
+    (ShiftVarKind::Srlv, 0x8000_0001, 32, 0x8000_0001),
+    (ShiftVarKind::Srlv, 0x8000_0001, 33, 0x4000_0000),
+    (ShiftVarKind::Srlv, 0x7fff_ffff, 0xffff_ffff, 0),
+    (ShiftVarKind::Srav, 0x8000_0001, 0, 0x8000_0001),
+    (ShiftVarKind::Srav, 0x8000_0001, 1, 0xc000_0000),
+    (ShiftVarKind::Srav, 0x8000_0001, 31, 0xffff_ffff),
+    (ShiftVarKind::Srav, 0x8000_0001, 32, 0x8000_0001),
+    (ShiftVarKind::Srav, 0x8000_0001, 33, 0xc000_0000),
+    (ShiftVarKind::Srav, 0x7fff_ffff, 0xffff_ffff, 0),
+];
+
+#[test]
+fn shifts_by_a_register(rt: HostRuntime) {
+    for (kind, a, b, word) in SHIFT_VAR {
+        let op = Op::ShiftVar(kind, gpr(&rt, 8), gpr(&rt, 9), gpr(&rt, 10));
+        expect_in_8(&rt, op, a, b, word);
+    }
+}
+
+// An operand, a constant with a sign, and the word.
+const IMM: [(ImmKind, u32, i16, u32); 24] = [
+    (ImmKind::Addiu, 0, -1, 0xffff_ffff),
+    (ImmKind::Addiu, 0xffff_ffff, 1, 0),
+    (ImmKind::Addiu, 0x7fff_ffff, 1, 0x8000_0000),
+    (ImmKind::Addiu, 0x8000_0000, -1, 0x7fff_ffff),
+    (ImmKind::Addiu, 5, -32768, 0xffff_8005),
+    (ImmKind::Addiu, 0xffff_8000, -32768, 0xffff_0000),
+    (ImmKind::Addiu, 0xffff_7fff, -32768, 0xfffe_ffff),
+    (ImmKind::Addiu, 0x8000, 32767, 0xffff),
+    (ImmKind::Slti, 0, -1, 0),
+    (ImmKind::Slti, 0xffff_ffff, 1, 1),
+    (ImmKind::Slti, 0x7fff_ffff, 1, 0),
+    (ImmKind::Slti, 0x8000_0000, -1, 1),
+    (ImmKind::Slti, 5, -32768, 0),
+    (ImmKind::Slti, 0xffff_8000, -32768, 0),
+    (ImmKind::Slti, 0xffff_7fff, -32768, 1),
+    (ImmKind::Slti, 0x8000, 32767, 0),
+    (ImmKind::Sltiu, 0, -1, 1),
+    (ImmKind::Sltiu, 0xffff_ffff, 1, 0),
+    (ImmKind::Sltiu, 0x7fff_ffff, 1, 0),
+    (ImmKind::Sltiu, 0x8000_0000, -1, 1),
+    (ImmKind::Sltiu, 5, -32768, 1),
+    (ImmKind::Sltiu, 0xffff_8000, -32768, 0),
+    (ImmKind::Sltiu, 0xffff_7fff, -32768, 1),
+    (ImmKind::Sltiu, 0x8000, 32767, 0),
+];
+
+#[test]
+fn immediates_with_a_sign(rt: HostRuntime) {
+    for (kind, a, constant, word) in IMM {
+        let op = Op::Imm(kind, gpr(&rt, 8), gpr(&rt, 9), constant);
+        expect_in_8(&rt, op, a, 0, word);
+    }
+}
+
+// An operand, a constant without a sign, and the word.
+const LOGIC: [(LogicKind, u32, u16, u32); 12] = [
+    (LogicKind::Andi, 0xffff_ffff, 0xffff, 0xffff),
+    (LogicKind::Andi, 0, 0x8000, 0),
+    (LogicKind::Andi, 0x1234_5678, 0xff00, 0x5600),
+    (LogicKind::Andi, 0x8000, 0x8000, 0x8000),
+    (LogicKind::Ori, 0xffff_ffff, 0xffff, 0xffff_ffff),
+    (LogicKind::Ori, 0, 0x8000, 0x8000),
+    (LogicKind::Ori, 0x1234_5678, 0xff00, 0x1234_ff78),
+    (LogicKind::Ori, 0x8000, 0x8000, 0x8000),
+    (LogicKind::Xori, 0xffff_ffff, 0xffff, 0xffff_0000),
+    (LogicKind::Xori, 0, 0x8000, 0x8000),
+    (LogicKind::Xori, 0x1234_5678, 0xff00, 0x1234_a978),
+    (LogicKind::Xori, 0x8000, 0x8000, 0),
+];
+
+#[test]
+fn immediates_without_a_sign(rt: HostRuntime) {
+    for (kind, a, constant, word) in LOGIC {
+        let op = Op::Logic(kind, gpr(&rt, 8), gpr(&rt, 9), constant);
+        expect_in_8(&rt, op, a, 0, word);
+    }
+}
+
+#[test]
+fn upper_immediates(rt: HostRuntime) {
+    for (constant, word) in [(1, 0x1_0000), (0x8000, 0x8000_0000), (0xffff, 0xffff_0000)] {
+        expect_in_8(&rt, Op::Lui(gpr(&rt, 8), constant), 0, 0, word);
+    }
+}
+
+// Two operands, and the high and the low word of their product.
+const MULT: [(MultKind, u32, u32, u32, u32); 12] = [
+    (MultKind::Mult, 0xffff_ffff, 0xffff_ffff, 0, 1),
+    (MultKind::Mult, 0x8000_0000, 0x8000_0000, 0x4000_0000, 0),
+    (
+        MultKind::Mult,
+        0x7fff_ffff,
+        0x8000_0000,
+        0xc000_0000,
+        0x8000_0000,
+    ),
+    (MultKind::Mult, 0x7fff_ffff, 0x7fff_ffff, 0x3fff_ffff, 1),
+    (
+        MultKind::Mult,
+        0xffff_8000,
+        0x8000,
+        0xffff_ffff,
+        0xc000_0000,
+    ),
+    (MultKind::Mult, 1, 0, 0, 0),
+    (MultKind::Multu, 0xffff_ffff, 0xffff_ffff, 0xffff_fffe, 1),
+    (MultKind::Multu, 0x8000_0000, 0x8000_0000, 0x4000_0000, 0),
+    (
+        MultKind::Multu,
+        0x7fff_ffff,
+        0x8000_0000,
+        0x3fff_ffff,
+        0x8000_0000,
+    ),
+    (MultKind::Multu, 0x7fff_ffff, 0x7fff_ffff, 0x3fff_ffff, 1),
+    (MultKind::Multu, 0xffff_8000, 0x8000, 0x7fff, 0xc000_0000),
+    (MultKind::Multu, 1, 0, 0, 0),
+];
+
+#[test]
+fn products(rt: HostRuntime) {
+    for (kind, a, b, high, low) in MULT {
+        let op = Op::Mult(kind, gpr(&rt, 9), gpr(&rt, 10));
+        expect_word(&rt, &op, a, b, Reg::HI, high);
+        expect_word(&rt, &op, a, b, Reg::LO, low);
+    }
+}
+
+// An operand, and whether the branch is taken.
+const BRANCH_ONE: [(BranchOneKind, u32, bool); 24] = [
+    (BranchOneKind::Blez, 0, true),
+    (BranchOneKind::Blez, 1, false),
+    (BranchOneKind::Blez, 0xffff_ffff, true),
+    (BranchOneKind::Blez, 0x7fff_ffff, false),
+    (BranchOneKind::Blez, 0x8000_0000, true),
+    (BranchOneKind::Blez, 0xffff_8000, true),
+    (BranchOneKind::Bgtz, 0, false),
+    (BranchOneKind::Bgtz, 1, true),
+    (BranchOneKind::Bgtz, 0xffff_ffff, false),
+    (BranchOneKind::Bgtz, 0x7fff_ffff, true),
+    (BranchOneKind::Bgtz, 0x8000_0000, false),
+    (BranchOneKind::Bgtz, 0xffff_8000, false),
+    (BranchOneKind::Bltz, 0, false),
+    (BranchOneKind::Bltz, 1, false),
+    (BranchOneKind::Bltz, 0xffff_ffff, true),
+    (BranchOneKind::Bltz, 0x7fff_ffff, false),
+    (BranchOneKind::Bltz, 0x8000_0000, true),
+    (BranchOneKind::Bltz, 0xffff_8000, true),
+    (BranchOneKind::Bgez, 0, true),
+    (BranchOneKind::Bgez, 1, true),
+    (BranchOneKind::Bgez, 0xffff_ffff, false),
+    (BranchOneKind::Bgez, 0x7fff_ffff, true),
+    (BranchOneKind::Bgez, 0x8000_0000, false),
+    (BranchOneKind::Bgez, 0xffff_8000, false),
+];
+
+#[test]
+fn branches_on_one_register(rt: HostRuntime) {
+    for (kind, a, taken) in BRANCH_ONE {
+        let op = Op::BranchOne(kind, gpr(&rt, 9), place(&rt, 7));
+        assert!(rt; op.taken(a, 0) == taken, "{kind:?} {a:#x}");
+        let to = if taken { 0x0040_001c } else { 0x0040_0004 };
+        assert_eq!(rt; op.turn(a, 0, PC), to, "{kind:?} {a:#x}");
+    }
+}
+
+#[test]
+fn branches_on_two_registers(rt: HostRuntime) {
+    for (kind, b, taken) in [
+        (BranchTwoKind::Beq, 5, true),
+        (BranchTwoKind::Beq, 6, false),
+        (BranchTwoKind::Bne, 6, true),
+    ] {
+        let op = Op::BranchTwo(kind, gpr(&rt, 9), gpr(&rt, 10), place(&rt, 7));
+        assert!(rt; op.taken(5, b) == taken, "{kind:?} {b}");
+    }
+}

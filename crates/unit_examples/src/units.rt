@@ -1,0 +1,186 @@
+//! The worked examples of one unit, on task A of two programs.
+
+use crate::programs::{count, release};
+use machine_events::event::Spot;
+use mark_checker::accept::Accepted;
+use mips_plain::memory::Memory;
+use mips_plain::number::{Reg, RegSet};
+use register_ring::port::{AlreadyThere, Port};
+use std::alloc::Global;
+use std::marker::Model;
+use std::process::Abort;
+use unit_core::burst::{Burst, MOST_STEPS};
+use unit_core::unit::Unit;
+use unit_core::wait::{DrainFault, Wait};
+use unit_core::world::World;
+
+fn register(rt: &impl Abort, number: u8) -> Reg {
+    Reg::new(number).expect(rt, "a register")
+}
+
+/// Registers of 0, but for a reserved set.
+fn zeros(rt: &impl Abort, reserved: u64) -> Port {
+    let reserved = RegSet::from_bits(reserved).expect(rt, "a mask");
+    Port::fresh(&[0; 34], reserved)
+}
+
+/// Registers of 0, but for register 8, which came with 2 and does not come again.
+fn two_in_register_8(rt: &impl Abort) -> Port {
+    let mut port = zeros(rt, 0x100);
+    let r8 = register(rt, 8);
+    assert!(rt; port.arrive(r8, 2).is_ok());
+    assert!(rt; matches!(port.arrive(r8, 2), Err(AlreadyThere)));
+    port
+}
+
+/// A unit of a program, and the world that the head's instructions change.
+#[derive(Drop)]
+struct Trial<'a> {
+    accepted: &'a Accepted,
+    unit: Unit,
+    world: World,
+}
+
+// That the unit is one of the program, which its calls require.
+impl<'a> Model for Trial<'a> {
+    ghost use Rattle.unit_core.specs.Units.{UnitView, active_of, IsPlaced};
+
+    ghost Value = { UnitView };
+
+    ghost view = { λ t. t.unit };
+
+    ghost invariant = { λ t. IsPlaced t.accepted.now (active_of t.unit) };
+}
+
+impl<'a> Trial<'a> {
+    /// A unit before task A, with these registers.
+    fn new(rt: &impl Abort, alloc: Global, accepted: &'a Accepted, port: Port) -> Trial<'a> {
+        assert!(rt; !accepted.program().tasks().is_empty());
+        let memory = Memory::new(alloc, &[], &[]).ok();
+        let memory = memory.expect(rt, "room for a memory");
+        Trial {
+            accepted,
+            unit: Unit::new(alloc, accepted, 0, 0, port),
+            world: World::new(alloc, memory),
+        }
+    }
+
+    /// The answer to one instruction of the head, in a run that goes on.
+    fn step(&mut self, rt: &impl Abort) -> Option<Wait> {
+        assert!(rt; self.world.is_running());
+        self.unit.exec(self.accepted, &mut self.world).err()
+    }
+
+    /// The answer to one instruction of a unit that is not the head.
+    fn step_ahead(&mut self) -> Option<Wait> {
+        self.unit.exec_ahead(self.accepted).err()
+    }
+
+    fn drain(&mut self, register: Reg) -> Option<DrainFault> {
+        self.unit.drain(self.accepted, register).err()
+    }
+
+    /// A burst of at most so many steps.
+    fn burst(&self, rt: &impl Abort, most: u32) -> Burst<'a> {
+        assert!(rt; most <= MOST_STEPS);
+        let lease = self.unit.lease(self.accepted).ok();
+        Burst::run(lease.expect(rt, "room for a lease"), most)
+    }
+}
+
+/// Asserts how the head's next instructions are answered.
+fn expect_steps(rt: &impl Abort, trial: &mut Trial<'_>, answers: &[Option<Wait>]) {
+    for answer in answers {
+        assert_eq!(rt; trial.step(rt), *answer);
+    }
+}
+
+/// Asserts how drains of some registers are answered.
+fn expect_drains(rt: &impl Abort, trial: &mut Trial<'_>, drains: &[(u8, Option<DrainFault>)]) {
+    for (number, answer) in drains {
+        let register = register(rt, *number);
+        assert_eq!(rt; trial.drain(register), *answer, "register {number}");
+    }
+}
+
+/// Asserts the value of a register.
+fn expect_value(rt: &impl Abort, unit: &Unit, number: u8, value: u32) {
+    let register = register(rt, number);
+    assert_eq!(rt; unit.value(register), Some(value), "register {number}");
+}
+
+#[test]
+fn unit_runs_task(rt: HostRuntime) {
+    let accepted = count(&rt, rt.alloc());
+    let mut trial = Trial::new(&rt, rt.alloc(), &accepted, zeros(&rt, 0));
+    expect_steps(&rt, &mut trial, &[None, None, None, None]);
+    assert_eq!(rt; trial.unit.spot(), Spot::Stopped(0x0040_0000));
+    assert_eq!(rt; trial.unit.reads().len(), 4);
+    for number in 8..11 {
+        expect_value(&rt, &trial.unit, number, 1);
+    }
+}
+
+#[test]
+fn unit_drains(rt: HostRuntime) {
+    let accepted = count(&rt, rt.alloc());
+    let mut trial = Trial::new(&rt, rt.alloc(), &accepted, zeros(&rt, 0));
+    let answers = [None, None, None, None, Some(Wait::Stopped)];
+    expect_steps(&rt, &mut trial, &answers);
+    let drains = [
+        (7, Some(DrainFault::NotInCreate)),
+        (8, Some(DrainFault::AlreadySent)),
+        (10, None),
+        (10, Some(DrainFault::AlreadySent)),
+    ];
+    expect_drains(&rt, &mut trial, &drains);
+}
+
+#[test]
+fn unit_drain_no_value(rt: HostRuntime) {
+    let accepted = release(&rt, rt.alloc());
+    let mut trial = Trial::new(&rt, rt.alloc(), &accepted, zeros(&rt, 0x80));
+    expect_steps(&rt, &mut trial, &[None, None, None]);
+    expect_drains(&rt, &mut trial, &[(7, Some(DrainFault::NoValue))]);
+}
+
+#[test]
+fn unit_waits(rt: HostRuntime) {
+    let accepted = count(&rt, rt.alloc());
+    let mut trial = Trial::new(&rt, rt.alloc(), &accepted, zeros(&rt, 0x100));
+    expect_drains(&rt, &mut trial, &[(8, Some(DrainFault::NotStopped))]);
+    let waiting = Some(Wait::Waiting(register(&rt, 8)));
+    expect_steps(&rt, &mut trial, &[waiting]);
+    assert_eq!(rt; trial.step_ahead(), waiting);
+}
+
+#[test]
+fn arrived_register_is_used(rt: HostRuntime) {
+    let accepted = count(&rt, rt.alloc());
+    let mut head = Trial::new(&rt, rt.alloc(), &accepted, two_in_register_8(&rt));
+    expect_steps(&rt, &mut head, &[None]);
+    expect_value(&rt, &head.unit, 8, 3);
+    let mut ahead = Trial::new(&rt, rt.alloc(), &accepted, two_in_register_8(&rt));
+    assert_eq!(rt; ahead.step_ahead(), None);
+    expect_value(&rt, &ahead.unit, 8, 3);
+}
+
+#[test]
+fn burst_is_taken_once(rt: HostRuntime) {
+    let accepted = count(&rt, rt.alloc());
+    let trial = Trial::new(&rt, rt.alloc(), &accepted, zeros(&rt, 0x20));
+    let burst = trial.burst(&rt, 64);
+    let again = trial.burst(&rt, 2);
+    let Trial { mut unit, .. } = trial;
+    assert_eq!(rt; unit.arrive(register(&rt, 5), 9), Ok(()));
+    expect_taken(&rt, &mut unit, burst, 4, 4);
+    expect_taken(&rt, &mut unit, again, 2, 0);
+    expect_value(&rt, &unit, 5, 9);
+    assert_eq!(rt; unit.reads().len(), 4);
+}
+
+/// Asserts how many steps a burst has, and how many of them a unit takes over.
+fn expect_taken(rt: &impl Abort, unit: &mut Unit, burst: Burst<'_>, steps: u32, taken: u32) {
+    assert_eq!(rt; burst.steps(), steps);
+    assert_eq!(rt; unit.take(burst).ok(), Some(taken));
+}
