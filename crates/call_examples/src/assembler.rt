@@ -58,12 +58,16 @@ fn pseudo_instructions(rt: HostRuntime) {
         Op::Logic(LogicKind::Ori, eight, eight, 3),
         Op::Halt,
     ];
-    assert_eq!(rt; program.code().len(), 7);
-    for (marked, op) in program.code().iter().zip(wanted) {
-        assert_eq!(rt; marked.op, op);
-    }
+    expect_ops(&rt, &program, &wanted);
     expect_second_marked(&rt, &program);
     assert_eq!(rt; program.bytes(), [0, 0, 0, 2, 1, 0, 0].as_slice());
+}
+
+fn expect_ops(rt: &impl Abort, program: &Program, wanted: &[Op]) {
+    assert!(rt; program.code().len() == wanted.len());
+    for (marked, op) in program.code().iter().zip(wanted) {
+        assert!(rt; marked.op == *op, "{op:?}");
+    }
 }
 
 // Asserts that the mark of a pseudo-instruction stands at the second one that it is.

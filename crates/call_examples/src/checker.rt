@@ -55,6 +55,10 @@ fn missing_destination_is_found(rt: HostRuntime) {
     let found = findings(&rt, rt.alloc(), &program, &cert);
     assert_eq!(rt; found.as_slice(), [wanted].as_slice());
     assert_eq!(rt; Findings::new(found.into_vec()).as_slice().len(), 1);
+    expect_refused(&rt, program, cert);
+}
+
+fn expect_refused(rt: &impl Abort, program: Program, cert: Cert) {
     assert!(rt; !accepts(&program, &cert));
     assert!(rt; Accepted::new(program, cert).is_err());
 }

@@ -68,80 +68,89 @@ fn loads_of_read_only_data(rt: HostRuntime) {
     let memory = memory(&rt, rt.alloc());
     for (kind, offset, word) in LOADS {
         let fixed = 0x1000_0000 + u32::from(offset);
+        expect_fixed(&rt, kind, fixed, memory.fixed(), Some(word));
+        expect_fixed(&rt, kind, fixed, &BYTES, Some(word));
         let data = 0x1001_0000 + u32::from(offset);
-        for (address, bytes, answer) in [
-            (fixed, memory.fixed(), Some(word)),
-            (fixed, BYTES.as_slice(), Some(word)),
-            (data, memory.fixed(), None),
-        ] {
-            assert_eq!(rt;
-                fixed_load(&rt, kind, address, bytes),
-                answer,
-                "{address:#x}"
-            );
-        }
+        expect_fixed(&rt, kind, data, memory.fixed(), None);
     }
 }
+
+// Asserts what a load of read-only data gives.
+fn expect_fixed(rt: &impl Abort, kind: LoadKind, address: u32, fixed: &[u8], answer: Option<u32>) {
+    assert_eq!(rt;
+        fixed_load(rt, kind, address, fixed),
+        answer,
+        "{address:#x}"
+    );
+}
+
+// Addresses at which a word cannot be loaded.
+const LOAD_TRAPS: [(u32, Trap); 7] = [
+    (0x0fff_fffe, Trap::Unaligned),
+    (0x1001_fffe, Trap::Unaligned),
+    (0xffff_ffff, Trap::Unaligned),
+    (0, Trap::OutOfRange),
+    (0x0fff_fffc, Trap::OutOfRange),
+    (0x1002_0000, Trap::OutOfRange),
+    (0xffff_fffc, Trap::OutOfRange),
+];
 
 #[test]
 fn loads_that_trap(rt: HostRuntime) {
     let memory = memory(&rt, rt.alloc());
-    for (address, trap) in [
-        (0x0fff_fffe, Trap::Unaligned),
-        (0x1001_fffe, Trap::Unaligned),
-        (0xffff_ffff, Trap::Unaligned),
-        (0, Trap::OutOfRange),
-        (0x0fff_fffc, Trap::OutOfRange),
-        (0x1002_0000, Trap::OutOfRange),
-        (0xffff_fffc, Trap::OutOfRange),
-    ] {
+    for (address, trap) in LOAD_TRAPS {
         let answer = load(&rt, &memory, LoadKind::Lw, address);
         assert_eq!(rt; answer, Err(trap), "{address:#x}");
     }
 }
 
+// Addresses at which a half cannot be stored.
+const STORE_TRAPS: [(u32, Trap); 3] = [
+    (0x1001_0001, Trap::Unaligned),
+    (0x1002_0000, Trap::OutOfRange),
+    (0x1000_0000, Trap::ReadOnly),
+];
+
 #[test]
 fn stores_that_trap(rt: HostRuntime) {
     let mut memory = memory(&rt, rt.alloc());
-    for (address, trap) in [
-        (0x1001_0001, Trap::Unaligned),
-        (0x1002_0000, Trap::OutOfRange),
-        (0x1000_0000, Trap::ReadOnly),
-    ] {
+    for (address, trap) in STORE_TRAPS {
         let answer = store(&rt, &mut memory, StoreKind::Sh, address, 0);
         assert_eq!(rt; answer, Err(trap), "{address:#x}");
     }
 }
 
-// Each store changes the word of the one before.
+// A store, and the word that is at an address behind it and behind those before it.
+const STORES: [(StoreKind, u32, u32, u32, u32); 3] = [
+    (
+        StoreKind::Sh,
+        0x1001_0002,
+        0x1234_5678,
+        0x1001_0000,
+        0x5678_ff80,
+    ),
+    (
+        StoreKind::Sb,
+        0x1001_0001,
+        0x1234_5678,
+        0x1001_0000,
+        0x5678_7880,
+    ),
+    (
+        StoreKind::Sw,
+        0x1001_fffc,
+        0x8765_4321,
+        0x1001_fffc,
+        0x8765_4321,
+    ),
+];
+
 #[test]
 fn stores(rt: HostRuntime) {
     let mut memory = memory(&rt, rt.alloc());
-    for (kind, address, word, at, loaded) in [
-        (
-            StoreKind::Sh,
-            0x1001_0002,
-            0x1234_5678,
-            0x1001_0000,
-            0x5678_ff80,
-        ),
-        (
-            StoreKind::Sb,
-            0x1001_0001,
-            0x1234_5678,
-            0x1001_0000,
-            0x5678_7880,
-        ),
-        (
-            StoreKind::Sw,
-            0x1001_fffc,
-            0x8765_4321,
-            0x1001_fffc,
-            0x8765_4321,
-        ),
-    ] {
+    for (kind, address, word, at, loaded) in STORES {
         let answer = store(&rt, &mut memory, kind, address, word);
-        assert_eq!(rt; answer, Ok(()), "{address:#x}");
+        assert!(rt; answer.is_ok(), "{address:#x}");
         assert_eq!(rt; load(&rt, &memory, LoadKind::Lw, at), Ok(loaded), "{at:#x}");
     }
     assert_eq!(rt; memory.bytes().len(), 65_536);
