@@ -4,8 +4,8 @@
 
 ghost use Rattle.std.specs.Prelude.{◌≤◌};
 
-use jobs::job::{Paths, Texts};
 use command_line::words::{UsageFault, job_of};
+use jobs::job::{Paths, Texts};
 use std::process::ExitCode;
 use std::{env, fs, io};
 use verdict_report::files::fetch;

@@ -1,7 +1,7 @@
 //! One run of a job, as the program does it, but for its files.
 
-use jobs::job::Texts;
 use command_line::words::job_of;
+use jobs::job::Texts;
 use std::alloc::{AllocError, Global};
 use std::process::Abort;
 use std::test::Fail;

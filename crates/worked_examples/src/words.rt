@@ -1,8 +1,8 @@
 //! Which words give which job, and which are refused.
 
 use crate::answers::words_of;
-use jobs::job::{Emit, Job, Paths};
 use command_line::words::{UsageFault, job_of};
+use jobs::job::{Emit, Job, Paths};
 use std::alloc::Global;
 use std::test::Fail;
 
