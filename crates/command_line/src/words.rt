@@ -78,8 +78,8 @@ fn no_job(alloc: Global) -> UsageFault {
     }
 }
 
-// The whole command line. A subcommand is there once it stands here, in `read_job` and in `is_served`
-// of specs/Served.antt.
+// The whole command line. A subcommand is there once it stands here, in `read_job` and in `is_served` of
+// the crate `jobs` (specs/Served.antt).
 fn command<'a>(alloc: Global) -> Result<Command<'a>, AllocError> {
     Command::new(alloc, "multiscalar")
         .about(help::PROGRAM)

@@ -1,4 +1,4 @@
-//! The numbers that a command line gives, each with its range in its type.
+//! The numbers that a job takes, each with its range in its type.
 ghost use Rattle.std.specs.Prelude.{ℕ, ◌≡◌, ◌≤◌, ◌↔◌, IsSome, IfSome};
 
 use std::marker::Model;

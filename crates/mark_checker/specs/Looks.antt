@@ -1,5 +1,5 @@
--- Helper vocabulary: what the checker looks at in an instruction, once for all tasks. No contract of
--- a public function cites a word of this file.
+-- Helper vocabulary: what the checker looks at in an instruction, and where tasks begin, once for all
+-- tasks. No contract of a public function cites a word of this file.
 use Rattle.std.specs.Prelude.{◌≡◌, ℕ, ◌≤◌, Bool, true, false, not, ◌&&◌, ◌||◌, nat_lt, nat_le, is_none, List, length, slice_get, get_or, Some}
 use Rattle.std.specs.List.{list_any}
 use Rattle.mips_plain.specs.Words.{has}

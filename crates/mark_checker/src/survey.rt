@@ -6,7 +6,7 @@ use std::marker::Model;
 use task_descriptor::program::Program;
 
 /// A program with what the rules look at in each of its instructions, and with the indices at which its
-/// tasks begin. Takes no memory.
+/// tasks begin. Takes no memory of the heap.
 #[derive(Drop)]
 pub(crate) struct Survey<'a> {
     program: &'a Program,
@@ -68,7 +68,7 @@ impl<'a> Survey<'a> {
 
 ghost use Rattle.mark_checker.specs.Looks.{AreEntries};
 
-/// For each index, that behind the longest code too, whether a task begins there. Takes no memory.
+/// For each index, that behind the longest code too, whether a task begins there.
 fn entries_of(program: &Program) -> [bool; 4097]
     ensures { AreEntries program.now result }
 {

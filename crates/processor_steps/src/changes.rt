@@ -40,7 +40,8 @@ impl Processor {
         self.assigns += 1;
     }
 
-    /// The unit at a position, on which the burst was made, takes it over.
+    /// The unit at a position, on which the burst was made, takes it over. Where no unit is there, it is
+    /// another one, or the burst has no step, only the number of units and read-only data are promised.
     pub fn take_burst(&mut self, position: u32, burst: Burst<'_>)
         ensures state { (u : Active) → slice_get (state_of self.old).queue position ≡ Some u → HasMore (active_of burst.entry.before) u → 0 < burst.entry.steps
             → state_of self.new ≡ with_queue (state_of self.old) (slice_set (state_of self.old).queue position (with_arrived (active_of burst.entry.after) u.arrived)) }
@@ -57,7 +58,7 @@ impl Processor {
         ensures state { state_of self.new ≡ after program.now (state_of self.old) (event.Transfer position register) }
         ensures kept { Keeps self.old self.new }
     {
-        // The contract speaks of the program, which the change itself has no need of.
+        // Read, so that the contract can speak of the program; the change itself has no need of it.
         let _ = program.start();
         self.queue.arrive(position as usize, register, word);
     }
@@ -78,7 +79,7 @@ impl Processor {
         ensures state { state_of self.new ≡ after program.now (state_of self.old) (event.Squash position) }
         ensures kept { Keeps self.old self.new }
     {
-        // The contract speaks of the program, which the change itself has no need of.
+        // Read, so that the contract can speak of the program; the change itself has no need of it.
         let _ = program.start();
         self.queue.keep(position as usize + 1);
     }
@@ -88,7 +89,7 @@ impl Processor {
         ensures state { state_of self.new ≡ after program.now (state_of self.old) (event.Drop position) }
         ensures kept { Keeps self.old self.new }
     {
-        // The contract speaks of the program, which the change itself has no need of.
+        // Read, so that the contract can speak of the program; the change itself has no need of it.
         let _ = program.start();
         self.queue.keep(position as usize);
     }
@@ -99,7 +100,7 @@ impl Processor {
         ensures state { state_of self.new ≡ after program.now (state_of self.old) event.Fault }
         ensures kept { Keeps self.old self.new }
     {
-        // The contract speaks of the program, which the change itself has no need of.
+        // Read, so that the contract can speak of the program; the change itself has no need of it.
         let _ = program.start();
         self.world.end(Standing::Unlisted(exit));
     }

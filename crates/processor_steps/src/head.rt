@@ -19,7 +19,7 @@ use unit_core::unit::Unit;
 
 impl Processor {
     /// The event that the head is ready for, where the run goes on: on an empty queue the Assign of the
-    /// task at the next address.
+    /// task at the next address. `None` where no task begins there.
     pub fn event_at_head(&self, program: &Program) -> Option<Event>
         ensures { result ≡ event_of_queue program.now (state_of self.now).next (state_of self.now).queue }
     {
@@ -71,8 +71,9 @@ impl Processor {
         }
     }
 
-    /// The task that may be assigned next, behind a tail that has not stopped the one at the target at
-    /// this position modulo their number.
+    /// The task that may be assigned next: behind a tail that has not stopped the one at the target at
+    /// this position modulo their number; behind a stopped tail the one at its exit, on an empty queue the
+    /// one at the next address, whatever the answer. `None` where no task may follow.
     pub fn task_to_assign(&self, program: &Program, answer: u32) -> Option<u32>
         ensures { result ≡ task_behind program.now (state_of self.now).next (last_or None (state_of self.now).queue) answer }
     {

@@ -59,7 +59,11 @@ impl Processor {
     ghost use Rattle.unit_core.specs.Bursts.{HasMore};
     ghost use Rattle.processor_steps.specs.Seen.{state_of};
 
-    /// A processor at the start of a program, with so many units, none of them at work.
+    /// A processor at the start of a program, with so many units, at most 16, none of them at work.
+    ///
+    /// # Errors
+    ///
+    /// `OutOfMemory` where the ring or the memory found no room.
     pub fn new(alloc: Global, program: &Program, units: u32) -> Result<Processor, OutOfMemory>
         requires { units ≤ 16 }
         ensures opening { IfOk result (λ processor. state_of processor ≡ opening program.now) }
@@ -99,7 +103,7 @@ impl Processor {
         self.queue.len()
     }
 
-    /// The unit at a position from the head, 0 being the head.
+    /// The unit at a position from the head, 0 being the head; `None` behind the tail.
     #[inline]
     pub fn unit(&self, position: u32) -> Option<&Unit>
         ensures { option_map active_of (option_copied result) ≡ slice_get (state_of self.now).queue position }
@@ -107,7 +111,8 @@ impl Processor {
         self.queue.get(position as usize)
     }
 
-    /// The position of a unit that is this one with at most more registers arrived.
+    /// The position of a unit that is this one with at most more registers arrived; `None` where no unit
+    /// is.
     pub fn position_of(&self, before: &Unit) -> Option<u32>
         ensures some { IfSome result (λ k. (u : Active) × (slice_get (state_of self.now).queue k ≡ Some u) × HasMore (active_of before.now) u) }
         ensures none { IfNone result ((k : ℕ) (u : Active) → slice_get (state_of self.now).queue k ≡ Some u → HasMore (active_of before.now) u → ⊥) }
