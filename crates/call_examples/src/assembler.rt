@@ -1,9 +1,9 @@
 //! Programs from text, and three faults.
 
+use crate::numbers::gpr;
 use annotated_asm::assembler::assemble;
 use annotated_asm::fault::AsmFault;
 use mips_plain::instruction::{ImmKind, LogicKind, Op};
-use mips_plain::number::Gpr;
 use std::alloc::Global;
 use std::process::Abort;
 use task_descriptor::program::Program;
@@ -40,10 +40,6 @@ halt
 .data
 .space 3
 D: .word 258";
-
-fn gpr(rt: &impl Abort, number: u8) -> Gpr {
-    Gpr::new(number).expect(rt, "a register")
-}
 
 #[test]
 fn pseudo_instructions(rt: HostRuntime) {

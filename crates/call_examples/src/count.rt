@@ -2,7 +2,6 @@
 
 use annotated_asm::assembler::assemble;
 use mips_plain::instruction::Op;
-use mips_plain::number::Place;
 use std::alloc::Global;
 use std::process::Abort;
 use task_descriptor::program::Program;
@@ -22,10 +21,6 @@ halt
 .rodata
 .byte 0x07
 ";
-
-pub(crate) fn place(rt: &impl Abort, index: u32) -> Place {
-    Place::new(index).expect(rt, "a place")
-}
 
 pub(crate) fn program(rt: &impl Abort, alloc: Global) -> Program {
     let program = assemble(alloc, COUNT.as_bytes()).ok();

@@ -1,12 +1,68 @@
 //! The parts of a program, its reading calls, and names.
 
-use crate::count::{place, program};
+use crate::count::program;
+use crate::numbers::{place, reg};
 use mips_plain::instruction::Op;
+use mips_plain::number::RegSet;
+use std::alloc::Global;
 use std::process::Abort;
-use task_descriptor::descriptor::{Marked, Stop};
+use task_descriptor::descriptor::{Descriptor, Marked, Stop};
 use task_descriptor::name::Name;
 use task_descriptor::places::Places;
-use task_descriptor::program::{BuildFault, Program};
+use task_descriptor::program::{BuildFault, Parts, Program};
+
+// The list of this one item.
+fn one<T: Drop>(rt: &impl Abort, alloc: Global, item: T) -> Vec<T> {
+    let mut list = Vec::new(alloc);
+    assert!(rt; list.push(item).is_ok());
+    list
+}
+
+// A jump to the first instruction, with which its task ends.
+fn last_jump(rt: &impl Abort) -> Marked {
+    Marked {
+        op: Op::Jump(place(rt, 0)),
+        forward: false,
+        stop: Stop::Always,
+    }
+}
+
+// The parts of a program of one task, which jumps to itself.
+fn parts(rt: &impl Abort, alloc: Global) -> Parts {
+    let task = Descriptor {
+        name: Name::new(b"A").expect(rt, "a name"),
+        entry: place(rt, 0),
+        create: RegSet::empty().insert(reg(rt, 8)),
+        targets: Places::new(one(rt, alloc, place(rt, 0))),
+    };
+    Parts {
+        code: one(rt, alloc, last_jump(rt)),
+        bytes: one(rt, alloc, 5),
+        fixed: one(rt, alloc, 7),
+        tasks: one(rt, alloc, task),
+        start: place(rt, 0),
+    }
+}
+
+#[test]
+fn builds_parts_made_by_hand(rt: HostRuntime) {
+    let built = Program::build(parts(&rt, rt.alloc()));
+    let program = built.ok().expect(&rt, "a program");
+    assert_eq!(rt; program.code(), [last_jump(&rt)].as_slice());
+    assert_eq!(rt; program.bytes(), [5].as_slice());
+    assert_eq!(rt; program.fixed(), [7].as_slice());
+    assert_eq!(rt; program.start(), place(&rt, 0));
+    assert_eq!(rt; program.tasks().len(), 1);
+    expect_task(&rt, &program.tasks()[0]);
+}
+
+// Asserts that a task is that of the parts.
+fn expect_task(rt: &impl Abort, task: &Descriptor) {
+    assert_eq!(rt; task.name.bytes(), b"A".as_slice());
+    assert_eq!(rt; task.entry, place(rt, 0));
+    assert_eq!(rt; task.create.bits(), 0x100);
+    assert_eq!(rt; task.targets.as_slice(), [place(rt, 0)].as_slice());
+}
 
 #[test]
 fn builds_and_reads(rt: HostRuntime) {
@@ -23,14 +79,14 @@ fn builds_and_reads(rt: HostRuntime) {
 }
 
 fn expect_sizes(rt: &impl Abort, program: &Program) {
-    assert!(rt; program.code().len() == 6);
-    assert!(rt; program.tasks().len() == 2);
-    assert!(rt; program.start().get() == 0);
+    assert_eq!(rt; program.code().len(), 6);
+    assert_eq!(rt; program.tasks().len(), 2);
+    assert_eq!(rt; program.start().get(), 0);
 }
 
 fn expect_data(rt: &impl Abort, program: &Program) {
     assert!(rt; program.bytes().is_empty());
-    assert!(rt; program.fixed() == [7].as_slice());
+    assert_eq!(rt; program.fixed(), [7].as_slice());
 }
 
 // Addresses, and the instruction that is there.
@@ -44,7 +100,7 @@ fn expect_indices(rt: &impl Abort, program: &Program) {
     for (address, index) in INDICES {
         assert_eq!(rt; program.index(address), index, "{address:#x}");
     }
-    assert!(rt; program.address(place(rt, 4)) == 0x0040_0010);
+    assert_eq!(rt; program.address(place(rt, 4)), 0x0040_0010);
     assert_eq!(rt; program.task_at(4), Some(1));
     assert_eq!(rt; program.task_at(5), None);
 }

@@ -20,6 +20,8 @@ mod graph;
 #[cfg(test)]
 mod memory;
 #[cfg(test)]
+mod numbers;
+#[cfg(test)]
 mod operations;
 #[cfg(test)]
 mod plain_machine;

@@ -1,8 +1,8 @@
 //! Loads and stores: the bytes of words and halves, the traps, and read-only data.
 
+use crate::numbers::gpr;
 use mips_plain::instruction::{LoadKind, Op, StoreKind};
 use mips_plain::memory::{Memory, MemoryFault};
-use mips_plain::number::Gpr;
 use mips_plain::outcome::Trap;
 use std::alloc::Global;
 use std::process::Abort;
@@ -14,10 +14,6 @@ fn memory(rt: &impl Abort, alloc: Global) -> Memory {
     Memory::new(alloc, &BYTES, &BYTES)
         .ok()
         .expect(rt, "room for a memory")
-}
-
-fn gpr(rt: &impl Abort, number: u8) -> Gpr {
-    Gpr::new(number).expect(rt, "a register")
 }
 
 fn load(rt: &impl Abort, memory: &Memory, kind: LoadKind, address: u32) -> Result<u32, Trap> {
@@ -117,6 +113,15 @@ fn stores_that_trap(rt: HostRuntime) {
     for (address, trap) in STORE_TRAPS {
         let answer = store(&rt, &mut memory, StoreKind::Sh, address, 0);
         assert_eq!(rt; answer, Err(trap), "{address:#x}");
+    }
+    expect_as_made(&rt, &memory);
+}
+
+// Asserts that the first word of either region is that of the bytes.
+fn expect_as_made(rt: &impl Abort, memory: &Memory) {
+    for address in [0x1000_0000, 0x1001_0000] {
+        let word = load(rt, memory, LoadKind::Lw, address);
+        assert_eq!(rt; word, Ok(0x017f_ff80), "{address:#x}");
     }
 }
 

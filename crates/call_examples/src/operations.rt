@@ -1,23 +1,16 @@
 //! The words of the MIPS manual's definitions at the corners of their ranges, worked out with integers of
 //! any size, outside this program.
 
+use crate::numbers::{gpr, place};
 use mips_plain::instruction::{
-    BranchOneKind, BranchTwoKind, ImmKind, LogicKind, MultKind, Op, ShiftByKind, ShiftVarKind,
-    ThreeKind,
+    BranchOneKind, BranchTwoKind, ImmKind, LogicKind, MoveFromKind, MoveToKind, MultKind, Op,
+    ShiftByKind, ShiftVarKind, ThreeKind,
 };
-use mips_plain::number::{Amount, Gpr, Place, Reg};
+use mips_plain::number::{Amount, Reg};
 use std::process::Abort;
 
 /// The address of each instruction.
 const PC: u32 = 0x0040_0000;
-
-fn gpr(rt: &impl Abort, number: u8) -> Gpr {
-    Gpr::new(number).expect(rt, "a register")
-}
-
-fn place(rt: &impl Abort, index: u32) -> Place {
-    Place::new(index).expect(rt, "a place")
-}
 
 // Asserts which word an operation leaves in a register.
 fn expect_word(rt: &impl Abort, op: &Op, a: u32, b: u32, to: Reg, word: u32) {
@@ -203,19 +196,61 @@ fn immediates_with_a_sign(rt: HostRuntime) {
 }
 
 // An operand, a constant without a sign, and the word.
-const LOGIC: [(LogicKind, u32, u16, u32); 12] = [
+const LOGIC: [(LogicKind, u32, u16, u32); 54] = [
+    (LogicKind::Andi, 0xffff_ffff, 0, 0),
+    (LogicKind::Andi, 0xffff_ffff, 1, 1),
+    (LogicKind::Andi, 0xffff_ffff, 0x7fff, 0x7fff),
+    (LogicKind::Andi, 0xffff_ffff, 0x8000, 0x8000),
     (LogicKind::Andi, 0xffff_ffff, 0xffff, 0xffff),
+    (LogicKind::Andi, 0x8000_0000, 0, 0),
+    (LogicKind::Andi, 0x8000_0000, 1, 0),
+    (LogicKind::Andi, 0x8000_0000, 0x7fff, 0),
+    (LogicKind::Andi, 0x8000_0000, 0x8000, 0),
+    (LogicKind::Andi, 0x8000_0000, 0xffff, 0),
+    (LogicKind::Andi, 0xffff_8000, 0, 0),
+    (LogicKind::Andi, 0xffff_8000, 1, 0),
+    (LogicKind::Andi, 0xffff_8000, 0x7fff, 0),
+    (LogicKind::Andi, 0xffff_8000, 0x8000, 0x8000),
+    (LogicKind::Andi, 0xffff_8000, 0xffff, 0x8000),
     (LogicKind::Andi, 0, 0x8000, 0),
-    (LogicKind::Andi, 0x1234_5678, 0xff00, 0x5600),
     (LogicKind::Andi, 0x8000, 0x8000, 0x8000),
+    (LogicKind::Andi, 0x1234_5678, 0xff00, 0x5600),
+    (LogicKind::Ori, 0xffff_ffff, 0, 0xffff_ffff),
+    (LogicKind::Ori, 0xffff_ffff, 1, 0xffff_ffff),
+    (LogicKind::Ori, 0xffff_ffff, 0x7fff, 0xffff_ffff),
+    (LogicKind::Ori, 0xffff_ffff, 0x8000, 0xffff_ffff),
     (LogicKind::Ori, 0xffff_ffff, 0xffff, 0xffff_ffff),
+    (LogicKind::Ori, 0x8000_0000, 0, 0x8000_0000),
+    (LogicKind::Ori, 0x8000_0000, 1, 0x8000_0001),
+    (LogicKind::Ori, 0x8000_0000, 0x7fff, 0x8000_7fff),
+    (LogicKind::Ori, 0x8000_0000, 0x8000, 0x8000_8000),
+    (LogicKind::Ori, 0x8000_0000, 0xffff, 0x8000_ffff),
+    (LogicKind::Ori, 0xffff_8000, 0, 0xffff_8000),
+    (LogicKind::Ori, 0xffff_8000, 1, 0xffff_8001),
+    (LogicKind::Ori, 0xffff_8000, 0x7fff, 0xffff_ffff),
+    (LogicKind::Ori, 0xffff_8000, 0x8000, 0xffff_8000),
+    (LogicKind::Ori, 0xffff_8000, 0xffff, 0xffff_ffff),
     (LogicKind::Ori, 0, 0x8000, 0x8000),
-    (LogicKind::Ori, 0x1234_5678, 0xff00, 0x1234_ff78),
     (LogicKind::Ori, 0x8000, 0x8000, 0x8000),
+    (LogicKind::Ori, 0x1234_5678, 0xff00, 0x1234_ff78),
+    (LogicKind::Xori, 0xffff_ffff, 0, 0xffff_ffff),
+    (LogicKind::Xori, 0xffff_ffff, 1, 0xffff_fffe),
+    (LogicKind::Xori, 0xffff_ffff, 0x7fff, 0xffff_8000),
+    (LogicKind::Xori, 0xffff_ffff, 0x8000, 0xffff_7fff),
     (LogicKind::Xori, 0xffff_ffff, 0xffff, 0xffff_0000),
+    (LogicKind::Xori, 0x8000_0000, 0, 0x8000_0000),
+    (LogicKind::Xori, 0x8000_0000, 1, 0x8000_0001),
+    (LogicKind::Xori, 0x8000_0000, 0x7fff, 0x8000_7fff),
+    (LogicKind::Xori, 0x8000_0000, 0x8000, 0x8000_8000),
+    (LogicKind::Xori, 0x8000_0000, 0xffff, 0x8000_ffff),
+    (LogicKind::Xori, 0xffff_8000, 0, 0xffff_8000),
+    (LogicKind::Xori, 0xffff_8000, 1, 0xffff_8001),
+    (LogicKind::Xori, 0xffff_8000, 0x7fff, 0xffff_ffff),
+    (LogicKind::Xori, 0xffff_8000, 0x8000, 0xffff_0000),
+    (LogicKind::Xori, 0xffff_8000, 0xffff, 0xffff_7fff),
     (LogicKind::Xori, 0, 0x8000, 0x8000),
-    (LogicKind::Xori, 0x1234_5678, 0xff00, 0x1234_a978),
     (LogicKind::Xori, 0x8000, 0x8000, 0),
+    (LogicKind::Xori, 0x1234_5678, 0xff00, 0x1234_a978),
 ];
 
 #[test]
@@ -226,9 +261,18 @@ fn immediates_without_a_sign(rt: HostRuntime) {
     }
 }
 
+// A constant, and the word that has it for its upper half.
+const UPPER: [(u16, u32); 5] = [
+    (0, 0),
+    (1, 0x1_0000),
+    (0x7fff, 0x7fff_0000),
+    (0x8000, 0x8000_0000),
+    (0xffff, 0xffff_0000),
+];
+
 #[test]
 fn upper_immediates(rt: HostRuntime) {
-    for (constant, word) in [(1, 0x1_0000), (0x8000, 0x8000_0000), (0xffff, 0xffff_0000)] {
+    for (constant, word) in UPPER {
         expect_in_8(&rt, Op::Lui(gpr(&rt, 8), constant), 0, 0, word);
     }
 }
@@ -276,52 +320,133 @@ fn products(rt: HostRuntime) {
     }
 }
 
+// The words that are moved.
+const MOVED: [u32; 8] = [
+    0,
+    1,
+    0xffff_ffff,
+    0x7fff_ffff,
+    0x8000_0000,
+    0xffff_8000,
+    0x8000,
+    0xffff,
+];
+
+#[test]
+fn moves_from_the_halves_of_a_product(rt: HostRuntime) {
+    for word in MOVED {
+        let high = Op::MoveFrom(MoveFromKind::Mfhi, gpr(&rt, 8));
+        let low = Op::MoveFrom(MoveFromKind::Mflo, gpr(&rt, 8));
+        expect_in_8(&rt, high, word, 0, word);
+        expect_in_8(&rt, low, word, 0, word);
+    }
+}
+
+#[test]
+fn moves_to_the_halves_of_a_product(rt: HostRuntime) {
+    for word in MOVED {
+        let high = Op::MoveTo(MoveToKind::Mthi, gpr(&rt, 9));
+        let low = Op::MoveTo(MoveToKind::Mtlo, gpr(&rt, 9));
+        expect_word(&rt, &high, word, 0, Reg::HI, word);
+        expect_word(&rt, &low, word, 0, Reg::LO, word);
+    }
+}
+
+// Asserts whether a branch to the instruction 7 is taken, and the address that is next.
+fn expect_branch(rt: &impl Abort, op: &Op, a: u32, b: u32, taken: bool) {
+    assert!(rt; op.taken(a, b) == taken, "{op:?} {a:#x} {b:#x}");
+    let to = if taken { 0x0040_001c } else { 0x0040_0004 };
+    assert_eq!(rt; op.turn(a, b, PC), to, "{op:?} {a:#x} {b:#x}");
+}
+
 // An operand, and whether the branch is taken.
-const BRANCH_ONE: [(BranchOneKind, u32, bool); 24] = [
+const BRANCH_ONE: [(BranchOneKind, u32, bool); 32] = [
     (BranchOneKind::Blez, 0, true),
     (BranchOneKind::Blez, 1, false),
     (BranchOneKind::Blez, 0xffff_ffff, true),
     (BranchOneKind::Blez, 0x7fff_ffff, false),
     (BranchOneKind::Blez, 0x8000_0000, true),
     (BranchOneKind::Blez, 0xffff_8000, true),
+    (BranchOneKind::Blez, 0x8000, false),
+    (BranchOneKind::Blez, 0xffff, false),
     (BranchOneKind::Bgtz, 0, false),
     (BranchOneKind::Bgtz, 1, true),
     (BranchOneKind::Bgtz, 0xffff_ffff, false),
     (BranchOneKind::Bgtz, 0x7fff_ffff, true),
     (BranchOneKind::Bgtz, 0x8000_0000, false),
     (BranchOneKind::Bgtz, 0xffff_8000, false),
+    (BranchOneKind::Bgtz, 0x8000, true),
+    (BranchOneKind::Bgtz, 0xffff, true),
     (BranchOneKind::Bltz, 0, false),
     (BranchOneKind::Bltz, 1, false),
     (BranchOneKind::Bltz, 0xffff_ffff, true),
     (BranchOneKind::Bltz, 0x7fff_ffff, false),
     (BranchOneKind::Bltz, 0x8000_0000, true),
     (BranchOneKind::Bltz, 0xffff_8000, true),
+    (BranchOneKind::Bltz, 0x8000, false),
+    (BranchOneKind::Bltz, 0xffff, false),
     (BranchOneKind::Bgez, 0, true),
     (BranchOneKind::Bgez, 1, true),
     (BranchOneKind::Bgez, 0xffff_ffff, false),
     (BranchOneKind::Bgez, 0x7fff_ffff, true),
     (BranchOneKind::Bgez, 0x8000_0000, false),
     (BranchOneKind::Bgez, 0xffff_8000, false),
+    (BranchOneKind::Bgez, 0x8000, true),
+    (BranchOneKind::Bgez, 0xffff, true),
 ];
 
 #[test]
 fn branches_on_one_register(rt: HostRuntime) {
     for (kind, a, taken) in BRANCH_ONE {
         let op = Op::BranchOne(kind, gpr(&rt, 9), place(&rt, 7));
-        assert!(rt; op.taken(a, 0) == taken, "{kind:?} {a:#x}");
-        let to = if taken { 0x0040_001c } else { 0x0040_0004 };
-        assert_eq!(rt; op.turn(a, 0, PC), to, "{kind:?} {a:#x}");
+        expect_branch(&rt, &op, a, 0, taken);
     }
 }
 
+// Two operands, and whether the branch is taken.
+const BRANCH_TWO: [(BranchTwoKind, u32, u32, bool); 36] = [
+    (BranchTwoKind::Beq, 0, 0, true),
+    (BranchTwoKind::Beq, 1, 1, true),
+    (BranchTwoKind::Beq, 0xffff_ffff, 0xffff_ffff, true),
+    (BranchTwoKind::Beq, 0x7fff_ffff, 0x7fff_ffff, true),
+    (BranchTwoKind::Beq, 0x8000_0000, 0x8000_0000, true),
+    (BranchTwoKind::Beq, 0xffff_8000, 0xffff_8000, true),
+    (BranchTwoKind::Beq, 0x8000, 0x8000, true),
+    (BranchTwoKind::Beq, 0xffff, 0xffff, true),
+    (BranchTwoKind::Beq, 5, 5, true),
+    (BranchTwoKind::Beq, 0, 1, false),
+    (BranchTwoKind::Beq, 0, 0x8000, false),
+    (BranchTwoKind::Beq, 0, 0x8000_0000, false),
+    (BranchTwoKind::Beq, 1, 0xffff_ffff, false),
+    (BranchTwoKind::Beq, 0x7fff_ffff, 0xffff_ffff, false),
+    (BranchTwoKind::Beq, 0x7fff_ffff, 0x8000_0000, false),
+    (BranchTwoKind::Beq, 0xffff_8000, 0x8000, false),
+    (BranchTwoKind::Beq, 0xffff_ffff, 0xffff, false),
+    (BranchTwoKind::Beq, 5, 6, false),
+    (BranchTwoKind::Bne, 0, 0, false),
+    (BranchTwoKind::Bne, 1, 1, false),
+    (BranchTwoKind::Bne, 0xffff_ffff, 0xffff_ffff, false),
+    (BranchTwoKind::Bne, 0x7fff_ffff, 0x7fff_ffff, false),
+    (BranchTwoKind::Bne, 0x8000_0000, 0x8000_0000, false),
+    (BranchTwoKind::Bne, 0xffff_8000, 0xffff_8000, false),
+    (BranchTwoKind::Bne, 0x8000, 0x8000, false),
+    (BranchTwoKind::Bne, 0xffff, 0xffff, false),
+    (BranchTwoKind::Bne, 5, 5, false),
+    (BranchTwoKind::Bne, 0, 1, true),
+    (BranchTwoKind::Bne, 0, 0x8000, true),
+    (BranchTwoKind::Bne, 0, 0x8000_0000, true),
+    (BranchTwoKind::Bne, 1, 0xffff_ffff, true),
+    (BranchTwoKind::Bne, 0x7fff_ffff, 0xffff_ffff, true),
+    (BranchTwoKind::Bne, 0x7fff_ffff, 0x8000_0000, true),
+    (BranchTwoKind::Bne, 0xffff_8000, 0x8000, true),
+    (BranchTwoKind::Bne, 0xffff_ffff, 0xffff, true),
+    (BranchTwoKind::Bne, 5, 6, true),
+];
+
 #[test]
 fn branches_on_two_registers(rt: HostRuntime) {
-    for (kind, b, taken) in [
-        (BranchTwoKind::Beq, 5, true),
-        (BranchTwoKind::Beq, 6, false),
-        (BranchTwoKind::Bne, 6, true),
-    ] {
+    for (kind, a, b, taken) in BRANCH_TWO {
         let op = Op::BranchTwo(kind, gpr(&rt, 9), gpr(&rt, 10), place(&rt, 7));
-        assert!(rt; op.taken(5, b) == taken, "{kind:?} {b}");
+        expect_branch(&rt, &op, a, b, taken);
     }
 }

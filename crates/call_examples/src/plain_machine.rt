@@ -2,24 +2,13 @@
 
 use crate::count::count_ops;
 use crate::memory::zeros;
+use crate::numbers::{gpr, place, reg};
 use mips_plain::instruction::{MoveFromKind, MoveToKind, Op, ThreeKind};
-use mips_plain::number::{Gpr, Place, Reg, RegSet};
+use mips_plain::number::{Reg, RegSet};
 use mips_plain::outcome::{OutOfMemory, Outcome, Trap};
 use mips_plain::plain::{Plain, PlainFault};
 use std::alloc::Global;
 use std::process::Abort;
-
-fn gpr(rt: &impl Abort, number: u8) -> Gpr {
-    Gpr::new(number).expect(rt, "a register")
-}
-
-fn reg(rt: &impl Abort, number: u8) -> Reg {
-    Reg::new(number).expect(rt, "a register")
-}
-
-fn place(rt: &impl Abort, index: u32) -> Place {
-    Place::new(index).expect(rt, "a place")
-}
 
 #[test]
 fn moves(rt: HostRuntime) {

@@ -24,7 +24,7 @@ fn an_instruction(rt: HostRuntime) {
     ];
     assert_eq!(rt; tokens.len(), 7);
     for (token, want) in tokens.iter().skip(1).zip(wanted) {
-        assert!(rt; *token == want);
+        assert_eq!(rt; *token, want);
     }
 }
 
@@ -34,7 +34,7 @@ fn lines_of_a_text(rt: HostRuntime) {
     let (line, rest) = first_line(b".word1,2\r\n1a");
     assert!(rt; read_tokens(&mut tokens, line).is_ok());
     assert_eq!(rt; tokens.len(), 4);
-    assert!(rt; tokens[0] == Token::Directive(Directive::Word));
+    assert_eq!(rt; tokens[0], Token::Directive(Directive::Word));
     let (line, rest) = first_line(rest.expect(&rt, "a second line"));
     let number = read_tokens(&mut tokens, line);
     assert!(rt; matches!(number, Err(TokenFault::Token)));
