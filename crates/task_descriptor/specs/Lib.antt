@@ -2,3 +2,4 @@ pub mod Names
 pub mod NameFacts
 pub mod Listing
 pub mod WellFormed
+pub mod Examples
