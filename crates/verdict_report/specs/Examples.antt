@@ -1,17 +1,20 @@
--- Worked examples of `replay`, computed by the checker: from the texts to the bytes and the status.
+-- Worked examples of `seq` and `replay`, computed by the checker: from the texts to the bytes and the
+-- status.
 use Rattle.std.specs.Prelude.{◌≡◌, ℕ, List, [], ◌∷◌, ◌++◌, Result, codes, flat_map}
 use Rattle.std.specs.Fmt.{digits}
 use Rattle.std.proofs.Common.{refl, ap}
 use Rattle.mips_plain.specs.Words.{address, index_of}
 use Rattle.mips_plain.specs.MemoryMap.{region, effective}
+use Rattle.mips_plain.specs.PlainMachine.{plain, reads, fetch}
 use Rattle.task_descriptor.specs.Listing.{Listing}
 use Rattle.annotated_asm.specs.declared.fault.AsmFault.{AsmFault}
-use Rattle.annotated_asm.specs.Examples.{count_text, count_is}
+use Rattle.annotated_asm.specs.Examples.{count_text, count_is, unknown_word}
 use Rattle.mark_checker.specs.Rules.{each}
 use Rattle.machine_model.specs.Answer.{least}
 use Rattle.machine_model.specs.Examples.{unlisted_jump, jump_unlisted}
 use Rattle.verdict_report.specs.OutputTexts.{Report}
 use Rattle.verdict_report.specs.JudgedTexts.{program_judged}
+use Rattle.verdict_report.specs.SeqText.{seq_read, seq_text}
 use Rattle.verdict_report.specs.ReplayText.{events_report, script_report, replay_text}
 
 -- lines, each with its LF
@@ -20,6 +23,19 @@ lines ls = flat_map (λ l. l ++ 10 ∷ []) ls
 
 abbrev report : List (List ℕ) → ℕ → Report
 report ls status = record { bytes = lines ls; status = status }
+
+-- the program that counts to four puts out 10 and halts; with the budget 5 it does not come so far
+pub count_halts : seq_text 20 count_text ≡ report (codes "10" ∷ codes "halted after 18 instructions" ∷ []) 0
+unfolding digits plain reads address index_of fetch region effective
+count_halts = ap (seq_read 20) count_is
+
+pub count_goes_on : seq_text 5 count_text ≡ report (codes "out of budget after 5 instructions" ∷ []) 3
+unfolding digits plain reads address index_of fetch region effective
+count_goes_on = ap (seq_read 5) count_is
+
+pub no_program : seq_text 20 (codes "foo $8") ≡ report (codes "program refused: 4 Mnemonic line 1" ∷ []) 1
+unfolding digits
+no_program = ap (seq_read 20) unknown_word
 
 -- the certificate of the program that counts to four
 abbrev count_certificate : List ℕ
