@@ -11,7 +11,7 @@ pub const MOST_INSTRUCTIONS: usize = 4096;
 /// A register, 0..=33: 0 to 31 are the general registers, 32 is HI, 33 is LO (own numbering).
 #[derive(Clone, Copy, Debug, PartialEq, Eq, PartialOrd, Ord, Hash)]
 pub struct Reg {
-    index: u8,
+    number: u8,
 }
 
 impl Model for Reg {
@@ -19,32 +19,32 @@ impl Model for Reg {
 
     ghost Value = { ℕ };
 
-    ghost view = { λ a. a.index };
+    ghost view = { λ a. a.number };
 
-    ghost invariant = { λ a. a.index < 34 };
+    ghost invariant = { λ a. a.number < 34 };
 
-    ghost inverse = { λ n. record { index = n } };
+    ghost inverse = { λ n. record { number = n } };
 }
 
 impl Reg {
     ghost use Rattle.std.specs.Prelude.{◌≡◌, ◌<◌, ◌↔◌, IsSome, IfSome};
 
     /// Register 31, where `jal` puts its link (MIPS manual).
-    pub const LINK: Reg = Reg { index: 31 };
+    pub const LINK: Reg = Reg { number: 31 };
 
     /// HI, for the high half of a product (MIPS manual; own number).
-    pub const HI: Reg = Reg { index: 32 };
+    pub const HI: Reg = Reg { number: 32 };
 
     /// LO, for the low half of a product (MIPS manual; own number).
-    pub const LO: Reg = Reg { index: 33 };
+    pub const LO: Reg = Reg { number: 33 };
 
     /// The register of this number; `None` above 33.
-    pub fn new(index: u8) -> Option<Reg>
-        ensures some { IsSome result ↔ (index < 34) }
-        ensures value { IfSome result (λ register. register ≡ index) }
+    pub fn new(number: u8) -> Option<Reg>
+        ensures some { IsSome result ↔ (number < 34) }
+        ensures value { IfSome result (λ register. register ≡ number) }
     {
-        if index < 34 {
-            Some(Reg { index })
+        if number < 34 {
+            Some(Reg { number })
         } else {
             None
         }
@@ -56,14 +56,14 @@ impl Reg {
         ensures value { result ≡ self }
         ensures range { result < 34 }
     {
-        self.index
+        self.number
     }
 }
 
 /// A general register, 0..=31, as an instruction's field names it (MIPS manual).
 #[derive(Clone, Copy, Debug, PartialEq, Eq, PartialOrd, Ord, Hash)]
 pub struct Gpr {
-    index: u8,
+    field: u8,
 }
 
 impl Model for Gpr {
@@ -71,23 +71,23 @@ impl Model for Gpr {
 
     ghost Value = { ℕ };
 
-    ghost view = { λ a. a.index };
+    ghost view = { λ a. a.field };
 
-    ghost invariant = { λ a. a.index < 32 };
+    ghost invariant = { λ a. a.field < 32 };
 
-    ghost inverse = { λ n. record { index = n } };
+    ghost inverse = { λ n. record { field = n } };
 }
 
 impl Gpr {
     ghost use Rattle.std.specs.Prelude.{◌≡◌, ◌<◌, ◌↔◌, IsSome, IfSome};
 
     /// The general register of this number; `None` above 31.
-    pub fn new(index: u8) -> Option<Gpr>
-        ensures some { IsSome result ↔ (index < 32) }
-        ensures value { IfSome result (λ register. register ≡ index) }
+    pub fn new(field: u8) -> Option<Gpr>
+        ensures some { IsSome result ↔ (field < 32) }
+        ensures value { IfSome result (λ register. register ≡ field) }
     {
-        if index < 32 {
-            Some(Gpr { index })
+        if field < 32 {
+            Some(Gpr { field })
         } else {
             None
         }
@@ -99,7 +99,7 @@ impl Gpr {
         ensures value { result ≡ self }
         ensures range { result < 32 }
     {
-        self.index
+        self.field
     }
 }
 
@@ -110,7 +110,7 @@ impl From<Gpr> for Reg {
 
     fn from(register: Gpr) -> Reg {
         Reg {
-            index: register.get(),
+            number: register.get(),
         }
     }
 }
@@ -162,7 +162,7 @@ impl Place {
 /// How far a shift goes, 0..=31 bits (MIPS manual, SLL).
 #[derive(Clone, Copy, Debug, PartialEq, Eq, PartialOrd, Ord, Hash)]
 pub struct Amount {
-    bits: u8,
+    distance: u8,
 }
 
 impl Model for Amount {
@@ -170,23 +170,23 @@ impl Model for Amount {
 
     ghost Value = { ℕ };
 
-    ghost view = { λ a. a.bits };
+    ghost view = { λ a. a.distance };
 
-    ghost invariant = { λ a. a.bits < 32 };
+    ghost invariant = { λ a. a.distance < 32 };
 
-    ghost inverse = { λ n. record { bits = n } };
+    ghost inverse = { λ n. record { distance = n } };
 }
 
 impl Amount {
     ghost use Rattle.std.specs.Prelude.{◌≡◌, ◌<◌, ◌↔◌, IsSome, IfSome};
 
     /// The amount of this many bits; `None` above 31.
-    pub fn new(bits: u8) -> Option<Amount>
-        ensures some { IsSome result ↔ (bits < 32) }
-        ensures value { IfSome result (λ amount. amount ≡ bits) }
+    pub fn new(distance: u8) -> Option<Amount>
+        ensures some { IsSome result ↔ (distance < 32) }
+        ensures value { IfSome result (λ amount. amount ≡ distance) }
     {
-        if bits < 32 {
-            Some(Amount { bits })
+        if distance < 32 {
+            Some(Amount { distance })
         } else {
             None
         }
@@ -198,7 +198,7 @@ impl Amount {
         ensures value { result ≡ self }
         ensures range { result < 32 }
     {
-        self.bits
+        self.distance
     }
 }
 
