@@ -1,13 +1,12 @@
 #!/usr/bin/env python3
 """Runs the program on the examples and compares what it prints.
 
-    compare.py PROGRAM [FOLDER ..]
-
 PROGRAM is the built `multiscalar`; without folders every example is run. Each
 line of FOLDER/expected/commands has a file beside it, the exit status that is
 wanted, and the words to run the program with, in FOLDER. A command whose first
 word is no subcommand of PROGRAM is passed over and counted.
 """
+import argparse
 import pathlib
 import subprocess
 import sys
@@ -22,10 +21,14 @@ def commands(folder):
 
 
 def main():
-    if len(sys.argv) < 2:
-        sys.exit(__doc__)
-    program = str(pathlib.Path(sys.argv[1]).resolve())
-    folders = [pathlib.Path(name).resolve() for name in sys.argv[2:]]
+    options = argparse.ArgumentParser(description=__doc__, formatter_class=argparse.RawDescriptionHelpFormatter)
+    options.add_argument("program", metavar="PROGRAM", type=pathlib.Path)
+    options.add_argument("folders", metavar="FOLDER", type=pathlib.Path, nargs="*")
+    given = options.parse_args()
+    if not given.program.is_file():
+        options.error(f"there is no program {given.program}")
+    program = str(given.program.resolve())
+    folders = [folder.resolve() for folder in given.folders]
     folders = folders or sorted(path.parent.parent for path in HERE.glob("*/expected/commands"))
     known = {}
     passed, failed, absent = 0, 0, 0
