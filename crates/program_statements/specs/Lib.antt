@@ -4,3 +4,4 @@ pub mod Operands
 pub mod Mnemonics
 pub mod Rows
 pub mod Statements
+pub mod Examples
