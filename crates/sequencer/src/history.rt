@@ -25,7 +25,7 @@ impl Model for History {
 }
 
 impl History {
-    ghost use Rattle.std.specs.Prelude.{◌≡◌, ◌+◌, ◌<◌, ◌≤◌, ◌↔◌, [], ◌∷◌, ◌++◌, length, replicate, IfOk, IsTrue};
+    ghost use Rattle.std.specs.Prelude.{◌≡◌, ◌+◌, ◌<◌, ◌≤◌, [], ◌∷◌, ◌++◌, length, replicate, IfOk};
     ghost use Rattle.machine_model.specs.Answer.{most_events};
 
     /// No event, with its room reserved.
@@ -50,14 +50,6 @@ impl History {
         ensures { result ≡ length self.now }
     {
         self.events.len()
-    }
-
-    /// Whether there are as many events as there may be.
-    #[inline]
-    pub(crate) fn is_full(&self) -> bool
-        ensures { IsTrue result ↔ (most_events ≤ length self.now) }
-    {
-        self.events.len() >= MOST_EVENTS
     }
 
     /// Appends an event.
