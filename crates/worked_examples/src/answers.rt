@@ -1,94 +1,130 @@
-//! One run of a job, as the program does it, but for its files.
+//! One run of a job, as the program does it, but for its files; and tables of runs.
 
 use command_line::words::job_of;
 use jobs::job::Texts;
-use std::alloc::{AllocError, Global};
+use std::alloc::Global;
 use std::process::Abort;
-use std::test::Fail;
 use verdict_report::serve::serve;
+
+/// A run of the program: its command line, its texts, and what it answers.
+#[derive(Clone, Copy)]
+pub struct Row<'a> {
+    /// The words behind the program's own name, split at blanks.
+    pub words: &'a str,
+    /// The program text.
+    pub program: &'a str,
+    /// The certificate; empty where the job has none.
+    pub certificate: &'a str,
+    /// The event script; empty where the job has none.
+    pub script: &'a str,
+    /// What is written.
+    pub expected: &'a str,
+    /// The status of the program.
+    pub status: u8,
+}
+
+/// A row with nothing in it.
+pub const EMPTY: Row<'static> = Row {
+    words: "",
+    program: "",
+    certificate: "",
+    script: "",
+    expected: "",
+    status: 0,
+};
+
+impl Row<'_> {
+    /// Asserts the answer, and that a certificate in `cert 1` gives the same in `cert 2`.
+    pub fn runs(&self, rt: &impl Abort, alloc: Global) {
+        self.runs_with(rt, alloc, self.certificate);
+        if self.certificate.starts_with("cert 1") {
+            let wide = widened(rt, alloc, self.certificate);
+            self.runs_with(rt, alloc, wide.as_str());
+        }
+    }
+
+    // Asserts the answer where the certificate is this one.
+    fn runs_with(&self, rt: &impl Abort, alloc: Global, certificate: &str) {
+        let program = self.program.as_bytes();
+        let script = self.script.as_bytes();
+        let texts = texts_of(rt, alloc, program, certificate.as_bytes(), script);
+        expect(rt, alloc, self.words, &texts, self.expected, self.status);
+    }
+}
+
+// A certificate in `cert 1` as it is spelled in `cert 2`: each mask with eight zeros before it.
+fn widened(rt: &impl Abort, alloc: Global, certificate: &str) -> String {
+    let mut text = String::new(alloc);
+    for line in certificate.lines() {
+        let (first, rest) = line.split_once(' ').expect(rt, "two words");
+        let (zeros, rest) = match first {
+            "cert" => ("", "2"),
+            "task" => ("", rest),
+            _ => ("00000000", rest),
+        };
+        assert!(rt; writeln!(text, "{first} {zeros}{rest}").is_ok());
+    }
+    text
+}
 
 /// The texts of a program, of its certificate and of a script; one that the job does not have is empty.
 pub fn texts_of(
+    rt: &impl Abort,
     alloc: Global,
     program: &[u8],
     certificate: &[u8],
     script: &[u8],
-) -> Result<Texts, AllocError> {
-    Ok(Texts {
-        program: program.to_vec(alloc)?,
-        certificate: certificate.to_vec(alloc)?,
-        script: script.to_vec(alloc)?,
-    })
-}
-
-/// What the words, split at blanks, write of texts, and the status.
-pub fn answer_of(alloc: Global, line: &str, texts: &Texts) -> Result<(Vec<u8>, u8), Fail> {
-    let words = words_of(alloc, line)?;
-    let (job, _) = job_of(alloc, words.as_slice())?;
-    let mut written = Vec::new(alloc);
-    let status = serve(alloc, &job, texts, &mut written)?;
-    Ok((written, status))
-}
-
-/// What the words, split at blanks, write of a program text and of a certificate, which is empty where
-/// the job has none, and the status.
-pub fn answer(
-    alloc: Global,
-    line: &str,
-    program: &[u8],
-    certificate: &[u8],
-) -> Result<(Vec<u8>, u8), Fail> {
-    let texts = texts_of(alloc, program, certificate, b"".as_slice())?;
-    answer_of(alloc, line, &texts)
-}
-
-/// The words of a command line, split at blanks, with the program's own name first.
-pub fn words_of(alloc: Global, line: &str) -> Result<Vec<String>, AllocError> {
-    let mut words = vec![in alloc; String::from_str(alloc, "multiscalar")?]?;
-    for word in line.split(' ') {
-        words.push(String::from_str(alloc, word)?)?;
+) -> Texts {
+    Texts {
+        program: copy(rt, alloc, program),
+        certificate: copy(rt, alloc, certificate),
+        script: copy(rt, alloc, script),
     }
-    Ok(words)
 }
 
-/// Asserts what the words write of a program text, and the status.
+fn copy(rt: &impl Abort, alloc: Global, text: &[u8]) -> Vec<u8> {
+    text.to_vec(alloc).ok().expect(rt, "room for a text")
+}
+
+/// Asserts what the words write of texts, and the status.
 pub fn expect(
     rt: &impl Abort,
     alloc: Global,
-    line: &str,
-    program: &[u8],
-    expected: &[u8],
+    words: &str,
+    texts: &Texts,
+    expected: &str,
     status: u8,
-) -> Result<(), Fail> {
-    expect_certified(rt, alloc, line, program, b"".as_slice(), expected, status)
+) {
+    let (written, answered) = answer(rt, alloc, words, texts);
+    assert!(rt;
+        written.as_slice() == expected.as_bytes(),
+        "{words}: {expected}"
+    );
+    assert_eq!(rt; answered, status, "{words}: {expected}");
 }
 
-/// Asserts what the words write of a program text and its certificate, and the status.
-pub fn expect_certified(
-    rt: &impl Abort,
-    alloc: Global,
-    line: &str,
-    program: &[u8],
-    certificate: &[u8],
-    expected: &[u8],
-    status: u8,
-) -> Result<(), Fail> {
-    let (written, answered) = answer(alloc, line, program, certificate)?;
-    assert!(rt; written.as_slice() == expected, "{line}");
-    assert_eq!(rt; answered, status, "{line}");
-    Ok(())
+/// What the words write of texts, and the status.
+pub fn answer(rt: &impl Abort, alloc: Global, words: &str, texts: &Texts) -> (Vec<u8>, u8) {
+    let words = words_of(rt, alloc, words);
+    let job = job_of(alloc, words.as_slice()).ok();
+    let (job, _) = job.expect(rt, "a job");
+    let mut written = Vec::new(alloc);
+    let status = serve(alloc, &job, texts, &mut written).ok();
+    (written, status.expect(rt, "a status"))
 }
 
-/// A certificate in `cert 1` as it is spelled in `cert 2`: each mask with eight zeros before it.
-pub fn widened(alloc: Global, certificate: &str) -> Result<String, AllocError> {
-    let mut text = String::new(alloc);
-    for line in certificate.lines() {
-        match line.split_once(' ') {
-            Some(("cert", _)) => writeln!(text, "cert 2")?,
-            Some(("task", name)) => writeln!(text, "task {name}")?,
-            Some((index, mask)) => writeln!(text, "{index} 00000000{mask}")?,
-            None => writeln!(text, "{line}")?,
-        }
+/// The words of a command line, split at blanks, with the program's own name first.
+pub fn words_of(rt: &impl Abort, alloc: Global, line: &str) -> Vec<String> {
+    let mut words = Vec::new(alloc);
+    push_word(rt, alloc, &mut words, "multiscalar");
+    for word in line.split(' ') {
+        push_word(rt, alloc, &mut words, word);
     }
-    Ok(text)
+    words
+}
+
+fn push_word(rt: &impl Abort, alloc: Global, words: &mut Vec<String>, word: &str) {
+    let word = String::from_str(alloc, word).ok();
+    let word = word.expect(rt, "room for a word");
+    assert!(rt; words.push(word).is_ok());
 }

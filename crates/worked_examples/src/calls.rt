@@ -1,36 +1,39 @@
 //! The calls below the jobs.
 
 use crate::programs::{COUNT, COUNT_CERTIFICATE, COUNT_CERTIFICATE_LACKING};
+use crate::replayed_values::accepted;
 use annotated_asm::assembler::assemble;
 use mark_checker::check::{check_task, verdict};
 use mark_checker::finding::{Finding, Rule};
 use mask_certificate::reading::read;
 use mips_plain::number::Reg;
-use std::test::Fail;
 use task_graph::members::members;
 
-// The members of a task, and what the checker finds in it; and the finding that `check` writes where a
-// mask lacks a register.
 #[test]
-fn finds_members_and_findings(rt: HostRuntime) -> Result<(), Fail> {
-    let alloc = rt.alloc();
-    let program = assemble(alloc, COUNT.as_bytes()).ok().ok_or("program")?;
-    assert_eq!(rt;
-        members(alloc, &program, 0)?.as_slice(),
-        [0, 1, 2, 3].as_slice()
-    );
-    let cert = read(alloc, COUNT_CERTIFICATE.as_bytes(), &program);
-    let cert = cert.ok().ok_or("certificate")?;
-    assert!(rt; check_task(alloc, &program, &cert, 0)?.is_empty());
-    let lacking = read(alloc, COUNT_CERTIFICATE_LACKING.as_bytes(), &program);
-    let lacking = lacking.ok().ok_or("certificate")?;
+fn finds_members_and_nothing_wrong(rt: HostRuntime) {
+    let accepted = accepted(&rt, rt.alloc(), COUNT, COUNT_CERTIFICATE);
+    let (program, cert) = (accepted.program(), accepted.cert());
+    let found = members(rt.alloc(), program, 0).ok();
+    let found = found.expect(&rt, "room for members");
+    assert_eq!(rt; found.as_slice(), [0, 1, 2, 3].as_slice());
+    let found = check_task(rt.alloc(), program, cert, 0).ok();
+    assert!(rt; found.expect(&rt, "room for findings").is_empty());
+}
+
+// The finding that `check` writes where a mask lacks a register.
+#[test]
+fn finds_a_missing_destination(rt: HostRuntime) {
+    let program = assemble(rt.alloc(), COUNT.as_bytes()).ok();
+    let program = program.expect(&rt, "a program");
+    let cert = read(rt.alloc(), COUNT_CERTIFICATE_LACKING.as_bytes(), &program).ok();
+    let cert = cert.expect(&rt, "a certificate");
     let missing = Finding {
         task: 0,
         index: 1,
         rule: Rule::LacksDestination,
         reg: Reg::new(9),
     };
-    let found = verdict(alloc, &program, &lacking)?.findings;
+    let verdict = verdict(rt.alloc(), &program, &cert).ok();
+    let found = verdict.expect(&rt, "room for findings").findings;
     assert_eq!(rt; found.as_slice(), [missing].as_slice());
-    Ok(())
 }

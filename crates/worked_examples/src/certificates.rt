@@ -1,58 +1,49 @@
 //! What `check` says of every beginning of a certificate.
 
-use crate::answers::expect_certified;
+use crate::answers::{expect, texts_of};
 use crate::programs::{COUNT, COUNT_CERTIFICATE, COUNT_CERTIFICATE_WIDE};
-use std::alloc::{AllocError, Global};
+use std::alloc::Global;
 use std::process::Abort;
-use std::test::Fail;
-
-// Asserts what `check` writes of `COUNT` with this certificate, which is refused.
-fn expect_refused(
-    rt: &impl Abort,
-    alloc: Global,
-    certificate: &[u8],
-    expected: &str,
-) -> Result<(), Fail> {
-    expect_certified(
-        rt,
-        alloc,
-        "check a.s a.cert",
-        COUNT.as_bytes(),
-        certificate,
-        expected.as_bytes(),
-        1,
-    )
-}
 
 // What `check` says of a beginning of the certificate of `COUNT`, which has 9 lines.
-fn said_of_beginning(alloc: Global, beginning: &[u8]) -> Result<String, AllocError> {
+fn said_of(rt: &impl Abort, alloc: Global, beginning: &[u8]) -> String {
     let lines = beginning.iter().filter(|byte| **byte == b'\n').count();
-    if beginning.len() < 7 {
-        return String::from_str(alloc, "certificate refused: 1 Header\n");
+    let line = lines.saturating_add(1);
+    let said = if beginning.len() < 7 {
+        format!(in alloc; "certificate refused: 1 Header\n")
+    } else if beginning.last() != Some(&b'\n') {
+        format!(in alloc; "certificate refused: 2 Line {line}\n")
+    } else {
+        String::from_str(alloc, said_of_lines(lines))
+    };
+    said.ok().expect(rt, "room for a line")
+}
+
+// The same where the beginning is so many whole lines.
+fn said_of_lines(lines: usize) -> &'static str {
+    match lines {
+        7 => "B 4 rule 1 -\nrefused 1\n",
+        8 => "B 4 rule 2 -\nrefused 1\n",
+        _ => "certificate refused: 4 MissingTask\n",
     }
-    if beginning.last() != Some(&b'\n') {
-        let line = lines.saturating_add(1);
-        return format!(in alloc; "certificate refused: 2 Line {line}\n");
-    }
-    String::from_str(
-        alloc,
-        match lines {
-            7 => "B 4 rule 1 -\nrefused 1\n",
-            8 => "B 4 rule 2 -\nrefused 1\n",
-            _ => "certificate refused: 4 MissingTask\n",
-        },
-    )
+}
+
+// Asserts what `check` says of a beginning of the certificate of `COUNT`.
+fn expect_refused(rt: &impl Abort, alloc: Global, beginning: &[u8]) {
+    let texts = texts_of(rt, alloc, COUNT.as_bytes(), beginning, b"");
+    let said = said_of(rt, alloc, beginning);
+    expect(rt, alloc, "check a.s a.cert", &texts, said.as_str(), 1);
 }
 
 #[test]
-fn reads_beginnings_of_a_certificate(rt: HostRuntime) -> Result<(), Fail> {
+fn reads_beginnings_of_a_certificate(rt: HostRuntime) {
     for certificate in [COUNT_CERTIFICATE, COUNT_CERTIFICATE_WIDE] {
-        let certificate = certificate.as_bytes();
-        for len in 0..certificate.len() {
-            let beginning = &certificate[..len];
-            let expected = said_of_beginning(rt.alloc(), beginning)?;
-            expect_refused(&rt, rt.alloc(), beginning, expected.as_str())?;
-        }
+        expect_beginnings(&rt, rt.alloc(), certificate.as_bytes());
     }
-    Ok(())
+}
+
+fn expect_beginnings(rt: &impl Abort, alloc: Global, certificate: &[u8]) {
+    for len in 0..certificate.len() {
+        expect_refused(rt, alloc, &certificate[..len]);
+    }
 }

@@ -1,10 +1,11 @@
 //! Readers and writers that fail.
 
-use jobs::job::{Job, Texts};
+use crate::answers::texts_of;
+use jobs::job::Job;
 use std::alloc::Global;
 use std::io;
 use std::io::{ErrorKind, Read, Write};
-use std::test::Fail;
+use std::process::Abort;
 use verdict_report::files::{FetchFault, fetch};
 use verdict_report::serve::{ServeFault, serve};
 
@@ -40,38 +41,51 @@ impl Read for Worn {
     }
 }
 
-fn fetch_worn(
-    alloc: Global,
-    interruptions: u32,
-    bytes: u32,
-    fails: bool,
-) -> Result<usize, FetchFault> {
-    let mut reader = Worn {
-        interruptions,
-        bytes,
-        fails,
-    };
-    Ok(fetch(alloc, &mut reader, 5)?.len())
+// Interruptions, bytes and whether a fault is behind them, and how many bytes are fetched.
+const FETCHED: [(u32, u32, bool, Result<usize, FetchFault>); 8] = [
+    (0, 3, false, Ok(3)),
+    (1000, 3, false, Ok(3)),
+    (1001, 3, false, Err(FetchFault::Read)),
+    (0, 0, true, Err(FetchFault::Read)),
+    (0, 1, true, Err(FetchFault::Read)),
+    (0, 2, true, Err(FetchFault::Read)),
+    (0, 3, true, Err(FetchFault::Read)),
+    (0, 4, true, Err(FetchFault::Read)),
+];
+
+fn fetched(alloc: Global, reader: Worn) -> Result<usize, FetchFault> {
+    let mut reader = reader;
+    match fetch(alloc, &mut reader, 5) {
+        Ok(bytes) => Ok(bytes.len()),
+        Err(fault) => Err(fault),
+    }
 }
 
 #[test]
-fn fetches(rt: HostRuntime) -> Result<(), Fail> {
-    let alloc = rt.alloc();
-    let mut text = b"count".as_slice();
-    assert!(rt; fetch(alloc, &mut text, 4)?.as_slice() == b"count".as_slice());
-    let mut text = b"count".as_slice();
-    assert!(rt; fetch(alloc, &mut text, 3)?.as_slice() == b"coun".as_slice());
-    assert_eq!(rt; fetch_worn(alloc, 0, 3, false), Ok(3));
-    assert_eq!(rt; fetch_worn(alloc, 1000, 3, false), Ok(3));
-    assert_eq!(rt; fetch_worn(alloc, 1001, 3, false), Err(FetchFault::Read));
-    for failing in 0..5 {
-        assert_eq!(rt;
-            fetch_worn(alloc, 0, failing, true),
-            Err(FetchFault::Read),
-            "read {failing}"
-        );
+fn fetches_from_worn_readers(rt: HostRuntime) {
+    for &(interruptions, bytes, fails, expected) in &FETCHED {
+        let reader = Worn {
+            interruptions,
+            bytes,
+            fails,
+        };
+        assert_eq!(rt; fetched(rt.alloc(), reader), expected, "{bytes} bytes");
     }
-    Ok(())
+}
+
+#[test]
+fn fetches_one_byte_more(rt: HostRuntime) {
+    expect_fetched(&rt, rt.alloc(), 4, b"count");
+    expect_fetched(&rt, rt.alloc(), 3, b"coun");
+}
+
+// Asserts what is fetched of a word.
+fn expect_fetched(rt: &impl Abort, alloc: Global, most: u64, expected: &[u8]) {
+    assert!(rt; most < 5);
+    let mut text = b"count".as_slice();
+    let fetched = fetch(alloc, &mut text, most).ok();
+    let fetched = fetched.expect(rt, "room for a text");
+    assert!(rt; fetched.as_slice() == expected, "at most {most}");
 }
 
 // Takes one byte a write, and fails at the write of this number.
@@ -94,21 +108,19 @@ impl Write for Full {
     }
 }
 
+// Asserts what `print` of a text with a fault answers where the writer has this room.
+fn expect_written(rt: &impl Abort, alloc: Global, room: u32, expected: Result<u8, ServeFault>) {
+    let texts = texts_of(rt, alloc, b"foo", b"", b"");
+    let mut writer = Full { room };
+    let answer = serve(alloc, &Job::Print, &texts, &mut writer);
+    assert_eq!(rt; answer, expected, "room for {room}");
+}
+
+// `program refused: 4 Mnemonic line 1` and its LF are 35 bytes.
 #[test]
-fn fails_to_write(rt: HostRuntime) -> Result<(), Fail> {
-    let alloc = rt.alloc();
-    let texts = Texts {
-        program: b"foo".to_vec(alloc)?,
-        certificate: Vec::new(alloc),
-        script: Vec::new(alloc),
-    };
-    // `program refused: 4 Mnemonic line 1` and its LF are 35 bytes.
+fn fails_to_write(rt: HostRuntime) {
     for room in 0..35 {
-        let mut writer = Full { room };
-        let answer = serve(alloc, &Job::Print, &texts, &mut writer);
-        assert_eq!(rt; answer, Err(ServeFault::Write), "room for {room}");
+        expect_written(&rt, rt.alloc(), room, Err(ServeFault::Write));
     }
-    let mut writer = Full { room: 35 };
-    assert_eq!(rt; serve(alloc, &Job::Print, &texts, &mut writer), Ok(1));
-    Ok(())
+    expect_written(&rt, rt.alloc(), 35, Ok(1));
 }

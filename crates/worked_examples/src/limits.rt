@@ -1,18 +1,17 @@
 //! Programs at the limits and just beyond.
 
-use crate::answers::{answer, expect};
-use std::alloc::{AllocError, Global};
+use crate::answers::{answer, expect, texts_of};
+use std::alloc::Global;
 use std::process::Abort;
-use std::test::Fail;
 
-// How large a program is made.
+// How large a program is made: at most 65,536 bytes in one `.space`.
 #[derive(Clone, Copy)]
 struct Sizes {
-    instructions: u32,
-    tasks: u32,
-    targets: u32,
-    bytes: u32,
-    fixed: u32,
+    instructions: usize,
+    tasks: usize,
+    targets: usize,
+    bytes: usize,
+    fixed: usize,
 }
 
 // The greatest sizes that are allowed.
@@ -24,105 +23,100 @@ const MOST: Sizes = Sizes {
     fixed: 65_536,
 };
 
-fn write_task(text: &mut String, task: u32, targets: u32) -> Result<(), AllocError> {
-    write!(text, ".task T{task} create=- targets=T0")?;
-    for _ in 1..targets {
-        write!(text, ",T0")?;
-    }
-    writeln!(text, "")
-}
+const BEYOND: [Sizes; 5] = [
+    Sizes {
+        instructions: 4097,
+        ..MOST
+    },
+    Sizes {
+        tasks: 1025,
+        ..MOST
+    },
+    Sizes {
+        targets: 17,
+        ..MOST
+    },
+    Sizes {
+        bytes: 65_537,
+        ..MOST
+    },
+    Sizes {
+        fixed: 65_537,
+        ..MOST
+    },
+];
 
-// A program of these sizes: task n begins at instruction n.
-fn program_of(alloc: Global, sizes: Sizes) -> Result<String, AllocError> {
-    let mut text = String::new(alloc);
-    for task in 0..sizes.tasks {
-        write_task(&mut text, task, sizes.targets)?;
-    }
-    for index in 0..sizes.instructions {
-        if index < sizes.tasks {
-            write!(text, "T{index}: ")?;
+impl Sizes {
+    // A program of these sizes: task n begins at instruction n.
+    fn program(self, rt: &impl Abort, alloc: Global) -> String {
+        let mut text = String::new(alloc);
+        let others = repeated(rt, alloc, ",T0", self.targets.saturating_sub(1));
+        for task in 0..self.tasks {
+            let written = writeln!(text, ".task T{task} create=- targets=T0{others}");
+            assert!(rt; written.is_ok());
         }
-        writeln!(text, "nop")?;
+        self.write_code(rt, alloc, &mut text);
+        write_section(rt, alloc, &mut text, ".data", self.bytes);
+        write_section(rt, alloc, &mut text, ".rodata", self.fixed);
+        text
     }
-    write_section(&mut text, ".data", sizes.bytes)?;
-    write_section(&mut text, ".rodata", sizes.fixed)?;
-    Ok(text)
+
+    fn write_code(self, rt: &impl Abort, alloc: Global, text: &mut String) {
+        for task in 0..self.tasks {
+            assert!(rt; writeln!(text, "T{task}: nop").is_ok());
+        }
+        let others = self.instructions.saturating_sub(self.tasks);
+        let others = repeated(rt, alloc, "nop\n", others);
+        assert!(rt; text.push_str(others.as_str()).is_ok());
+    }
 }
 
-// This many zero bytes: `.space` has 65,536 at most.
-fn write_section(text: &mut String, name: &str, bytes: u32) -> Result<(), AllocError> {
+fn repeated(rt: &impl Abort, alloc: Global, text: &str, times: usize) -> String {
+    let text = text.repeat(alloc, times).ok();
+    text.expect(rt, "room for a text")
+}
+
+// This many zero bytes.
+fn write_section(rt: &impl Abort, alloc: Global, text: &mut String, name: &str, bytes: usize) {
     let space = bytes.min(65_536);
-    writeln!(text, "{name}\n.space {space}")?;
-    for _ in space..bytes {
-        writeln!(text, ".byte 0")?;
-    }
-    Ok(())
+    let others = repeated(rt, alloc, ".byte 0\n", bytes.saturating_sub(space));
+    assert!(rt; write!(text, "{name}\n.space {space}\n{others}").is_ok());
 }
 
-fn expect_too_many(rt: &impl Abort, alloc: Global, program: &str) -> Result<(), Fail> {
-    let expected = b"program refused: 10 Build 1 TooMany\n";
-    expect(
-        rt,
-        alloc,
-        "print a.s",
-        program.as_bytes(),
-        expected.as_slice(),
-        1,
-    )
-}
-
-#[test]
-fn prints_the_largest_program(rt: HostRuntime) -> Result<(), Fail> {
-    let alloc = rt.alloc();
-    let program = program_of(alloc, MOST)?;
-    let (printed, status) = answer(alloc, "print a.s", program.as_bytes(), b"".as_slice())?;
+// What `print` writes of a program, with status 0.
+fn printed(rt: &impl Abort, alloc: Global, program: &[u8]) -> Vec<u8> {
+    let texts = texts_of(rt, alloc, program, b"", b"");
+    let (printed, status) = answer(rt, alloc, "print a.s", &texts);
     assert_eq!(rt; status, 0);
-    expect(
-        &rt,
-        alloc,
-        "print a.s",
-        printed.as_slice(),
-        printed.as_slice(),
-        0,
-    )
+    printed
 }
 
 #[test]
-fn refuses_larger_programs(rt: HostRuntime) -> Result<(), Fail> {
-    let alloc = rt.alloc();
-    for sizes in [
-        Sizes {
-            instructions: 4097,
-            ..MOST
-        },
-        Sizes {
-            tasks: 1025,
-            ..MOST
-        },
-        Sizes {
-            targets: 17,
-            ..MOST
-        },
-        Sizes {
-            bytes: 65_537,
-            ..MOST
-        },
-        Sizes {
-            fixed: 65_537,
-            ..MOST
-        },
-    ] {
-        let program = program_of(alloc, sizes)?;
-        expect_too_many(&rt, alloc, program.as_str())?;
+fn prints_the_largest_program(rt: HostRuntime) {
+    let program = MOST.program(&rt, rt.alloc());
+    let once = printed(&rt, rt.alloc(), program.as_bytes());
+    let again = printed(&rt, rt.alloc(), once.as_slice());
+    assert!(rt; again.as_slice() == once.as_slice());
+}
+
+// Asserts what `print` says of a text.
+fn expect_refused(rt: &impl Abort, alloc: Global, program: &[u8], expected: &str) {
+    let texts = texts_of(rt, alloc, program, b"", b"");
+    expect(rt, alloc, "print a.s", &texts, expected, 1);
+}
+
+#[test]
+fn refuses_larger_programs(rt: HostRuntime) {
+    for sizes in &BEYOND {
+        let program = sizes.program(&rt, rt.alloc());
+        let expected = "program refused: 10 Build 1 TooMany\n";
+        expect_refused(&rt, rt.alloc(), program.as_bytes(), expected);
     }
-    let long = vec![in alloc; b' '; 4_194_305]?;
-    let expected = b"program refused: 1 TooLong\n";
-    expect(
-        &rt,
-        alloc,
-        "print a.s",
-        long.as_slice(),
-        expected.as_slice(),
-        1,
-    )
+}
+
+#[test]
+fn refuses_longer_texts(rt: HostRuntime) {
+    let long = repeated(&rt, rt.alloc(), " ", 4_194_305);
+    let expected = "program refused: 1 TooLong\n";
+    expect_refused(&rt, rt.alloc(), long.as_bytes(), expected);
 }

@@ -15,6 +15,34 @@ out $9
 halt
 ";
 
+/// `COUNT` with no forward bit and with empty create masks.
+pub const COUNT_BARE: &str = ".start A
+.task A create=- targets=A,B
+.task B create=- targets=-
+A:
+addiu $8,$8,1
+addu $9,$9,$8
+slti $10,$8,4
+bne $10,$0,A !s
+B:
+out $9
+halt
+";
+
+/// `COUNT` where $10 is forwarded as well.
+pub const COUNT_FORWARDED: &str = ".start A
+.task A create=$8,$9,$10 targets=A,B
+.task B create=- targets=-
+A:
+addiu $8,$8,1 !f
+addu $9,$9,$8 !f
+slti $10,$8,4 !f
+bne $10,$0,A !s
+B:
+out $9
+halt
+";
+
 /// `COUNT` without its `halt`.
 pub const COUNT_WITHOUT_HALT: &str = ".start A
 .task A create=$8,$9,$10 targets=A,B
@@ -82,6 +110,11 @@ slti $t2,$t0,0x4\r
 bne $t2,$zero,A !s\r
 B: out $t1\r
 halt\r
+";
+
+/// Jumps to the index behind the last that an instruction may have.
+pub const END_OF_CODE: &str = ".task A create=- targets=-
+A: j @4096
 ";
 
 /// Jumps to an address that is no task's entry.

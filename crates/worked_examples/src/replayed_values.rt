@@ -1,60 +1,96 @@
 //! What the units of a machine hold after the events of a script.
 
 use crate::programs::{COUNT, COUNT_CERTIFICATE, READ_ONLY, READ_ONLY_CERTIFICATE};
-use crate::scripts::{Answered, COUNT_TAKEN_AGAIN, COUNT_WAITS, READ_AHEAD};
+use crate::scripts::{COUNT_TAKEN_AGAIN, COUNT_WAITS, READ_AHEAD_BEGUN, events_of};
 use annotated_asm::assembler::assemble;
 use event_script::reading::read as read_script;
 use mark_checker::accept::Accepted;
-use mask_certificate::reading::read as read_certificate;
+use mask_certificate::reading::read;
 use mips_plain::number::Reg;
 use sequencer::machine::Machine;
 use std::alloc::Global;
-use std::test::Fail;
+use std::process::Abort;
 
-// A program with its certificate, where nothing is found.
-fn accepted(alloc: Global, program: &str, certificate: &str) -> Result<Accepted, Fail> {
-    let program = assemble(alloc, program.as_bytes()).ok().ok_or("program")?;
-    let cert = read_certificate(alloc, certificate.as_bytes(), &program);
-    let cert = cert.ok().ok_or("certificate")?;
-    Ok(Accepted::new(program, cert).ok().ok_or("findings")?)
+// A machine of two units after a script, and the values that its units hold.
+#[derive(Clone, Copy)]
+struct Held {
+    program: &'static str,
+    certificate: &'static str,
+    answered: &'static str,
+    values: &'static [Value],
 }
 
-// The values of a register at some positions, of a machine of 2 units after the events.
-fn values_after(
-    alloc: Global,
-    accepted: &Accepted,
-    events: &[Answered],
-    register: u8,
-) -> Result<(Option<u32>, Option<u32>), Fail> {
-    let register = Reg::new(register).ok_or("register")?;
-    let mut machine = Machine::new(alloc, accepted, 2).ok().ok_or("machine")?;
-    for answered in events {
-        let line = answered.0.as_bytes();
-        let read = read_script(alloc, line, accepted.program());
-        let event = read.ok().ok_or("script")?;
-        for event in &event {
-            let _ = machine.apply(*event);
+// The position of a unit, a register, and its value there, if it is there.
+type Value = (u32, u8, Option<u32>);
+
+const MACHINES: [Held; 3] = [
+    // The head has not written $9, so it has its value from the start, and the other waits for it.
+    Held {
+        program: COUNT,
+        certificate: COUNT_CERTIFICATE,
+        answered: COUNT_WAITS,
+        values: &[(1, 8, Some(2)), (0, 9, Some(0)), (1, 9, None)],
+    },
+    Held {
+        program: COUNT,
+        certificate: COUNT_CERTIFICATE,
+        answered: COUNT_TAKEN_AGAIN,
+        values: &[(0, 9, Some(3))],
+    },
+    Held {
+        program: READ_ONLY,
+        certificate: READ_ONLY_CERTIFICATE,
+        answered: READ_AHEAD_BEGUN,
+        values: &[(1, 9, Some(7))],
+    },
+];
+
+/// The program with its certificate, where nothing is found.
+pub fn accepted(rt: &impl Abort, alloc: Global, program: &str, certificate: &str) -> Accepted {
+    let program = assemble(alloc, program.as_bytes()).ok();
+    let program = program.expect(rt, "a program");
+    let cert = read(alloc, certificate.as_bytes(), &program).ok();
+    let cert = cert.expect(rt, "a certificate");
+    Accepted::new(program, cert).ok().expect(rt, "accepted")
+}
+
+impl Held {
+    // Asserts the values.
+    fn holds(&self, rt: &impl Abort, alloc: Global) {
+        let accepted = accepted(rt, alloc, self.program, self.certificate);
+        let machine = Machine::new(alloc, &accepted, 2).ok();
+        let mut machine = machine.expect(rt, "a machine");
+        let script = events_of(rt, alloc, self.answered);
+        apply_all(rt, alloc, &accepted, &mut machine, script.as_bytes());
+        self.expect_values(rt, &machine);
+    }
+
+    fn expect_values(&self, rt: &impl Abort, machine: &Machine<'_>) {
+        for &(position, number, value) in self.values {
+            let register = Reg::new(number).expect(rt, "a register");
+            let found = machine.value(position, register);
+            assert!(rt; found == value, "${number} at {position}");
         }
     }
-    Ok((machine.value(0, register), machine.value(1, register)))
+}
+
+// Applies each event of a script; some are refused.
+fn apply_all(
+    rt: &impl Abort,
+    alloc: Global,
+    accepted: &Accepted,
+    machine: &mut Machine<'_>,
+    script: &[u8],
+) {
+    let events = read_script(alloc, script, accepted.program()).ok();
+    for event in &events.expect(rt, "a script") {
+        let _ = machine.apply(*event);
+    }
 }
 
 #[test]
-fn holds_values(rt: HostRuntime) -> Result<(), Fail> {
-    let alloc = rt.alloc();
-    let count = accepted(alloc, COUNT, COUNT_CERTIFICATE)?;
-    let waits = COUNT_WAITS.as_slice();
-    let (_, behind) = values_after(alloc, &count, waits, 8)?;
-    assert_eq!(rt; behind, Some(2));
-    // The head has not written $9, so it has its value from the start, and the other waits for it.
-    let (head, behind) = values_after(alloc, &count, waits, 9)?;
-    assert_eq!(rt; head, Some(0));
-    assert_eq!(rt; behind, None);
-    let (head, _) = values_after(alloc, &count, COUNT_TAKEN_AGAIN.as_slice(), 9)?;
-    assert_eq!(rt; head, Some(3));
-    let read_only = accepted(alloc, READ_ONLY, READ_ONLY_CERTIFICATE)?;
-    let events = READ_AHEAD;
-    let (_, behind) = values_after(alloc, &read_only, &events[..5], 9)?;
-    assert_eq!(rt; behind, Some(7));
-    Ok(())
+fn holds_values(rt: HostRuntime) {
+    for held in &MACHINES {
+        held.holds(&rt, rt.alloc());
+    }
 }

@@ -1,118 +1,122 @@
 //! `seq`.
 
-use crate::answers::expect;
-use crate::programs::{COUNT, COUNT_WITHOUT_HALT, PRODUCT, READ_ONLY, UNLISTED_JUMP};
-use std::test::Fail;
+use crate::answers::{EMPTY, Row};
+use crate::programs::{COUNT, COUNT_WITHOUT_HALT, END_OF_CODE, PRODUCT, READ_ONLY, UNLISTED_JUMP};
+
+// A run that halts, and one that traps.
+const HALTS: Row<'static> = Row {
+    words: "seq a.s",
+    ..EMPTY
+};
+
+const TRAPS: Row<'static> = Row { status: 1, ..HALTS };
+
+const PROGRAMS: [Row<'static>; 7] = [
+    Row {
+        program: COUNT,
+        expected: "10\nhalted after 18 instructions\n",
+        ..HALTS
+    },
+    Row {
+        words: "seq --budget 17 a.s",
+        program: COUNT,
+        expected: "10\nout of budget after 17 instructions\n",
+        status: 3,
+        ..EMPTY
+    },
+    Row {
+        words: "seq --budget 18 a.s",
+        program: COUNT,
+        expected: "10\nhalted after 18 instructions\n",
+        ..EMPTY
+    },
+    Row {
+        program: COUNT_WITHOUT_HALT,
+        expected: "10\ntrapped 3 BadPc after 18 instructions\n",
+        ..TRAPS
+    },
+    Row {
+        program: UNLISTED_JUMP,
+        expected: "4194320\nhalted after 5 instructions\n",
+        ..HALTS
+    },
+    Row {
+        program: PRODUCT,
+        expected: "4294967292\n4\nhalted after 7 instructions\n",
+        ..HALTS
+    },
+    Row {
+        program: READ_ONLY,
+        expected: "1\nhalted after 4 instructions\n",
+        ..HALTS
+    },
+];
 
 #[test]
-fn runs_programs(rt: HostRuntime) -> Result<(), Fail> {
-    for (line, program, expected, status) in [
-        ("seq a.s", COUNT, "10\nhalted after 18 instructions\n", 0),
-        (
-            "seq --budget 17 a.s",
-            COUNT,
-            "10\nout of budget after 17 instructions\n",
-            3,
-        ),
-        (
-            "seq --budget 18 a.s",
-            COUNT,
-            "10\nhalted after 18 instructions\n",
-            0,
-        ),
-        (
-            "seq a.s",
-            COUNT_WITHOUT_HALT,
-            "10\ntrapped 3 BadPc after 18 instructions\n",
-            1,
-        ),
-        (
-            "seq a.s",
-            UNLISTED_JUMP,
-            "4194320\nhalted after 5 instructions\n",
-            0,
-        ),
-        (
-            "seq a.s",
-            PRODUCT,
-            "4294967292\n4\nhalted after 7 instructions\n",
-            0,
-        ),
-        ("seq a.s", READ_ONLY, "1\nhalted after 4 instructions\n", 0),
-    ] {
-        expect(
-            &rt,
-            rt.alloc(),
-            line,
-            program.as_bytes(),
-            expected.as_bytes(),
-            status,
-        )?;
+fn runs_programs(rt: HostRuntime) {
+    for row in &PROGRAMS {
+        row.runs(&rt, rt.alloc());
     }
-    Ok(())
 }
 
-#[test]
-fn traps_in_order(rt: HostRuntime) -> Result<(), Fail> {
-    for (body, expected, status) in [
-        (
-            "li $8,0x1001FFFE\nsw $0,0($8)\nhalt\n",
-            "trapped 1 Unaligned after 3 instructions\n",
-            1,
-        ),
-        (
-            "li $8,0x10020000\nsw $0,0($8)\nhalt\n",
-            "trapped 2 OutOfRange after 3 instructions\n",
-            1,
-        ),
-        (
-            "li $8,0x1001FFFF\nsb $0,0($8)\nhalt\n",
-            "halted after 4 instructions\n",
-            0,
-        ),
-        ("j @4096\n", "trapped 3 BadPc after 2 instructions\n", 1),
-    ] {
-        let program = format!(in rt.alloc(); ".task A create=$8 targets=-\nA:\n{body}")?;
-        expect(
-            &rt,
-            rt.alloc(),
-            "seq a.s",
-            program.as_bytes(),
-            expected.as_bytes(),
-            status,
-        )?;
-    }
-    Ok(())
-}
+const ORDER_OF_TRAPS: [Row<'static>; 4] = [
+    Row {
+        program: ".task A create=$8 targets=-\nA: li $8,0x1001FFFE\nsw $0,0($8)\nhalt\n",
+        expected: "trapped 1 Unaligned after 3 instructions\n",
+        ..TRAPS
+    },
+    Row {
+        program: ".task A create=$8 targets=-\nA: li $8,0x10020000\nsw $0,0($8)\nhalt\n",
+        expected: "trapped 2 OutOfRange after 3 instructions\n",
+        ..TRAPS
+    },
+    Row {
+        program: ".task A create=$8 targets=-\nA: li $8,0x1001FFFF\nsb $0,0($8)\nhalt\n",
+        expected: "halted after 4 instructions\n",
+        ..HALTS
+    },
+    Row {
+        program: END_OF_CODE,
+        expected: "trapped 3 BadPc after 2 instructions\n",
+        ..TRAPS
+    },
+];
 
 #[test]
-fn keeps_read_only_data(rt: HostRuntime) -> Result<(), Fail> {
-    for (access, expected) in [
-        ("sw $0,0($8)", "trapped 4 ReadOnly after 3 instructions\n"),
-        ("sw $0,2($8)", "trapped 1 Unaligned after 3 instructions\n"),
-        (
-            "lw $8,-4($8)",
-            "trapped 2 OutOfRange after 3 instructions\n",
-        ),
-    ] {
-        let program = format!(in rt.alloc();
-            ".task A create=- targets=-\n.rodata\nK: .word 7\n.text\nA: la $8,K\n{access}\nhalt\n"
-        )?;
-        expect(
-            &rt,
-            rt.alloc(),
-            "seq a.s",
-            program.as_bytes(),
-            expected.as_bytes(),
-            1,
-        )?;
+fn traps_in_order(rt: HostRuntime) {
+    for row in &ORDER_OF_TRAPS {
+        row.runs(&rt, rt.alloc());
     }
-    Ok(())
 }
 
+const READ_ONLY_DATA: [Row<'static>; 3] = [
+    Row {
+        program: ".task A create=- targets=-\n.rodata\nK: .word 7\n.text\nA: la $8,K\nsw $0,0($8)\nhalt\n",
+        expected: "trapped 4 ReadOnly after 3 instructions\n",
+        ..TRAPS
+    },
+    Row {
+        program: ".task A create=- targets=-\n.rodata\nK: .word 7\n.text\nA: la $8,K\nsw $0,2($8)\nhalt\n",
+        expected: "trapped 1 Unaligned after 3 instructions\n",
+        ..TRAPS
+    },
+    Row {
+        program: ".task A create=- targets=-\n.rodata\nK: .word 7\n.text\nA: la $8,K\nlw $8,-4($8)\nhalt\n",
+        expected: "trapped 2 OutOfRange after 3 instructions\n",
+        ..TRAPS
+    },
+];
+
 #[test]
-fn computes_words(rt: HostRuntime) -> Result<(), Fail> {
-    let arithmetic = b".task A create=- targets=-
+fn keeps_read_only_data(rt: HostRuntime) {
+    for row in &READ_ONLY_DATA {
+        row.runs(&rt, rt.alloc());
+    }
+}
+
+const WORDS: [Row<'static>; 2] = [
+    Row {
+        program: ".task A create=- targets=-
 A: li $8,-8
 sra $9,$8,1
 srl $10,$8,28
@@ -123,17 +127,12 @@ out $10
 out $11
 out $12
 halt
-";
-    let expected = b"4294967292\n15\n1\n0\nhalted after 10 instructions\n";
-    expect(
-        &rt,
-        rt.alloc(),
-        "seq a.s",
-        arithmetic.as_slice(),
-        expected.as_slice(),
-        0,
-    )?;
-    let byte_loads = b".task A create=- targets=-
+",
+        expected: "4294967292\n15\n1\n0\nhalted after 10 instructions\n",
+        ..HALTS
+    },
+    Row {
+        program: ".task A create=- targets=-
 .data
 D: .byte 128,255
 .text
@@ -145,14 +144,15 @@ out $9
 out $10
 out $11
 halt
-";
-    let expected = b"4294967168\n65408\n4294967168\nhalted after 9 instructions\n";
-    expect(
-        &rt,
-        rt.alloc(),
-        "seq a.s",
-        byte_loads.as_slice(),
-        expected.as_slice(),
-        0,
-    )
+",
+        expected: "4294967168\n65408\n4294967168\nhalted after 9 instructions\n",
+        ..HALTS
+    },
+];
+
+#[test]
+fn computes_words(rt: HostRuntime) {
+    for row in &WORDS {
+        row.runs(&rt, rt.alloc());
+    }
 }

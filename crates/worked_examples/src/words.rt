@@ -4,117 +4,122 @@ use crate::answers::words_of;
 use command_line::words::{UsageFault, job_of};
 use jobs::job::{Emit, Job, Paths};
 use std::alloc::Global;
-use std::test::Fail;
+use std::process::Abort;
 
-fn job(alloc: Global, line: &str) -> Result<(Job, Paths), UsageFault> {
-    let words = words_of(alloc, line)?;
+// A job, with the number or the word that it takes.
+#[derive(Clone, Copy, PartialEq)]
+enum Wanted {
+    Seq(u32),
+    Print,
+    Annotate(Emit),
+    Check(u32),
+    Replay(u32),
+    Run,
+}
+
+impl Wanted {
+    // The job that was given.
+    fn of(job: &Job) -> Wanted {
+        match job {
+            Job::Seq { budget } => Wanted::Seq(budget.get()),
+            Job::Print => Wanted::Print,
+            Job::Annotate { emit } => Wanted::Annotate(*emit),
+            Job::Check { workers } => Wanted::Check(workers.get()),
+            Job::Replay { units } => Wanted::Replay(units.get()),
+            Job::Run { .. } => Wanted::Run,
+        }
+    }
+
+    // The names of the certificate and of the script; one that the job does not have is empty.
+    fn files(self) -> (&'static str, &'static str) {
+        match self {
+            Wanted::Replay(_) => ("a.cert", "a.events"),
+            Wanted::Check(_) | Wanted::Run => ("a.cert", ""),
+            _ => ("", ""),
+        }
+    }
+}
+
+// Words that give a job of the program `a.s`.
+const JOBS: [(&str, Wanted); 13] = [
+    ("seq a.s", Wanted::Seq(1_000_000)),
+    ("seq --budget 17 a.s", Wanted::Seq(17)),
+    ("print a.s", Wanted::Print),
+    ("check a.s a.cert", Wanted::Check(1)),
+    ("check a.s a.cert --workers 16", Wanted::Check(16)),
+    ("check --workers 3 a.s a.cert", Wanted::Check(3)),
+    ("replay a.s a.cert a.events", Wanted::Replay(4)),
+    ("replay a.s a.cert a.events --units 16", Wanted::Replay(16)),
+    ("replay --units 1 a.s a.cert a.events", Wanted::Replay(1)),
+    ("annotate a.s", Wanted::Annotate(Emit::Text)),
+    ("annotate --emit text a.s", Wanted::Annotate(Emit::Text)),
+    ("annotate a.s --emit cert", Wanted::Annotate(Emit::Cert)),
+    ("annotate --emit keep a.s", Wanted::Annotate(Emit::Keep)),
+];
+
+// The job of the words, or why there is none.
+fn read(rt: &impl Abort, alloc: Global, line: &str) -> Result<(Job, Paths), UsageFault> {
+    let words = words_of(rt, alloc, line);
     job_of(alloc, words.as_slice())
 }
 
 #[test]
-fn reads_jobs(rt: HostRuntime) -> Result<(), Fail> {
-    let alloc = rt.alloc();
-    let (seq, paths) = job(alloc, "seq a.s")?;
-    assert!(rt; matches!(seq, Job::Seq { budget } if budget.get() == 1_000_000));
-    assert!(rt; paths.program.as_str() == "a.s" && paths.certificate.is_empty());
-    let (seq, _) = job(alloc, "seq --budget 17 a.s")?;
-    assert!(rt; matches!(seq, Job::Seq { budget } if budget.get() == 17));
-    let (print, paths) = job(alloc, "print a.s")?;
-    assert!(rt; matches!(print, Job::Print));
-    assert!(rt; paths.program.as_str() == "a.s" && paths.script.is_empty());
-    Ok(())
+fn reads_jobs(rt: HostRuntime) {
+    for &(line, wanted) in &JOBS {
+        expect_read(&rt, rt.alloc(), line, wanted);
+    }
 }
 
-#[test]
-fn reads_checks(rt: HostRuntime) -> Result<(), Fail> {
-    for (line, wanted) in [
-        ("check a.s a.cert", 1),
-        ("check a.s a.cert --workers 16", 16),
-        ("check --workers 3 a.s a.cert", 3),
-    ] {
-        let (check, paths) = job(rt.alloc(), line)?;
-        assert!(rt;
-            matches!(check, Job::Check { workers } if workers.get() == wanted),
-            "{line}"
-        );
-        assert!(rt; paths.program.as_str() == "a.s", "{line}");
-        assert!(rt; paths.certificate.as_str() == "a.cert", "{line}");
-        assert!(rt; check.has_certificate() && !check.has_script(), "{line}");
-    }
-    Ok(())
+// Asserts the job of the words, and the names of its files.
+fn expect_read(rt: &impl Abort, alloc: Global, line: &str, wanted: Wanted) {
+    let (job, paths) = read(rt, alloc, line).ok().expect(rt, "a job");
+    let (certificate, script) = wanted.files();
+    assert!(rt; Wanted::of(&job) == wanted, "{line}");
+    assert!(rt; job.has_certificate() == !certificate.is_empty(), "{line}");
+    assert!(rt; job.has_script() == !script.is_empty(), "{line}");
+    expect_path(rt, line, &paths.program, "a.s");
+    expect_path(rt, line, &paths.certificate, certificate);
+    expect_path(rt, line, &paths.script, script);
 }
 
-#[test]
-fn reads_replays(rt: HostRuntime) -> Result<(), Fail> {
-    for (line, wanted) in [
-        ("replay a.s a.cert a.events", 4),
-        ("replay a.s a.cert a.events --units 16", 16),
-        ("replay --units 1 a.s a.cert a.events", 1),
-    ] {
-        let (replay, paths) = job(rt.alloc(), line)?;
-        assert!(rt;
-            matches!(replay, Job::Replay { units } if units.get() == wanted),
-            "{line}"
-        );
-        assert!(rt; paths.program.as_str() == "a.s", "{line}");
-        assert!(rt; paths.certificate.as_str() == "a.cert", "{line}");
-        assert!(rt; paths.script.as_str() == "a.events", "{line}");
-        assert!(rt; replay.has_certificate() && replay.has_script(), "{line}");
-    }
-    Ok(())
+fn expect_path(rt: &impl Abort, line: &str, path: &String, expected: &str) {
+    assert!(rt; path.as_str() == expected, "{line}");
 }
 
-#[test]
-fn reads_annotates(rt: HostRuntime) -> Result<(), Fail> {
-    for (line, wanted) in [
-        ("annotate a.s", Emit::Text),
-        ("annotate --emit text a.s", Emit::Text),
-        ("annotate a.s --emit cert", Emit::Cert),
-        ("annotate --emit keep a.s", Emit::Keep),
-    ] {
-        let (annotate, paths) = job(rt.alloc(), line)?;
-        assert!(rt;
-            matches!(annotate, Job::Annotate { emit } if emit == wanted),
-            "{line}"
-        );
-        assert!(rt; paths.program.as_str() == "a.s", "{line}");
-        assert!(rt; !annotate.has_certificate(), "{line}");
-    }
-    for line in ["annotate a.s --emit xml", "annotate a.s --emit Text"] {
-        assert!(rt;
-            matches!(job(rt.alloc(), line), Err(UsageFault::Emit)),
-            "{line}"
-        );
-    }
-    Ok(())
-}
+const NO_JOBS: [&str; 17] = [
+    "seq",
+    "seq a.s b.s",
+    "seq a.s --budget 0",
+    "seq a.s --budget 1000001",
+    "annotate",
+    "annotate a.s a.cert",
+    "check a.s",
+    "check a.s a.cert b.cert",
+    "check a.s a.cert --workers 0",
+    "check a.s a.cert --workers 17",
+    "check a.s a.cert --units 2",
+    "replay a.s a.cert",
+    "replay a.s a.cert a.events b.events",
+    "replay a.s a.cert a.events --units 0",
+    "replay a.s a.cert a.events --units 17",
+    "replay a.s a.cert a.events --budget 3",
+    "foo",
+];
 
 #[test]
-fn refuses_words(rt: HostRuntime) -> Result<(), Fail> {
-    let alloc = rt.alloc();
-    for line in [
-        "seq",
-        "seq a.s b.s",
-        "seq a.s --budget 0",
-        "seq a.s --budget 1000001",
-        "annotate",
-        "annotate a.s a.cert",
-        "check a.s",
-        "check a.s a.cert b.cert",
-        "check a.s a.cert --workers 0",
-        "check a.s a.cert --workers 17",
-        "check a.s a.cert --units 2",
-        "replay a.s a.cert",
-        "replay a.s a.cert a.events b.events",
-        "replay a.s a.cert a.events --units 0",
-        "replay a.s a.cert a.events --units 17",
-        "replay a.s a.cert a.events --budget 3",
-        "foo",
-    ] {
-        assert!(rt;
-            matches!(job(alloc, line), Err(UsageFault::Words(_))),
-            "{line}"
-        );
+fn refuses_words(rt: HostRuntime) {
+    for &line in &NO_JOBS {
+        let refused = read(&rt, rt.alloc(), line);
+        assert!(rt; matches!(refused, Err(UsageFault::Words(_))), "{line}");
     }
-    Ok(())
+}
+
+const NO_EMIT: [&str; 2] = ["annotate a.s --emit xml", "annotate a.s --emit Text"];
+
+#[test]
+fn refuses_other_values_of_emit(rt: HostRuntime) {
+    for &line in &NO_EMIT {
+        let refused = read(&rt, rt.alloc(), line);
+        assert!(rt; matches!(refused, Err(UsageFault::Emit)), "{line}");
+    }
 }
