@@ -13,127 +13,99 @@ use crate::scripts::{
 use std::alloc::Global;
 use std::process::Abort;
 
-// A run of a script that stands with its answers, and how the run stands behind it.
-#[derive(Clone, Copy)]
-struct Replay {
-    words: &'static str,
-    program: &'static str,
-    certificate: &'static str,
-    answered: &'static str,
-    closing: &'static str,
-    status: u8,
+// Asserts a row whose script stands with its answers; what it expects is written behind these.
+fn replays(rt: &impl Abort, alloc: Global, row: &Row<'_>) {
+    let script = events_of(rt, alloc, row.script);
+    let expected = answers_of(rt, alloc, row.script, row.expected);
+    let row = Row {
+        script: script.as_str(),
+        expected: expected.as_str(),
+        ..*row
+    };
+    row.runs(rt, alloc);
 }
 
-impl Replay {
-    // Asserts what is written.
-    fn runs(&self, rt: &impl Abort, alloc: Global) {
-        let script = events_of(rt, alloc, self.answered);
-        let expected = answers_of(rt, alloc, self.answered, self.closing);
-        let row = Row {
-            words: self.words,
-            program: self.program,
-            certificate: self.certificate,
-            script: script.as_str(),
-            expected: expected.as_str(),
-            status: self.status,
-        };
-        row.runs(rt, alloc);
-    }
-}
-
-const ON_TWO_UNITS: &str = "replay --units 2 a.s a.cert a.events";
-
-// `COUNT` on two units, and no event.
-const OF_COUNT: Replay = Replay {
-    words: ON_TWO_UNITS,
-    program: COUNT,
-    certificate: COUNT_CERTIFICATE,
-    answered: "",
-    closing: "retired 0 c 0 h 0\nrunning\n",
-    status: 0,
+const ON_TWO_UNITS: Row<'static> = Row {
+    words: "replay --units 2 a.s a.cert a.events",
+    ..EMPTY
 };
 
-const COUNTS: [Replay; 4] = [
-    Replay {
-        answered: COUNT_WAITS,
-        closing: "retired 0 c 0 h 1\nrunning\n",
+const OF_COUNT: Row<'static> = Row {
+    program: COUNT,
+    certificate: COUNT_CERTIFICATE,
+    ..ON_TWO_UNITS
+};
+
+const COUNTS: [Row<'static>; 4] = [
+    Row {
+        script: COUNT_WAITS,
+        expected: "retired 0 c 0 h 1\nrunning\n",
         ..OF_COUNT
     },
-    Replay {
-        answered: COUNT_TAKEN_AGAIN,
-        closing: "retired 1 c 4 h 6\nrunning\n",
+    Row {
+        script: COUNT_TAKEN_AGAIN,
+        expected: "retired 1 c 4 h 6\nrunning\n",
         ..OF_COUNT
     },
-    Replay {
-        answered: COUNT_REFUSED,
-        closing: "retired 0 c 0 h 4\nrunning\n",
+    Row {
+        script: COUNT_REFUSED,
+        expected: "retired 0 c 0 h 4\nrunning\n",
         ..OF_COUNT
     },
-    Replay {
+    Row {
         words: "replay --units 3 a.s a.cert a.events",
-        answered: COUNT_DROPPED,
-        closing: "retired 0 c 0 h 0\nrunning\n",
+        script: COUNT_DROPPED,
+        expected: "retired 0 c 0 h 0\nrunning\n",
         ..OF_COUNT
     },
 ];
 
 #[test]
 fn replays_count(rt: HostRuntime) {
-    for replay in &COUNTS {
-        replay.runs(&rt, rt.alloc());
+    for row in &COUNTS {
+        replays(&rt, rt.alloc(), row);
     }
 }
 
-const WRONG_PATHS: [Replay; 4] = [
-    Replay {
-        words: ON_TWO_UNITS,
+const WRONG_PATHS: [Row<'static>; 4] = [
+    Row {
         program: WRONG_PATH_LOAD,
         certificate: WRONG_PATH_LOAD_CERTIFICATE,
-        answered: WRONG_PATH_LOADED,
-        closing: "1\nretired 1 c 2 h 4\nhalted\n",
-        status: 0,
+        script: WRONG_PATH_LOADED,
+        expected: "1\nretired 1 c 2 h 4\nhalted\n",
+        ..ON_TWO_UNITS
     },
-    Replay {
-        words: ON_TWO_UNITS,
+    Row {
         program: WRONG_PATH_SPIN,
         certificate: WRONG_PATH_SPIN_CERTIFICATE,
-        answered: WRONG_PATH_SPUN,
-        closing: "retired 1 c 1 h 2\nhalted\n",
-        status: 0,
+        script: WRONG_PATH_SPUN,
+        expected: "retired 1 c 1 h 2\nhalted\n",
+        ..ON_TWO_UNITS
     },
-    Replay {
-        words: ON_TWO_UNITS,
+    Row {
         program: READ_ONLY,
         certificate: READ_ONLY_CERTIFICATE,
-        answered: READ_AHEAD,
-        closing: "1\nretired 1 c 2 h 4\nhalted\n",
-        status: 0,
+        script: READ_AHEAD,
+        expected: "1\nretired 1 c 2 h 4\nhalted\n",
+        ..ON_TWO_UNITS
     },
     // The run ends at an address that the task does not list.
-    Replay {
+    Row {
         words: "replay --units 1 a.s a.cert a.events",
         program: UNLISTED_JUMP,
         certificate: UNLISTED_JUMP_CERTIFICATE,
-        answered: JUMP_UNLISTED,
-        closing: "retired 0 c 0 h 3\nunlisted 00400010\n",
+        script: JUMP_UNLISTED,
+        expected: "retired 0 c 0 h 3\nunlisted 00400010\n",
         status: 1,
     },
 ];
 
 #[test]
 fn replays_wrong_paths(rt: HostRuntime) {
-    for replay in &WRONG_PATHS {
-        replay.runs(&rt, rt.alloc());
+    for row in &WRONG_PATHS {
+        replays(&rt, rt.alloc(), row);
     }
 }
-
-// A run of a script on `COUNT`.
-const SCRIPTED: Row<'static> = Row {
-    words: ON_TWO_UNITS,
-    program: COUNT,
-    certificate: COUNT_CERTIFICATE,
-    ..EMPTY
-};
 
 // Scripts of no event, of one that no machine has, and of none.
 const ODD_SCRIPTS: [(&str, &str, u8); 7] = [
@@ -161,7 +133,7 @@ fn replays_odd_scripts(rt: HostRuntime) {
             script,
             expected,
             status,
-            ..SCRIPTED
+            ..OF_COUNT
         };
         row.runs(&rt, rt.alloc());
     }
@@ -191,7 +163,7 @@ fn judges_before_the_script(rt: HostRuntime) {
             script,
             expected,
             status: 1,
-            ..SCRIPTED
+            ..OF_COUNT
         };
         row.runs(&rt, rt.alloc());
     }
