@@ -12,7 +12,10 @@ const ACCEPTED: Row<'static> = Row {
     ..EMPTY
 };
 
+// `COUNT` with its certificate, but for what a row says.
 const REFUSED: Row<'static> = Row {
+    program: COUNT,
+    certificate: COUNT_CERTIFICATE,
     status: 1,
     ..ACCEPTED
 };
@@ -66,7 +69,6 @@ fn accepts_programs(rt: HostRuntime) {
 const FINDINGS: [Row<'static>; 14] = [
     // A mask lacks what the instruction writes.
     Row {
-        program: COUNT,
         certificate: COUNT_CERTIFICATE_LACKING,
         expected: "A 1 rule 3 $9\nrefused 1\n",
         ..REFUSED
@@ -79,7 +81,6 @@ const FINDINGS: [Row<'static>; 14] = [
     },
     // A true program is refused for a mask that is too large.
     Row {
-        program: COUNT,
         certificate: "cert 1\ntask A\n0 00000700\n1 00000700\n2 00000400\n3 00000000\ntask B\n4 00000000\n5 00000000\n",
         expected: "A 0 rule 6 $8\nrefused 1\n",
         ..REFUSED
@@ -93,13 +94,11 @@ const FINDINGS: [Row<'static>; 14] = [
     },
     Row {
         program: COUNT_CREATES_LESS,
-        certificate: COUNT_CERTIFICATE,
         expected: "A 0 rule 5 $10\nrefused 1\n",
         ..REFUSED
     },
     Row {
         program: COUNT_LISTS_LESS,
-        certificate: COUNT_CERTIFICATE,
         expected: "A 3 rule 9 -\nrefused 1\n",
         ..REFUSED
     },
@@ -174,37 +173,31 @@ const REFUSALS: [Row<'static>; 8] = [
         ..REFUSED
     },
     Row {
-        program: COUNT,
         certificate: "cert 1\ntask A\n",
         expected: "certificate refused: 4 MissingTask\n",
         ..REFUSED
     },
     Row {
-        program: COUNT,
         certificate: "cert 1\ntask A\n0 00000700\n1 00000600\n1 00000600\n2 00000400\n3 00000000\ntask B\n4 00000000\n5 00000000\n",
         expected: "certificate refused: 5 Shape\n",
         ..REFUSED
     },
     Row {
-        program: COUNT,
         certificate: "cert 2\ntask A\n0 00000700\n1 00000600\n2 00000400\n3 00000000\ntask B\n4 00000000\n5 00000000\n",
         expected: "certificate refused: 2 Line 3\n",
         ..REFUSED
     },
     Row {
-        program: COUNT,
         certificate: "cert 3\ntask A\n0 00000700\n1 00000600\n2 00000400\n3 00000000\ntask B\n4 00000000\n5 00000000\n",
         expected: "certificate refused: 1 Header\n",
         ..REFUSED
     },
     Row {
-        program: COUNT,
         certificate: "cert 1\ntask A\n0 00000700\n1 600\n2 00000400\n3 00000000\ntask B\n4 00000000\n5 00000000\n",
         expected: "certificate refused: 2 Line 4\n",
         ..REFUSED
     },
     Row {
-        program: COUNT,
         certificate: "cert 1\ntask C\n0 00000700\n1 00000600\n2 00000400\n3 00000000\ntask B\n4 00000000\n5 00000000\n",
         expected: "certificate refused: 3 TaskName 2\n",
         ..REFUSED
