@@ -151,7 +151,7 @@ STEADY_CERTIFICATE = "cert 2\ntask A\n0 0000000000000100\n1 0000000000000000\n"
 
 def long_task(rounds):
     """One task that goes round a loop of three instructions: its log of operand
-    reads grows with each, which a lease must not feel."""
+    reads grows with each, and so does a lease."""
     return (".task A create=$8,$9 targets=-\n"
             f"A: lui $8,{rounds >> 16}\nori $8,$8,{rounds & 65535}\n"
             "LOOP: addu $9,$9,$8\naddiu $8,$8,-1\nbne $8,$0,LOOP\nout $9\nhalt\n")

@@ -1,5 +1,6 @@
--- The items of a text: its labels and statements in order, each with its line, from 1 on, and the section
--- of that line. Each line is judged by itself and its section; the first line with a fault is told.
+-- The items of a text (own format): its labels and statements in order, each with its line, from 1 on,
+-- and the section of that line. Each line is judged by itself and its section; the first line with a
+-- fault is told.
 use Rattle.std.specs.Prelude.{ℕ, ◌+◌, List, [], ◌∷◌, ◌++◌, map, Result, Ok, Err}
 use Rattle.program_tokens.specs.Grammar.{line_tokens}
 use Rattle.program_tokens.specs.declared.token.Token.{Token}

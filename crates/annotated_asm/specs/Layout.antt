@@ -1,4 +1,4 @@
--- Where labels stand, and what is defined twice.
+-- Where labels stand, and what is defined twice (own format).
 use Rattle.std.specs.Prelude.{ℕ, ◌+◌, ◌-◌, ◌^◌, min, Bool, true, false, List, [], ◌∷◌, ◌++◌, length, is_some, Result, Ok, Err, nat_lt, ◌||◌}
 use Rattle.program_statements.specs.Steps.{◌>>=◌}
 use Rattle.annotated_asm.specs.declared.fault.AsmFault.{AsmFault}

@@ -1,4 +1,4 @@
--- The program that a text spells, or the first fault of the text.
+-- The program that a text spells, or the first fault of the text (own format, own order of faults).
 use Rattle.std.specs.Prelude.{◌≡◌, ℕ, List, length, Option, Some, None, Result, Ok, Err, nat_lt, if◌then◌else◌}
 use Rattle.program_tokens.specs.Lines.{lines}
 use Rattle.task_descriptor.specs.Listing.{Listing, build_fault}

@@ -1,4 +1,4 @@
--- The program that items are, their names resolved.
+-- The program that items are, their names resolved (own format).
 use Rattle.std.specs.Prelude.{ℕ, ◌+◌, ◌*◌, ◌/◌, ◌%◌, ◌^◌, Bool, true, ◌&&◌, List, [], ◌∷◌, ◌++◌, replicate, Option, Some, None, is_some, Result, Ok, Err, nat_le, if◌then◌else◌}
 use Rattle.std.specs.List.{list_all}
 use Rattle.mips_plain.specs.declared.instruction.Op.{Op}

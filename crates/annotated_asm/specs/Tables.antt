@@ -1,4 +1,4 @@
--- Names and where they stand.
+-- Names and where they stand (own format).
 use Rattle.std.specs.Prelude.{ℕ, List, [], ◌∷◌, Option, Some, None, if◌then◌else◌}
 use Rattle.std.specs.Str.{bytes_eq}
 use Rattle.annotated_asm.specs.declared.table.Symbol.{Symbol}

@@ -20,7 +20,7 @@ pub const STATUS: &str = "Exit status:
   3  out of budget
 
 Results and refusals of texts go to standard output. A fault of status 2 is one line on standard
-error.";
+error; wrong words are explained there.";
 
 /// `seq`, in one line.
 pub const SEQ: &str = "Runs a program, one instruction after another";

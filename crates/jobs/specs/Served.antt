@@ -1,4 +1,4 @@
--- Which jobs the program does so far.
+-- Which jobs the program does so far (own choice).
 use Rattle.std.specs.Prelude.{Bool, true, false}
 use Rattle.jobs.specs.declared.job.Job.{Job}
 use Rattle.jobs.specs.declared.job.Job.TheVariants.{Seq, Print, Annotate, Check, Replay}

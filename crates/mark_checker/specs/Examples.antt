@@ -4,11 +4,11 @@ use Rattle.std.proofs.Common.{refl}
 use Rattle.mips_plain.specs.declared.instruction.ThreeKind.TheVariants.{Addu}
 use Rattle.mips_plain.specs.declared.instruction.ImmKind.TheVariants.{Addiu, Slti}
 use Rattle.mips_plain.specs.declared.instruction.BranchTwoKind.TheVariants.{Bne}
-use Rattle.mips_plain.specs.declared.instruction.Op.TheVariants.{Three, Imm, BranchTwo, Out, Halt}
+use Rattle.mips_plain.specs.declared.instruction.Op.TheVariants.{Three, Imm, BranchTwo, JumpReg, Release, Out, Halt}
 use Rattle.task_descriptor.specs.Listing.{Listing}
 use Rattle.task_graph.specs.Examples.{count, bare, forwards, stops, forwards_stops}
 use Rattle.mark_checker.specs.declared.finding.Rule.{Rule}
-use Rattle.mark_checker.specs.declared.finding.Rule.TheVariants.{NextWithoutMask, LacksDestination, ExceedsCreate, ForwardedInNext, SentNotCreated, ExitNotListed, TargetNotEntry, EntryWithoutMask}
+use Rattle.mark_checker.specs.declared.finding.Rule.TheVariants.{EntryWithoutMask, NextWithoutMask, LacksDestination, LacksNext, ExceedsCreate, ForwardedInNext, ReleasedInNext, SentNotCreated, ExitNotListed, FallsOff, IndirectGoesOn, TargetNotEntry}
 use Rattle.mark_checker.specs.declared.finding.Finding.{Finding}
 use Rattle.mark_checker.specs.Rules.{each, all_rules, rules}
 
@@ -81,6 +81,37 @@ pub five_found :
     ≡ at 0 0 ExceedsCreate 8 ∷ at 0 0 SentNotCreated 8 ∷ whole 1 1 ExitNotListed ∷ whole 1 1 TargetNotEntry ∷ whole 2 2 NextWithoutMask ∷ []
 unfolding each
 five_found = refl
+
+-- register 8 is released and written behind it; the mask there lacks it, too; the task runs behind the last
+-- instruction
+abbrev pub released_too_early : Listing
+released_too_early = record {
+  code = bare (Release 0x100) ∷ bare (Imm Addiu 8 8 (pos 1)) ∷ [];
+  bytes = [];
+  fixed = [];
+  tasks = (record { name = 65 ∷ []; entry = 0; create = 0x100; targets = [] }) ∷ [];
+  start = 0;
+}
+
+pub released_found :
+    all_rules released_too_early (((0, 0) ∷ (1, 0x100) ∷ []) ∷ [])
+    ≡ at 0 0 LacksNext 8 ∷ at 0 0 ReleasedInNext 8 ∷ whole 0 1 FallsOff ∷ []
+unfolding each
+released_found = refl
+
+-- a jump to the address in register 31 that does not end its task
+abbrev pub goes_on : Listing
+goes_on = record {
+  code = bare (JumpReg 31) ∷ [];
+  bytes = [];
+  fixed = [];
+  tasks = (record { name = 65 ∷ []; entry = 0; create = 0; targets = [] }) ∷ [];
+  start = 0;
+}
+
+pub indirect_found : all_rules goes_on (((0, 0) ∷ []) ∷ []) ≡ whole 0 0 IndirectGoesOn ∷ []
+unfolding each
+indirect_found = refl
 
 -- an entry of the list at an index that is no instruction meets no rule, and the task's entry without a
 -- mask is found before the entries beyond it

@@ -1,4 +1,5 @@
--- The operands of an instruction: what stands between its commas, at most three.
+-- The operands of an instruction (as the MIPS assemblers write them): what stands between its commas, at
+-- most three.
 use Rattle.std.specs.Prelude.{ℕ, List, [], ◌∷◌, Option, Some, None, Result, Ok, Err, nat_lt, if◌then◌else◌}
 use Rattle.program_tokens.specs.declared.token.Number.{Number}
 use Rattle.program_tokens.specs.declared.token.Token.{Token}

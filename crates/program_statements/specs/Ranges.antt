@@ -1,4 +1,4 @@
--- The ranges of numbers.
+-- The ranges of numbers (the widths of the instructions' fields, MIPS manual).
 use Rattle.std.specs.Prelude.{ℕ, ◌-◌, ◌^◌, suc, ℤ, pos, negsuc, nat_lt, nat_le, if◌then◌else◌, Result, Ok, Err}
 use Rattle.program_tokens.specs.declared.token.Number.{Number}
 use Rattle.program_tokens.specs.declared.token.Number.TheVariants.{Small, Large}

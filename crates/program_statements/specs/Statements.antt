@@ -1,4 +1,5 @@
--- The statement of a line: what its first token, the operands and the marks at its end say.
+-- The statement of a line (own format; tasks and marks after the 1995 paper, section 2.2): what its first
+-- token, the operands and the marks at its end say.
 use Rattle.std.specs.Prelude.{ℕ, ◌-◌, ◌^◌, bit_or, List, [], ◌∷◌, ◌++◌, length, take, drop, reverse, take_while, codes, Bool, true, false, Option, Some, None, Result, Ok, Err, if◌then◌else◌}
 use Rattle.std.specs.Str.{bytes_eq}
 use Rattle.std.specs.Int.{w32, to_le_bytes}

@@ -1,4 +1,5 @@
--- The tokens of a line of a program text: the longest is taken, from left to right.
+-- The tokens of a line of a program text (own format, in the manner of the MIPS assemblers): the longest
+-- is taken, from left to right.
 use Rattle.std.specs.Prelude.{ℕ, zero, suc, List, [], ◌∷◌, Option, Some, None, Result, Ok, Err, Bool, false, length, drop, slice_index, codes, if◌then◌else◌, ◌==◌, ◌&&◌, ◌||◌, take_while}
 use Rattle.std.specs.List.{list_all}
 use Rattle.std.specs.Option.{option_map}

@@ -1,4 +1,4 @@
--- The lines of a program text.
+-- The lines of a program text (own format).
 use Rattle.std.specs.Prelude.{ℕ, List, ◌==◌}
 use Rattle.std.specs.List.{slice_split}
 

@@ -1,4 +1,4 @@
--- Numbers in a program text.
+-- Numbers in a program text (own format; hexadecimal as the MIPS assemblers write it).
 use Rattle.std.specs.Prelude.{ℕ, ℤ, pos, neg_ℤ, List, [], ◌∷◌, Option, Some, None, Bool, false, length, drop, slice_index, codes, if◌then◌else◌, ◌==◌, ◌&&◌, ◌^◌, nat_lt, nat_eq}
 use Rattle.std.specs.List.{list_all, starts_with}
 use Rattle.std.specs.Option.{option_map}
