@@ -1,6 +1,5 @@
 -- The names of a program's tasks are names, so what is read of a text for them is what it spells.
-use Rattle.std.proofs.Common.{◌≡◌, ◌≢◌, ◌⊎◌, ◌↔◌, ℕ, true, List, map, Result, Ok, Err, inl, inr, sym, ◌∙◌, ap}
-use Rattle.std.specs.List.{All}
+use Rattle.std.proofs.Common.{◌≡◌, ◌≢◌, ◌⊎◌, ◌↔◌, ℕ, true, List, Result, Ok, Err, inl, inr, sym, ◌∙◌, ap}
 use Rattle.std.proofs.lemmas.List.Elements.{All-map}
 use Rattle.task_descriptor.specs.Names.{is_name}
 use Rattle.task_descriptor.specs.Listing.{Listing, IsWellFormed}

@@ -22,6 +22,8 @@ mod print;
 #[cfg(test)]
 mod programs;
 #[cfg(test)]
+mod ranges;
+#[cfg(test)]
 mod replay;
 #[cfg(test)]
 mod replayed_values;

@@ -1,5 +1,5 @@
 -- A program has few tasks, and they have names.
-use Rattle.std.proofs.Common.{◌≡◌, ◌⊎◌, ◌≤◌, ◌∙◌, List, length, Err, ap, sym, subst}
+use Rattle.std.proofs.Common.{◌≡◌, ◌⊎◌, ◌≤◌, List, length, Err, sym, subst}
 use Rattle.task_descriptor.specs.WellFormed.{limits}
 use Rattle.task_descriptor.specs.declared.descriptor.Descriptor.{Descriptor}
 use Rattle.mask_certificate.specs.declared.fault.CertFault.TheVariants.{OutOfMemory}
