@@ -7,7 +7,7 @@ use mips_plain::number::RegSet;
 use std::alloc::Global;
 use std::process::Abort;
 use task_descriptor::descriptor::{Descriptor, Marked, Stop};
-use task_descriptor::name::Name;
+use task_descriptor::name::{Name, begins_name, continues_name};
 use task_descriptor::places::Places;
 use task_descriptor::program::{BuildFault, Parts, Program};
 
@@ -106,6 +106,14 @@ fn expect_indices(rt: &impl Abort, program: &Program) {
 }
 
 #[test]
+fn tells_programs_apart(rt: HostRuntime) {
+    let count = program(&rt, rt.alloc());
+    assert!(rt; count.is_same(&program(&rt, rt.alloc())));
+    let other = Program::build(parts(&rt, rt.alloc())).ok();
+    assert!(rt; !count.is_same(&other.expect(&rt, "a program")));
+}
+
+#[test]
 fn refuses_a_forward_bit_on_halt(rt: HostRuntime) {
     let mut parts = program(&rt, rt.alloc()).parts();
     let halt = Marked {
@@ -127,8 +135,16 @@ fn refuses_a_forward_bit_on_halt(rt: HostRuntime) {
 fn names(rt: HostRuntime) {
     let name = Name::new(b"_loop1").expect(&rt, "a name");
     assert_eq!(rt; name.bytes(), b"_loop1".as_slice());
+    assert_eq!(rt; name.as_str(), "_loop1");
     assert_eq!(rt; Name::new(b"1loop"), None);
     assert_eq!(rt; Name::new(b""), None);
+}
+
+#[test]
+fn bytes_of_names(rt: HostRuntime) {
+    assert!(rt; begins_name(b'_') && continues_name(b'_'));
+    assert!(rt; !begins_name(b'1') && continues_name(b'1'));
+    assert!(rt; !begins_name(b'-') && !continues_name(b'-'));
 }
 
 #[test]

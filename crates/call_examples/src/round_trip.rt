@@ -1,7 +1,7 @@
 //! A program printed and assembled again.
 
 use annotated_asm::assembler::assemble;
-use canonical_round_trip::laws::print_and_assemble;
+use canonical_round_trip::laws::{print_and_assemble, reads_back};
 use std::process::Abort;
 use task_descriptor::program::Program;
 
@@ -27,6 +27,7 @@ fn comes_back(rt: HostRuntime) {
     let again = print_and_assemble(rt.alloc(), &program).ok();
     let again = again.expect(&rt, "room for a program");
     expect_same(&rt, &again, &program);
+    reads_back(&again);
     assert_eq!(rt; again.tasks().len(), 2);
     assert_eq!(rt; again.tasks()[0].targets.as_slice().len(), 3);
 }
