@@ -118,13 +118,13 @@ code_in_data = refl
 
 -- `.task A create=$8 targets=B,@4096`, and 4097
 pub a_task : statement_of Text (Directive directive.Task ∷ Name (codes "A") ∷ Name (codes "create") ∷ Equals ∷ Register 8
-        ∷ Name (codes "targets") ∷ Equals ∷ Name (codes "B") ∷ Comma ∷ Index (Small (pos 4096)) ∷ [])
+    ∷ Name (codes "targets") ∷ Equals ∷ Name (codes "B") ∷ Comma ∷ Index (Small (pos 4096)) ∷ [])
     ≡ Ok (statement.Task (record { name = codes "A"; create = 256; targets = target.Label (codes "B") ∷ target.Index 4096 ∷ [] }))
 unfolding task_of registers_at registers_of places_of targets_of
 a_task = refl
 
 pub past_the_code : statement_of Text (Directive directive.Task ∷ Name (codes "A") ∷ Name (codes "create") ∷ Equals ∷ Minus
-        ∷ Name (codes "targets") ∷ Equals ∷ Index (Small (pos 4097)) ∷ []) ≡ Err fault.Number
+    ∷ Name (codes "targets") ∷ Equals ∷ Index (Small (pos 4097)) ∷ []) ≡ Err fault.Number
 unfolding task_of places_of targets_of
 past_the_code = refl
 
