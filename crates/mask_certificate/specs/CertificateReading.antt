@@ -28,9 +28,9 @@ index_in digits = if is_index digits then Some (digits_value 10 digits) else Non
 abbrev pub is_mask_digit : ℕ → Bool
 is_mask_digit byte = is_ascii_digit byte || is_in_range 97 102 byte
 
--- the value of a digit of a mask, and 16 for any other byte
+-- the value of a digit of a mask, and for any other byte more than any mask
 abbrev pub mask_digit : ℕ → ℕ
-mask_digit byte = if is_mask_digit byte then digit_value byte else 16
+mask_digit byte = if is_mask_digit byte then digit_value byte else 2 ^ 34
 
 -- a mask: as many digits as the spelling says, and no bit above 33
 abbrev pub is_mask : Spelling → List ℕ → Bool

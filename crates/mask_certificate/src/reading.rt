@@ -1,12 +1,13 @@
 //! Reading the text of a certificate.
 
-ghost use Rattle.std.specs.Prelude.{◌≡◌, ◌≢◌, ℕ, ◌+◌, ◌^◌, ◌<◌, ◌≤◌, ◌↔◌, List, [], ◌∷◌, true, length, drop, map, slice_index, Some, None, Ok, Err, MatchOption, MatchResult, IfSome, IfOk, SomeIff, IsTrue, OnOk, OnSome, ◌==◌, ◌⊎◌, vec_len};
-ghost use Rattle.std.specs.List.{slice_split, position};
+ghost use Rattle.std.specs.Prelude.{◌≡◌, ◌≢◌, ℕ, ◌+◌, ◌^◌, ◌<◌, ◌≤◌, ◌↔◌, List, [], ◌∷◌, true, false, length, take, drop, map, slice_index, Some, None, Ok, Err, MatchOption, MatchResult, IfSome, IfOk, SomeIff, IsTrue, OnOk, OnSome, ◌==◌, ◌⊎◌, vec_len};
+ghost use Rattle.std.specs.List.{slice_split, position, list_all};
+ghost use Rattle.std.specs.Str.Parse.{digits_value_after};
 ghost use Rattle.std.specs.Option.{option_copied};
 ghost use Rattle.mask_certificate.specs.declared.fault.Spelling.{Spelling};
 ghost use Rattle.mask_certificate.specs.Lists.{entries_of};
 ghost use Rattle.mask_certificate.specs.CertificateText.{Spells};
-ghost use Rattle.mask_certificate.specs.CertificateReading.{index_in, mask_in, name_in, lines_in, entries_in, behind_task_line, at_end, lists_at, spelling_of, mask_digit, Gives, cert_parse, names_of, names_in, is_newline, entry_line};
+ghost use Rattle.mask_certificate.specs.CertificateReading.{index_in, mask_in, name_in, lines_in, entries_in, behind_task_line, at_end, lists_at, spelling_of, mask_digit, is_mask_digit, Gives, cert_parse, names_of, names_in, is_newline, entry_line};
 
 use crate::certificate::Cert;
 use crate::fault::{CertFault, Spelling};
@@ -41,28 +42,78 @@ fn index_of(digits: &[u8]) -> Option<u32>
     Some(index)
 }
 
-/// The value of each byte as a digit of a mask; `NO_DIGIT` where it is none. A table, since the digits
-/// of a mask are hard to foretell for a branch.
-const MASK_DIGITS: [u8; 256] = [
-    16, 16, 16, 16, 16, 16, 16, 16, 16, 16, 16, 16, 16, 16, 16, 16, 16, 16, 16, 16, 16, 16, 16, 16,
-    16, 16, 16, 16, 16, 16, 16, 16, 16, 16, 16, 16, 16, 16, 16, 16, 16, 16, 16, 16, 16, 16, 16, 16,
-    0, 1, 2, 3, 4, 5, 6, 7, 8, 9, 16, 16, 16, 16, 16, 16, 16, 16, 16, 16, 16, 16, 16, 16, 16, 16,
-    16, 16, 16, 16, 16, 16, 16, 16, 16, 16, 16, 16, 16, 16, 16, 16, 16, 16, 16, 16, 16, 16, 16, 10,
-    11, 12, 13, 14, 15, 16, 16, 16, 16, 16, 16, 16, 16, 16, 16, 16, 16, 16, 16, 16, 16, 16, 16, 16,
-    16, 16, 16, 16, 16, 16, 16, 16, 16, 16, 16, 16, 16, 16, 16, 16, 16, 16, 16, 16, 16, 16, 16, 16,
-    16, 16, 16, 16, 16, 16, 16, 16, 16, 16, 16, 16, 16, 16, 16, 16, 16, 16, 16, 16, 16, 16, 16, 16,
-    16, 16, 16, 16, 16, 16, 16, 16, 16, 16, 16, 16, 16, 16, 16, 16, 16, 16, 16, 16, 16, 16, 16, 16,
-    16, 16, 16, 16, 16, 16, 16, 16, 16, 16, 16, 16, 16, 16, 16, 16, 16, 16, 16, 16, 16, 16, 16, 16,
-    16, 16, 16, 16, 16, 16, 16, 16, 16, 16, 16, 16, 16, 16, 16, 16, 16, 16, 16, 16, 16, 16, 16, 16,
-    16, 16, 16, 16, 16, 16, 16, 16, 16, 16, 16, 16, 16, 16,
+/// What a byte that is no digit counts as a digit of a mask: more than any mask, so that eight digits
+/// with one such among them count more than any mask, whatever the others are.
+const NO_DIGIT: u64 = 1 << 34;
+
+/// What each byte counts as a digit of a mask. A table, since the digits of a mask are hard to foretell
+/// for a branch.
+const MASK_DIGITS: [u64; 256] = [
+    NO_DIGIT, NO_DIGIT, NO_DIGIT, NO_DIGIT, NO_DIGIT, NO_DIGIT, NO_DIGIT, NO_DIGIT, NO_DIGIT,
+    NO_DIGIT, NO_DIGIT, NO_DIGIT, NO_DIGIT, NO_DIGIT, NO_DIGIT, NO_DIGIT, NO_DIGIT, NO_DIGIT,
+    NO_DIGIT, NO_DIGIT, NO_DIGIT, NO_DIGIT, NO_DIGIT, NO_DIGIT, NO_DIGIT, NO_DIGIT, NO_DIGIT,
+    NO_DIGIT, NO_DIGIT, NO_DIGIT, NO_DIGIT, NO_DIGIT, NO_DIGIT, NO_DIGIT, NO_DIGIT, NO_DIGIT,
+    NO_DIGIT, NO_DIGIT, NO_DIGIT, NO_DIGIT, NO_DIGIT, NO_DIGIT, NO_DIGIT, NO_DIGIT, NO_DIGIT,
+    NO_DIGIT, NO_DIGIT, NO_DIGIT, 0, 1, 2, 3, 4, 5, 6, 7, 8, 9, NO_DIGIT, NO_DIGIT, NO_DIGIT,
+    NO_DIGIT, NO_DIGIT, NO_DIGIT, NO_DIGIT, NO_DIGIT, NO_DIGIT, NO_DIGIT, NO_DIGIT, NO_DIGIT,
+    NO_DIGIT, NO_DIGIT, NO_DIGIT, NO_DIGIT, NO_DIGIT, NO_DIGIT, NO_DIGIT, NO_DIGIT, NO_DIGIT,
+    NO_DIGIT, NO_DIGIT, NO_DIGIT, NO_DIGIT, NO_DIGIT, NO_DIGIT, NO_DIGIT, NO_DIGIT, NO_DIGIT,
+    NO_DIGIT, NO_DIGIT, NO_DIGIT, NO_DIGIT, NO_DIGIT, NO_DIGIT, NO_DIGIT, NO_DIGIT, NO_DIGIT, 10,
+    11, 12, 13, 14, 15, NO_DIGIT, NO_DIGIT, NO_DIGIT, NO_DIGIT, NO_DIGIT, NO_DIGIT, NO_DIGIT,
+    NO_DIGIT, NO_DIGIT, NO_DIGIT, NO_DIGIT, NO_DIGIT, NO_DIGIT, NO_DIGIT, NO_DIGIT, NO_DIGIT,
+    NO_DIGIT, NO_DIGIT, NO_DIGIT, NO_DIGIT, NO_DIGIT, NO_DIGIT, NO_DIGIT, NO_DIGIT, NO_DIGIT,
+    NO_DIGIT, NO_DIGIT, NO_DIGIT, NO_DIGIT, NO_DIGIT, NO_DIGIT, NO_DIGIT, NO_DIGIT, NO_DIGIT,
+    NO_DIGIT, NO_DIGIT, NO_DIGIT, NO_DIGIT, NO_DIGIT, NO_DIGIT, NO_DIGIT, NO_DIGIT, NO_DIGIT,
+    NO_DIGIT, NO_DIGIT, NO_DIGIT, NO_DIGIT, NO_DIGIT, NO_DIGIT, NO_DIGIT, NO_DIGIT, NO_DIGIT,
+    NO_DIGIT, NO_DIGIT, NO_DIGIT, NO_DIGIT, NO_DIGIT, NO_DIGIT, NO_DIGIT, NO_DIGIT, NO_DIGIT,
+    NO_DIGIT, NO_DIGIT, NO_DIGIT, NO_DIGIT, NO_DIGIT, NO_DIGIT, NO_DIGIT, NO_DIGIT, NO_DIGIT,
+    NO_DIGIT, NO_DIGIT, NO_DIGIT, NO_DIGIT, NO_DIGIT, NO_DIGIT, NO_DIGIT, NO_DIGIT, NO_DIGIT,
+    NO_DIGIT, NO_DIGIT, NO_DIGIT, NO_DIGIT, NO_DIGIT, NO_DIGIT, NO_DIGIT, NO_DIGIT, NO_DIGIT,
+    NO_DIGIT, NO_DIGIT, NO_DIGIT, NO_DIGIT, NO_DIGIT, NO_DIGIT, NO_DIGIT, NO_DIGIT, NO_DIGIT,
+    NO_DIGIT, NO_DIGIT, NO_DIGIT, NO_DIGIT, NO_DIGIT, NO_DIGIT, NO_DIGIT, NO_DIGIT, NO_DIGIT,
+    NO_DIGIT, NO_DIGIT, NO_DIGIT, NO_DIGIT, NO_DIGIT, NO_DIGIT, NO_DIGIT, NO_DIGIT, NO_DIGIT,
+    NO_DIGIT, NO_DIGIT, NO_DIGIT, NO_DIGIT, NO_DIGIT, NO_DIGIT, NO_DIGIT, NO_DIGIT, NO_DIGIT,
+    NO_DIGIT, NO_DIGIT, NO_DIGIT, NO_DIGIT, NO_DIGIT, NO_DIGIT, NO_DIGIT, NO_DIGIT, NO_DIGIT,
+    NO_DIGIT, NO_DIGIT, NO_DIGIT, NO_DIGIT, NO_DIGIT, NO_DIGIT, NO_DIGIT, NO_DIGIT, NO_DIGIT,
+    NO_DIGIT, NO_DIGIT, NO_DIGIT, NO_DIGIT, NO_DIGIT, NO_DIGIT, NO_DIGIT, NO_DIGIT, NO_DIGIT,
+    NO_DIGIT, NO_DIGIT,
 ];
 
-const NO_DIGIT: u8 = 16;
-
-fn mask_digit_of(byte: u8) -> u8
+fn mask_digit_of(byte: u8) -> u64
     ensures { result ≡ mask_digit byte }
 {
     MASK_DIGITS[byte as usize]
+}
+
+/// How many digits are read at a time.
+const HALF: usize = 8;
+
+/// The number that eight digits write behind those of `number`; more than any mask where one of them is
+/// none.
+fn eight_more(number: u64, digits: &[u8]) -> u64
+    requires small { number < 4 }
+    requires eight { 8 ≤ length digits.now }
+    ensures digits { list_all is_mask_digit (take 8 digits.now) ≡ true → result ≡ digits_value_after 16 number (take 8 digits.now) }
+    ensures other { list_all is_mask_digit (take 8 digits.now) ≡ false → 2 ^ 34 ≤ result }
+{
+    let mut number = number;
+    for place in 0..HALF {
+        number = number * 16 + mask_digit_of(digits[place]);
+    }
+    number
+}
+
+/// The mask of 16 digits.
+fn wide_mask_of(digits: &[u8]) -> Option<RegSet>
+    requires { length digits.now ≡ 16 }
+    ensures { result ≡ mask_in Spelling.Wide digits.now }
+{
+    let high = eight_more(0, digits);
+    // With the eight digits below it is a mask only where it is below 4.
+    if high >= 4 {
+        return None;
+    }
+    RegSet::from_bits(eight_more(high, &digits[HALF..]))
 }
 
 fn mask_of(spelling: Spelling, digits: &[u8]) -> Option<RegSet>
@@ -71,15 +122,10 @@ fn mask_of(spelling: Spelling, digits: &[u8]) -> Option<RegSet>
     if digits.len() != spelling.mask_digits() {
         return None;
     }
-    let mut mask = 0;
-    for byte in digits {
-        let digit = mask_digit_of(*byte);
-        if digit == NO_DIGIT {
-            return None;
-        }
-        mask = mask * 16 + u64::from(digit);
+    match spelling {
+        Spelling::Narrow => RegSet::from_bits(eight_more(0, digits)),
+        Spelling::Wide => wide_mask_of(digits),
     }
-    RegSet::from_bits(mask)
 }
 
 /// Whether an LF stands at this place.

@@ -1,25 +1,20 @@
--- The loop's number is the mask, where it has no bit above 33.
-use Rattle.std.proofs.Common.{◌≡◌, ◌<◌, get_or, Some, sym, ◌∙◌, arith}
-use Rattle.mask_certificate.specs.CertificateReading.{is_mask_digit, mask_digit}
-use Rattle.mask_certificate.proofs.Digits.{number_after, digit_all, digit_small, mask_fits, mask_done, from_bits_is}
+-- Eight digits make up a mask of the narrow spelling, sixteen one of the wide.
+use Rattle.std.proofs.Common.{◌≡◌, ◌^◌, ◌≤◌, ℕ, List, false, true, length, take, arith, sym, ◌∙◌, ap, subst}
+use Rattle.std.specs.List.{list_all}
+use Rattle.std.specs.Str.Parse.{digits_value_after}
+use Rattle.std.proofs.lemmas.List.{take_all}
+use Rattle.mask_certificate.specs.declared.fault.Spelling.TheVariants.{Narrow}
+use Rattle.mask_certificate.specs.CertificateText.{mask_digits}
+use Rattle.mask_certificate.specs.CertificateReading.{is_mask_digit}
+use Rattle.mask_certificate.proofs.Digits.{mask_done, from_bits_is}
 use Rattle.mask_certificate.proofs.reading.mask_of.Goals as goal
 
-pub overflow_mul-mask : goal.overflow_mul-mask
-overflow_mul-mask c =
-    let room = mask_fits c.loop-byte.mask c.loop-byte.byte-index 0 c.loop-byte.invariant.small (omega arith) (omega arith) in
-    omega arith
-
-pub overflow_add-mask : goal.overflow_add-mask
-overflow_add-mask c =
-    let byte = get_or c.args.digits.now c.loop-byte.byte-index 0 in
-    let one : mask_digit byte < 16 = digit_small byte (omega (arith, c.type_inv.digits c.loop-byte.byte-index)) (λ e. c.if-digit-eq-NO_DIGIT.false (c.mask_digit_of-digit.ensures ∙ e)) in
-    let digit : c.from.result < 16 = omega arith in
-    let room = mask_fits c.loop-byte.mask c.loop-byte.byte-index c.from.result c.loop-byte.invariant.small (omega arith) digit in
-    omega arith
-
-pub returns : goal.returns
-returns c =
+pub returns-in-Narrow : goal.returns-in-Narrow
+returns-in-Narrow c =
     let ds = c.args.digits.now in
-    let read : number_after is_mask_digit 16 0 ds ≡ Some c.loop-byte.mask = sym c.loop-byte.invariant.left ∙ digit_all is_mask_digit 16 ds c.loop-byte.mask c.loop-byte.byte-index (omega arith) in
-    from_bits_is _ c.loop-byte.mask c.from_bits.ensures.some c.from_bits.ensures.value
-    ∙ sym (mask_done c.args.spelling ds c.loop-byte.mask (c.if-digits-mask_digits.false ∙ c.mask_digits.ensures.digits) read)
+    let low = c.eight_more.result in
+    let long : length ds ≡ 8 = c.if-digits-mask_digits.false ∙ c.mask_digits.ensures.digits ∙ ap (λ s. mask_digits s) c.in-Narrow.is in
+    let all : take 8 ds ≡ ds = take_all 8 ds (omega (arith, long)) in
+    let value = subst (λ (xs : List ℕ). list_all is_mask_digit xs ≡ true → low ≡ digits_value_after 16 0 xs) all c.eight_more.ensures.digits in
+    let other = subst (λ (xs : List ℕ). list_all is_mask_digit xs ≡ false → 2 ^ 34 ≤ low) all c.eight_more.ensures.other in
+    rw c.in-Narrow.is (from_bits_is _ low c.from_bits.ensures.some c.from_bits.ensures.value ∙ sym (mask_done Narrow ds low long value other))
