@@ -9,8 +9,8 @@ use Rattle.program_tokens.specs.declared.token.LineFault.{LineFault as TokenFaul
 use Rattle.program_tokens.specs.declared.token.LineFault.TheVariants as token_fault
 use Rattle.program_statements.specs.Steps.{◌>>=◌}
 use Rattle.program_statements.specs.Statements.{statement_of}
-use Rattle.program_statements.specs.declared.fault.LineFault.{LineFault}
-use Rattle.program_statements.specs.declared.fault.LineFault.TheVariants as line_fault
+use Rattle.program_statements.specs.declared.fault.StatementFault.{StatementFault}
+use Rattle.program_statements.specs.declared.fault.StatementFault.TheVariants as statement_fault
 use Rattle.annotated_asm.specs.declared.fault.AsmFault.{AsmFault}
 use Rattle.annotated_asm.specs.declared.fault.AsmFault.TheVariants as fault
 use Rattle.program_statements.specs.declared.statement.Section.{Section}
@@ -28,13 +28,13 @@ after_labels (token.Name name ∷ token.Colon ∷ rest) = after_labels rest
 after_labels tokens = tokens
 
 -- a fault of a statement as one of the text
-abbrev pub at_line : ℕ → LineFault → AsmFault
-at_line n line_fault.Mnemonic = fault.Mnemonic n
-at_line n line_fault.Operand = fault.Operand n
-at_line n line_fault.Number = fault.Number n
-at_line n line_fault.Mark = fault.Mark n
+abbrev pub at_line : ℕ → StatementFault → AsmFault
+at_line n statement_fault.Mnemonic = fault.Mnemonic n
+at_line n statement_fault.Operand = fault.Operand n
+at_line n statement_fault.Number = fault.Number n
+at_line n statement_fault.Mark = fault.Mark n
 
-abbrev pub on_line : {A : Type 0} → ℕ → Result A LineFault → Result A AsmFault
+abbrev pub on_line : {A : Type 0} → ℕ → Result A StatementFault → Result A AsmFault
 on_line n (Ok x) = Ok x
 on_line n (Err f) = Err (at_line n f)
 

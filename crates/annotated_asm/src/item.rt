@@ -7,7 +7,7 @@ ghost use Rattle.annotated_asm.specs.Steps.{Answers};
 ghost use Rattle.annotated_asm.specs.Items.{labels_of, after_labels, at_line, label_item, statement_items, section_after, tokens_on_line, line_items, items_from, with_items};
 
 use crate::fault::AsmFault;
-use program_statements::fault::{LineError, LineFault};
+use program_statements::fault::{StatementError, StatementFault};
 use program_statements::line::statement_of;
 use program_statements::statement::{Section, Statement};
 use program_tokens::line::{first_line, read_tokens};
@@ -29,14 +29,14 @@ pub struct Item {
 }
 
 /// A fault of a statement as one of the text.
-fn at_line(line: u32, fault: LineFault) -> AsmFault
+fn at_line(line: u32, fault: StatementFault) -> AsmFault
     ensures { result ≡ at_line line fault }
 {
     match fault {
-        LineFault::Mnemonic => AsmFault::Mnemonic(line),
-        LineFault::Operand => AsmFault::Operand(line),
-        LineFault::Number => AsmFault::Number(line),
-        LineFault::Mark => AsmFault::Mark(line),
+        StatementFault::Mnemonic => AsmFault::Mnemonic(line),
+        StatementFault::Operand => AsmFault::Operand(line),
+        StatementFault::Number => AsmFault::Number(line),
+        StatementFault::Mark => AsmFault::Mark(line),
     }
 }
 
@@ -122,8 +122,8 @@ fn add_line(
     let rest = add_labels(items, line, section, tokens)?;
     let statement = match statement_of(alloc, section, rest) {
         Ok(statement) => statement,
-        Err(LineError::Fault(fault)) => return Err(at_line(line, fault)),
-        Err(LineError::OutOfMemory) => return Err(AsmFault::OutOfMemory),
+        Err(StatementError::Fault(fault)) => return Err(at_line(line, fault)),
+        Err(StatementError::OutOfMemory) => return Err(AsmFault::OutOfMemory),
     };
     let next = section_after(section, &statement);
     add_statement(items, line, section, statement)?;

@@ -3,7 +3,7 @@
 
 use mips_plain::instruction::BranchTwoKind;
 use mips_plain::number::{Gpr, Place, RegSet};
-use program_statements::fault::{LineError, LineFault};
+use program_statements::fault::{StatementError, StatementFault};
 use program_statements::line::statement_of;
 use program_statements::statement::{Instruction, Marks, Section, Statement, Target};
 use program_tokens::line::line_tokens;
@@ -73,14 +73,14 @@ fn faults(rt: HostRuntime) -> Result<(), Fail> {
     assert!(rt;
         matches!(
             statement_of(rt.alloc(), Section::Text, &tokens),
-            Err(LineError::Fault(LineFault::Mnemonic))
+            Err(StatementError::Fault(StatementFault::Mnemonic))
         )
     );
     let tokens = line_tokens(rt.alloc(), b"addiu $8,$8,99999 !q")?;
     assert!(rt;
         matches!(
             statement_of(rt.alloc(), Section::Text, &tokens),
-            Err(LineError::Fault(LineFault::Number))
+            Err(StatementError::Fault(StatementFault::Number))
         )
     );
     Ok(())

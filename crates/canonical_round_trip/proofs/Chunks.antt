@@ -12,7 +12,7 @@ use Rattle.program_statements.specs.Steps.{◌>>=◌}
 use Rattle.program_statements.specs.Statements.{statement_of}
 use Rattle.annotated_asm.specs.Items.{labels_of, after_labels, label_item, statement_items, section_after, tokens_on_line, on_line, line_items, items_from}
 use Rattle.annotated_asm.specs.declared.fault.AsmFault.{AsmFault}
-use Rattle.program_statements.specs.declared.fault.LineFault.{LineFault}
+use Rattle.program_statements.specs.declared.fault.StatementFault.{StatementFault}
 use Rattle.annotated_asm.specs.declared.item.Item.{Item}
 use Rattle.program_statements.specs.declared.statement.Section.{Section}
 use Rattle.program_statements.specs.declared.statement.Statement.{Statement}
@@ -59,7 +59,7 @@ one_line : (n : ℕ) (here : Section) (text : List ℕ) (tokens : List Token) (s
 unfolding line_items
 one_line n here text tokens s r means =
     ap (λ (read : Result (List Token) TokenFault). tokens_on_line n read >>= λ ts. on_line n (statement_of here (after_labels ts)) >>= λ s. Ok (map (label_item n here) (labels_of ts) ++ statement_items n here s, section_after here s)) (line_reads r)
-    ∙ ap (λ (read : Result Statement LineFault). on_line n read >>= λ s. Ok (map (label_item n here) (labels_of tokens) ++ statement_items n here s, section_after here s)) means
+    ∙ ap (λ (read : Result Statement StatementFault). on_line n read >>= λ s. Ok (map (label_item n here) (labels_of tokens) ++ statement_items n here s, section_after here s)) means
 
 first_line : (n : ℕ) (here : Section) (text : List ℕ) (others : List (List ℕ)) (items : List Item) (behind : Section)
     → line_items n here text ≡ Ok (items, behind) → items_from n here (text ∷ others) ≡ onto items (items_from (n + 1) behind others)

@@ -16,7 +16,7 @@ use Rattle.canonical_text.specs.CanonicalText.{members}
 use Rattle.program_statements.specs.Steps.{◌>>=◌}
 use Rattle.program_statements.specs.Statements.{is_mark, no_marks, unmarked, with_marks, statement_of}
 use Rattle.annotated_asm.specs.Items.{labels_of, after_labels}
-use Rattle.program_statements.specs.declared.fault.LineFault.{LineFault}
+use Rattle.program_statements.specs.declared.fault.StatementFault.{StatementFault}
 use Rattle.program_statements.specs.declared.statement.Section.TheVariants as section
 use Rattle.program_statements.specs.declared.statement.Marks.{Marks}
 use Rattle.program_statements.specs.declared.statement.Instruction.{Instruction}
@@ -145,7 +145,7 @@ code_of : (name : List ℕ) (operands : List Token) (i : Instruction) (forward :
 code_of name operands i forward s plain means =
     ap (statement_of section.Text) (unlabelled name operands forward s plain).1
     ∙ marked_statement section.Text (token.Name name) operands (mark_tokens forward s) (plain_unmarked operands plain) (marks_are forward s) (as_many forward s)
-    ∙ ap (λ (r : Result Statement LineFault). r >>= with_marks (mark_tokens forward s)) means
+    ∙ ap (λ (r : Result Statement StatementFault). r >>= with_marks (mark_tokens forward s)) means
     ∙ marked_code i forward s
 
 -- What the tokens of a line of code say: no label, and the instruction with its marks.

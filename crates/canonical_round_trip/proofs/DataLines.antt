@@ -14,8 +14,8 @@ use Rattle.program_tokens.specs.declared.token.Number.TheVariants.{Small}
 use Rattle.canonical_text.specs.CanonicalText.{hexadecimal}
 use Rattle.program_statements.specs.Steps.{◌>>=◌}
 use Rattle.program_statements.specs.Statements.{numbers_of, words_of, bytes_of, word_statement, byte_statement, statement_of, in_data, with_marks}
-use Rattle.program_statements.specs.declared.fault.LineFault.{LineFault}
-use Rattle.program_statements.specs.declared.fault.LineFault.TheVariants as fault
+use Rattle.program_statements.specs.declared.fault.StatementFault.{StatementFault}
+use Rattle.program_statements.specs.declared.fault.StatementFault.TheVariants as fault
 use Rattle.program_statements.specs.declared.statement.Section.{Section}
 use Rattle.program_statements.specs.declared.statement.Statement.{Statement}
 use Rattle.program_statements.specs.declared.statement.Statement.TheVariants as statement
@@ -46,7 +46,7 @@ rodata_reads = one_token 46 46 (codes "rodata") (token.Directive directive.Rodat
 
 -- Data stand in one of the two sections of data.
 abbrev pub IsData : Section → Type 0
-IsData here = (s : Result Statement LineFault) → in_data here s ≡ s
+IsData here = (s : Result Statement StatementFault) → in_data here s ≡ s
 
 -- Words.
 
@@ -66,14 +66,14 @@ byte_line_reads n small =
 word_means : (n : ℕ) (bytes : List ℕ) → n < 2 ^ 32 → to_le_bytes w32 n ≡ bytes → word_statement (token.Number (Small (pos n)) ∷ []) ≡ Ok (statement.Bytes bytes)
 unfolding word_statement numbers_of words_of
 word_means n bytes small is =
-    ap (λ (r : Result ℕ LineFault). (r >>= λ first. Ok (to_le_bytes w32 first ++ [])) >>= λ bytes. Ok (statement.Bytes bytes))
+    ap (λ (r : Result ℕ StatementFault). (r >>= λ first. Ok (to_le_bytes w32 first ++ [])) >>= λ bytes. Ok (statement.Bytes bytes))
     (cond-true (nat_lt n (2 ^ 32)) (Ok n) (Err fault.Number) (lt-ltb n (2 ^ 32) small))
     ∙ ap (λ (xs : List ℕ). Ok (statement.Bytes xs)) (append-nil (to_le_bytes w32 n) ∙ is)
 
 byte_means : (n : ℕ) → n < 256 → byte_statement (token.Number (Small (pos n)) ∷ []) ≡ Ok (statement.Bytes (n ∷ []))
 unfolding byte_statement numbers_of bytes_of
 byte_means n small =
-    ap (λ (r : Result ℕ LineFault). (r >>= λ first. Ok (first ∷ [])) >>= λ bytes. Ok (statement.Bytes bytes))
+    ap (λ (r : Result ℕ StatementFault). (r >>= λ first. Ok (first ∷ [])) >>= λ bytes. Ok (statement.Bytes bytes))
     (cond-true (nat_lt n (2 ^ 8)) (Ok n) (Err fault.Number) (lt-ltb n (2 ^ 8) small))
 
 small_bytes : (a b c d : ℕ) → a < 256 → b < 256 → c < 256 → d < 256 → (i : ℕ) → get_or (a ∷ b ∷ c ∷ d ∷ []) i 0 < 256
@@ -91,9 +91,9 @@ bytes_back a b c d p q r s =
 pub word_said : (here : Section) (n : ℕ) (bytes : List ℕ) → IsData here → n < 2 ^ 32 → to_le_bytes w32 n ≡ bytes
     → statement_of here (number_tokens directive.Word n) ≡ Ok (statement.Bytes bytes)
 word_said here n bytes region small is =
-    ap (λ (r : Result Statement LineFault). r >>= with_marks []) (region (word_statement (token.Number (Small (pos n)) ∷ [])) ∙ word_means n bytes small is)
+    ap (λ (r : Result Statement StatementFault). r >>= with_marks []) (region (word_statement (token.Number (Small (pos n)) ∷ [])) ∙ word_means n bytes small is)
 
 pub byte_said : (here : Section) (n : ℕ) → IsData here → n < 256
     → statement_of here (number_tokens directive.Byte n) ≡ Ok (statement.Bytes (n ∷ []))
 byte_said here n region small =
-    ap (λ (r : Result Statement LineFault). r >>= with_marks []) (region (byte_statement (token.Number (Small (pos n)) ∷ [])) ∙ byte_means n small)
+    ap (λ (r : Result Statement StatementFault). r >>= with_marks []) (region (byte_statement (token.Number (Small (pos n)) ∷ [])) ∙ byte_means n small)

@@ -39,7 +39,7 @@ use Rattle.program_statements.specs.Operands.{operands_of, operand_at, base_at, 
 use Rattle.program_statements.specs.Mnemonics.{mnemonic_named, mnemonics}
 use Rattle.program_statements.specs.Rows.{three, shift_by, shift_var, imm, logic, lui, mult as mult_of, move_from, move_to, load, store, branch_two, branch_one, jump, jump_link, jump_reg, jump_link_reg, out, halt}
 use Rattle.program_statements.specs.Statements.{registers_at, release_of, unmarked, of_mnemonic, no_marks, instruction_of}
-use Rattle.program_statements.specs.declared.fault.LineFault.{LineFault}
+use Rattle.program_statements.specs.declared.fault.StatementFault.{StatementFault}
 use Rattle.program_statements.specs.declared.mnemonic.Mnemonic.{Mnemonic}
 use Rattle.program_statements.specs.declared.mnemonic.Mnemonic.TheVariants as mnemonic
 use Rattle.program_statements.specs.declared.statement.Section.TheVariants as section
@@ -50,7 +50,7 @@ use Rattle.program_statements.specs.declared.statement.Instruction.TheVariants a
 use Rattle.program_statements.specs.declared.statement.Statement.TheVariants as statement
 use Rattle.program_statements.specs.Ranges.{signed_half}
 use Rattle.program_statements.specs.Statements.{with_registers, registers_of}
-use Rattle.program_statements.specs.declared.fault.LineFault.TheVariants as fault
+use Rattle.program_statements.specs.declared.fault.StatementFault.TheVariants as fault
 use Rattle.std.proofs.lemmas.List.{append-nil}
 use Rattle.mips_plain.specs.Words.{has}
 use Rattle.task_descriptor.specs.Listing.{release_fits, registers}
@@ -144,7 +144,7 @@ branch_one_found Bgez = refl
 from_row : (name : List ℕ) (m : Mnemonic) (operands : List Token) (i : Instruction) → mnemonic_named name mnemonics ≡ Some m
     → instruction_of m operands ≡ Ok i → unmarked section.Text (token.Name name ∷ operands) ≡ Ok (statement.Code i no_marks)
 from_row name m operands i found row =
-    ap (λ (o : Option Mnemonic). of_mnemonic o operands) found ∙ ap (λ (r : Result Instruction LineFault). r >>= λ i. Ok (statement.Code i no_marks)) row
+    ap (λ (o : Option Mnemonic). of_mnemonic o operands) found ∙ ap (λ (r : Result Instruction StatementFault). r >>= λ i. Ok (statement.Code i no_marks)) row
 
 -- Operands in range.
 

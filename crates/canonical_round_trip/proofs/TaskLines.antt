@@ -15,7 +15,7 @@ use Rattle.program_tokens.specs.declared.token.Number.TheVariants.{Small}
 use Rattle.canonical_text.specs.CanonicalText.{line, listed, register_text, members, place_text, task_line}
 use Rattle.program_statements.specs.Steps.{◌>>=◌}
 use Rattle.program_statements.specs.Statements.{registers_at, with_registers, places_of, targets_of, create_at, targets_at, task_of, with_marks, statement_of}
-use Rattle.program_statements.specs.declared.fault.LineFault.{LineFault}
+use Rattle.program_statements.specs.declared.fault.StatementFault.{StatementFault}
 use Rattle.program_statements.specs.declared.operand.Operand.{Operand}
 use Rattle.program_statements.specs.declared.operand.Operand.TheVariants as operand
 use Rattle.program_statements.specs.declared.statement.Section.TheVariants as section
@@ -168,4 +168,4 @@ pub task_said : (tasks : List Descriptor) (task : Descriptor) → task.create < 
 task_said tasks task small within =
     ap (λ (ts : List Token). statement_of section.Text ts) (sym (append-nil (token.Directive directive.Task ∷ task_operands tasks task)))
     ∙ marked_statement section.Text (token.Directive directive.Task) (task_operands tasks task) [] (plain_unmarked (token.Directive directive.Task ∷ task_operands tasks task) (task_plain tasks task)) refl refl
-    ∙ ap (λ (r : Result Statement LineFault). r >>= with_marks []) (task_means tasks task small within)
+    ∙ ap (λ (r : Result Statement StatementFault). r >>= with_marks []) (task_means tasks task small within)

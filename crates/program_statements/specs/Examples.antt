@@ -10,7 +10,7 @@ use Rattle.program_tokens.specs.declared.token.Token.TheVariants.{Name, Register
 use Rattle.program_tokens.specs.declared.token.Number.TheVariants.{Small}
 use Rattle.program_tokens.specs.declared.token.Directive.TheVariants as directive
 use Rattle.program_tokens.specs.declared.token.Mark.TheVariants as mark
-use Rattle.program_statements.specs.declared.fault.LineFault.TheVariants as fault
+use Rattle.program_statements.specs.declared.fault.StatementFault.TheVariants as fault
 use Rattle.program_statements.specs.declared.statement.Section.TheVariants.{Text, Data, Rodata}
 use Rattle.program_statements.specs.declared.statement.Target.TheVariants as target
 use Rattle.program_statements.specs.declared.statement.Instruction.TheVariants as instruction

@@ -16,8 +16,8 @@ use Rattle.program_statements.specs.Steps.{◌>>=◌}
 use Rattle.program_statements.specs.Ranges.{natural, word, byte}
 use Rattle.program_statements.specs.Mnemonics.{mnemonic_named, mnemonics}
 use Rattle.program_statements.specs.Rows.{as_target, with_operands}
-use Rattle.program_statements.specs.declared.fault.LineFault.{LineFault}
-use Rattle.program_statements.specs.declared.fault.LineFault.TheVariants as fault
+use Rattle.program_statements.specs.declared.fault.StatementFault.{StatementFault}
+use Rattle.program_statements.specs.declared.fault.StatementFault.TheVariants as fault
 use Rattle.program_statements.specs.declared.operand.Operand.{Operand}
 use Rattle.program_statements.specs.declared.operand.Operand.TheVariants as operand
 use Rattle.program_statements.specs.declared.mnemonic.Mnemonic.{Mnemonic}
@@ -33,7 +33,7 @@ use Rattle.program_statements.specs.declared.statement.Statement.TheVariants as 
 
 -- Lists of operands, with commas between them.
 
-unfoldable pub registers_of : List Token → Result (List ℕ × List Token) LineFault
+unfoldable pub registers_of : List Token → Result (List ℕ × List Token) StatementFault
 registers_of (token.Register r ∷ token.Comma ∷ rest) =
     registers_of rest >>= λ others. Ok (r ∷ others.0, others.1)
 registers_of (token.Register r ∷ rest) = Ok (r ∷ [], rest)
@@ -45,23 +45,23 @@ with_registers set [] = set
 with_registers set (r ∷ rs) = with_registers (bit_or set (2 ^ r)) rs
 
 -- the set of the registers at the front, and the tokens behind them
-unfoldable pub registers_at : List Token → Result (ℕ × List Token) LineFault
+unfoldable pub registers_at : List Token → Result (ℕ × List Token) StatementFault
 registers_at tokens = registers_of tokens >>= λ x. Ok (with_registers 0 x.0, x.1)
 
-unfoldable pub numbers_of : List Token → Result (List Number) LineFault
+unfoldable pub numbers_of : List Token → Result (List Number) StatementFault
 numbers_of (token.Number n ∷ []) = Ok (n ∷ [])
 numbers_of (token.Number n ∷ token.Comma ∷ rest) = numbers_of rest >>= λ others. Ok (n ∷ others)
 numbers_of _ = Err fault.Operand
 
 -- the operands that may be targets: labels and indices
-unfoldable pub places_of : List Token → Result (List Operand) LineFault
+unfoldable pub places_of : List Token → Result (List Operand) StatementFault
 places_of (token.Name name ∷ []) = Ok (operand.Label name ∷ [])
 places_of (token.Index n ∷ []) = Ok (operand.Index n ∷ [])
 places_of (token.Name name ∷ token.Comma ∷ rest) = places_of rest >>= λ others. Ok (operand.Label name ∷ others)
 places_of (token.Index n ∷ token.Comma ∷ rest) = places_of rest >>= λ others. Ok (operand.Index n ∷ others)
 places_of _ = Err fault.Operand
 
-unfoldable pub targets_of : List Operand → Result (List Target) LineFault
+unfoldable pub targets_of : List Operand → Result (List Target) StatementFault
 targets_of [] = Ok []
 targets_of (place ∷ places) = do
   first ← as_target place
@@ -69,14 +69,14 @@ targets_of (place ∷ places) = do
   Ok (first ∷ others)
 
 -- words, little-endian
-unfoldable pub words_of : List Number → Result (List ℕ) LineFault
+unfoldable pub words_of : List Number → Result (List ℕ) StatementFault
 words_of [] = Ok []
 words_of (n ∷ ns) = do
   first ← word n
   others ← words_of ns
   Ok (to_le_bytes w32 first ++ others)
 
-unfoldable pub bytes_of : List Number → Result (List ℕ) LineFault
+unfoldable pub bytes_of : List Number → Result (List ℕ) StatementFault
 bytes_of [] = Ok []
 bytes_of (n ∷ ns) = do
   first ← byte n
@@ -86,25 +86,25 @@ bytes_of (n ∷ ns) = do
 -- Directives.
 
 -- a list that may be empty is written `-`
-abbrev pub create_at : List Token → Result (ℕ × List Token) LineFault
+abbrev pub create_at : List Token → Result (ℕ × List Token) StatementFault
 create_at (token.Minus ∷ rest) = Ok (0, rest)
 create_at tokens = registers_at tokens
 
-abbrev pub targets_at : List Token → Result (List Operand) LineFault
+abbrev pub targets_at : List Token → Result (List Operand) StatementFault
 targets_at (token.Minus ∷ []) = Ok []
 targets_at tokens = places_of tokens
 
 -- `create=` or `targets=`, and the tokens behind it
-abbrev pub after_word : List ℕ → List Token → Result (List Token) LineFault
+abbrev pub after_word : List ℕ → List Token → Result (List Token) StatementFault
 after_word word (token.Name name ∷ token.Equals ∷ rest) = if bytes_eq name word then Ok rest else Err fault.Operand
 after_word word _ = Err fault.Operand
 
-abbrev pub name_at : List Token → Result (List ℕ × List Token) LineFault
+abbrev pub name_at : List Token → Result (List ℕ × List Token) StatementFault
 name_at (token.Name name ∷ rest) = Ok (name, rest)
 name_at _ = Err fault.Operand
 
 -- `.task NAME create=REGS targets=TS`
-unfoldable pub task_of : List Token → Result Statement LineFault
+unfoldable pub task_of : List Token → Result Statement StatementFault
 task_of tokens = do
   name ← name_at tokens
   registers ← after_word (codes "create") name.1
@@ -114,31 +114,31 @@ task_of tokens = do
   targets ← targets_of listed
   Ok (statement.Task (record { name = name.0; create = create.0; targets = targets }))
 
-abbrev pub start_of : List Token → Result Statement LineFault
+abbrev pub start_of : List Token → Result Statement StatementFault
 start_of (token.Name name ∷ []) = Ok (statement.Start name)
 start_of _ = Err fault.Operand
 
-abbrev pub no_operands : Statement → List Token → Result Statement LineFault
+abbrev pub no_operands : Statement → List Token → Result Statement StatementFault
 no_operands s [] = Ok s
 no_operands s (t ∷ ts) = Err fault.Operand
 
-unfoldable pub word_statement : List Token → Result Statement LineFault
+unfoldable pub word_statement : List Token → Result Statement StatementFault
 word_statement tokens = numbers_of tokens >>= λ ns. words_of ns >>= λ bytes. Ok (statement.Bytes bytes)
 
-unfoldable pub byte_statement : List Token → Result Statement LineFault
+unfoldable pub byte_statement : List Token → Result Statement StatementFault
 byte_statement tokens = numbers_of tokens >>= λ ns. bytes_of ns >>= λ bytes. Ok (statement.Bytes bytes)
 
-abbrev pub space_of : List Token → Result Statement LineFault
+abbrev pub space_of : List Token → Result Statement StatementFault
 space_of (token.Number n ∷ []) = natural 65536 n >>= λ size. Ok (statement.Space size)
 space_of _ = Err fault.Operand
 
 -- data stand in data and in read-only data
-abbrev pub in_data : Section → Result Statement LineFault → Result Statement LineFault
+abbrev pub in_data : Section → Result Statement StatementFault → Result Statement StatementFault
 in_data section.Text s = Err fault.Mnemonic
 in_data section.Data s = s
 in_data section.Rodata s = s
 
-abbrev pub directive_of : Section → Directive → List Token → Result Statement LineFault
+abbrev pub directive_of : Section → Directive → List Token → Result Statement StatementFault
 directive_of here directive.Start tokens = start_of tokens
 directive_of here directive.Task tokens = task_of tokens
 directive_of here directive.Text tokens = no_operands (statement.Section section.Text) tokens
@@ -152,12 +152,12 @@ directive_of here directive.Unknown tokens = Err fault.Mnemonic
 -- Instructions.
 
 -- `release r,r,..`
-unfoldable pub release_of : List Token → Result Instruction LineFault
+unfoldable pub release_of : List Token → Result Instruction StatementFault
 release_of tokens = do
   registers ← registers_at tokens
   elim registers.1 [ [] ↦ Ok (instruction.One (op.Release registers.0)) | t ∷ ts ↦ Err fault.Operand ]
 
-abbrev pub instruction_of : Mnemonic → List Token → Result Instruction LineFault
+abbrev pub instruction_of : Mnemonic → List Token → Result Instruction StatementFault
 instruction_of mnemonic.Release tokens = release_of tokens
 instruction_of m tokens = with_operands m tokens
 
@@ -167,7 +167,7 @@ abbrev pub no_marks : Marks
 no_marks = record { forward = false; stop = stop.None }
 
 -- one stop at most
-abbrev pub with_stop : Marks → Stop → Result Marks LineFault
+abbrev pub with_stop : Marks → Stop → Result Marks StatementFault
 with_stop marks new = elim marks.stop [
   | stop.None ↦ Ok (record { forward = marks.forward; stop = new })
   | stop.Always ↦ Err fault.Mark
@@ -175,7 +175,7 @@ with_stop marks new = elim marks.stop [
   | stop.NotTaken ↦ Err fault.Mark
 ]
 
-abbrev pub with_mark : Marks → Token → Result Marks LineFault
+abbrev pub with_mark : Marks → Token → Result Marks StatementFault
 with_mark marks (token.Mark mark.Forward) =
     if marks.forward then Err fault.Mark else Ok (record { forward = true; stop = marks.stop })
 with_mark marks (token.Mark mark.Always) = with_stop marks stop.Always
@@ -183,7 +183,7 @@ with_mark marks (token.Mark mark.Taken) = with_stop marks stop.Taken
 with_mark marks (token.Mark mark.NotTaken) = with_stop marks stop.NotTaken
 with_mark marks _ = Err fault.Mark
 
-abbrev pub marks_after : Marks → List Token → Result Marks LineFault
+abbrev pub marks_after : Marks → List Token → Result Marks StatementFault
 marks_after marks [] = Ok marks
 marks_after marks (t ∷ ts) = with_mark marks t >>= λ more. marks_after more ts
 
@@ -198,30 +198,30 @@ mark_count tokens = length (take_while is_mark (reverse tokens))
 -- Statements.
 
 -- an instruction stands in code alone
-abbrev pub in_code : Section → Result Statement LineFault → Result Statement LineFault
+abbrev pub in_code : Section → Result Statement StatementFault → Result Statement StatementFault
 in_code section.Text s = s
 in_code section.Data s = Err fault.Mnemonic
 in_code section.Rodata s = Err fault.Mnemonic
 
-abbrev pub of_mnemonic : Option Mnemonic → List Token → Result Statement LineFault
+abbrev pub of_mnemonic : Option Mnemonic → List Token → Result Statement StatementFault
 of_mnemonic None tokens = Err fault.Mnemonic
 of_mnemonic (Some m) tokens = instruction_of m tokens >>= λ i. Ok (statement.Code i no_marks)
 
 -- the statement of the tokens before the marks
-abbrev pub unmarked : Section → List Token → Result Statement LineFault
+abbrev pub unmarked : Section → List Token → Result Statement StatementFault
 unmarked here (token.Name name ∷ rest) = in_code here (of_mnemonic (mnemonic_named name mnemonics) rest)
 unmarked here (token.Directive d ∷ rest) = directive_of here d rest
 unmarked here _ = Err fault.Mnemonic
 
 -- the statement with its marks, which an instruction alone may have
-abbrev pub with_marks : List Token → Statement → Result Statement LineFault
+abbrev pub with_marks : List Token → Statement → Result Statement StatementFault
 with_marks marks (statement.Code i none) = marks_after none marks >>= λ all. Ok (statement.Code i all)
 with_marks [] s = Ok s
 with_marks (t ∷ ts) s = Err fault.Mark
 
 -- the statement of a line without its labels: number and kinds of the operands first, then the ranges
 -- of the numbers, then the marks
-abbrev pub statement_of : Section → List Token → Result Statement LineFault
+abbrev pub statement_of : Section → List Token → Result Statement StatementFault
 statement_of here [] = Ok statement.Empty
 statement_of here (t ∷ ts) =
     let front = length (t ∷ ts) - mark_count (t ∷ ts) in

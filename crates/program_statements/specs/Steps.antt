@@ -1,8 +1,8 @@
--- Stages of reading a line: each gives a value, or the first fault.
+-- Stages of reading a statement: each gives a value, or the first fault.
 use Rattle.std.specs.Prelude.{◌≡◌, Result, Ok, Err}
-use Rattle.program_statements.specs.declared.fault.LineFault.{LineFault}
-use Rattle.program_statements.specs.declared.fault.LineError.{LineError}
-use Rattle.program_statements.specs.declared.fault.LineError.TheVariants as errors
+use Rattle.program_statements.specs.declared.fault.StatementFault.{StatementFault}
+use Rattle.program_statements.specs.declared.fault.StatementError.{StatementError}
+use Rattle.program_statements.specs.declared.fault.StatementError.TheVariants as errors
 
 -- the next stage, where there was no fault
 infixl 10 ◌>>=◌
@@ -16,10 +16,10 @@ Shows view (Ok x) stage = stage ≡ Ok (view x)
 Shows view (Err f) stage = stage ≡ Err f
 
 -- the same, or memory ran out
-abbrev pub Fails : {Y : Type 0} → LineError → Result Y LineFault → Type 0
+abbrev pub Fails : {Y : Type 0} → StatementError → Result Y StatementFault → Type 0
 Fails errors.OutOfMemory stage = Unit {0}
 Fails (errors.Fault f) stage = stage ≡ Err f
 
-abbrev pub Gives : {X Y : Type 0} → (X → Y) → Result X LineError → Result Y LineFault → Type 0
+abbrev pub Gives : {X Y : Type 0} → (X → Y) → Result X StatementError → Result Y StatementFault → Type 0
 Gives view (Ok x) stage = stage ≡ Ok (view x)
 Gives view (Err e) stage = Fails e stage

@@ -4,7 +4,7 @@ ghost use Rattle.std.specs.Prelude.{◌≡◌, ℕ, List};
 ghost use Rattle.program_statements.specs.Steps.{Shows, Gives};
 ghost use Rattle.program_statements.specs.Statements.{create_at, targets_at, after_word, name_at, task_of, start_of, no_operands, word_statement, byte_statement, space_of, directive_of};
 
-use crate::fault::{LineError, LineFault};
+use crate::fault::{StatementError, StatementFault};
 use crate::list::{bytes_of, numbers_of, places_of, registers_at, targets_of, words_of};
 use crate::operand::Operand;
 use crate::range::natural_of;
@@ -15,7 +15,7 @@ use std::alloc::Global;
 use task_descriptor::name::Name;
 
 /// The registers behind `create=`, and the tokens behind them; none is written `-`.
-fn create_at(tokens: &[Token]) -> Result<(RegSet, &[Token]), LineFault>
+fn create_at(tokens: &[Token]) -> Result<(RegSet, &[Token]), StatementFault>
     ensures { Shows (λ x. (x.0, x.1.now)) result (create_at tokens.now) }
 {
     match tokens {
@@ -25,7 +25,7 @@ fn create_at(tokens: &[Token]) -> Result<(RegSet, &[Token]), LineFault>
 }
 
 /// What stands behind `targets=`; nothing is written `-`.
-fn targets_at(alloc: Global, tokens: &[Token]) -> Result<Vec<Operand>, LineError>
+fn targets_at(alloc: Global, tokens: &[Token]) -> Result<Vec<Operand>, StatementError>
     ensures { Gives (λ places. places.items) result (targets_at tokens.now) }
 {
     match tokens {
@@ -35,7 +35,7 @@ fn targets_at(alloc: Global, tokens: &[Token]) -> Result<Vec<Operand>, LineError
 }
 
 /// The tokens behind a word and `=`.
-fn after_word<'a>(word: &[u8], tokens: &'a [Token]) -> Result<&'a [Token], LineFault>
+fn after_word<'a>(word: &[u8], tokens: &'a [Token]) -> Result<&'a [Token], StatementFault>
     ensures { Shows (λ x. x.now) result (after_word word.now tokens.now) }
 {
     match tokens {
@@ -43,43 +43,43 @@ fn after_word<'a>(word: &[u8], tokens: &'a [Token]) -> Result<&'a [Token], LineF
             if name.bytes() == word {
                 Ok(rest)
             } else {
-                Err(LineFault::Operand)
+                Err(StatementFault::Operand)
             }
         }
-        _ => Err(LineFault::Operand),
+        _ => Err(StatementFault::Operand),
     }
 }
 
 /// The name at the front, and the tokens behind it.
-fn name_at(tokens: &[Token]) -> Result<(Name, &[Token]), LineFault>
+fn name_at(tokens: &[Token]) -> Result<(Name, &[Token]), StatementFault>
     ensures { Shows (λ x. (x.0, x.1.now)) result (name_at tokens.now) }
 {
     match tokens {
         [Token::Name(name), rest @ ..] => Ok((*name, rest)),
-        _ => Err(LineFault::Operand),
+        _ => Err(StatementFault::Operand),
     }
 }
 
 /// `.task NAME create=REGS targets=TS`
 #[tactic(auto, unfolding(crate::specs::Statements::task_of))]
-fn task_of(alloc: Global, tokens: &[Token]) -> Result<Statement, LineError>
+fn task_of(alloc: Global, tokens: &[Token]) -> Result<Statement, StatementError>
     ensures { Gives (λ statement. statement) result (task_of tokens.now) }
 {
     let (name, rest) = match name_at(tokens) {
         Ok(x) => x,
-        Err(fault) => return Err(LineError::Fault(fault)),
+        Err(fault) => return Err(StatementError::Fault(fault)),
     };
     let rest = match after_word(b"create", rest) {
         Ok(rest) => rest,
-        Err(fault) => return Err(LineError::Fault(fault)),
+        Err(fault) => return Err(StatementError::Fault(fault)),
     };
     let (create, rest) = match create_at(rest) {
         Ok(x) => x,
-        Err(fault) => return Err(LineError::Fault(fault)),
+        Err(fault) => return Err(StatementError::Fault(fault)),
     };
     let rest = match after_word(b"targets", rest) {
         Ok(rest) => rest,
-        Err(fault) => return Err(LineError::Fault(fault)),
+        Err(fault) => return Err(StatementError::Fault(fault)),
     };
     let places = targets_at(alloc, rest)?;
     let targets = targets_of(alloc, &places)?;
@@ -91,28 +91,28 @@ fn task_of(alloc: Global, tokens: &[Token]) -> Result<Statement, LineError>
 }
 
 /// `.start NAME`
-fn start_of(tokens: &[Token]) -> Result<Statement, LineError>
+fn start_of(tokens: &[Token]) -> Result<Statement, StatementError>
     ensures { Gives (λ statement. statement) result (start_of tokens.now) }
 {
     match tokens {
         [Token::Name(name)] => Ok(Statement::Start(*name)),
-        _ => Err(LineError::Fault(LineFault::Operand)),
+        _ => Err(StatementError::Fault(StatementFault::Operand)),
     }
 }
 
 /// `.text`, `.data`, `.rodata`
-fn section_of(section: Section, tokens: &[Token]) -> Result<Statement, LineError>
+fn section_of(section: Section, tokens: &[Token]) -> Result<Statement, StatementError>
     ensures { Gives (λ statement. statement) result (no_operands (Statement.Section section) tokens.now) }
 {
     match tokens {
         [] => Ok(Statement::Section(section)),
-        _ => Err(LineError::Fault(LineFault::Operand)),
+        _ => Err(StatementError::Fault(StatementFault::Operand)),
     }
 }
 
 /// `.word N,..`
 #[tactic(auto, unfolding(crate::specs::Statements::word_statement))]
-fn word_statement(alloc: Global, tokens: &[Token]) -> Result<Statement, LineError>
+fn word_statement(alloc: Global, tokens: &[Token]) -> Result<Statement, StatementError>
     ensures { Gives (λ statement. statement) result (word_statement tokens.now) }
 {
     let numbers = numbers_of(alloc, tokens)?;
@@ -121,7 +121,7 @@ fn word_statement(alloc: Global, tokens: &[Token]) -> Result<Statement, LineErro
 
 /// `.byte N,..`
 #[tactic(auto, unfolding(crate::specs::Statements::byte_statement))]
-fn byte_statement(alloc: Global, tokens: &[Token]) -> Result<Statement, LineError>
+fn byte_statement(alloc: Global, tokens: &[Token]) -> Result<Statement, StatementError>
     ensures { Gives (λ statement. statement) result (byte_statement tokens.now) }
 {
     let numbers = numbers_of(alloc, tokens)?;
@@ -129,15 +129,15 @@ fn byte_statement(alloc: Global, tokens: &[Token]) -> Result<Statement, LineErro
 }
 
 /// `.space N`
-fn space_of(tokens: &[Token]) -> Result<Statement, LineError>
+fn space_of(tokens: &[Token]) -> Result<Statement, StatementError>
     ensures { Gives (λ statement. statement) result (space_of tokens.now) }
 {
     match tokens {
         [Token::Number(number)] => match natural_of(65_536, *number) {
             Ok(size) => Ok(Statement::Space(size)),
-            Err(fault) => Err(LineError::Fault(fault)),
+            Err(fault) => Err(StatementError::Fault(fault)),
         },
-        _ => Err(LineError::Fault(LineFault::Operand)),
+        _ => Err(StatementError::Fault(StatementFault::Operand)),
     }
 }
 
@@ -147,7 +147,7 @@ pub fn directive_of(
     section: Section,
     directive: Directive,
     tokens: &[Token],
-) -> Result<Statement, LineError>
+) -> Result<Statement, StatementError>
     ensures { Gives (λ statement. statement) result (directive_of section directive tokens.now) }
 {
     match directive {
@@ -157,11 +157,11 @@ pub fn directive_of(
         Directive::Data => section_of(Section::Data, tokens),
         Directive::Rodata => section_of(Section::Rodata, tokens),
         Directive::Word | Directive::Byte | Directive::Space if section == Section::Text => {
-            Err(LineError::Fault(LineFault::Mnemonic))
+            Err(StatementError::Fault(StatementFault::Mnemonic))
         }
         Directive::Word => word_statement(alloc, tokens),
         Directive::Byte => byte_statement(alloc, tokens),
         Directive::Space => space_of(tokens),
-        Directive::Unknown => Err(LineError::Fault(LineFault::Mnemonic)),
+        Directive::Unknown => Err(StatementError::Fault(StatementFault::Mnemonic)),
     }
 }

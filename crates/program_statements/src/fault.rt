@@ -1,14 +1,14 @@
 //! What is wrong with the statement of a line.
 
 ghost use Rattle.std.specs.Prelude.{◌≡◌};
-ghost use Rattle.program_statements.specs.declared.fault.LineError.TheVariants.{OutOfMemory};
+ghost use Rattle.program_statements.specs.declared.fault.StatementError.TheVariants.{OutOfMemory};
 
 use std::alloc::{AllocError, AllocFailed};
 
 /// What is wrong with the statement of a line, judged by itself and its section. The numbers are those of
 /// the faults of a program text; a byte that no text has (2) and bytes that are no token (3) come before.
 #[derive(Clone, Copy, Debug, PartialEq, Eq)]
-pub enum LineFault {
+pub enum StatementFault {
     /// 4: the statement is none that the section has.
     Mnemonic,
     /// 5: the operands are not of the statement's number and kinds.
@@ -19,27 +19,27 @@ pub enum LineFault {
     Mark,
 }
 
-/// Why a line has no statement.
+/// Why there is no statement.
 #[derive(Debug, Drop)]
-pub enum LineError {
+pub enum StatementError {
     /// It is wrong.
-    Fault(LineFault),
+    Fault(StatementFault),
     /// There was no memory for it.
     OutOfMemory,
 }
 
-impl From<AllocError> for LineError {
+impl From<AllocError> for StatementError {
     ghost from_gives = { λ _ e. e ≡ OutOfMemory };
 
-    fn from(_e: AllocError) -> LineError {
-        LineError::OutOfMemory
+    fn from(_e: AllocError) -> StatementError {
+        StatementError::OutOfMemory
     }
 }
 
-impl<T: Drop> From<AllocFailed<T>> for LineError {
+impl<T: Drop> From<AllocFailed<T>> for StatementError {
     ghost from_gives = { λ _ e. e ≡ OutOfMemory };
 
-    fn from(_e: AllocFailed<T>) -> LineError {
-        LineError::OutOfMemory
+    fn from(_e: AllocFailed<T>) -> StatementError {
+        StatementError::OutOfMemory
     }
 }

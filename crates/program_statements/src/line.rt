@@ -6,7 +6,7 @@ ghost use Rattle.program_statements.specs.Mnemonics.{mnemonic_named, mnemonics};
 ghost use Rattle.program_statements.specs.Statements.{release_of, instruction_of, of_mnemonic, in_code, unmarked, with_marks, statement_of};
 
 use crate::directive::directive_of;
-use crate::fault::{LineError, LineFault};
+use crate::fault::{StatementError, StatementFault};
 use crate::list::registers_at;
 use crate::marks::{mark_count, marks_after};
 use crate::mnemonic::{Mnemonic, mnemonic_of};
@@ -19,18 +19,18 @@ use task_descriptor::name::Name;
 
 /// `release r,r,..`
 #[tactic(auto, unfolding(crate::specs::Statements::release_of))]
-fn release_of(tokens: &[Token]) -> Result<Instruction, LineFault>
+fn release_of(tokens: &[Token]) -> Result<Instruction, StatementFault>
     ensures { result ≡ release_of tokens.now }
 {
     match registers_at(tokens) {
         Ok((set, [])) => Ok(Instruction::One(Op::Release(set))),
-        Ok((_, [_, ..])) => Err(LineFault::Operand),
+        Ok((_, [_, ..])) => Err(StatementFault::Operand),
         Err(fault) => Err(fault),
     }
 }
 
 /// The instruction of a mnemonic with the tokens behind it.
-fn instruction_of(mnemonic: Mnemonic, tokens: &[Token]) -> Result<Instruction, LineFault>
+fn instruction_of(mnemonic: Mnemonic, tokens: &[Token]) -> Result<Instruction, StatementFault>
     ensures { result ≡ instruction_of mnemonic tokens.now }
 {
     if let Mnemonic::Release = mnemonic {
@@ -40,34 +40,34 @@ fn instruction_of(mnemonic: Mnemonic, tokens: &[Token]) -> Result<Instruction, L
 }
 
 /// The instruction of a name with the tokens behind it, in a section.
-fn code_of(section: Section, name: &Name, tokens: &[Token]) -> Result<Statement, LineFault>
+fn code_of(section: Section, name: &Name, tokens: &[Token]) -> Result<Statement, StatementFault>
     ensures { result ≡ in_code section (of_mnemonic (mnemonic_named name.now mnemonics) tokens.now) }
 {
     if section != Section::Text {
-        return Err(LineFault::Mnemonic);
+        return Err(StatementFault::Mnemonic);
     }
     match mnemonic_of(name) {
-        None => Err(LineFault::Mnemonic),
+        None => Err(StatementFault::Mnemonic),
         Some(mnemonic) => Ok(Statement::Code(instruction_of(mnemonic, tokens)?, Marks::NONE)),
     }
 }
 
 /// The statement of the tokens before the marks.
-fn unmarked(alloc: Global, section: Section, tokens: &[Token]) -> Result<Statement, LineError>
+fn unmarked(alloc: Global, section: Section, tokens: &[Token]) -> Result<Statement, StatementError>
     ensures { Gives (λ statement. statement) result (unmarked section tokens.now) }
 {
     match tokens {
         [Token::Name(name), rest @ ..] => match code_of(section, name, rest) {
             Ok(statement) => Ok(statement),
-            Err(fault) => Err(LineError::Fault(fault)),
+            Err(fault) => Err(StatementError::Fault(fault)),
         },
         [Token::Directive(directive), rest @ ..] => directive_of(alloc, section, *directive, rest),
-        _ => Err(LineError::Fault(LineFault::Mnemonic)),
+        _ => Err(StatementError::Fault(StatementFault::Mnemonic)),
     }
 }
 
 /// The statement with its marks, which an instruction alone may have.
-fn with_marks(marks: &[Token], statement: Statement) -> Result<Statement, LineFault>
+fn with_marks(marks: &[Token], statement: Statement) -> Result<Statement, StatementFault>
     ensures { result ≡ with_marks marks.now statement }
 {
     match statement {
@@ -78,7 +78,7 @@ fn with_marks(marks: &[Token], statement: Statement) -> Result<Statement, LineFa
             if marks.is_empty() {
                 Ok(other)
             } else {
-                Err(LineFault::Mark)
+                Err(StatementFault::Mark)
             }
         }
     }
@@ -91,7 +91,7 @@ pub fn statement_of(
     alloc: Global,
     section: Section,
     tokens: &[Token],
-) -> Result<Statement, LineError>
+) -> Result<Statement, StatementError>
     ensures { Gives (λ statement. statement) result (statement_of section tokens.now) }
 {
     if tokens.is_empty() {
@@ -101,6 +101,6 @@ pub fn statement_of(
     let statement = unmarked(alloc, section, front)?;
     match with_marks(marks, statement) {
         Ok(statement) => Ok(statement),
-        Err(fault) => Err(LineError::Fault(fault)),
+        Err(fault) => Err(StatementError::Fault(fault)),
     }
 }

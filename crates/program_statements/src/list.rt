@@ -4,7 +4,7 @@ ghost use Rattle.std.specs.Prelude.{◌≡◌, ◌^◌, bit_or};
 ghost use Rattle.program_statements.specs.Steps.{Shows, Gives};
 ghost use Rattle.program_statements.specs.Statements.{registers_at, numbers_of, places_of, targets_of, words_of, bytes_of};
 
-use crate::fault::{LineError, LineFault};
+use crate::fault::{StatementError, StatementFault};
 use crate::operand::Operand;
 use crate::range::{byte_of, word_of};
 use crate::row::as_target;
@@ -23,7 +23,7 @@ fn with_register(set: RegSet, register: Reg) -> RegSet
 
 /// The set of the registers at the front, and the tokens behind them.
 #[tactic(auto, unfolding(crate::specs::Statements::registers_at, crate::specs::Statements::registers_of))]
-pub fn registers_at(tokens: &[Token]) -> Result<(RegSet, &[Token]), LineFault>
+pub fn registers_at(tokens: &[Token]) -> Result<(RegSet, &[Token]), StatementFault>
     ensures { Shows (λ x. (x.0, x.1.now)) result (registers_at tokens.now) }
 {
     let mut set = RegSet::empty();
@@ -38,14 +38,14 @@ pub fn registers_at(tokens: &[Token]) -> Result<(RegSet, &[Token]), LineFault>
                 set = with_register(set, *register);
                 return Ok((set, after));
             }
-            _ => return Err(LineFault::Operand),
+            _ => return Err(StatementFault::Operand),
         }
     }
 }
 
 /// The numbers of a list.
 #[tactic(auto, using(crate::proofs::Fronts::regroup, crate::proofs::Fronts::no_front), unfolding(crate::specs::Statements::numbers_of))]
-pub fn numbers_of(alloc: Global, tokens: &[Token]) -> Result<Vec<Number>, LineError>
+pub fn numbers_of(alloc: Global, tokens: &[Token]) -> Result<Vec<Number>, StatementError>
     ensures { Gives (λ numbers. numbers.items) result (numbers_of tokens.now) }
 {
     let mut numbers = Vec::new(alloc);
@@ -60,14 +60,14 @@ pub fn numbers_of(alloc: Global, tokens: &[Token]) -> Result<Vec<Number>, LineEr
                 numbers.push(*number)?;
                 rest = after;
             }
-            _ => return Err(LineError::Fault(LineFault::Operand)),
+            _ => return Err(StatementError::Fault(StatementFault::Operand)),
         }
     }
 }
 
 /// The labels and indices of a list.
 #[tactic(auto, using(crate::proofs::Fronts::regroup, crate::proofs::Fronts::no_front), unfolding(crate::specs::Statements::places_of))]
-pub fn places_of(alloc: Global, tokens: &[Token]) -> Result<Vec<Operand>, LineError>
+pub fn places_of(alloc: Global, tokens: &[Token]) -> Result<Vec<Operand>, StatementError>
     ensures { Gives (λ places. places.items) result (places_of tokens.now) }
 {
     let mut places = Vec::new(alloc);
@@ -76,27 +76,27 @@ pub fn places_of(alloc: Global, tokens: &[Token]) -> Result<Vec<Operand>, LineEr
         let place = match rest {
             [Token::Name(name), ..] => Operand::Label(*name),
             [Token::Index(number), ..] => Operand::Index(*number),
-            _ => return Err(LineError::Fault(LineFault::Operand)),
+            _ => return Err(StatementError::Fault(StatementFault::Operand)),
         };
         places.push(place)?;
         match rest {
             [_] => return Ok(places),
             [_, Token::Comma, after @ ..] => rest = after,
-            _ => return Err(LineError::Fault(LineFault::Operand)),
+            _ => return Err(StatementError::Fault(StatementFault::Operand)),
         }
     }
 }
 
 /// The targets that these labels and indices are.
 #[tactic(auto, using(crate::proofs::Fronts::regroup, crate::proofs::Fronts::no_front), unfolding(crate::specs::Statements::targets_of))]
-pub fn targets_of(alloc: Global, places: &[Operand]) -> Result<Targets, LineError>
+pub fn targets_of(alloc: Global, places: &[Operand]) -> Result<Targets, StatementError>
     ensures { Gives (λ targets. targets) result (targets_of places.now) }
 {
     let mut targets = Vec::new(alloc);
     for place in places {
         match as_target(*place) {
             Ok(target) => targets.push(target)?,
-            Err(fault) => return Err(LineError::Fault(fault)),
+            Err(fault) => return Err(StatementError::Fault(fault)),
         }
     }
     Ok(Targets::new(targets))
@@ -104,14 +104,14 @@ pub fn targets_of(alloc: Global, places: &[Operand]) -> Result<Targets, LineErro
 
 /// The bytes of these words, little-endian.
 #[tactic(auto, using(crate::proofs::Fronts::regroup_many, crate::proofs::Fronts::no_front), unfolding(crate::specs::Statements::words_of))]
-pub fn words_of(alloc: Global, numbers: &[Number]) -> Result<Blob, LineError>
+pub fn words_of(alloc: Global, numbers: &[Number]) -> Result<Blob, StatementError>
     ensures { Gives (λ bytes. bytes) result (words_of numbers.now) }
 {
     let mut bytes = Vec::new(alloc);
     for number in numbers {
         match word_of(*number) {
             Ok(word) => bytes.extend_from_slice(&word.to_le_bytes())?,
-            Err(fault) => return Err(LineError::Fault(fault)),
+            Err(fault) => return Err(StatementError::Fault(fault)),
         }
     }
     Ok(Blob::new(bytes))
@@ -119,14 +119,14 @@ pub fn words_of(alloc: Global, numbers: &[Number]) -> Result<Blob, LineError>
 
 /// These bytes.
 #[tactic(auto, using(crate::proofs::Fronts::regroup, crate::proofs::Fronts::no_front), unfolding(crate::specs::Statements::bytes_of))]
-pub fn bytes_of(alloc: Global, numbers: &[Number]) -> Result<Blob, LineError>
+pub fn bytes_of(alloc: Global, numbers: &[Number]) -> Result<Blob, StatementError>
     ensures { Gives (λ bytes. bytes) result (bytes_of numbers.now) }
 {
     let mut bytes = Vec::new(alloc);
     for number in numbers {
         match byte_of(*number) {
             Ok(byte) => bytes.push(byte)?,
-            Err(fault) => return Err(LineError::Fault(fault)),
+            Err(fault) => return Err(StatementError::Fault(fault)),
         }
     }
     Ok(Blob::new(bytes))

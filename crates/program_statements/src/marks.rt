@@ -3,13 +3,13 @@
 ghost use Rattle.std.specs.Prelude.{◌≡◌, ◌≤◌, length};
 ghost use Rattle.program_statements.specs.Statements.{with_stop, with_mark, marks_after, is_mark, mark_count};
 
-use crate::fault::LineFault;
+use crate::fault::StatementFault;
 use crate::statement::Marks;
 use program_tokens::token::{Mark, Token};
 use task_descriptor::descriptor::Stop;
 
 /// The marks with a stop, where there is none yet.
-fn with_stop(marks: Marks, stop: Stop) -> Result<Marks, LineFault>
+fn with_stop(marks: Marks, stop: Stop) -> Result<Marks, StatementFault>
     ensures { result ≡ with_stop marks stop }
 {
     match marks.stop {
@@ -17,18 +17,18 @@ fn with_stop(marks: Marks, stop: Stop) -> Result<Marks, LineFault>
             forward: marks.forward,
             stop,
         }),
-        Stop::Always | Stop::Taken | Stop::NotTaken => Err(LineFault::Mark),
+        Stop::Always | Stop::Taken | Stop::NotTaken => Err(StatementFault::Mark),
     }
 }
 
 /// The marks with one more.
-fn with_mark(marks: Marks, token: Token) -> Result<Marks, LineFault>
+fn with_mark(marks: Marks, token: Token) -> Result<Marks, StatementFault>
     ensures { result ≡ with_mark marks token }
 {
     match token {
         Token::Mark(Mark::Forward) => {
             if marks.forward {
-                Err(LineFault::Mark)
+                Err(StatementFault::Mark)
             } else {
                 Ok(Marks {
                     forward: true,
@@ -39,12 +39,12 @@ fn with_mark(marks: Marks, token: Token) -> Result<Marks, LineFault>
         Token::Mark(Mark::Always) => with_stop(marks, Stop::Always),
         Token::Mark(Mark::Taken) => with_stop(marks, Stop::Taken),
         Token::Mark(Mark::NotTaken) => with_stop(marks, Stop::NotTaken),
-        _ => Err(LineFault::Mark),
+        _ => Err(StatementFault::Mark),
     }
 }
 
 /// The marks with these.
-pub fn marks_after(none: Marks, tokens: &[Token]) -> Result<Marks, LineFault>
+pub fn marks_after(none: Marks, tokens: &[Token]) -> Result<Marks, StatementFault>
     ensures { result ≡ marks_after none tokens.now }
 {
     let mut marks = none;

@@ -5,7 +5,7 @@ ghost use Rattle.std.specs.Option.{option_map};
 ghost use Rattle.program_statements.specs.Steps.{Shows};
 ghost use Rattle.program_statements.specs.Operands.{general, base_at, operand_at, after_one, after_two, operands_of};
 
-use crate::fault::LineFault;
+use crate::fault::StatementFault;
 use mips_plain::number::{Gpr, Reg};
 use program_tokens::token::{Number, Token};
 use task_descriptor::name::Name;
@@ -52,15 +52,15 @@ fn base_at(tokens: &[Token]) -> Option<(Gpr, &[Token])>
 }
 
 /// The general register of this number; HI and LO are no operands.
-fn general_of(register: Reg) -> Result<Gpr, LineFault>
+fn general_of(register: Reg) -> Result<Gpr, StatementFault>
     ensures { result ≡ general register }
 {
-    Gpr::new(register.get()).ok_or(LineFault::Operand)
+    Gpr::new(register.get()).ok_or(StatementFault::Operand)
 }
 
 /// The first operand of these tokens, and the tokens behind it.
 #[tactic(auto, unfolding(crate::specs::Operands::operand_at))]
-fn operand_at(tokens: &[Token]) -> Result<(Operand, &[Token]), LineFault>
+fn operand_at(tokens: &[Token]) -> Result<(Operand, &[Token]), StatementFault>
     ensures { Shows (λ x. (x.0, x.1.now)) result (operand_at tokens.now) }
 {
     match tokens {
@@ -74,29 +74,29 @@ fn operand_at(tokens: &[Token]) -> Result<(Operand, &[Token]), LineFault>
         },
         [Token::Name(name), rest @ ..] => Ok((Operand::Label(*name), rest)),
         [Token::Index(number), rest @ ..] => Ok((Operand::Index(*number), rest)),
-        _ => Err(LineFault::Operand),
+        _ => Err(StatementFault::Operand),
     }
 }
 
 /// The operands, the first two of which are known, and these tokens stand behind them.
 #[tactic(auto, unfolding(crate::specs::Operands::after_two))]
-fn after_two(first: Operand, second: Operand, tokens: &[Token]) -> Result<Operands, LineFault>
+fn after_two(first: Operand, second: Operand, tokens: &[Token]) -> Result<Operands, StatementFault>
     ensures { result ≡ after_two first second tokens.now }
 {
     match tokens {
         [] => Ok(Operands::Two(first, second)),
         [Token::Comma, rest @ ..] => match operand_at(rest) {
             Ok((third, [])) => Ok(Operands::Three(first, second, third)),
-            Ok((_, [_, ..])) => Err(LineFault::Operand),
+            Ok((_, [_, ..])) => Err(StatementFault::Operand),
             Err(fault) => Err(fault),
         },
-        _ => Err(LineFault::Operand),
+        _ => Err(StatementFault::Operand),
     }
 }
 
 /// The operands, the first of which is known, and these tokens stand behind it.
 #[tactic(auto, unfolding(crate::specs::Operands::after_one))]
-fn after_one(first: Operand, tokens: &[Token]) -> Result<Operands, LineFault>
+fn after_one(first: Operand, tokens: &[Token]) -> Result<Operands, StatementFault>
     ensures { result ≡ after_one first tokens.now }
 {
     match tokens {
@@ -105,13 +105,13 @@ fn after_one(first: Operand, tokens: &[Token]) -> Result<Operands, LineFault>
             Ok((second, rest)) => after_two(first, second, rest),
             Err(fault) => Err(fault),
         },
-        _ => Err(LineFault::Operand),
+        _ => Err(StatementFault::Operand),
     }
 }
 
 /// The operands that these tokens spell.
 #[tactic(auto, unfolding(crate::specs::Operands::operands_of))]
-pub fn operands_of(tokens: &[Token]) -> Result<Operands, LineFault>
+pub fn operands_of(tokens: &[Token]) -> Result<Operands, StatementFault>
     ensures { result ≡ operands_of tokens.now }
 {
     if tokens.is_empty() {

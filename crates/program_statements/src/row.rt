@@ -3,7 +3,7 @@
 ghost use Rattle.std.specs.Prelude.{◌≡◌, ◌<◌};
 ghost use Rattle.program_statements.specs.Rows.{no_operand, one_operand, two_operands, three_operands, as_register, as_number, as_offset, as_label, as_target, three, shift_by, shift_var, imm, logic, lui, mult, move_from, move_to, load, store, branch_two, branch_one, jump, jump_link, jump_reg, out, jump_link_reg, halt, nop, copy, immediate, load_immediate, load_address, row_of, with_operands};
 
-use crate::fault::LineFault;
+use crate::fault::StatementFault;
 use crate::mnemonic::Mnemonic;
 use crate::operand::{Operand, Operands, operands_of};
 use crate::range::{natural_of, signed_half_of, word_of};
@@ -16,80 +16,80 @@ use mips_plain::number::{Amount, Gpr, Place};
 use program_tokens::token::{Number, Token};
 use task_descriptor::name::Name;
 
-fn no_operand(operands: Operands) -> Result<(), LineFault>
+fn no_operand(operands: Operands) -> Result<(), StatementFault>
     ensures { result ≡ no_operand operands }
 {
     match operands {
         Operands::Zero => Ok(()),
-        _ => Err(LineFault::Operand),
+        _ => Err(StatementFault::Operand),
     }
 }
 
-fn one_operand(operands: Operands) -> Result<Operand, LineFault>
+fn one_operand(operands: Operands) -> Result<Operand, StatementFault>
     ensures { result ≡ one_operand operands }
 {
     match operands {
         Operands::One(a) => Ok(a),
-        _ => Err(LineFault::Operand),
+        _ => Err(StatementFault::Operand),
     }
 }
 
-fn two_operands(operands: Operands) -> Result<(Operand, Operand), LineFault>
+fn two_operands(operands: Operands) -> Result<(Operand, Operand), StatementFault>
     ensures { result ≡ two_operands operands }
 {
     match operands {
         Operands::Two(a, b) => Ok((a, b)),
-        _ => Err(LineFault::Operand),
+        _ => Err(StatementFault::Operand),
     }
 }
 
-fn three_operands(operands: Operands) -> Result<(Operand, Operand, Operand), LineFault>
+fn three_operands(operands: Operands) -> Result<(Operand, Operand, Operand), StatementFault>
     ensures { result ≡ three_operands operands }
 {
     match operands {
         Operands::Three(a, b, c) => Ok((a, b, c)),
-        _ => Err(LineFault::Operand),
+        _ => Err(StatementFault::Operand),
     }
 }
 
-fn as_register(operand: Operand) -> Result<Gpr, LineFault>
+fn as_register(operand: Operand) -> Result<Gpr, StatementFault>
     ensures { result ≡ as_register operand }
 {
     match operand {
         Operand::Register(register) => Ok(register),
-        _ => Err(LineFault::Operand),
+        _ => Err(StatementFault::Operand),
     }
 }
 
-fn as_number(operand: Operand) -> Result<Number, LineFault>
+fn as_number(operand: Operand) -> Result<Number, StatementFault>
     ensures { result ≡ as_number operand }
 {
     match operand {
         Operand::Number(number) => Ok(number),
-        _ => Err(LineFault::Operand),
+        _ => Err(StatementFault::Operand),
     }
 }
 
-fn as_offset(operand: Operand) -> Result<(Number, Gpr), LineFault>
+fn as_offset(operand: Operand) -> Result<(Number, Gpr), StatementFault>
     ensures { result ≡ as_offset operand }
 {
     match operand {
         Operand::Offset(number, base) => Ok((number, base)),
-        _ => Err(LineFault::Operand),
+        _ => Err(StatementFault::Operand),
     }
 }
 
-fn as_label(operand: Operand) -> Result<Name, LineFault>
+fn as_label(operand: Operand) -> Result<Name, StatementFault>
     ensures { result ≡ as_label operand }
 {
     match operand {
         Operand::Label(name) => Ok(name),
-        _ => Err(LineFault::Operand),
+        _ => Err(StatementFault::Operand),
     }
 }
 
 /// A place: a label or an index.
-pub fn as_target(operand: Operand) -> Result<Target, LineFault>
+pub fn as_target(operand: Operand) -> Result<Target, StatementFault>
     ensures { result ≡ as_target operand }
 {
     match operand {
@@ -98,9 +98,9 @@ pub fn as_target(operand: Operand) -> Result<Target, LineFault>
             let index = natural_of(4096, number)?;
             Place::new(index)
                 .map(Target::Index)
-                .ok_or(LineFault::Number)
+                .ok_or(StatementFault::Number)
         }
-        _ => Err(LineFault::Operand),
+        _ => Err(StatementFault::Operand),
     }
 }
 
@@ -117,7 +117,7 @@ fn numbered(index: u8) -> Gpr
 
 /// `addu rd,rs,rt`
 #[tactic(auto, unfolding(crate::specs::Rows::three))]
-pub fn three(kind: ThreeKind, operands: Operands) -> Result<Instruction, LineFault>
+pub fn three(kind: ThreeKind, operands: Operands) -> Result<Instruction, StatementFault>
     ensures { result ≡ three kind operands }
 {
     let (rd, rs, rt) = three_operands(operands)?;
@@ -127,20 +127,20 @@ pub fn three(kind: ThreeKind, operands: Operands) -> Result<Instruction, LineFau
 
 /// `sll rd,rt,n`
 #[tactic(auto, unfolding(crate::specs::Rows::shift_by))]
-pub fn shift_by(kind: ShiftByKind, operands: Operands) -> Result<Instruction, LineFault>
+pub fn shift_by(kind: ShiftByKind, operands: Operands) -> Result<Instruction, StatementFault>
     ensures { result ≡ shift_by kind operands }
 {
     let (rd, rt, number) = three_operands(operands)?;
     let rd = as_register(rd)?;
     let rt = as_register(rt)?;
     let bits = natural_of(31, as_number(number)?)?;
-    let amount = Amount::new(bits as u8).ok_or(LineFault::Number)?;
+    let amount = Amount::new(bits as u8).ok_or(StatementFault::Number)?;
     Ok(Instruction::One(Op::ShiftBy(kind, rd, rt, amount)))
 }
 
 /// `sllv rd,rt,rs`
 #[tactic(auto, unfolding(crate::specs::Rows::shift_var))]
-pub fn shift_var(kind: ShiftVarKind, operands: Operands) -> Result<Instruction, LineFault>
+pub fn shift_var(kind: ShiftVarKind, operands: Operands) -> Result<Instruction, StatementFault>
     ensures { result ≡ shift_var kind operands }
 {
     let (rd, rt, rs) = three_operands(operands)?;
@@ -150,7 +150,7 @@ pub fn shift_var(kind: ShiftVarKind, operands: Operands) -> Result<Instruction, 
 
 /// `addiu rt,rs,n`
 #[tactic(auto, unfolding(crate::specs::Rows::imm))]
-pub fn imm(kind: ImmKind, operands: Operands) -> Result<Instruction, LineFault>
+pub fn imm(kind: ImmKind, operands: Operands) -> Result<Instruction, StatementFault>
     ensures { result ≡ imm kind operands }
 {
     let (rt, rs, number) = three_operands(operands)?;
@@ -162,7 +162,7 @@ pub fn imm(kind: ImmKind, operands: Operands) -> Result<Instruction, LineFault>
 
 /// `andi rt,rs,n`
 #[tactic(auto, unfolding(crate::specs::Rows::logic))]
-pub fn logic(kind: LogicKind, operands: Operands) -> Result<Instruction, LineFault>
+pub fn logic(kind: LogicKind, operands: Operands) -> Result<Instruction, StatementFault>
     ensures { result ≡ logic kind operands }
 {
     let (rt, rs, number) = three_operands(operands)?;
@@ -174,7 +174,7 @@ pub fn logic(kind: LogicKind, operands: Operands) -> Result<Instruction, LineFau
 
 /// `lui rt,n`
 #[tactic(auto, unfolding(crate::specs::Rows::lui))]
-pub fn lui(operands: Operands) -> Result<Instruction, LineFault>
+pub fn lui(operands: Operands) -> Result<Instruction, StatementFault>
     ensures { result ≡ lui operands }
 {
     let (rt, number) = two_operands(operands)?;
@@ -185,7 +185,7 @@ pub fn lui(operands: Operands) -> Result<Instruction, LineFault>
 
 /// `mult rs,rt`
 #[tactic(auto, unfolding(crate::specs::Rows::mult))]
-pub fn mult(kind: MultKind, operands: Operands) -> Result<Instruction, LineFault>
+pub fn mult(kind: MultKind, operands: Operands) -> Result<Instruction, StatementFault>
     ensures { result ≡ mult kind operands }
 {
     let (rs, rt) = two_operands(operands)?;
@@ -194,7 +194,7 @@ pub fn mult(kind: MultKind, operands: Operands) -> Result<Instruction, LineFault
 
 /// `mfhi rd`
 #[tactic(auto, unfolding(crate::specs::Rows::move_from))]
-pub fn move_from(kind: MoveFromKind, operands: Operands) -> Result<Instruction, LineFault>
+pub fn move_from(kind: MoveFromKind, operands: Operands) -> Result<Instruction, StatementFault>
     ensures { result ≡ move_from kind operands }
 {
     let rd = as_register(one_operand(operands)?)?;
@@ -203,7 +203,7 @@ pub fn move_from(kind: MoveFromKind, operands: Operands) -> Result<Instruction, 
 
 /// `mthi rs`
 #[tactic(auto, unfolding(crate::specs::Rows::move_to))]
-pub fn move_to(kind: MoveToKind, operands: Operands) -> Result<Instruction, LineFault>
+pub fn move_to(kind: MoveToKind, operands: Operands) -> Result<Instruction, StatementFault>
     ensures { result ≡ move_to kind operands }
 {
     let rs = as_register(one_operand(operands)?)?;
@@ -212,7 +212,7 @@ pub fn move_to(kind: MoveToKind, operands: Operands) -> Result<Instruction, Line
 
 /// `lw rt,n(base)`
 #[tactic(auto, unfolding(crate::specs::Rows::load))]
-pub fn load(kind: LoadKind, operands: Operands) -> Result<Instruction, LineFault>
+pub fn load(kind: LoadKind, operands: Operands) -> Result<Instruction, StatementFault>
     ensures { result ≡ load kind operands }
 {
     let (rt, offset) = two_operands(operands)?;
@@ -224,7 +224,7 @@ pub fn load(kind: LoadKind, operands: Operands) -> Result<Instruction, LineFault
 
 /// `sw rt,n(base)`
 #[tactic(auto, unfolding(crate::specs::Rows::store))]
-pub fn store(kind: StoreKind, operands: Operands) -> Result<Instruction, LineFault>
+pub fn store(kind: StoreKind, operands: Operands) -> Result<Instruction, StatementFault>
     ensures { result ≡ store kind operands }
 {
     let (rt, offset) = two_operands(operands)?;
@@ -236,7 +236,7 @@ pub fn store(kind: StoreKind, operands: Operands) -> Result<Instruction, LineFau
 
 /// `beq rs,rt,T`
 #[tactic(auto, unfolding(crate::specs::Rows::branch_two))]
-pub fn branch_two(kind: BranchTwoKind, operands: Operands) -> Result<Instruction, LineFault>
+pub fn branch_two(kind: BranchTwoKind, operands: Operands) -> Result<Instruction, StatementFault>
     ensures { result ≡ branch_two kind operands }
 {
     let (rs, rt, target) = three_operands(operands)?;
@@ -247,7 +247,7 @@ pub fn branch_two(kind: BranchTwoKind, operands: Operands) -> Result<Instruction
 
 /// `blez rs,T`
 #[tactic(auto, unfolding(crate::specs::Rows::branch_one))]
-pub fn branch_one(kind: BranchOneKind, operands: Operands) -> Result<Instruction, LineFault>
+pub fn branch_one(kind: BranchOneKind, operands: Operands) -> Result<Instruction, StatementFault>
     ensures { result ≡ branch_one kind operands }
 {
     let (rs, target) = two_operands(operands)?;
@@ -257,7 +257,7 @@ pub fn branch_one(kind: BranchOneKind, operands: Operands) -> Result<Instruction
 
 /// `j T`
 #[tactic(auto, unfolding(crate::specs::Rows::jump))]
-pub fn jump(operands: Operands) -> Result<Instruction, LineFault>
+pub fn jump(operands: Operands) -> Result<Instruction, StatementFault>
     ensures { result ≡ jump operands }
 {
     Ok(Instruction::Jump(as_target(one_operand(operands)?)?))
@@ -265,7 +265,7 @@ pub fn jump(operands: Operands) -> Result<Instruction, LineFault>
 
 /// `jal T`
 #[tactic(auto, unfolding(crate::specs::Rows::jump_link))]
-pub fn jump_link(operands: Operands) -> Result<Instruction, LineFault>
+pub fn jump_link(operands: Operands) -> Result<Instruction, StatementFault>
     ensures { result ≡ jump_link operands }
 {
     Ok(Instruction::JumpLink(as_target(one_operand(operands)?)?))
@@ -273,7 +273,7 @@ pub fn jump_link(operands: Operands) -> Result<Instruction, LineFault>
 
 /// `jr rs`
 #[tactic(auto, unfolding(crate::specs::Rows::jump_reg))]
-pub fn jump_reg(operands: Operands) -> Result<Instruction, LineFault>
+pub fn jump_reg(operands: Operands) -> Result<Instruction, StatementFault>
     ensures { result ≡ jump_reg operands }
 {
     let rs = as_register(one_operand(operands)?)?;
@@ -282,7 +282,7 @@ pub fn jump_reg(operands: Operands) -> Result<Instruction, LineFault>
 
 /// `out rs`
 #[tactic(auto, unfolding(crate::specs::Rows::out))]
-pub fn out(operands: Operands) -> Result<Instruction, LineFault>
+pub fn out(operands: Operands) -> Result<Instruction, StatementFault>
     ensures { result ≡ out operands }
 {
     let rs = as_register(one_operand(operands)?)?;
@@ -291,7 +291,7 @@ pub fn out(operands: Operands) -> Result<Instruction, LineFault>
 
 /// `halt`
 #[tactic(auto, unfolding(crate::specs::Rows::halt))]
-pub fn halt(operands: Operands) -> Result<Instruction, LineFault>
+pub fn halt(operands: Operands) -> Result<Instruction, StatementFault>
     ensures { result ≡ halt operands }
 {
     no_operand(operands)?;
@@ -300,30 +300,30 @@ pub fn halt(operands: Operands) -> Result<Instruction, LineFault>
 
 /// `jalr rd,rs`, and `jalr rs` with $31 as rd
 #[tactic(auto, unfolding(crate::specs::Rows::jump_link_reg))]
-pub fn jump_link_reg(operands: Operands) -> Result<Instruction, LineFault>
+pub fn jump_link_reg(operands: Operands) -> Result<Instruction, StatementFault>
     ensures { result ≡ jump_link_reg operands }
 {
     let (rd, rs) = match operands {
         Operands::One(rs) => (numbered(31), as_register(rs)?),
         Operands::Two(rd, rs) => (as_register(rd)?, as_register(rs)?),
-        _ => return Err(LineFault::Operand),
+        _ => return Err(StatementFault::Operand),
     };
     Ok(Instruction::One(Op::JumpLinkReg(rd, rs)))
 }
 
 /// `nop`
 #[tactic(auto, unfolding(crate::specs::Rows::nop))]
-pub fn nop(operands: Operands) -> Result<Instruction, LineFault>
+pub fn nop(operands: Operands) -> Result<Instruction, StatementFault>
     ensures { result ≡ nop operands }
 {
     no_operand(operands)?;
-    let amount = Amount::new(0).ok_or(LineFault::Number)?;
+    let amount = Amount::new(0).ok_or(StatementFault::Number)?;
     Ok(Instruction::One(Op::ShiftBy(ShiftByKind::Sll, numbered(0), numbered(0), amount)))
 }
 
 /// `move rd,rs`
 #[tactic(auto, unfolding(crate::specs::Rows::copy))]
-pub fn copy(operands: Operands) -> Result<Instruction, LineFault>
+pub fn copy(operands: Operands) -> Result<Instruction, StatementFault>
     ensures { result ≡ copy operands }
 {
     let (rd, rs) = two_operands(operands)?;
@@ -357,7 +357,7 @@ fn immediate(rd: Gpr, word: u32) -> Instruction
 
 /// `li rd,N`
 #[tactic(auto, unfolding(crate::specs::Rows::load_immediate))]
-pub fn load_immediate(operands: Operands) -> Result<Instruction, LineFault>
+pub fn load_immediate(operands: Operands) -> Result<Instruction, StatementFault>
     ensures { result ≡ load_immediate operands }
 {
     let (rd, number) = two_operands(operands)?;
@@ -368,7 +368,7 @@ pub fn load_immediate(operands: Operands) -> Result<Instruction, LineFault>
 
 /// `la rd,NAME`
 #[tactic(auto, unfolding(crate::specs::Rows::load_address))]
-pub fn load_address(operands: Operands) -> Result<Instruction, LineFault>
+pub fn load_address(operands: Operands) -> Result<Instruction, StatementFault>
     ensures { result ≡ load_address operands }
 {
     let (rd, label) = two_operands(operands)?;
@@ -377,7 +377,7 @@ pub fn load_address(operands: Operands) -> Result<Instruction, LineFault>
 }
 
 /// The instruction of a mnemonic with its operands; a `release` has a list of registers instead.
-fn row_of(mnemonic: Mnemonic, operands: Operands) -> Result<Instruction, LineFault>
+fn row_of(mnemonic: Mnemonic, operands: Operands) -> Result<Instruction, StatementFault>
     ensures { result ≡ row_of mnemonic operands }
 {
     match mnemonic {
@@ -399,7 +399,7 @@ fn row_of(mnemonic: Mnemonic, operands: Operands) -> Result<Instruction, LineFau
         Mnemonic::JumpReg => jump_reg(operands),
         Mnemonic::JumpLinkReg => jump_link_reg(operands),
         Mnemonic::Out => out(operands),
-        Mnemonic::Release => Err(LineFault::Operand),
+        Mnemonic::Release => Err(StatementFault::Operand),
         Mnemonic::Halt => halt(operands),
         Mnemonic::Nop => nop(operands),
         Mnemonic::Move => copy(operands),
@@ -409,7 +409,7 @@ fn row_of(mnemonic: Mnemonic, operands: Operands) -> Result<Instruction, LineFau
 }
 
 /// The instruction of a mnemonic with the tokens of its operands; a `release` has none.
-pub fn with_operands(mnemonic: Mnemonic, tokens: &[Token]) -> Result<Instruction, LineFault>
+pub fn with_operands(mnemonic: Mnemonic, tokens: &[Token]) -> Result<Instruction, StatementFault>
     ensures { result ≡ with_operands mnemonic tokens.now }
 {
     match operands_of(tokens) {
