@@ -1,5 +1,6 @@
 pub mod Rising
 pub mod Digits
+pub mod Indices
 pub mod LineLemmas
 pub mod ListsLoop
 pub mod NameLemmas

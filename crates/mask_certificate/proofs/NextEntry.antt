@@ -142,17 +142,17 @@ no_entry spelling text none = no_entry_split spelling text (position is_newline 
 clash : (n : ℕ) → ◌≡◌ {A = Option ℕ} None (Some n) → ⊥
 clash n e = absurd cc
 
-pub no_space : (spelling : Spelling) (text : List ℕ) → position is_space text ≡ None → entries_in (lines_in spelling text) ≡ []
-no_space spelling text missing = no_entry spelling text (λ entry more begins. clash (length (decimal entry.0)) (sym missing ∙ begins_space spelling text entry more begins))
+pub no_index_in_front : (spelling : Spelling) (text : List ℕ) → ((space : ℕ) → position is_space text ≡ Some space → index_in (take space text) ≡ None) → entries_in (lines_in spelling text) ≡ []
+no_index_in_front spelling text none = no_entry spelling text (λ entry more begins.
+    let space = length (decimal entry.0) in
+    let at = begins_space spelling text entry more begins in
+    clash entry.0 (sym (none space at) ∙ (entry_at spelling text entry more begins space at).index))
 
 module _ (spelling : Spelling) (text : List ℕ) (space : ℕ) (at : position is_space text ≡ Some space) where
   pub no_newline : (end : ℕ) → end ≡ space + 1 + mask_digits spelling → ((end < length text) × (get_or text end 0 ≡ 10) → ⊥) → entries_in (lines_in spelling text) ≡ []
   no_newline end is missing = no_entry spelling text (λ entry more begins.
       let parts = entry_at spelling text entry more begins space at in
       missing (subst (λ (n : ℕ). n < length text) (sym is) parts.within, ap (λ (n : ℕ). get_or text n 0) is ∙ parts.newline))
-
-  pub no_index_there : index_in (take space text) ≡ None → entries_in (lines_in spelling text) ≡ []
-  no_index_there missing = no_entry spelling text (λ entry more begins. clash entry.0 (sym missing ∙ (entry_at spelling text entry more begins space at).index))
 
   pub no_mask_there : (size : ℕ) → size ≡ mask_digits spelling → mask_in spelling (take size (drop (space + 1) text)) ≡ None → entries_in (lines_in spelling text) ≡ []
   no_mask_there size is missing = no_entry spelling text (λ entry more begins.

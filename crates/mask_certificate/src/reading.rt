@@ -1,13 +1,13 @@
 //! Reading the text of a certificate.
 
-ghost use Rattle.std.specs.Prelude.{◌≡◌, ◌≢◌, ℕ, ◌+◌, ◌^◌, ◌<◌, ◌≤◌, ◌↔◌, List, [], ◌∷◌, true, false, length, take, drop, map, slice_index, Some, None, Ok, Err, MatchOption, MatchResult, IfSome, IfOk, SomeIff, IsTrue, OnOk, OnSome, ◌==◌, ◌⊎◌, vec_len};
+ghost use Rattle.std.specs.Prelude.{◌≡◌, ◌≢◌, ℕ, ◌+◌, ◌^◌, ◌<◌, ◌≤◌, ◌↔◌, List, [], ◌∷◌, true, false, length, take, drop, map, slice_index, Some, None, Ok, Err, MatchOption, MatchResult, IfSome, IfNone, IfOk, SomeIff, IsTrue, OnOk, OnSome, ◌==◌, ◌⊎◌, vec_len};
 ghost use Rattle.std.specs.List.{slice_split, position, list_all};
 ghost use Rattle.std.specs.Str.Parse.{digits_value_after};
 ghost use Rattle.std.specs.Option.{option_copied};
 ghost use Rattle.mask_certificate.specs.declared.fault.Spelling.{Spelling};
 ghost use Rattle.mask_certificate.specs.Lists.{entries_of};
 ghost use Rattle.mask_certificate.specs.CertificateText.{Spells};
-ghost use Rattle.mask_certificate.specs.CertificateReading.{index_in, mask_in, name_in, lines_in, entries_in, behind_task_line, at_end, lists_at, spelling_of, mask_digit, is_mask_digit, Gives, cert_parse, names_of, names_in, is_newline, entry_line};
+ghost use Rattle.mask_certificate.specs.CertificateReading.{is_space, index_in, mask_in, name_in, lines_in, entries_in, behind_task_line, at_end, lists_at, spelling_of, mask_digit, is_mask_digit, Gives, cert_parse, names_of, names_in, is_newline, entry_line};
 
 use crate::certificate::Cert;
 use crate::fault::{CertFault, Spelling};
@@ -26,20 +26,29 @@ fn place_of(wanted: u8, bytes: &[u8]) -> Option<usize>
     bytes.iter().position(|byte| *byte == wanted)
 }
 
-fn index_of(digits: &[u8]) -> Option<u32>
-    ensures { result ≡ index_in digits.now }
+/// How many digits an index has at most.
+const MOST_INDEX_DIGITS: usize = 5;
+
+/// The index in front of the first space, and that space's place; `None` where there is no space, or no
+/// index in front of it.
+fn index_in_front(text: &[u8]) -> Option<(u32, usize)>
+    ensures found { IfSome result (λ found. (position is_space text.now ≡ Some found.1) × (index_in (take found.1 text.now) ≡ Some found.0)) }
+    ensures none { IfNone result ((space : ℕ) → position is_space text.now ≡ Some space → index_in (take space text.now) ≡ None) }
 {
-    if digits.is_empty() || digits.len() > 5 || (digits[0] == b'0' && digits.len() > 1) {
-        return None;
-    }
     let mut index = 0;
-    for digit in digits {
-        if !digit.is_ascii_digit() {
+    for (place, byte) in text.iter().enumerate() {
+        if *byte == b' ' {
+            if place == 0 || (place > 1 && text[0] == b'0') {
+                return None;
+            }
+            return Some((index, place));
+        }
+        if place == MOST_INDEX_DIGITS || !byte.is_ascii_digit() {
             return None;
         }
-        index = index * 10 + u32::from(*digit - b'0');
+        index = index * 10 + u32::from(*byte - b'0');
     }
-    Some(index)
+    None
 }
 
 /// What a byte that is no digit counts as a digit of a mask: more than any mask, so that eight digits
@@ -168,12 +177,11 @@ fn next_entry(spelling: Spelling, text: &[u8]) -> Option<((u32, RegSet), &[u8])>
     ensures shorter { IfSome result (λ found. length found.1.now < length text.now) }
 {
     // A mask's digits are as many as the spelling says, so the line's end is not looked for.
-    let space = place_of(b' ', text)?;
+    let (index, space) = index_in_front(text)?;
     let end = space + 1 + spelling.mask_digits();
     if !has_newline(text, end) {
         return None;
     }
-    let index = index_of(&text[..space])?;
     let mask = mask_of(spelling, &text[space + 1..end])?;
     Some(((index, mask), &text[end + 1..]))
 }
