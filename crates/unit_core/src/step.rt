@@ -3,6 +3,7 @@
 ghost use Rattle.std.specs.Prelude.{◌≡◌, ℕ, ◌<◌, true, false, None, IfOk, IfErr};
 ghost use Rattle.std.specs.Option.{option_or};
 ghost use Rattle.mips_plain.specs.Words.{has, address, byte_of};
+ghost use Rattle.mips_plain.specs.Instruction.{dests as dests_of, taken, turn};
 ghost use Rattle.mips_plain.specs.Effect.{may_run_ahead};
 ghost use Rattle.task_graph.specs.Edges.{edge, leaves, sends};
 ghost use Rattle.machine_model.specs.Step.{place_after};
@@ -59,16 +60,17 @@ pub(crate) fn address_of(index: u32) -> u32
     CODE_START + 4 * index
 }
 
-/// The registers that an instruction sends.
+/// The registers that an instruction with these destinations sends.
 #[inline]
-pub(crate) fn sends_of(marked: &Marked) -> RegSet
+pub(crate) fn sends_of(marked: &Marked, dests: RegSet) -> RegSet
+    requires { (r : ℕ) → has dests r ≡ dests_of marked.now.op r }
     ensures { (r : ℕ) → has result r ≡ sends marked.now r }
 {
     if let Op::Release(set) = marked.op {
         return set;
     }
     if marked.forward {
-        marked.op.dests()
+        dests
     } else {
         RegSet::empty()
     }
@@ -91,19 +93,32 @@ pub(crate) fn load_ahead(op: &Op, a: u32, fixed: &[u8]) -> Result<Option<u32>, W
     }
 }
 
-/// Where a unit stands after an instruction that leads to the address `to`.
-#[inline]
-pub(crate) fn spot_after(marked: &Marked, index: u32, taken: bool, to: u32) -> Spot
-    requires { index < 4096 }
-    ensures { result ≡ place_after (leaves marked.now.stop taken) (edge marked.now.op index taken) to }
+/// Where a unit stands after an instruction.
+#[inline(always)]
+pub(crate) fn spot_after(next: &Next<'_>) -> Spot
+    requires { next.now.index < 4096 }
+    ensures { result ≡ place_after (leaves next.now.marked.now.stop (taken next.now.marked.now.op next.now.a next.now.b)) (edge next.now.marked.now.op next.now.index (taken next.now.marked.now.op next.now.a next.now.b)) (turn next.now.marked.now.op next.now.a next.now.b next.now.pc) }
 {
-    if ends_task(marked.stop, taken) {
-        return Spot::Stopped(to);
+    if next.marked.op.taken(next.a, next.b) {
+        spot_where(next, true)
+    } else {
+        spot_where(next, false)
     }
-    match leads_to(&marked.op, index, taken) {
-        Some(next) => Spot::Inside(next),
-        None => Spot::Stopped(to),
+}
+
+/// Where a unit stands after an instruction, for a conditional branch where it is `taken` or isn't.
+#[inline(always)]
+fn spot_where(next: &Next<'_>, taken: bool) -> Spot
+    requires { next.now.index < 4096 }
+    ensures { result ≡ place_after (leaves next.now.marked.now.stop taken) (edge next.now.marked.now.op next.now.index taken) (turn next.now.marked.now.op next.now.a next.now.b next.now.pc) }
+{
+    let op = &next.marked.op;
+    if !ends_task(next.marked.stop, taken) {
+        if let Some(index) = leads_to(op, next.index, taken) {
+            return Spot::Inside(index);
+        }
     }
+    Spot::Stopped(op.turn(next.a, next.b, next.pc))
 }
 
 /// Gives a register a word, if there is one.
@@ -128,20 +143,25 @@ fn send_some(port: &mut Port, register: Reg, word: Option<u32>)
 }
 
 /// Writes what an instruction computes or has loaded, to each of its destinations.
-#[inline]
-pub(crate) fn write(
-    local: &mut RegisterWords,
-    op: &Op,
-    operands: (u32, u32),
-    pc: u32,
-    loaded: Option<u32>,
-)
-    ensures { pairs local.new ≡ with_own (writes op.now operands.0 operands.1 pc loaded) (pairs local.old) }
+#[inline(always)]
+pub(crate) fn write(local: &mut RegisterWords, next: &Next<'_>, dests: RegSet, loaded: Option<u32>)
+    requires { (r : ℕ) → has dests r ≡ dests_of next.now.marked.now.op r }
+    ensures { pairs local.new ≡ with_own (writes next.now.marked.now.op next.now.a next.now.b next.now.pc loaded) (pairs local.old) }
 {
-    let dests = op.dests();
+    if !dests.is_empty() {
+        write_each(local, next, dests, loaded);
+    }
+}
+
+/// Writes what an instruction computes or has loaded, to each register of a set.
+fn write_each(local: &mut RegisterWords, next: &Next<'_>, dests: RegSet, loaded: Option<u32>)
+    requires { (r : ℕ) → has dests r ≡ dests_of next.now.marked.now.op r }
+    ensures { pairs local.new ≡ with_own (writes next.now.marked.now.op next.now.a next.now.b next.now.pc loaded) (pairs local.old) }
+{
+    let op = &next.marked.op;
     let mut from = 0;
     while let Some(register) = next_member(dests, from) {
-        let word = op.alu(operands.0, operands.1, pc, register).or(loaded);
+        let word = op.alu(next.a, next.b, next.pc, register).or(loaded);
         put_some(local, register, word);
         from = register.get() + 1;
     }

@@ -1,13 +1,13 @@
 use Rattle.std.specs.Prelude.{◌≡◌, ℕ, ◌-◌, ◌<◌, ◌≤◌}
 use Rattle.register_ring.specs.Held.{pairs}
 use Rattle.unit_core.specs.Parts.{writes, with_own}
-use Rattle.unit_core.proofs.step.write.Given as goal
+use Rattle.unit_core.proofs.step.write_each.Given as goal
 
 -- the registers below have what the call promises, and the others what they had
 abbrev pub invariant-loop-register : goal.invariant-loop-register
 invariant-loop-register l = record {
   range : l.from ≤ 34;
-  below : (r : ℕ) → r < l.from → pairs l.local r ≡ with_own (writes l.op l.operands.0 l.operands.1 l.pc l.loaded) (pairs l.initial.local) r;
+  below : (r : ℕ) → r < l.from → pairs l.local r ≡ with_own (writes l.next.marked.now.op l.next.a l.next.b l.next.pc l.loaded) (pairs l.initial.local) r;
   above : (r : ℕ) → l.from ≤ r → pairs l.local r ≡ pairs l.initial.local r;
 }
 
