@@ -3,7 +3,7 @@
 ghost use Rattle.std.specs.Prelude.{◌≡◌, ℕ, ◌<◌, true, false, None, IfOk, IfErr};
 ghost use Rattle.std.specs.Option.{option_or};
 ghost use Rattle.mips_plain.specs.Words.{has, address, byte_of};
-ghost use Rattle.mips_plain.specs.Instruction.{dests as dests_of, taken, turn};
+ghost use Rattle.mips_plain.specs.Instruction.{dests as dests_of, released, taken, turn};
 ghost use Rattle.mips_plain.specs.Effect.{may_run_ahead};
 ghost use Rattle.task_graph.specs.Edges.{edge, leaves, sends};
 ghost use Rattle.machine_model.specs.Step.{place_after};
@@ -58,6 +58,14 @@ pub(crate) fn address_of(index: u32) -> u32
     ensures { result ≡ address index }
 {
     CODE_START + 4 * index
+}
+
+/// Whether an instruction waits for its operands alone: each but a `release` does.
+#[inline]
+pub(crate) fn waits_for_operands(op: &Op) -> bool
+    ensures { result ≡ true → (r : ℕ) → released op.now r ≡ false }
+{
+    !matches!(*op, Op::Release(_))
 }
 
 /// The registers that an instruction with these destinations sends.
