@@ -107,6 +107,7 @@ pub(crate) fn spot_after(next: &Next<'_>) -> Spot
     requires { next.now.index < 4096 }
     ensures { result ≡ place_after (leaves next.now.marked.now.stop (taken next.now.marked.now.op next.now.a next.now.b)) (edge next.now.marked.now.op next.now.index (taken next.now.marked.now.op next.now.a next.now.b)) (turn next.now.marked.now.op next.now.a next.now.b next.now.pc) }
 {
+    // A call for each case, so that what only a taken branch needs falls away from the other one.
     if next.marked.op.taken(next.a, next.b) {
         spot_where(next, true)
     } else {
