@@ -4,3 +4,4 @@ pub mod UnitStep
 pub mod Parts
 pub mod Bursts
 pub mod SentRegisters
+pub mod Examples
