@@ -1,3 +1,4 @@
 pub mod Seen
 pub mod Choices
 pub mod Parts
+pub mod Examples
