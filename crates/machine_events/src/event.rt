@@ -26,6 +26,15 @@ pub enum Event {
     Drop(u32),
 }
 
+/// Equal events in a row, as a history keeps them (own choice).
+#[derive(Clone, Copy, Debug, PartialEq, Eq)]
+pub struct EventRun {
+    /// The event.
+    pub event: Event,
+    /// How many times it stands there, one behind the other.
+    pub count: u32,
+}
+
 /// What stays of a retired task: its number, the address at which it stopped, and how many
 /// instructions it executed.
 #[derive(Clone, Copy, Debug, PartialEq, Eq)]

@@ -1,0 +1,8 @@
+-- Runs of equal events, as a history keeps them (own choice).
+use Rattle.std.specs.Prelude.{List, flat_map, replicate}
+use Rattle.machine_events.specs.declared.event.Event.{Event}
+use Rattle.machine_events.specs.declared.event.EventRun.{EventRun}
+
+-- the events of some runs, in order
+abbrev pub events_of : List EventRun → List Event
+events_of runs = flat_map (λ run. replicate run.count run.event) runs
