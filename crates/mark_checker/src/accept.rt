@@ -32,6 +32,17 @@ pub fn accepts(program: &Program, cert: &Cert) -> bool
     true
 }
 
+/// Whether the rules find nothing in one task of a surveyed program; so too for a task number that is not
+/// there. Takes no memory.
+pub fn accepts_task(survey: &Survey<'_>, cert: &Cert, task: u32) -> bool
+    ensures { (result ≡ true) ↔ (rules survey.now cert.now task ≡ []) }
+{
+    match survey.program().tasks().get(task as usize) {
+        Some(descriptor) => is_task_right(survey, cert, descriptor, task),
+        None => true,
+    }
+}
+
 /// Whether the rules find nothing in one task.
 fn is_task_right(survey: &Survey<'_>, cert: &Cert, descriptor: &Descriptor, task: u32) -> bool
     requires there { slice_get survey.now.tasks task ≡ Some descriptor.now }

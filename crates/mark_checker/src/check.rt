@@ -31,9 +31,25 @@ pub fn check_task(
 ) -> Result<Vec<Finding>, AllocError>
     ensures { IfOk result (λ v. v.items ≡ rules program.now cert.now task) }
 {
+    check_surveyed(alloc, &Survey::new(program), cert, task)
+}
+
+/// The findings of one task of a surveyed program, in order of index, rule and register; none for a task
+/// number that is not there. The survey serves for all tasks, so a check of one costs what its list is long.
+///
+/// # Errors
+///
+/// `AllocError` where memory was refused.
+pub fn check_surveyed(
+    alloc: Global,
+    survey: &Survey<'_>,
+    cert: &Cert,
+    task: u32,
+) -> Result<Vec<Finding>, AllocError>
+    ensures { IfOk result (λ v. v.items ≡ rules survey.now cert.now task) }
+{
     let mut list = Vec::new(alloc);
-    let survey = Survey::new(program);
-    append_task(&survey, cert, task, &mut list)?;
+    append_task(survey, cert, task, &mut list)?;
     Ok(list)
 }
 

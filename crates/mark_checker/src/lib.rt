@@ -14,4 +14,4 @@ pub mod laws;
 mod look;
 mod place;
 mod quiet;
-mod survey;
+pub mod survey;

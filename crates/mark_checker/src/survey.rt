@@ -6,9 +6,10 @@ use std::marker::Model;
 use task_descriptor::program::Program;
 
 /// A program with what the rules look at in each of its instructions, and with the indices at which its
-/// tasks begin. Takes no memory of the heap.
+/// tasks begin, so that several tasks can be checked without looking at the program anew. A contract sees
+/// it as the program. It is some 260 kilobytes large, and takes no memory of the heap.
 #[derive(Drop)]
-pub(crate) struct Survey<'a> {
+pub struct Survey<'a> {
     program: &'a Program,
     looks: [Look; 4096],
     begins: [bool; 4097],
@@ -32,7 +33,7 @@ impl<'a> Survey<'a> {
     ghost use Rattle.mark_checker.specs.Looks.{AreLooks};
 
     /// The survey of a program.
-    pub(crate) fn new(program: &'a Program) -> Survey<'a>
+    pub fn new(program: &'a Program) -> Survey<'a>
         ensures { result ≡ program.now }
     {
         Survey {
@@ -43,7 +44,7 @@ impl<'a> Survey<'a> {
     }
 
     /// The program.
-    pub(crate) fn program(&self) -> &'a Program
+    pub fn program(&self) -> &'a Program
         ensures { result.now ≡ self.now }
     {
         self.program
