@@ -9,3 +9,4 @@ pub mod AgainLemmas
 pub mod SpelledLemmas
 pub mod ReadLemmas
 pub mod NextEntry
+pub mod EndLemmas

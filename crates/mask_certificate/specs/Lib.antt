@@ -1,4 +1,5 @@
 pub mod Lists
 pub mod CertificateText
 pub mod CertificateReading
+pub mod Blocks
 pub mod Examples

@@ -3,6 +3,7 @@
 //! Sohi, Breach, Vijaykumar, "Multiscalar Processors", ISCA 1995, section 2.2).
 #![tactic(auto)]
 
+pub mod block;
 pub mod certificate;
 pub mod fault;
 pub mod laws;

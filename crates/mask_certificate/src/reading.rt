@@ -8,7 +8,9 @@ ghost use Rattle.mask_certificate.specs.declared.fault.Spelling.{Spelling};
 ghost use Rattle.mask_certificate.specs.Lists.{entries_of};
 ghost use Rattle.mask_certificate.specs.CertificateText.{Spells};
 ghost use Rattle.mask_certificate.specs.CertificateReading.{is_space, index_in, mask_in, name_in, lines_in, entries_in, behind_task_line, at_end, lists_at, spelling_of, mask_digit, is_mask_digit, Gives, cert_parse, names_of, names_in, is_newline, entry_line};
+ghost use Rattle.mask_certificate.specs.Blocks.{IsEnd, AreOf};
 
+use crate::block::Block;
 use crate::certificate::Cert;
 use crate::fault::{CertFault, Spelling};
 use mips_plain::number::RegSet;
@@ -164,6 +166,7 @@ fn next_line(text: &[u8]) -> Option<(&[u8], &[u8])>
         (slice_split is_newline text.now ≡ text.now ∷ [])
         (λ found. slice_split is_newline text.now ≡ found.0.now ∷ slice_split is_newline found.1.now) }
     ensures shorter { IfSome result (λ found. length found.1.now < length text.now) }
+    ensures end { IfSome result (λ found. IsEnd text.now found.1.now) }
 {
     let end = place_of(b'\n', text)?;
     Some((&text[..end], &text[end + 1..]))
@@ -175,6 +178,7 @@ fn next_entry(spelling: Spelling, text: &[u8]) -> Option<((u32, RegSet), &[u8])>
         (entries_in (lines_in spelling text.now) ≡ [])
         (λ found. lines_in spelling text.now ≡ entry_line found.0 ∷ lines_in spelling found.1.now) }
     ensures shorter { IfSome result (λ found. length found.1.now < length text.now) }
+    ensures end { IfSome result (λ found. IsEnd text.now found.1.now) }
 {
     // A mask's digits are as many as the spelling says, so the line's end is not looked for.
     let (index, space) = index_in_front(text)?;
@@ -187,7 +191,7 @@ fn next_entry(spelling: Spelling, text: &[u8]) -> Option<((u32, RegSet), &[u8])>
 }
 
 /// The entries of the lines in front of the first that is none, and the text from that line on.
-fn list_of(
+pub(crate) fn list_of(
     alloc: Global,
     spelling: Spelling,
     text: &[u8],
@@ -195,6 +199,7 @@ fn list_of(
     ensures entries { IfOk result (λ found. found.0.items ≡ entries_in (lines_in spelling text.now)) }
     ensures rest { IfOk result (λ found. lines_in spelling found.1.now ≡ drop (length found.0.items) (lines_in spelling text.now)) }
     ensures shorter { IfOk result (λ found. length found.0.items + length found.1.now ≤ length text.now) }
+    ensures end { IfOk result (λ found. IsEnd text.now found.1.now) }
 {
     let mut list = Vec::new(alloc);
     let mut rest = text;
@@ -211,6 +216,7 @@ fn behind<'a>(text: &'a [u8], line: usize, name: &Name) -> Result<&'a [u8], Cert
         (λ rest. behind_task_line line name.now (lines_in spelling text.now) ≡ Ok (lines_in spelling rest.now))
         (λ fault. behind_task_line line name.now (lines_in spelling text.now) ≡ Err fault) }
     ensures shorter { IfOk result (λ rest. length rest.now < length text.now) }
+    ensures end { IfOk result (λ rest. IsEnd text.now rest.now) }
 {
     if text.is_empty() {
         return Err(CertFault::MissingTask);
@@ -245,23 +251,48 @@ fn check_end(text: &[u8], line: usize) -> Result<(), CertFault>
     }
 }
 
-/// The lists that the lines from line 2 on spell for these tasks.
-fn lists_of(
+/// The list at the front of what is left of a text: from the last of these blocks, if it begins there,
+/// and else read. A block that begins elsewhere is let go.
+fn list_at<'a>(
     alloc: Global,
     spelling: Spelling,
-    text: &[u8],
+    text: &'a [u8],
+    left: &'a [u8],
+    blocks: &mut Vec<Block<'a>>,
+) -> Result<(Vec<(u32, RegSet)>, &'a [u8]), AllocError>
+    requires left { IsEnd text.now left.now }
+    requires blocks { AreOf spelling text.now blocks.old.items }
+    ensures entries { IfOk result (λ found. found.0.items ≡ entries_in (lines_in spelling left.now)) }
+    ensures rest { IfOk result (λ found. lines_in spelling found.1.now ≡ drop (length found.0.items) (lines_in spelling left.now)) }
+    ensures shorter { IfOk result (λ found. length found.0.items + length found.1.now ≤ length left.now) }
+    ensures end { IfOk result (λ found. IsEnd text.now found.1.now) }
+    ensures blocks { AreOf spelling text.now blocks.new.items }
+{
+    match blocks.pop() {
+        Some(block) if block.start() == text.len() - left.len() => Ok(block.into_parts()),
+        _ => list_of(alloc, spelling, left),
+    }
+}
+
+/// The lists that the lines from line 2 on spell for these tasks.
+fn lists_of<'a>(
+    alloc: Global,
+    spelling: Spelling,
+    text: &'a [u8],
     tasks: &[Descriptor],
+    mut blocks: Vec<Block<'a>>,
 ) -> Result<Vec<Vec<(u32, RegSet)>>, CertFault>
-    requires { length text.now + 2 < 2 ^ 64 }
-    ensures lists { Gives (λ lists. entries_of lists.items) result (lists_at 2 (names_in tasks.now) (lines_in spelling text.now)) }
+    requires long { 7 ≤ length text.now }
+    requires blocks { AreOf spelling text.now blocks.items }
+    ensures lists { Gives (λ lists. entries_of lists.items) result (lists_at 2 (names_in tasks.now) (lines_in spelling (drop 7 text.now))) }
     ensures count { IfOk result (λ lists. vec_len lists ≡ length tasks.now) }
 {
     let mut lists = Vec::with_capacity(alloc, tasks.len())?;
-    let mut rest = text;
+    let mut rest = &text[FIRST_LINE..];
     let mut line = 2;
     for task in tasks {
-        let body = behind(rest, line, &task.name)?;
-        let (list, after) = list_of(alloc, spelling, body)?;
+        let left = behind(rest, line, &task.name)?;
+        let (list, after) = list_at(alloc, spelling, text, left, &mut blocks)?;
         line += 1 + list.len();
         rest = after;
         lists.push(list)?;
@@ -270,8 +301,8 @@ fn lists_of(
     Ok(lists)
 }
 
-/// The spelling that the first line names.
-fn spelling_in(text: &[u8]) -> Option<Spelling>
+/// The spelling that the first line of a text names; `None` where it names none.
+pub fn spelling_in(text: &[u8]) -> Option<Spelling>
     ensures value { result ≡ spelling_of text.now }
     ensures long { OnSome result (7 ≤ length text.now) }
 {
@@ -285,14 +316,20 @@ fn spelling_in(text: &[u8]) -> Option<Spelling>
 }
 
 /// The certificate that a text spells for these tasks, or its first fault.
-fn certificate_of(alloc: Global, text: &[u8], tasks: &[Descriptor]) -> Result<Cert, CertFault>
-    requires { length tasks.now ≤ 1024 }
+fn certificate_of<'a>(
+    alloc: Global,
+    text: &'a [u8],
+    tasks: &[Descriptor],
+    blocks: Vec<Block<'a>>,
+) -> Result<Cert, CertFault>
+    requires few { length tasks.now ≤ 1024 }
+    requires blocks { (spelling : Spelling) → spelling_of text.now ≡ Some spelling → AreOf spelling text.now blocks.items }
     ensures { (result ≡ Err CertFault.OutOfMemory) ⊎ (result ≡ cert_parse text.now (names_in tasks.now)) }
 {
     let Some(spelling) = spelling_in(text) else {
         return Err(CertFault::Header);
     };
-    let lists = lists_of(alloc, spelling, &text[FIRST_LINE..], tasks)?;
+    let lists = lists_of(alloc, spelling, text, tasks, blocks)?;
     match Cert::build(lists) {
         Ok(cert) => Ok(cert),
         Err(_) => Err(CertFault::Shape),
@@ -308,5 +345,22 @@ pub fn read(alloc: Global, text: &[u8], program: &Program) -> Result<Cert, CertF
     ensures spelled { result ≢ Err CertFault.OutOfMemory
         → (cert : List (List (ℕ × ℕ))) → (result ≡ Ok cert) ↔ Spells text.now (names_of program.now) cert }
 {
-    certificate_of(alloc, text, program.tasks())
+    read_ahead(alloc, text, program, Vec::new(alloc))
+}
+
+/// What `read` answers, with blocks of the text that were read before, the block of the first task last:
+/// a block that stands where its task's turn comes is taken over and not read again. Nothing rests on the
+/// blocks but speed: where one is missing or stands elsewhere, that list is read here.
+pub fn read_ahead<'a>(
+    alloc: Global,
+    text: &'a [u8],
+    program: &Program,
+    blocks: Vec<Block<'a>>,
+) -> Result<Cert, CertFault>
+    requires { (spelling : Spelling) → spelling_of text.now ≡ Some spelling → AreOf spelling text.now blocks.items }
+    ensures parsed { (result ≡ Err CertFault.OutOfMemory) ⊎ (result ≡ cert_parse text.now (names_of program.now)) }
+    ensures spelled { result ≢ Err CertFault.OutOfMemory
+        → (cert : List (List (ℕ × ℕ))) → (result ≡ Ok cert) ↔ Spells text.now (names_of program.now) cert }
+{
+    certificate_of(alloc, text, program.tasks(), blocks)
 }

@@ -3,6 +3,7 @@ use Rattle.std.proofs.Common.{arith}
 use Rattle.std.proofs.lemmas.List.{length_push}
 use Rattle.mask_certificate.specs.CertificateReading.{lines_in, entries_in}
 use Rattle.mask_certificate.proofs.LineLemmas.{entries_push, left_push}
+use Rattle.mask_certificate.proofs.EndLemmas.{end_again}
 use Rattle.mask_certificate.proofs.reading.list_of.Goals as goal
 
 pub loop-entry-preserved : goal.loop-entry-preserved
@@ -17,4 +18,5 @@ loop-entry-preserved c =
       entries = entries_push front entry lines after (entries_in whole) c.in-Some.ensures.found c.loop-entry.invariant.entries;
       left = left_push front entry lines after whole c.in-Some.ensures.found c.loop-entry.invariant.left;
       shorter = omega (arith, longer, c.in-Some.ensures.shorter);
+      end = end_again c.args.text.now c.loop-entry.rest.now c.in-Some.after.now c.loop-entry.invariant.end c.in-Some.ensures.end;
     })

@@ -5,11 +5,13 @@ use Rattle.task_descriptor.specs.declared.descriptor.Descriptor.{Descriptor}
 use Rattle.mask_certificate.specs.declared.fault.CertFault.TheVariants.{OutOfMemory}
 use Rattle.mask_certificate.specs.CertificateReading.{cert_parse, names_in}
 use Rattle.mask_certificate.proofs.ReadLemmas.{read_exactly}
-use Rattle.mask_certificate.proofs.reading.read.Goals as goal
+use Rattle.mask_certificate.proofs.reading.read_ahead.Goals as goal
 
 pub certificate_of-requires : goal.certificate_of-requires
-certificate_of-requires c =
-    subst (λ (tasks : List Descriptor). length tasks ≤ 1024) (sym c.tasks.ensures.value) (limits c.args.program.now c.tasks.ensures.well_formed).tasks
+certificate_of-requires c = record {
+  few = subst (λ (tasks : List Descriptor). length tasks ≤ 1024) (sym c.tasks.ensures.value) (limits c.args.program.now c.tasks.ensures.well_formed).tasks;
+  blocks = c.requires;
+}
 
 pub returns-clause-spelled : goal.returns-clause-spelled
 returns-clause-spelled c given cert =

@@ -1,0 +1,28 @@
+-- A block of a certificate's text: the entries from a place on, read before it is known whose list they are.
+use Rattle.std.specs.Prelude.{◌≡◌, ℕ, ◌+◌, ◌-◌, ◌≤◌, List, length, drop}
+use Rattle.std.specs.List.{All}
+use Rattle.mask_certificate.specs.declared.fault.Spelling.{Spelling}
+use Rattle.mask_certificate.specs.CertificateReading.{lines_in, entries_in}
+
+-- where a block begins
+pub record Place : Type 0 where
+  pub spelling : Spelling
+  pub text : List ℕ
+  pub start : ℕ
+
+-- what a text ends with
+abbrev pub IsEnd : (text end : List ℕ) → Type 0
+IsEnd text end = (length end ≤ length text) × (end ≡ drop (length text - length end) text)
+
+-- blocks of this text in this spelling
+abbrev pub AreOf : Spelling → List ℕ → List Place → Type 0
+AreOf spelling text blocks = All (λ block. (block.spelling ≡ spelling) × (block.text ≡ text)) blocks
+
+-- These are the entries of the lines from the place start on, in front of the first that is none, and
+-- behind the last of them stands the place end.
+pub record IsBlock (spelling : Spelling) (text : List ℕ) (start : ℕ) (entries : List (ℕ × ℕ)) (end : ℕ) : Type 0 where
+  pub begins : start ≤ length text
+  pub ends : end ≤ length text
+  pub entries_are : entries ≡ entries_in (lines_in spelling (drop start text))
+  pub behind : lines_in spelling (drop end text) ≡ drop (length entries) (lines_in spelling (drop start text))
+  pub short : length entries + (length text - end) ≤ length text - start

@@ -1,0 +1,92 @@
+//! Lists of a certificate's text that are read before their turn comes.
+
+use crate::fault::Spelling;
+use crate::reading::list_of;
+use mips_plain::number::RegSet;
+use std::alloc::{AllocError, Global};
+use std::marker::Model;
+
+/// The entries of the lines from a place of a text on, in front of the first line that is none: what
+/// reading needs of one task's list, and what it can find out before it knows whose list it is. A
+/// contract sees a block as its spelling, text and place; they determine the rest.
+#[derive(Drop)]
+pub struct Block<'a> {
+    spelling: Spelling,
+    text: &'a [u8],
+    start: usize,
+    list: Vec<(u32, RegSet)>,
+    end: usize,
+}
+
+impl<'a> Model for Block<'a> {
+    ghost use Rattle.mask_certificate.specs.Blocks.{Place, IsBlock};
+
+    ghost Value = { Place };
+
+    ghost view = { λ b. record { spelling = b.spelling; text = b.text.now; start = b.start } };
+
+    ghost invariant = { λ b. IsBlock b.spelling b.text.now b.start b.list.items b.end };
+}
+
+impl<'a> Block<'a> {
+    ghost use Rattle.std.specs.Prelude.{◌≡◌, ◌≤◌, ◌+◌, ◌-◌, length, drop, IfOk};
+    ghost use Rattle.mask_certificate.specs.CertificateReading.{lines_in, entries_in};
+    ghost use Rattle.mask_certificate.specs.Blocks.{IsEnd};
+
+    /// Reads the block from a place of a text on.
+    ///
+    /// # Errors
+    ///
+    /// `AllocError` where memory was refused.
+    pub fn read(
+        alloc: Global,
+        spelling: Spelling,
+        text: &'a [u8],
+        start: usize,
+    ) -> Result<Block<'a>, AllocError>
+        requires { start ≤ length text.now }
+        ensures { IfOk result (λ block. block ≡ record { spelling = spelling; text = text.now; start = start }) }
+    {
+        let (list, rest) = list_of(alloc, spelling, &text[start..])?;
+        Ok(Block {
+            spelling,
+            text,
+            start,
+            list,
+            end: text.len() - rest.len(),
+        })
+    }
+
+    /// The place at which it begins.
+    pub fn start(&self) -> usize
+        ensures { result ≡ self.now.start }
+    {
+        self.start
+    }
+
+    /// The place behind its last entry: where the first line begins that is none, or the text's end.
+    pub fn end(&self) -> usize
+        ensures within { result ≤ length self.now.text }
+        ensures lines { lines_in self.now.spelling (drop result self.now.text)
+            ≡ drop (length (entries_in (lines_in self.now.spelling (drop self.now.start self.now.text)))) (lines_in self.now.spelling (drop self.now.start self.now.text)) }
+    {
+        self.end
+    }
+
+    /// The entries, and the text behind them.
+    pub(crate) fn into_parts(self) -> (Vec<(u32, RegSet)>, &'a [u8])
+        ensures entries { result.0.items ≡ entries_in (lines_in self.entry.spelling (drop self.entry.start self.entry.text)) }
+        ensures rest { lines_in self.entry.spelling result.1.now ≡ drop (length result.0.items) (lines_in self.entry.spelling (drop self.entry.start self.entry.text)) }
+        ensures shorter { length result.0.items + length result.1.now ≤ length self.entry.text - self.entry.start }
+        ensures end { IsEnd self.entry.text result.1.now }
+    {
+        let Block {
+            spelling: _,
+            text,
+            start: _,
+            list,
+            end,
+        } = self;
+        (list, &text[end..])
+    }
+}
