@@ -2,3 +2,5 @@ pub mod Cuts
 pub mod Numbers
 pub mod LineWords
 pub mod EventsLoop
+pub mod WrittenLines
+pub mod WrittenRuns

@@ -14,7 +14,7 @@ place_named : (name : List ℕ) (tasks : List Descriptor) → position_or_len (�
 place_named name [] = refl
 place_named name (t ∷ ts) = ap (λ n. cond (not (bytes_eq t.name name)) (1 + n) 0) (place_named name ts)
 
-position_named : (name : List ℕ) (tasks : List Descriptor) → position (λ other. bytes_eq other name) (names_in tasks) ≡ position (λ task. bytes_eq task.name name) tasks
+pub position_named : (name : List ℕ) (tasks : List Descriptor) → position (λ other. bytes_eq other name) (names_in tasks) ≡ position (λ task. bytes_eq task.name name) tasks
 position_named name tasks =
     let at = λ (n : ℕ). λ (long : ℕ). cond {A = Option ℕ} (ltb n long) (Some n) None in
     ap (λ (n : ℕ). at n (length (names_in tasks))) (place_named name tasks) ∙ ap (at (position_or_len (λ task. bytes_eq task.name name) tasks)) (length-map tasks (λ (task : Descriptor). task.name))

@@ -25,7 +25,7 @@ number_after_is n (c ∷ cs) = tested (is_ascii_digit c) (list_all is_ascii_digi
 pub digit_all : (ds : List ℕ) (n k : ℕ) → length ds ≤ k → number_after n (drop k ds) ≡ Some n
 digit_all ds n k le = at_drop_all (number_after n) ds k le
 
-no_leading_zero : (ds : List ℕ) → (get_or ds 0 0 ≡ 48 → 1 < length ds → ⊥) → has_leading_zero ds ≡ false
+pub no_leading_zero : (ds : List ℕ) → (get_or ds 0 0 ≡ 48 → 1 < length ds → ⊥) → has_leading_zero ds ≡ false
 no_leading_zero [] no_zero = refl
 no_leading_zero (d ∷ []) no_zero = refl
 no_leading_zero (d ∷ e ∷ ds) no_zero = ne_eqb d 48 (λ zero. no_zero zero (omega arith))

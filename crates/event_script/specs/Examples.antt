@@ -1,9 +1,13 @@
 -- Worked examples, computed by the checker.
 use Rattle.std.specs.Prelude.{◌≡◌, ℕ, List, [], ◌∷◌, ◌++◌, Ok, Err, codes}
+use Rattle.std.specs.Fmt.{digits}
 use Rattle.std.proofs.Common.{refl}
+use Rattle.task_descriptor.specs.Listing.{Listing}
+use Rattle.task_descriptor.specs.declared.descriptor.Descriptor.{Descriptor}
 use Rattle.machine_events.specs.declared.event.Event.TheVariants.{Assign, Exec, Transfer, Drain, Squash, Retire, Fault, Drop}
 use Rattle.event_script.specs.declared.fault.ScriptFault.TheVariants.{Line, TaskName}
 use Rattle.event_script.specs.EventScript.{script_parse}
+use Rattle.event_script.specs.ScriptText.{script_text}
 
 -- the names of the tasks 0 and 1
 abbrev two_names : List (List ℕ)
@@ -55,3 +59,19 @@ space_at_end = refl
 -- the first line with a fault of either kind
 pub first_fault : script_parse (line (codes "retire") ++ (line (codes "assign C") ++ codes "exec")) two_names ≡ Err (TaskName 2)
 first_fault = refl
+
+-- ---- writing
+
+abbrev named : List ℕ → Descriptor
+named name = record { name = name; entry = 0; create = 0; targets = [] }
+
+-- a program with these tasks
+abbrev two_tasks : Listing
+two_tasks = record { code = []; bytes = []; fixed = []; tasks = named (codes "A") ∷ named (codes "B") ∷ []; start = 0 }
+
+pub each_written :
+    script_text two_tasks (Assign 1 ∷ Exec 0 ∷ Transfer 1 33 ∷ Drain 12 8 ∷ Squash 999 ∷ Retire ∷ Fault ∷ Drop 3 ∷ [])
+    ≡ line (codes "assign B") ++ (line (codes "exec 0") ++ (line (codes "transfer 1 $33") ++ (line (codes "drain 12 $8") ++ (line (codes "squash 999")
+    ++ (line (codes "retire") ++ (line (codes "fault") ++ line (codes "drop 3")))))))
+unfolding digits
+each_written = refl

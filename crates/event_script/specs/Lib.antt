@@ -1,2 +1,3 @@
 pub mod EventScript
+pub mod ScriptText
 pub mod Examples

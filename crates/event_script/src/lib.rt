@@ -5,3 +5,4 @@ pub mod fault;
 pub mod reading;
 #[cfg(test)]
 mod tests;
+pub mod writing;

@@ -2,7 +2,8 @@
 
 use crate::fault::ScriptFault;
 use crate::reading::read;
-use machine_events::event::Event;
+use crate::writing::write;
+use machine_events::event::{Event, EventRun};
 use mips_plain::instruction::Op;
 use mips_plain::number::{Place, Reg, RegSet};
 use std::alloc::Global;
@@ -97,4 +98,33 @@ fn bad_scripts_are_refused(rt: HostRuntime) -> Result<(), Fail> {
         assert_eq!(rt; read(rt.alloc(), text, &program).err(), Some(fault));
     }
     Ok(())
+}
+
+// The script of a history: equal events in a row are one run.
+#[test]
+fn each_event_is_written(rt: HostRuntime) -> Result<(), Fail> {
+    let program = program(rt.alloc())?;
+    let register = Reg::new(8).ok_or("register")?;
+    let last = Reg::new(33).ok_or("register")?;
+    let runs = [
+        run(Event::Assign(1), 1),
+        run(Event::Exec(0), 3),
+        run(Event::Transfer(1, register), 1),
+        run(Event::Drain(0, last), 1),
+        run(Event::Squash(0), 0),
+        run(Event::Retire, 2),
+        run(Event::Fault, 1),
+        run(Event::Drop(15), 1),
+    ];
+    let text = write(rt.alloc(), runs.as_slice(), &program)
+        .ok()
+        .ok_or("memory")?;
+    let wanted: &[u8] =
+        b"assign B\nexec 0\nexec 0\nexec 0\ntransfer 1 $8\ndrain 0 $33\nretire\nretire\nfault\ndrop 15\n";
+    assert_eq!(rt; text.as_slice(), wanted);
+    Ok(())
+}
+
+fn run(event: Event, count: u32) -> EventRun {
+    EventRun { event, count }
 }
