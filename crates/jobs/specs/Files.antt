@@ -9,7 +9,7 @@ use Rattle.jobs.specs.declared.job.Paths.{Paths}
 abbrev pub has_certificate : Job → Bool
 has_certificate (Check workers) = true
 has_certificate (Replay units) = true
-has_certificate (Run units budget predict) = true
+has_certificate (Run units workers budget predict emit) = true
 has_certificate _ = false
 
 -- the job has an event script

@@ -13,6 +13,15 @@ pub enum Emit {
     Keep,
 }
 
+/// What `run` writes of a run.
+#[derive(Clone, Copy, Debug, PartialEq, Eq)]
+pub enum RunEmit {
+    /// The output words, and how the run ended.
+    Report,
+    /// The history, as an event script that `replay` reads.
+    Script,
+}
+
 /// How `run` guesses the next task behind a running one (the paper, section 2.1, leaves it open).
 #[derive(Debug, Drop)]
 pub enum Prediction {
@@ -45,11 +54,14 @@ pub enum Job {
     Replay {
         units: Units,
     },
-    /// Runs the program in threads, one for each unit, up to this many events.
+    /// Runs the program on a machine of this many units, which this many threads serve, up to this many
+    /// events. More threads than units are as many as units.
     Run {
         units: Units,
+        workers: Workers,
         budget: Budget,
         predict: Prediction,
+        emit: RunEmit,
     },
 }
 
