@@ -6,6 +6,8 @@ use Rattle.std.specs.List.{slice_split}
 use Rattle.std.specs.Str.{bytes_eq}
 use Rattle.jobs.specs.declared.job.Emit.{Emit}
 use Rattle.jobs.specs.declared.job.Emit.TheVariants.{Text, Cert, Keep}
+use Rattle.jobs.specs.declared.job.RunEmit.{RunEmit}
+use Rattle.jobs.specs.declared.job.RunEmit.TheVariants.{Report, Script}
 use Rattle.jobs.specs.declared.job.Prediction.{Prediction}
 use Rattle.jobs.specs.declared.job.Prediction.TheVariants.{First, Last, List as Answers}
 
@@ -36,9 +38,15 @@ prediction_of text =
     else (if bytes_eq text (codes "last") then Some Last
     else option_map (λ answers. Answers answers) (answers_of text))
 
--- the value of `--emit`
+-- the value of `--emit` of `annotate`
 abbrev pub emit_of : List ℕ → Option Emit
 emit_of text =
     if bytes_eq text (codes "text") then Some Text
     else (if bytes_eq text (codes "cert") then Some Cert
     else (if bytes_eq text (codes "keep") then Some Keep else None))
+
+-- the value of `--emit` of `run`
+abbrev pub run_emit_of : List ℕ → Option RunEmit
+run_emit_of text =
+    if bytes_eq text (codes "report") then Some Report
+    else (if bytes_eq text (codes "script") then Some Script else None)

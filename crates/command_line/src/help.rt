@@ -93,19 +93,45 @@ first fault and its line:
   script refused: K Name LINE";
 
 /// `run`, in one line.
-pub const RUN: &str = "Runs a program in threads, one for each unit";
+pub const RUN: &str = "Runs a program on a machine of some units, in threads";
 
 /// `run`.
 pub const RUN_LONG: &str =
-    "Runs a program on a machine of some units, each in a thread of its own, after the check. Writes the
-words that `out` sent, how many tasks and instructions were retired, and how the run ended.";
+    "Runs a program on a machine of some units, in threads, after the check. Each unit takes one task: the
+oldest runs for good, and the others run ahead on tasks that are guessed. In which order the threads
+come makes no difference to what a program does: one that halts puts out the words that `seq` writes.
 
-/// `--emit`.
-pub const EMIT: &str =
+Writes the words that `out` sent, in decimal, one on a line, and then how the run ended, as `replay`
+writes it:
+  retired T c C h H
+  halted, trapped K Name or unlisted ADDRESS
+A run that came to its budget has one line for the two:
+  out of budget
+
+With `--emit script` it writes what the machine did instead, one event on each line, for `replay` with
+as many units:
+  multiscalar run --units 2 --emit script a.s a.cert > a.events
+  multiscalar replay --units 2 a.s a.cert a.events";
+
+/// `--emit` of `annotate`.
+pub const ANNOTATE_EMIT: &str =
     "What is written: text (the proposed program), cert (its certificate) or keep (the certificate of
 the program as it stands)";
+
+/// `--emit` of `run`.
+pub const RUN_EMIT: &str =
+    "What is written: report (the words that were put out, and how the run ended) or script (the
+events of the run)";
+
+/// `--workers` of `run`.
+pub const RUN_WORKERS: &str =
+    "How many threads serve the units, 1 to 16; never more than units [default: one for each unit]";
+
+/// `--budget` of `run`.
+pub const RUN_BUDGET: &str = "How many events end the run, 1 to 1000000";
 
 /// `--predict`.
 pub const PREDICT: &str =
     "Which target is guessed behind a running task: first, last, or 1 to 64 numbers 0 to 15 with commas,
-used over and over";
+used over and over, as in 1,0: the second target, the first, the second, and so on. A number beyond
+the targets begins again at the first";

@@ -1,16 +1,15 @@
 //! From the words of a command line to a job.
-ghost use Rattle.std.specs.Prelude.{◌≡◌, ◌≤◌, ◌==◌, IfOk, IfSome, MatchOption, All, map, length, vec_len, [], true};
+ghost use Rattle.std.specs.Prelude.{◌≡◌, ◌≤◌, ◌==◌, IfOk, IfSome, MatchOption, All, map, length, vec_len, []};
 ghost use Rattle.std.specs.String.{string_bytes};
 ghost use Rattle.std.specs.List.{slice_split};
-ghost use Rattle.command_line.specs.Words.{answer_of, answers_of, all_there, prediction_of, emit_of};
+ghost use Rattle.command_line.specs.Words.{answer_of, answers_of, all_there, emit_of, prediction_of, run_emit_of};
 ghost use Rattle.jobs.specs.Files.{HasFilesOf};
 ghost use Rattle.command_line.specs.declared.words.UsageFault.TheVariants.{OutOfMemory};
-ghost use Rattle.jobs.specs.Served.{is_served};
 
 use crate::help;
 use clap::error::ErrorKind;
 use clap::{Arg, ArgAction, ArgMatches, Command, value_parser};
-use jobs::job::{Emit, Job, Paths, Prediction};
+use jobs::job::{Emit, Job, Paths, Prediction, RunEmit};
 use jobs::ranges::{
     Answers, Budget, MOST_ANSWER, MOST_ANSWERS, MOST_BUDGET, MOST_UNITS, Units, Workers,
 };
@@ -26,7 +25,8 @@ pub enum UsageFault {
     /// 2: the value of `--predict` is neither `first`, `last` nor 1 to 64 numbers 0..=15.
     #[error("2 Predict")]
     Predict,
-    /// 3: the value of `--emit` is none of `text`, `cert` and `keep`.
+    /// 3: the value of `--emit` is none of `text`, `cert` and `keep`, or for `run` none of `report` and
+    /// `script`.
     #[error("3 Emit")]
     Emit,
     /// 4: memory ran out.
@@ -55,8 +55,7 @@ impl From<clap::Error> for UsageFault {
 /// own name. What `clap` decides comes first, then the value of `--predict`, then that of `--emit`.
 /// (own choice)
 pub fn job_of(alloc: Global, words: &[String]) -> Result<(Job, Paths), UsageFault>
-    ensures files { IfOk result (λ r. HasFilesOf r.0 r.1) }
-    ensures served { IfOk result (λ r. is_served r.0 ≡ true) }
+    ensures { IfOk result (λ r. HasFilesOf r.0 r.1) }
 {
     let matches = command(alloc)?.try_get_matches_from(words)?;
     if let Some((name, values)) = matches.subcommand() {
@@ -78,8 +77,7 @@ fn no_job(alloc: Global) -> UsageFault {
     }
 }
 
-// The whole command line. A subcommand is there once it stands here, in `read_job` and in `is_served` of
-// the crate `jobs` (specs/Served.antt).
+// The whole command line. A subcommand is there once it stands here and in `read_job`.
 fn command<'a>(alloc: Global) -> Result<Command<'a>, AllocError> {
     Command::new(alloc, "multiscalar")
         .about(help::PROGRAM)
@@ -90,7 +88,8 @@ fn command<'a>(alloc: Global) -> Result<Command<'a>, AllocError> {
         .subcommand(print(alloc)?)?
         .subcommand(annotate(alloc)?)?
         .subcommand(check(alloc)?)?
-        .subcommand(replay(alloc)?)
+        .subcommand(replay(alloc)?)?
+        .subcommand(run(alloc)?)
 }
 
 // The job of a subcommand; `None` where there is none of that name.
@@ -99,8 +98,7 @@ fn read_job(
     name: &str,
     values: &ArgMatches<'_>,
 ) -> Result<Option<(Job, Paths)>, UsageFault>
-    ensures files { IfOk result (λ r. IfSome r (λ job. HasFilesOf job.0 job.1)) }
-    ensures served { IfOk result (λ r. IfSome r (λ job. is_served job.0 ≡ true)) }
+    ensures { IfOk result (λ r. IfSome r (λ job. HasFilesOf job.0 job.1)) }
 {
     match name {
         "seq" => read_seq(alloc, values),
@@ -108,6 +106,7 @@ fn read_job(
         "annotate" => read_annotate(alloc, values),
         "check" => read_check(alloc, values),
         "replay" => read_replay(alloc, values),
+        "run" => read_run(alloc, values),
         _ => Ok(None),
     }
 }
@@ -137,10 +136,20 @@ fn word<'a>(
         .default_value(otherwise)
 }
 
-// An option with a number for its value, from 1.
-fn number<'a>(alloc: Global, id: &'a str, text: &'a str, most: u32, otherwise: &'a str) -> Arg<'a> {
+// An option with a number for its value, from 1; it need not be given.
+fn free_number<'a>(alloc: Global, id: &'a str, text: &'a str, most: u32) -> Arg<'a> {
     let range = value_parser!(u32).range(1..=i64::from(most));
-    word(alloc, id, "N", text, otherwise).value_parser(range)
+    Arg::new(alloc, id)
+        .long(id)
+        .value_name("N")
+        .help(text)
+        .action(ArgAction::Set)
+        .value_parser(range)
+}
+
+// An option with a number for its value, from 1, and the number that it has where it is not given.
+fn number<'a>(alloc: Global, id: &'a str, text: &'a str, most: u32, otherwise: &'a str) -> Arg<'a> {
+    free_number(alloc, id, text, most).default_value(otherwise)
 }
 
 fn program<'a>(alloc: Global) -> Arg<'a> {
@@ -169,9 +178,13 @@ fn units<'a>(alloc: Global) -> Arg<'a> {
     number(alloc, "units", text, MOST_UNITS, "4")
 }
 
-fn workers<'a>(alloc: Global) -> Arg<'a> {
+fn checkers<'a>(alloc: Global) -> Arg<'a> {
     let text = "How many threads share the check, 1 to 16";
     number(alloc, "workers", text, MOST_UNITS, "1")
+}
+
+fn workers<'a>(alloc: Global) -> Arg<'a> {
+    free_number(alloc, "workers", help::RUN_WORKERS, MOST_UNITS)
 }
 
 // A subcommand with no arguments yet.
@@ -190,7 +203,7 @@ fn print<'a>(alloc: Global) -> Result<Command<'a>, AllocError> {
 }
 
 fn annotate<'a>(alloc: Global) -> Result<Command<'a>, AllocError> {
-    let emit = word(alloc, "emit", "WHAT", help::EMIT, "text");
+    let emit = word(alloc, "emit", "WHAT", help::ANNOTATE_EMIT, "text");
     subcommand(alloc, "annotate", help::ANNOTATE, help::ANNOTATE_LONG)
         .arg(program(alloc))?
         .arg(emit)
@@ -200,7 +213,7 @@ fn check<'a>(alloc: Global) -> Result<Command<'a>, AllocError> {
     subcommand(alloc, "check", help::CHECK, help::CHECK_LONG)
         .arg(program(alloc))?
         .arg(certificate(alloc))?
-        .arg(workers(alloc))
+        .arg(checkers(alloc))
 }
 
 fn replay<'a>(alloc: Global) -> Result<Command<'a>, AllocError> {
@@ -212,13 +225,14 @@ fn replay<'a>(alloc: Global) -> Result<Command<'a>, AllocError> {
 }
 
 fn run<'a>(alloc: Global) -> Result<Command<'a>, AllocError> {
-    let predict = word(alloc, "predict", "HOW", help::PREDICT, "first");
     subcommand(alloc, "run", help::RUN, help::RUN_LONG)
         .arg(program(alloc))?
         .arg(certificate(alloc))?
         .arg(units(alloc))?
-        .arg(budget(alloc, "The most events, 1 to 1000000"))?
-        .arg(predict)
+        .arg(workers(alloc))?
+        .arg(budget(alloc, help::RUN_BUDGET))?
+        .arg(word(alloc, "predict", "HOW", help::PREDICT, "first"))?
+        .arg(word(alloc, "emit", "WHAT", help::RUN_EMIT, "report"))
 }
 
 // The program alone.
@@ -260,8 +274,7 @@ fn read_workers(values: &ArgMatches<'_>) -> Option<Workers> {
 }
 
 fn read_seq(alloc: Global, values: &ArgMatches<'_>) -> Result<Option<(Job, Paths)>, UsageFault>
-    ensures files { IfOk result (λ r. IfSome r (λ job. HasFilesOf job.0 job.1)) }
-    ensures served { IfOk result (λ r. IfSome r (λ job. is_served job.0 ≡ true)) }
+    ensures { IfOk result (λ r. IfSome r (λ job. HasFilesOf job.0 job.1)) }
 {
     let Some(budget) = read_budget(values) else {
         return Ok(None);
@@ -270,15 +283,13 @@ fn read_seq(alloc: Global, values: &ArgMatches<'_>) -> Result<Option<(Job, Paths
 }
 
 fn read_print(alloc: Global, values: &ArgMatches<'_>) -> Result<Option<(Job, Paths)>, UsageFault>
-    ensures files { IfOk result (λ r. IfSome r (λ job. HasFilesOf job.0 job.1)) }
-    ensures served { IfOk result (λ r. IfSome r (λ job. is_served job.0 ≡ true)) }
+    ensures { IfOk result (λ r. IfSome r (λ job. HasFilesOf job.0 job.1)) }
 {
     Ok(Some((Job::Print, program_path(alloc, values)?)))
 }
 
 fn read_annotate(alloc: Global, values: &ArgMatches<'_>) -> Result<Option<(Job, Paths)>, UsageFault>
-    ensures files { IfOk result (λ r. IfSome r (λ job. HasFilesOf job.0 job.1)) }
-    ensures served { IfOk result (λ r. IfSome r (λ job. is_served job.0 ≡ true)) }
+    ensures { IfOk result (λ r. IfSome r (λ job. HasFilesOf job.0 job.1)) }
 {
     let Some(text) = values.get_str("emit") else {
         return Ok(None);
@@ -288,8 +299,7 @@ fn read_annotate(alloc: Global, values: &ArgMatches<'_>) -> Result<Option<(Job, 
 }
 
 fn read_check(alloc: Global, values: &ArgMatches<'_>) -> Result<Option<(Job, Paths)>, UsageFault>
-    ensures files { IfOk result (λ r. IfSome r (λ job. HasFilesOf job.0 job.1)) }
-    ensures served { IfOk result (λ r. IfSome r (λ job. is_served job.0 ≡ true)) }
+    ensures { IfOk result (λ r. IfSome r (λ job. HasFilesOf job.0 job.1)) }
 {
     let Some(workers) = read_workers(values) else {
         return Ok(None);
@@ -298,8 +308,7 @@ fn read_check(alloc: Global, values: &ArgMatches<'_>) -> Result<Option<(Job, Pat
 }
 
 fn read_replay(alloc: Global, values: &ArgMatches<'_>) -> Result<Option<(Job, Paths)>, UsageFault>
-    ensures files { IfOk result (λ r. IfSome r (λ job. HasFilesOf job.0 job.1)) }
-    ensures served { IfOk result (λ r. IfSome r (λ job. is_served job.0 ≡ true)) }
+    ensures { IfOk result (λ r. IfSome r (λ job. HasFilesOf job.0 job.1)) }
 {
     let Some(units) = read_units(values) else {
         return Ok(None);
@@ -312,20 +321,34 @@ fn read_replay(alloc: Global, values: &ArgMatches<'_>) -> Result<Option<(Job, Pa
     Ok(Some((Job::Replay { units }, paths)))
 }
 
+// As many threads as are asked for, or one for each unit.
+fn workers_or_units(values: &ArgMatches<'_>, units: Units) -> Option<Workers> {
+    match values.get_one::<u32>("workers") {
+        Some(count) => Workers::new(count),
+        None => Workers::new(units.get()),
+    }
+}
+
 fn read_run(alloc: Global, values: &ArgMatches<'_>) -> Result<Option<(Job, Paths)>, UsageFault>
-    ensures files { IfOk result (λ r. IfSome r (λ job. HasFilesOf job.0 job.1)) }
+    ensures { IfOk result (λ r. IfSome r (λ job. HasFilesOf job.0 job.1)) }
 {
     let (Some(units), Some(budget)) = (read_units(values), read_budget(values)) else {
         return Ok(None);
     };
-    let Some(text) = values.get_str("predict") else {
+    let Some(workers) = workers_or_units(values, units) else {
         return Ok(None);
     };
-    let predict = read_prediction(alloc, text)?.ok_or(UsageFault::Predict)?;
+    let (Some(predict), Some(emit)) = (values.get_str("predict"), values.get_str("emit")) else {
+        return Ok(None);
+    };
+    let predict = read_prediction(alloc, predict)?.ok_or(UsageFault::Predict)?;
+    let emit = read_run_emit(emit).ok_or(UsageFault::Emit)?;
     let job = Job::Run {
         units,
+        workers,
         budget,
         predict,
+        emit,
     };
     Ok(Some((job, certified_paths(alloc, values)?)))
 }
@@ -394,7 +417,7 @@ fn read_prediction(alloc: Global, text: &str) -> Result<Option<Prediction>, Allo
     }
 }
 
-// The value of `--emit`.
+// The value of `--emit` of `annotate`.
 fn read_emit(text: &str) -> Option<Emit>
     ensures { result ≡ emit_of text.now }
 {
@@ -402,6 +425,17 @@ fn read_emit(text: &str) -> Option<Emit>
         "text" => Some(Emit::Text),
         "cert" => Some(Emit::Cert),
         "keep" => Some(Emit::Keep),
+        _ => None,
+    }
+}
+
+// The value of `--emit` of `run`.
+fn read_run_emit(text: &str) -> Option<RunEmit>
+    ensures { result ≡ run_emit_of text.now }
+{
+    match text {
+        "report" => Some(RunEmit::Report),
+        "script" => Some(RunEmit::Script),
         _ => None,
     }
 }
