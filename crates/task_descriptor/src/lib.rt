@@ -9,4 +9,4 @@ pub mod name;
 pub mod places;
 pub mod program;
 mod registers;
-mod same;
+pub mod same;

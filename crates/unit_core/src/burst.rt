@@ -1,103 +1,133 @@
 //! Work outside the lock: a unit is lent, a burst of its instructions is made on the copy, and the
 //! unit takes the burst over.
 
-ghost use Rattle.std.specs.Prelude.{◌≡◌, ℕ, ◌<◌, ◌≤◌, IfOk, IsOk};
-ghost use Rattle.machine_model.specs.Burst.{Burst as IsBurst, with_arrived};
+ghost use Rattle.std.specs.Prelude.{◌≡◌, ℕ, ◌<◌, ◌≤◌, ◌++◌, [], List, IfSome, IfNone, IfOk, IfErr, OnOk, OnErr, IsTrue, ◌↔◌};
+ghost use Rattle.mips_plain.specs.declared.outcome.Read.{Read};
+ghost use Rattle.task_descriptor.specs.Listing.{Listing};
+ghost use Rattle.machine_model.specs.Step.{with_log};
+ghost use Rattle.machine_model.specs.Burst.{StepsAlone};
 ghost use Rattle.unit_core.specs.Units.{active_of, IsPlaced};
-ghost use Rattle.unit_core.specs.Bursts.{HasMore};
+ghost use Rattle.unit_core.specs.Bursts.{HasMore, IsMade, IsOf, Makes, SameStretch, carried_on};
 
+use crate::step::is_load;
+use crate::stretch::{Stretch, has_same_task};
 use crate::unit::Unit;
+use machine_events::event::Spot;
 use mark_checker::accept::Accepted;
 use mips_plain::outcome::OutOfMemory;
 use std::marker::Model;
+use task_descriptor::program::Program;
 
 /// The most instructions of a burst.
-pub const MOST_STEPS: u32 = 64;
+pub const MOST_STEPS: u32 = 65_536;
 
-/// A unit as it is, lent with its program and certificate, to make a burst on.
+/// A unit as it is, its log aside, lent with its program and certificate, to make a burst on.
 #[derive(Drop)]
 pub struct Lease<'a> {
     accepted: &'a Accepted,
-    before: Unit,
-    after: Unit,
+    unit: Unit,
 }
 
 impl<'a> Model for Lease<'a> {
-    ghost use Rattle.std.specs.Prelude.{◌≡◌};
+    ghost use Rattle.std.specs.Prelude.{◌≡◌, []};
     ghost use Rattle.unit_core.specs.Bursts.{LeaseView};
     ghost use Rattle.unit_core.specs.Units.{active_of, IsPlaced};
 
     ghost Value = { LeaseView };
 
-    ghost view = { λ l. record { accepted = l.accepted.now; unit = l.before } };
+    ghost view = { λ l. record { accepted = l.accepted.now; unit = l.unit } };
 
-    ghost invariant = { λ l. (l.after ≡ l.before) × IsPlaced l.accepted.now (active_of l.before) };
+    ghost invariant = { λ l. (l.unit.log ≡ []) × IsPlaced l.accepted.now (active_of l.unit) };
 }
 
-/// A unit before and after some steps: instructions, each register-only or a load of read-only data.
+/// A unit before and after some steps, its log aside: instructions, each register-only or a load of
+/// read-only data. What they read is the log of the unit after them.
 #[derive(Drop)]
 pub struct Burst<'a> {
     accepted: &'a Accepted,
     before: Unit,
     steps: u32,
     after: Unit,
+    stretch: Stretch,
 }
 
 impl<'a> Model for Burst<'a> {
-    ghost use Rattle.std.specs.Prelude.{◌≤◌};
-    ghost use Rattle.machine_model.specs.Burst.{Burst as IsBurst};
-    ghost use Rattle.unit_core.specs.Bursts.{BurstView};
-    ghost use Rattle.unit_core.specs.Units.{active_of, IsPlaced};
+    ghost use Rattle.unit_core.specs.Bursts.{BurstView, IsMade};
 
     ghost Value = { BurstView };
 
-    ghost view = { λ b. record { accepted = b.accepted.now; before = b.before; steps = b.steps; after = b.after } };
+    ghost view = { λ b. record { accepted = b.accepted.now; before = b.before; steps = b.steps; after = b.after; stretch = b.stretch } };
 
-    ghost invariant = { λ b. (b.steps ≤ 64)
-        × IsBurst b.accepted.now.program (active_of b.before) b.steps (active_of b.after)
-        × IsPlaced b.accepted.now (active_of b.after) };
+    ghost invariant = { λ b. IsMade (record { accepted = b.accepted.now; before = b.before; steps = b.steps; after = b.after; stretch = b.stretch }) };
 }
 
-/// Executes instructions ahead until one is refused, at most `most`, and answers how many.
-fn run_ahead(accepted: &Accepted, unit: &mut Unit, most: u32) -> u32
+/// Executes one instruction ahead, where the unit may, and answers the stretch with it.
+#[inline(always)]
+fn step_ahead(accepted: &Accepted, unit: &mut Unit, stretch: Stretch) -> Option<Stretch>
     requires { IsPlaced accepted.now (active_of unit.old) }
-    ensures few { result ≤ most }
-    ensures made { IsBurst accepted.now.program (active_of unit.old) result (active_of unit.new) }
+    ensures narrower { IfSome result (λ s. (q : Listing) → SameStretch s accepted.now.program q → SameStretch stretch accepted.now.program q) }
+    ensures step { IfSome result (λ s. (q : Listing) → SameStretch s accepted.now.program q → (log : List Read)
+        → StepsAlone q (with_log (active_of unit.old) (log ++ unit.old.log)) (with_log (active_of unit.new) (log ++ unit.new.log))) }
+    ensures none { IfNone result (unit.new ≡ unit.old) }
     ensures placed { IsPlaced accepted.now (active_of unit.new) }
 {
+    let Spot::Inside(index) = unit.spot() else {
+        return None;
+    };
+    let marked = &accepted.program().code()[index as usize];
+    let loads = is_load(&marked.op);
+    match unit.exec_ahead(accepted) {
+        Ok(()) => Some(stretch.with(index, loads)),
+        Err(_) => None,
+    }
+}
+
+/// Executes instructions ahead until one is refused or sends a register for the first time, at most
+/// `most`, and answers how many, and their stretch.
+fn run_ahead(accepted: &Accepted, unit: &mut Unit, most: u32) -> (u32, Stretch)
+    requires placed { IsPlaced accepted.now (active_of unit.old) }
+    requires no_log { unit.old.log ≡ [] }
+    ensures few { result.0 ≤ most }
+    ensures made { Makes accepted.now.program result.1 unit.old result.0 unit.new }
+    ensures placed { IsPlaced accepted.now (active_of unit.new) }
+{
+    let sent = unit.sent_set();
+    let mut stretch = Stretch::none();
     let mut steps = 0;
     for _ in 0..most {
-        match unit.exec_ahead(accepted) {
-            Ok(()) => steps += 1,
-            Err(_) => break,
+        let Some(more) = step_ahead(accepted, unit, stretch) else {
+            break;
+        };
+        stretch = more;
+        steps += 1;
+        if unit.sent_set() != sent {
+            break;
         }
     }
-    steps
+    (steps, stretch)
 }
 
 impl<'a> Burst<'a> {
-    /// Executes at most `most` instructions on a lent unit, 1..=64, each a register-only one or a load
-    /// of read-only data. It ends early where the unit would wait or has stopped, or where a growth of
-    /// the log was refused.
+    /// Executes at most `most` instructions on a lent unit, 1..=65,536, each a register-only one or a
+    /// load of read-only data. It ends early where the unit would wait or has stopped, behind an
+    /// instruction that sends a register for the first time, so that the successor gets it soon, or
+    /// where a growth of the reads was refused.
     pub fn run(lease: Lease<'a>, most: u32) -> Burst<'a>
-        requires { most ≤ 64 }
+        requires { most ≤ 65536 }
         ensures accepted { result.accepted ≡ lease.entry.accepted }
         ensures before { result.before ≡ lease.entry.unit }
         ensures few { result.steps ≤ most }
-        ensures made { IsBurst result.accepted.program (active_of result.before) result.steps (active_of result.after) }
-        ensures placed { IsPlaced result.accepted (active_of result.after) }
+        ensures made { IsMade result }
     {
-        let Lease {
-            accepted,
-            before,
-            mut after,
-        } = lease;
-        let steps = run_ahead(accepted, &mut after, most);
+        let Lease { accepted, unit } = lease;
+        let mut after = unit.without_log();
+        let (steps, stretch) = run_ahead(accepted, &mut after, most);
         Burst {
             accepted,
-            before,
+            before: unit,
             steps,
             after,
+            stretch,
         }
     }
 
@@ -109,7 +139,7 @@ impl<'a> Burst<'a> {
         self.accepted
     }
 
-    /// The unit as it was lent.
+    /// The unit as it was lent, without its log.
     #[inline]
     pub fn before(&self) -> &Unit
         ensures { result.now ≡ self.now.before }
@@ -117,68 +147,95 @@ impl<'a> Burst<'a> {
         &self.before
     }
 
-    /// How many instructions were executed, at most 64.
+    /// How many instructions were executed, at most 65,536.
     #[inline]
     pub fn steps(&self) -> u32
         ensures value { result ≡ self.now.steps }
-        ensures few { result ≤ 64 }
-        ensures made { IsBurst self.now.accepted.program (active_of self.now.before) self.now.steps (active_of self.now.after) }
-        ensures placed { IsPlaced self.now.accepted (active_of self.now.after) }
+        ensures made { IsMade self.now }
     {
         self.steps
+    }
+
+    /// The unit behind these instructions; its reads are theirs.
+    #[inline]
+    pub fn after(&self) -> &Unit
+        ensures { result.now ≡ self.now.after }
+    {
+        &self.after
+    }
+
+    /// Whether a program has the same stretch: the code from the least to the greatest index that the
+    /// burst executed, the descriptor of its task and, where it loaded, the read-only data. Nothing
+    /// else of a program matters to it.
+    pub fn is_of(&self, program: &Program) -> bool
+        ensures { IsTrue result ↔ IsOf self.now program.now }
+    {
+        let made_with = self.accepted.program();
+        self.stretch.is_same(made_with, program)
+            && has_same_task(made_with, program, self.before.task())
     }
 }
 
 impl Unit {
-    /// Lends the unit as it is. The caller sees to it that the unit is one of this program and
-    /// certificate.
-    ///
-    /// # Errors
-    ///
-    /// `OutOfMemory` where there is no room for the copies of its log.
-    pub fn lease<'a>(&self, accepted: &'a Accepted) -> Result<Lease<'a>, OutOfMemory>
+    /// Lends the unit as it is, its log aside. The caller sees to it that the unit is one of this program
+    /// and certificate. Takes no memory, and costs the same however long the log is.
+    pub fn lease<'a>(&self, accepted: &'a Accepted) -> Lease<'a>
         requires { IsPlaced accepted.now (active_of self.now) }
-        ensures { IfOk result (λ lease. (lease.accepted ≡ accepted.now) × (lease.unit ≡ self.now)) }
+        ensures accepted { result.accepted ≡ accepted.now }
+        ensures unit { result.unit ≡ record self.now { log = [] } }
     {
-        let before = self.copied()?;
-        let after = self.copied()?;
-        Ok(Lease {
+        Lease {
             accepted,
-            before,
-            after,
-        })
+            unit: self.without_log(),
+        }
     }
 
-    /// Takes a burst over, and answers how many steps that were; what arrived since it was lent stays
-    /// arrived. Answers 0, and changes nothing, where the burst has no step, or the unit is not as it
-    /// was lent but for registers that arrived since. Takes no memory.
+    /// Takes a burst over, and answers how many steps that were: their reads come behind its log, and
+    /// what arrived since it was lent stays arrived. Answers 0, and changes nothing, exactly where the
+    /// burst has no step, or the unit is not as it was lent, logs aside, but for registers that arrived
+    /// since.
     ///
     /// # Errors
     ///
-    /// None: the log of the burst becomes the unit's.
+    /// `OutOfMemory` where the reads find no room; the burst is handed back and nothing is changed then.
     pub fn take<'a>(&mut self, burst: Burst<'a>) -> Result<u32, (Burst<'a>, OutOfMemory)>
         ensures taken { IfOk result (λ steps. 0 < steps → (steps ≡ burst.entry.steps)
             × HasMore (active_of burst.entry.before) (active_of self.old)
-            × (active_of self.new ≡ with_arrived (active_of burst.entry.after) (active_of self.old).arrived)) }
+            × (active_of self.new ≡ carried_on (active_of burst.entry.after) (active_of self.old))) }
         ensures stale { IfOk result (λ steps. steps ≡ 0 → self.new ≡ self.old) }
         ensures fresh { HasMore (active_of burst.entry.before) (active_of self.old) → IfOk result (λ steps. steps ≡ burst.entry.steps) }
-        ensures made { IsBurst burst.entry.accepted.program (active_of burst.entry.before) burst.entry.steps (active_of burst.entry.after) }
+        ensures made { IsMade burst.entry }
         ensures placed { IfOk result (λ steps. 0 < steps → IsPlaced burst.entry.accepted (active_of self.new)) }
-        ensures never_refused { IsOk result }
+        ensures refused { IfErr result (λ back. (back.0 ≡ burst.entry) × (self.new ≡ self.old) × (0 < burst.entry.steps)
+            × HasMore (active_of burst.entry.before) (active_of self.old)) }
     {
-        if burst.steps == 0 {
+        let steps = burst.steps();
+        if steps == 0 || !self.has_more(&burst.before) {
             return Ok(0);
         }
-        if !self.has_more(&burst.before) {
-            return Ok(0);
+        match self.carry_on(burst) {
+            Ok(()) => Ok(steps),
+            Err(refused) => Err(refused),
         }
-        let Burst {
-            accepted: _,
-            before: _,
-            steps,
-            after,
-        } = burst;
-        self.become_unit(after);
-        Ok(steps)
+    }
+
+    /// Goes on as the unit of a burst did: its reads come behind the log, and what arrived stays
+    /// arrived. The caller sees to it that the unit is as it was lent, logs aside, but for registers
+    /// that arrived since.
+    ///
+    /// # Errors
+    ///
+    /// `OutOfMemory` where the reads find no room; the burst is handed back and nothing is changed then.
+    pub fn carry_on<'a>(&mut self, burst: Burst<'a>) -> Result<(), (Burst<'a>, OutOfMemory)>
+        requires { HasMore (active_of burst.before) (active_of self.old) }
+        ensures ok { OnOk result (active_of self.new ≡ carried_on (active_of burst.entry.after) (active_of self.old)) }
+        ensures back { IfErr result (λ back. back.0 ≡ burst.entry) }
+        ensures err { OnErr result (self.new ≡ self.old) }
+    {
+        if self.append(burst.after.reads()).is_err() {
+            return Err((burst, OutOfMemory));
+        }
+        self.go_on_as(&burst.after);
+        Ok(())
     }
 }

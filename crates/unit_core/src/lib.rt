@@ -5,6 +5,7 @@
 pub mod burst;
 pub mod laws;
 mod step;
+pub mod stretch;
 pub mod unit;
 pub mod wait;
 pub mod world;

@@ -1,12 +1,12 @@
 use Rattle.std.specs.Prelude.{◌≤◌}
-use Rattle.machine_model.specs.Burst.{Burst as IsBurst}
 use Rattle.unit_core.specs.Units.{active_of, IsPlaced}
+use Rattle.unit_core.specs.Bursts.{Makes}
 use Rattle.unit_core.proofs.burst.run_ahead.Given as goal
 
 -- the unit is so many steps on
 abbrev pub invariant-loop : goal.invariant-loop
 invariant-loop l = record {
   few : l.steps ≤ l.counter;
-  made : IsBurst l.accepted.program (active_of l.initial.unit) l.steps (active_of l.unit);
+  made : Makes l.accepted.program l.stretch l.initial.unit l.steps l.unit;
   placed : IsPlaced l.accepted (active_of l.unit);
 }

@@ -1,5 +1,5 @@
 -- Each test that failed says that the units differ in a field; where none did, they have all but
--- what arrived in common.
+-- what arrived and the log in common.
 use Rattle.std.specs.Prelude.{IsTrue, false}
 use Rattle.std.proofs.Common.{sym, ap, ◌∙◌, subst}
 use Rattle.std.proofs.lemmas.Bool.{false≢true}
@@ -26,24 +26,21 @@ returns c =
     let b : UnitView = record { task = c.before-2.inside.task; serial = c.before-2.inside.serial; place = c.before-2.inside.spot; port = c.before-2.inside.port; local = c.before-2.inside.local; log = c.before-2.inside.log.items } in
     let within = c.is_within.ensures.0 c.if-not-is_within.false in
     let place = c.is_same_spot.ensures.0 c.if-not-is_same_spot.false in
-    let local = c.is_same.ensures.0 c.if-not-is_same.false in
-    let same : IsTrue c.are_same_reads.result → HasMore (active_of b) (active_of u) =
-    λ reads.
-    let log = sym c.deref.ensures.value ∙ (c.are_same_reads.ensures.0 reads ∙ c.deref-2.ensures.value) in
-    record {
+    let same : IsTrue c.is_same.result → HasMore (active_of b) (active_of u) =
+    λ yes. record {
       more = within.0;
       is = λ j. record {
-        task = c.if-self-before.false j;
-        serial = c.if-self-before-2.false j;
+        task = c.if-self-before-2.false j;
+        serial = c.if-self-before.false j;
         arrived = arrived_of u.port;
-        local = local j;
+        local = c.is_same.ensures.0 yes j;
         sent = sym within.1 j;
         place = place j;
-        log = log j;
+        log = u.log;
       };
     } in
-    let back : HasMore (active_of b) (active_of u) → IsTrue c.are_same_reads.result =
-    λ h. c.are_same_reads.ensures.1 (c.deref.ensures.value ∙ (ap (λ (a : Active). a.log) h.is ∙ sym c.deref-2.ensures.value)) in
-    subst (λ (v : UnitView). (IsTrue c.are_same_reads.result → HasMore (active_of c.args.before.now) (active_of v)) × (HasMore (active_of c.args.before.now) (active_of v) → IsTrue c.are_same_reads.result)) c.self.view_is
-    (subst (λ (w : UnitView). (IsTrue c.are_same_reads.result → HasMore (active_of w) (active_of u)) × (HasMore (active_of w) (active_of u) → IsTrue c.are_same_reads.result)) c.before-2.view_is
+    let back : HasMore (active_of b) (active_of u) → IsTrue c.is_same.result =
+    λ h. c.is_same.ensures.1 (ap (λ (a : Active). a.local) h.is) in
+    subst (λ (v : UnitView). (IsTrue c.is_same.result → HasMore (active_of c.args.before.now) (active_of v)) × (HasMore (active_of c.args.before.now) (active_of v) → IsTrue c.is_same.result)) c.self.view_is
+    (subst (λ (w : UnitView). (IsTrue c.is_same.result → HasMore (active_of w) (active_of u)) × (HasMore (active_of w) (active_of u) → IsTrue c.is_same.result)) c.before-2.view_is
     (same, back))

@@ -1,0 +1,93 @@
+-- A step reads no log, and of its program only its own instruction and, for a load, read-only data. So
+-- what was made on one program and a unit without a log holds of another with the same stretch, too.
+use Rattle.std.specs.Prelude.{◌≡◌, ℕ, zero, suc, ◌+◌, ◌<◌, ◌≤◌, ◌||◌, ◌++◌, ◌∷◌, [], List, Bool, true, false, cond, Option, Some, None, min, max, slice_get}
+use Rattle.std.proofs.Common.{refl, sym, ap, ◌∙◌, subst, arith, append_assoc, add-one}
+use Rattle.std.proofs.Math.Path.{fun_ext}
+use Rattle.std.proofs.lemmas.List.{append-nil}
+use Rattle.mips_plain.specs.Words.{address, byte_of}
+use Rattle.mips_plain.specs.Access.{is_load}
+use Rattle.mips_plain.specs.Effect.{written, outcome_after}
+use Rattle.mips_plain.specs.declared.outcome.Outcome.{Outcome}
+use Rattle.mips_plain.specs.declared.outcome.Outcome.TheVariants.{Running, Halted, Trapped}
+use Rattle.mips_plain.specs.declared.outcome.Read.{Read}
+use Rattle.mips_plain.specs.declared.instruction.Op.{Op}
+use Rattle.mips_plain.specs.declared.instruction.Op.TheVariants.{Load}
+use Rattle.task_descriptor.specs.Listing.{Listing}
+use Rattle.task_descriptor.specs.declared.descriptor.Marked.{Marked}
+use Rattle.task_graph.specs.Edges.{edge, leaves, sends}
+use Rattle.mips_plain.specs.Instruction.{taken, turn}
+use Rattle.machine_model.specs.Machine.{Words, Active}
+use Rattle.machine_model.specs.Step.{with_written, with_sent, with_place, with_log, place_after, executed, after_exec}
+use Rattle.machine_model.specs.Burst.{no_memory, StepsAlone, Burst}
+use Rattle.unit_core.specs.Units.{UnitView, active_of}
+use Rattle.unit_core.specs.Bursts.{no_stretch, longer, SameStretch, Makes}
+use Rattle.unit_core.specs.declared.stretch.Stretch.{Stretch}
+
+-- what an instruction writes depends on read-only data for a load alone
+same_written : (p q : Listing) (op : Op) (a b pc r : ℕ) → (is_load op ≡ true → q.fixed ≡ p.fixed) → written op a b pc (byte_of p.fixed) no_memory r ≡ written op a b pc (byte_of q.fixed) no_memory r
+same_written p q (Load kind rt base n) a b pc r fixed = ap (λ (bytes : List ℕ). written (Load kind rt base n) a b pc (byte_of bytes) no_memory r) (sym (fixed refl))
+same_written p q op a b pc r fixed = refl
+
+-- a step with another program and another log
+same_after : (o : Outcome) (p q : Listing) (u : Active) (m : Marked) (index a b : ℕ) (before log log' : List Read) → (is_load m.op ≡ true → q.fixed ≡ p.fixed) → log ≡ log' → with_log (executed o p u m index a b no_memory) log ≡ with_log (executed o q (with_log u before) m index a b no_memory) log'
+same_after Running p q u m index a b before log log' fixed is =
+    let words : written m.op a b (address index) (byte_of p.fixed) no_memory ≡ written m.op a b (address index) (byte_of q.fixed) no_memory =
+    fun_ext (λ r. same_written p q m.op a b (address index) r fixed) in
+    λ j. with_log
+    (with_place (with_sent (with_written u (words j)) (sends m)) (place_after (leaves m.stop (taken m.op a b)) (edge m.op index (taken m.op a b)) (turn m.op a b (address index))))
+    (is j)
+same_after Halted p q u m index a b before log log' fixed is = ap (with_log u) is
+same_after (Trapped trap) p q u m index a b before log log' fixed is = ap (with_log u) is
+
+pub same_step : (p q : Listing) (u u' : Active) (step : StepsAlone p u u') → slice_get q.code step.index ≡ slice_get p.code step.index → (is_load step.at.op ≡ true → q.fixed ≡ p.fixed) → (log : List Read) → StepsAlone q (with_log u (log ++ u.log)) (with_log u' (log ++ u'.log))
+same_step p q u u' step same fixed log =
+    let read : List Read = record { pc = address step.index; a = step.a; b = step.b } ∷ [] in
+    record {
+      index = step.index;
+      is_inside = step.is_inside;
+      at = step.at;
+      is_there = same ∙ step.is_there;
+      a = step.a;
+      has_a = step.has_a;
+      b = step.b;
+      has_b = step.has_b;
+      has_released = step.has_released;
+      may_run_ahead = step.may_run_ahead;
+      is =
+          ap (λ (x : Active). with_log x (log ++ x.log)) step.is
+          ∙ same_after (outcome_after step.at.op step.a) p q u step.at step.index step.a step.b (log ++ u.log) (log ++ (u.log ++ read)) ((log ++ u.log) ++ read) fixed (sym (append_assoc log u.log read));
+    }
+
+-- no step at all, and one more
+pub none_made : (p : Listing) (s : Stretch) (u : UnitView) → u.log ≡ [] → Makes p s u 0 u
+none_made p s u none q same log =
+    ap (λ (l : List Read). with_log (active_of u) l) (ap (λ (l : List Read). log ++ l) none ∙ append-nil log)
+
+pub more_made : (p : Listing) (s s' : Stretch) (u mid after : UnitView) (n : ℕ) → Makes p s u n mid → ((q : Listing) → SameStretch s' p q → SameStretch s p q)
+    → ((q : Listing) → SameStretch s' p q → (log : List Read) → StepsAlone q (with_log (active_of mid) (log ++ mid.log)) (with_log (active_of after) (log ++ after.log)))
+    → Makes p s' u (n + 1) after
+more_made p s s' u mid after n made less step q same log =
+    subst (λ (k : ℕ). Burst q (with_log (active_of u) log) k (with_log (active_of after) (log ++ after.log))) (sym (add-one n))
+    (with_log (active_of mid) (log ++ mid.log), made q (less q same) log, step q same log)
+
+-- A longer stretch is the same only where the shorter one is, and the instruction that it has more
+
+or_first : (a b : Bool) → a ≡ true → (a || b) ≡ true
+or_first true b e = refl
+or_first false b e = absurd (cc)
+
+or_second : (a b : Bool) → b ≡ true → (a || b) ≡ true
+or_second true b e = refl
+or_second false b e = e
+
+pub narrower : (s : Stretch) (index : ℕ) (loads : Bool) (p q : Listing) → SameStretch (longer s index loads) p q → SameStretch s p q
+narrower s index loads p q same = record {
+  code = λ k low high. same.code k (omega arith) (omega arith);
+  fixed = λ e. same.fixed (or_first s.loads loads e);
+}
+
+pub has_instruction : (s : Stretch) (index : ℕ) (loads : Bool) (p q : Listing) → SameStretch (longer s index loads) p q → slice_get q.code index ≡ slice_get p.code index
+has_instruction s index loads p q same = same.code index (omega arith) (omega arith)
+
+pub has_fixed : (s : Stretch) (index : ℕ) (loads : Bool) (p q : Listing) → SameStretch (longer s index loads) p q → loads ≡ true → q.fixed ≡ p.fixed
+has_fixed s index loads p q same e = same.fixed (or_second s.loads loads e)
