@@ -4,3 +4,4 @@ pub mod Outcomes
 pub mod Executions
 pub mod TriedSteps
 pub mod Changed
+pub mod Positions

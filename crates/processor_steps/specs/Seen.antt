@@ -1,6 +1,6 @@
 -- The processor as contracts see it: lists for its arrays and vectors, and one word from them to the
 -- state that the machine step speaks of.
-use Rattle.std.specs.Prelude.{◌≡◌, ℕ, ◌+◌, ◌⊎◌, List, map, length, slice_index, slice_get, nat_lt, Bool, true, false, Option, Some, None, Result, OnOk, OnErr, IfErr}
+use Rattle.std.specs.Prelude.{◌≡◌, ℕ, ◌+◌, ◌⊎◌, List, map, length, slice_index, slice_get, nat_eq, nat_lt, position, Bool, true, false, Option, Some, None, Result, OnOk, OnErr, IfErr}
 use Rattle.std.specs.List.{sum_by}
 use Rattle.std.specs.Option.{option_or}
 use Rattle.mips_plain.specs.declared.outcome.Read.{Read}
@@ -57,6 +57,10 @@ pub record Keeps (old new : ProcessorView) : Type 0 where
 -- each active task stands at a valid place
 abbrev pub ArePlaced : Checked → List Active → Type 0
 ArePlaced a us = (k : ℕ) (u : Active) → slice_get us k ≡ Some u → IsPlaced a u
+
+-- the position of the unit with a serial number, the first from the head
+abbrev pub position_with : List Active → (serial : ℕ) → Option ℕ
+position_with us serial = position (λ u. nat_eq u.serial serial) us
 
 -- the events that may take memory
 abbrev pub takes_memory : Event → Bool

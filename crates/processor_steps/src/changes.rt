@@ -1,15 +1,14 @@
 //! What an event that is allowed changes. None of these fails but for want of memory, and then nothing
 //! is changed.
 
-ghost use Rattle.std.specs.Prelude.{◌≡◌, ℕ, ◌+◌, ◌-◌, ◌^◌, ◌<◌, None, Some, OnOk, OnErr, length, slice_get, slice_set, slice_index};
+ghost use Rattle.std.specs.Prelude.{◌≡◌, ℕ, ◌+◌, ◌-◌, ◌^◌, ◌<◌, None, Some, IfErr, OnOk, OnErr, length, slice_get, slice_set, slice_index};
 ghost use Rattle.std.specs.Option.{option_and_then};
 ghost use Rattle.machine_model.specs.Machine.{Active, pass};
 ghost use Rattle.machine_model.specs.Answer.{refusal, after, exit_of, with_queue};
-ghost use Rattle.machine_model.specs.Burst.{with_arrived};
 ghost use Rattle.machine_events.specs.declared.event.Event.TheVariants as event;
 ghost use Rattle.processor_steps.specs.Seen.{state_of, Keeps, ArePlaced};
 ghost use Rattle.unit_core.specs.Units.{active_of};
-ghost use Rattle.unit_core.specs.Bursts.{HasMore};
+ghost use Rattle.unit_core.specs.Bursts.{HasMore, carried_on};
 
 use crate::listing::created;
 use crate::processor::Processor;
@@ -40,14 +39,27 @@ impl Processor {
         self.assigns += 1;
     }
 
-    /// The unit at a position, on which the burst was made, takes it over. Where no unit is there, it is
-    /// another one, or the burst has no step, only the number of units and read-only data are promised.
-    pub fn take_burst(&mut self, position: u32, burst: Burst<'_>)
-        ensures state { (u : Active) → slice_get (state_of self.old).queue position ≡ Some u → HasMore (active_of burst.entry.before) u → 0 < burst.entry.steps
-            → state_of self.new ≡ with_queue (state_of self.old) (slice_set (state_of self.old).queue position (with_arrived (active_of burst.entry.after) u.arrived)) }
+    /// The unit at a position goes on as a burst did. The caller sees to it that the burst was made on
+    /// that unit, which since has at most more registers arrived. Where no unit is there, only the number
+    /// of units and read-only data are promised.
+    ///
+    /// # Errors
+    ///
+    /// `OutOfMemory` where the reads of the burst find no room; it is handed back and nothing is changed
+    /// then.
+    pub fn take_burst<'a>(
+        &mut self,
+        position: u32,
+        burst: Burst<'a>,
+    ) -> Result<(), (Burst<'a>, OutOfMemory)>
+        requires { (u : Active) → slice_get (state_of self.old).queue position ≡ Some u → HasMore (active_of burst.before) u }
+        ensures state { OnOk result ((u : Active) → slice_get (state_of self.old).queue position ≡ Some u
+            → state_of self.new ≡ with_queue (state_of self.old) (slice_set (state_of self.old).queue position (carried_on (active_of burst.entry.after) u))) }
+        ensures back { IfErr result (λ back. back.0 ≡ burst.entry) }
+        ensures err { OnErr result (self.new ≡ self.old) }
         ensures kept { Keeps self.old self.new }
     {
-        self.queue.take(position as usize, burst);
+        self.queue.take(position as usize, burst)
     }
 
     /// The unit at a position takes a register with the word that the unit before it passes on.

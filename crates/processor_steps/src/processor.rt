@@ -51,13 +51,12 @@ impl Model for Processor {
 }
 
 impl Processor {
-    ghost use Rattle.std.specs.Prelude.{◌≡◌, ℕ, ◌≤◌, Some, length, slice_get, IfOk, IfSome, IfNone};
+    ghost use Rattle.std.specs.Prelude.{◌≡◌, ℕ, ◌≤◌, length, slice_get, IfOk};
     ghost use Rattle.std.specs.Option.{option_copied, option_map};
     ghost use Rattle.mips_plain.specs.Words.{byte_of};
-    ghost use Rattle.machine_model.specs.Machine.{Active, opening};
+    ghost use Rattle.machine_model.specs.Machine.{opening};
     ghost use Rattle.unit_core.specs.Units.{active_of};
-    ghost use Rattle.unit_core.specs.Bursts.{HasMore};
-    ghost use Rattle.processor_steps.specs.Seen.{state_of};
+    ghost use Rattle.processor_steps.specs.Seen.{state_of, position_with as position_with_serial};
 
     /// A processor at the start of a program, with so many units, at most 16, none of them at work.
     ///
@@ -111,13 +110,11 @@ impl Processor {
         self.queue.get(position as usize)
     }
 
-    /// The position of a unit that is this one with at most more registers arrived; `None` where no unit
-    /// is.
-    pub fn position_of(&self, before: &Unit) -> Option<u32>
-        ensures some { IfSome result (λ k. (u : Active) × (slice_get (state_of self.now).queue k ≡ Some u) × HasMore (active_of before.now) u) }
-        ensures none { IfNone result ((k : ℕ) (u : Active) → slice_get (state_of self.now).queue k ≡ Some u → HasMore (active_of before.now) u → ⊥) }
+    /// The position of the unit with a serial number; `None` where no unit at work has it.
+    pub fn position_with(&self, serial: u32) -> Option<u32>
+        ensures { result ≡ position_with_serial (state_of self.now).queue serial }
     {
-        self.queue.position_of(before)
+        self.queue.position_with(serial)
     }
 
     /// Memory, output and outcome.

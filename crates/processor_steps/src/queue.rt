@@ -6,6 +6,7 @@ use circular_buffer::HeapCircularBuffer;
 use machine_events::event::Refused;
 use mark_checker::accept::Accepted;
 use mips_plain::number::{Reg, RegSet};
+use mips_plain::outcome::OutOfMemory;
 use std::alloc::{AllocError, Global};
 use std::marker::Model;
 use task_descriptor::program::Program;
@@ -32,18 +33,17 @@ impl Model for Queue {
 }
 
 impl Queue {
-    ghost use Rattle.std.specs.Prelude.{◌≡◌, ℕ, ◌<◌, ◌≤◌, ◌↔◌, IsTrue, [], ◌∷◌, ◌++◌, None, Some, length, take, drop, slice_get, slice_set, slice_index, IfSome, IfNone, IfOk, IfErr, OnOk, OnErr};
+    ghost use Rattle.std.specs.Prelude.{◌≡◌, ℕ, ◌<◌, ◌≤◌, ◌↔◌, IsTrue, [], ◌∷◌, ◌++◌, None, Some, length, take, drop, slice_get, slice_set, slice_index, IfOk, IfErr, OnOk, OnErr};
     ghost use Rattle.std.specs.Option.{option_copied, option_map};
     ghost use Rattle.std.specs.List.{last_or};
     ghost use Rattle.mips_plain.specs.Words.{has};
     ghost use Rattle.machine_model.specs.Machine.{Active};
     ghost use Rattle.machine_model.specs.Step.{put, is_reserved, filled};
     ghost use Rattle.machine_model.specs.Answer.{operand};
-    ghost use Rattle.machine_model.specs.Burst.{with_arrived};
     ghost use Rattle.unit_core.specs.Units.{active_of};
     ghost use Rattle.unit_core.specs.UnitStep.{drain_fault};
-    ghost use Rattle.unit_core.specs.Bursts.{HasMore};
-    ghost use Rattle.processor_steps.specs.Seen.{actives, ArePlaced};
+    ghost use Rattle.unit_core.specs.Bursts.{HasMore, carried_on};
+    ghost use Rattle.processor_steps.specs.Seen.{actives, ArePlaced, position_with as position_with_serial};
     ghost use Rattle.processor_steps.specs.Parts.{HeadStep, AheadStep, IsRefusedBy, exec_refusal as exec_refusal_of};
     ghost use Rattle.machine_events.specs.declared.event.Standing.TheVariants as standing;
 
@@ -201,40 +201,49 @@ impl Queue {
         }
     }
 
-    /// The position of a unit that is this one with at most more registers arrived; the serial number
-    /// is compared before all that is long.
-    pub(crate) fn position_of(&self, before: &Unit) -> Option<u32>
-        ensures some { IfSome result (λ k. (u : Active) × (slice_get (actives self.now) k ≡ Some u) × HasMore (active_of before.now) u) }
-        ensures none { IfNone result ((k : ℕ) (u : Active) → slice_get (actives self.now) k ≡ Some u → HasMore (active_of before.now) u → ⊥) }
+    /// The position of the unit with a serial number.
+    pub(crate) fn position_with(&self, serial: u32) -> Option<u32>
+        ensures { result ≡ position_with_serial (actives self.now) serial }
     {
         for position in 0..self.len() {
-            if self.is_at(position as usize, before) {
+            if self.has_serial(position as usize, serial) {
                 return Some(position);
             }
         }
         None
     }
 
-    /// Whether the unit at a position is this one with at most more registers arrived.
-    fn is_at(&self, position: usize, before: &Unit) -> bool
-        ensures { IsTrue result ↔ ((u : Active) × (slice_get (actives self.now) position ≡ Some u) × HasMore (active_of before.now) u) }
+    /// Whether the unit at a position has a serial number.
+    #[inline]
+    fn has_serial(&self, position: usize, serial: u32) -> bool
+        ensures { IsTrue result ↔ ((u : Active) × (slice_get (actives self.now) position ≡ Some u) × (u.serial ≡ serial)) }
     {
         match self.ring.get(position) {
-            Some(unit) => unit.has_more(before),
+            Some(unit) => unit.serial() == serial,
             None => false,
         }
     }
 
-    /// The unit at a position, on which the burst was made, takes it over.
-    pub(crate) fn take(&mut self, position: usize, burst: Burst<'_>)
-        ensures active { (u : Active) → slice_get (actives self.old) position ≡ Some u → HasMore (active_of burst.entry.before) u → 0 < burst.entry.steps
-            → actives self.new ≡ slice_set (actives self.old) position (with_arrived (active_of burst.entry.after) u.arrived) }
+    /// The unit at a position goes on as the burst did, which was made on it.
+    pub(crate) fn take<'a>(
+        &mut self,
+        position: usize,
+        burst: Burst<'a>,
+    ) -> Result<(), (Burst<'a>, OutOfMemory)>
+        requires { (u : Active) → slice_get (actives self.old) position ≡ Some u → HasMore (active_of burst.before) u }
+        ensures active { OnOk result ((u : Active) → slice_get (actives self.old) position ≡ Some u
+            → actives self.new ≡ slice_set (actives self.old) position (carried_on (active_of burst.entry.after) u)) }
+        ensures back { IfErr result (λ back. back.0 ≡ burst.entry) }
+        ensures err { OnErr result (self.new ≡ self.old) }
         ensures places { self.new.places ≡ self.old.places }
     {
         let Some(unit) = self.ring.get_mut(position) else {
-            return;
+            return Ok(());
         };
-        let _ = unit.take(burst);
+        match unit.carry_on(burst) {
+            Ok(()) => return Ok(()),
+            Err(refused) => return Err(refused),
+        }
     }
 
     /// What the unit at a position is refused an instruction by, want of memory aside.
