@@ -1,0 +1,5 @@
+//! Tests of what starts threads.
+#![tactic(auto)]
+
+#[cfg(test)]
+mod checks;
