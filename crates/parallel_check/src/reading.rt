@@ -4,12 +4,12 @@
 //! there, as blocks, without knowing which tasks these are or whether all is right in front of them. Then
 //! the whole is read in order, as one reader does, but that a list which a block has is not read again.
 
-ghost use Rattle.std.specs.Prelude.{◌≡◌, ◌≢◌, ◌↔◌, ◌⊎◌, ◌≤◌, ℕ, List, length, Some, Ok, Err, IfOk, IfSome};
+ghost use Rattle.std.specs.Prelude.{◌≡◌, ◌≢◌, ◌↔◌, ◌⊎◌, ◌<◌, ◌≤◌, true, ℕ, List, length, Ok, Err, IfOk, IfSome};
 ghost use Rattle.std.specs.List.{All};
-ghost use Rattle.mask_certificate.specs.declared.fault.Spelling.{Spelling};
 ghost use Rattle.mask_certificate.specs.CertificateText.{Spells};
-ghost use Rattle.mask_certificate.specs.CertificateReading.{cert_parse, names_of, spelling_of};
+ghost use Rattle.mask_certificate.specs.CertificateReading.{cert_parse, names_of};
 ghost use Rattle.mask_certificate.specs.Blocks.{AreOf};
+ghost use Rattle.parallel_check.specs.Shares.{AreAhead};
 
 use crate::checking::MOST_WORKERS;
 use mask_certificate::block::Block;
@@ -18,10 +18,11 @@ use mask_certificate::fault::{CertFault, Spelling};
 use mask_certificate::reading::{read_ahead, spelling_in};
 use std::alloc::{AllocError, Global};
 use std::cmp::Reverse;
+use std::marker::Model;
 use std::sync::atomic::{AtomicUsize, Ordering};
 use std::thread;
 use std::thread::Threads;
-use task_descriptor::program::Program;
+use task_descriptor::program::{MOST_TASKS, Program};
 
 /// From how many bytes on a text is shared out. A shorter one is read in less time than threads are made.
 const LEAST_SHARED: usize = 65_536;
@@ -43,8 +44,68 @@ pub fn read_shared<R: Threads + Sync>(
     ensures spelled { result ≢ Err CertFault.OutOfMemory
         → (cert : List (List (ℕ × ℕ))) → (result ≡ Ok cert) ↔ Spells text.now (names_of program.now) cert }
 {
-    let blocks = blocks_of(rt, alloc, text, program.tasks().len(), workers)?;
-    read_ahead(alloc, text, program, blocks)
+    ReadAhead::new(rt, alloc, text, workers)?.read(alloc, program)
+}
+
+/// Whether a text is shared out among so many workers.
+pub fn is_shared_out(text: &[u8], workers: u32) -> bool
+    ensures { (result ≡ true) ↔ ((1 < workers) × (65536 ≤ length text.now)) }
+{
+    workers > 1 && text.len() >= LEAST_SHARED
+}
+
+/// What several workers have read of the text of a certificate, before it is known whose certificate it
+/// is: so the program can be read at the same time. A contract sees it as the text.
+#[derive(Drop)]
+pub struct ReadAhead<'a> {
+    text: &'a [u8],
+    blocks: Vec<Block<'a>>,
+}
+
+impl<'a> Model for ReadAhead<'a> {
+    ghost use Rattle.std.specs.Prelude.{ℕ, List};
+
+    ghost Value = { List ℕ };
+
+    ghost use Rattle.parallel_check.specs.Shares.{AreAhead};
+
+    ghost view = { λ r. r.text.now };
+
+    ghost invariant = { λ r. AreAhead r.text.now r.blocks.items };
+}
+
+impl<'a> ReadAhead<'a> {
+    ghost use Rattle.std.specs.Prelude.{◌≡◌, ◌≢◌, ◌↔◌, ◌⊎◌, ℕ, List, Ok, Err, IfOk};
+    ghost use Rattle.mask_certificate.specs.CertificateText.{Spells};
+    ghost use Rattle.mask_certificate.specs.CertificateReading.{cert_parse, names_of};
+
+    /// Has the workers read. Any number of them will do: 0 counts as 1, and more than 16 count as 16. A
+    /// text that is not shared out (`is_shared_out`) is left to `read`.
+    ///
+    /// # Errors
+    ///
+    /// `AllocError` where memory was refused.
+    pub fn new<R: Threads + Sync>(
+        rt: &R,
+        alloc: Global,
+        text: &'a [u8],
+        workers: u32,
+    ) -> Result<ReadAhead<'a>, AllocError>
+        ensures { IfOk result (λ ahead. ahead ≡ text.now) }
+    {
+        let blocks = blocks_of(rt, alloc, text, workers)?;
+        Ok(ReadAhead { text, blocks })
+    }
+
+    /// What `mask_certificate::reading::read` answers for the text, faults included.
+    pub fn read(self, alloc: Global, program: &Program) -> Result<Cert, CertFault>
+        ensures parsed { (result ≡ Err CertFault.OutOfMemory) ⊎ (result ≡ cert_parse self.entry (names_of program.now)) }
+        ensures spelled { result ≢ Err CertFault.OutOfMemory
+            → (cert : List (List (ℕ × ℕ))) → (result ≡ Ok cert) ↔ Spells self.entry (names_of program.now) cert }
+    {
+        let ReadAhead { text, blocks } = self;
+        read_ahead(alloc, text, program, blocks)
+    }
 }
 
 /// The blocks that the workers read, the first of the text last; none where the text is not shared out.
@@ -52,19 +113,17 @@ fn blocks_of<'a, R: Threads + Sync>(
     rt: &R,
     alloc: Global,
     text: &'a [u8],
-    tasks: usize,
     workers: u32,
 ) -> Result<Vec<Block<'a>>, AllocError>
-    ensures { IfOk result (λ blocks. (spelling : Spelling) → spelling_of text.now ≡ Some spelling → AreOf spelling text.now blocks.items) }
+    ensures { IfOk result (λ blocks. AreAhead text.now blocks.items) }
 {
     match spelling_in(text) {
-        Some(spelling) if workers > 1 && text.len() >= LEAST_SHARED => {
+        Some(spelling) if is_shared_out(text, workers) => {
             read_blocks(
                 rt,
                 alloc,
                 spelling,
                 text,
-                tasks,
                 workers.min(MOST_WORKERS) as usize,
             )
         }
@@ -78,7 +137,6 @@ fn read_blocks<'a, R: Threads + Sync>(
     alloc: Global,
     spelling: Spelling,
     text: &'a [u8],
-    tasks: usize,
     workers: usize,
 ) -> Result<Vec<Block<'a>>, AllocError>
     requires { workers ≤ 16 }
@@ -90,7 +148,7 @@ fn read_blocks<'a, R: Threads + Sync>(
         rt,
         alloc,
         workers,
-        &|_| { draw(alloc, spelling, text, tasks, pieces, &next) },
+        &|_| { draw(alloc, spelling, text, pieces, &next) },
     )?;
     let mut blocks = together(alloc, spelling, text, lists)?;
     blocks.sort_unstable_by_key(|block| Reverse(block.start()));
@@ -120,7 +178,6 @@ fn draw<'a>(
     alloc: Global,
     spelling: Spelling,
     text: &'a [u8],
-    tasks: usize,
     pieces: usize,
     next: &AtomicUsize,
 ) -> Vec<Block<'a>>
@@ -135,20 +192,19 @@ fn draw<'a>(
         }
         let from = piece.saturating_mul(size).min(text.len());
         let to = from.saturating_add(size).min(text.len());
-        if read_piece(alloc, spelling, text, (from, to), tasks, &mut blocks).is_err() {
+        if read_piece(alloc, spelling, text, (from, to), &mut blocks).is_err() {
             break;
         }
     }
     blocks
 }
 
-/// Reads the lists of at most `tasks` tasks whose lines begin in a piece of the text.
+/// Reads the lists of the tasks whose lines begin in a piece of the text, as many as a program has tasks.
 fn read_piece<'a>(
     alloc: Global,
     spelling: Spelling,
     text: &'a [u8],
     piece: (usize, usize),
-    tasks: usize,
     blocks: &mut Vec<Block<'a>>,
 ) -> Result<(), AllocError>
     requires within { piece.1 ≤ length text.now }
@@ -156,7 +212,7 @@ fn read_piece<'a>(
     ensures { AreOf spelling text.now blocks.new.items }
 {
     let (mut place, to) = piece;
-    for _ in 0..tasks {
+    for _ in 0..MOST_TASKS {
         let Some(start) = list_from(text, place, to) else {
             break;
         };
