@@ -1,5 +1,5 @@
 -- Fewer than four bytes are written one by one.
-use Rattle.std.proofs.Common.{◌≡◌, ◌<◌, ◌≤◌, ◌+◌, ◌*◌, ◌∷◌, ◌++◌, [], List, ℕ, length, drop, get_or, refl, arith, sym, ap, ◌∙◌, subst}
+use Rattle.std.proofs.Common.{◌≡◌, ◌<◌, ◌≤◌, ◌+◌, ◌*◌, ◌∷◌, ◌++◌, [], List, ℕ, length, drop, get_or, refl, arith}
 use Rattle.std.specs.List.{flat_map}
 use Rattle.canonical_text.specs.CanonicalText.{data_lines, word_line, byte_line}
 

@@ -2,3 +2,4 @@ pub mod Commas
 pub mod Members
 pub mod DataLines
 pub mod Parts
+pub mod TableLemmas

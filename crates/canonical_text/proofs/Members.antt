@@ -1,5 +1,5 @@
 -- The members among the numbers below n + 1 are those below n, and n where it is one.
-use Rattle.std.proofs.Common.{◌≡◌, ◌++◌, ◌+◌, ◌∷◌, [], List, ℕ, suc, Bool, true, false, cond, refl, sym, ap, ◌∙◌, map, filter, append-nil, add-one, subst}
+use Rattle.std.proofs.Common.{◌≡◌, ◌++◌, ◌+◌, ◌∷◌, [], List, ℕ, Bool, true, false, refl, sym, ap, ◌∙◌, map, filter, append-nil, add-one}
 use Rattle.std.proofs.lemmas.Bool.{cond-true, cond-false}
 use Rattle.std.proofs.lemmas.List.Elements.{filter-append}
 use Rattle.std.proofs.lemmas.List.{map-append}

@@ -1,5 +1,5 @@
 -- The parts of a program's text, one behind another, are its canonical text.
-use Rattle.std.proofs.Common.{◌≡◌, ◌++◌, ◌∷◌, [], List, ℕ, Option, refl, sym, ap, ◌∙◌, append_assoc, find, nat_eq, codes}
+use Rattle.std.proofs.Common.{◌≡◌, ◌++◌, List, ℕ, Option, ap, ◌∙◌, append_assoc, find, nat_eq, codes}
 use Rattle.std.specs.List.{flat_map}
 use Rattle.task_descriptor.specs.Listing.{Listing}
 use Rattle.task_descriptor.specs.declared.descriptor.Marked.{Marked}

@@ -1,5 +1,5 @@
 -- A worked example, computed by the checker: the canonical text of a small program with data.
-use Rattle.std.specs.Prelude.{◌≡◌, ℕ, pos, true, false, List, [], ◌∷◌, ◌++◌, codes}
+use Rattle.std.specs.Prelude.{◌≡◌, pos, true, false, [], ◌∷◌, ◌++◌, codes}
 use Rattle.std.specs.Fmt.{digits}
 use Rattle.std.proofs.Common.{refl}
 use Rattle.mips_plain.specs.declared.instruction.ThreeKind.TheVariants.{Addu}

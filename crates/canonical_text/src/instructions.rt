@@ -4,12 +4,13 @@ ghost use Rattle.std.specs.Prelude.{◌≡◌, ◌++◌, ◌∷◌, [], OnOk, st
 ghost use Rattle.std.specs.Fmt.{decimal, signed_decimal};
 ghost use Rattle.canonical_text.specs.CanonicalText.{spelled, register_text, based, place_text, members, op_text, forward_text, stop_text, marked_text};
 
+use crate::labels::Labels;
 use crate::mnemonics::*;
 use crate::pieces::{write_place, write_registers};
 use mips_plain::instruction::Op;
 use mips_plain::number::{Amount, Gpr, Place, RegSet};
 use std::alloc::AllocError;
-use task_descriptor::descriptor::{Descriptor, Marked, Stop};
+use task_descriptor::descriptor::{Marked, Stop};
 
 fn write_one(text: &mut String, name: &str, first: Gpr) -> Result<(), AllocError>
     ensures { OnOk result (string_bytes text.new ≡ string_bytes text.old ++ spelled name.now (register_text first ∷ [])) }
@@ -100,27 +101,27 @@ fn write_based(
 fn write_jump(
     text: &mut String,
     name: &str,
-    tasks: &[Descriptor],
+    labels: &Labels,
     place: Place,
 ) -> Result<(), AllocError>
-    ensures { OnOk result (string_bytes text.new ≡ string_bytes text.old ++ spelled name.now (place_text tasks.now place ∷ [])) }
+    ensures { OnOk result (string_bytes text.new ≡ string_bytes text.old ++ spelled name.now (place_text labels.now place ∷ [])) }
 {
     write!(text, "{name} ")?;
-    write_place(text, tasks, place)
+    write_place(text, labels, place)
 }
 
 fn write_branch_one(
     text: &mut String,
     name: &str,
     first: Gpr,
-    tasks: &[Descriptor],
+    labels: &Labels,
     place: Place,
 ) -> Result<(), AllocError>
-    ensures { OnOk result (string_bytes text.new ≡ string_bytes text.old ++ spelled name.now (register_text first ∷ place_text tasks.now place ∷ [])) }
+    ensures { OnOk result (string_bytes text.new ≡ string_bytes text.old ++ spelled name.now (register_text first ∷ place_text labels.now place ∷ [])) }
 {
     let first = first.get();
     write!(text, "{name} ${first},")?;
-    write_place(text, tasks, place)
+    write_place(text, labels, place)
 }
 
 fn write_branch_two(
@@ -128,18 +129,18 @@ fn write_branch_two(
     name: &str,
     first: Gpr,
     second: Gpr,
-    tasks: &[Descriptor],
+    labels: &Labels,
     place: Place,
 ) -> Result<(), AllocError>
-    ensures { OnOk result (string_bytes text.new ≡ string_bytes text.old ++ spelled name.now (register_text first ∷ register_text second ∷ place_text tasks.now place ∷ [])) }
+    ensures { OnOk result (string_bytes text.new ≡ string_bytes text.old ++ spelled name.now (register_text first ∷ register_text second ∷ place_text labels.now place ∷ [])) }
 {
     let (first, second) = (first.get(), second.get());
     write!(text, "{name} ${first},${second},")?;
-    write_place(text, tasks, place)
+    write_place(text, labels, place)
 }
 
-fn write_op(text: &mut String, tasks: &[Descriptor], op: &Op) -> Result<(), AllocError>
-    ensures { OnOk result (string_bytes text.new ≡ string_bytes text.old ++ op_text tasks.now op.now) }
+fn write_op(text: &mut String, labels: &Labels, op: &Op) -> Result<(), AllocError>
+    ensures { OnOk result (string_bytes text.new ≡ string_bytes text.old ++ op_text labels.now op.now) }
 {
     match *op {
         Op::Three(kind, rd, rs, rt) => write_three(text, three_name(kind), rd, rs, rt),
@@ -158,18 +159,18 @@ fn write_op(text: &mut String, tasks: &[Descriptor], op: &Op) -> Result<(), Allo
             branch_two_name(kind),
             rs,
             rt,
-            tasks,
+            labels,
             place,
         ),
         Op::BranchOne(kind, rs, place) => write_branch_one(
             text,
             branch_one_name(kind),
             rs,
-            tasks,
+            labels,
             place,
         ),
-        Op::Jump(place) => write_jump(text, "j", tasks, place),
-        Op::JumpLink(place) => write_jump(text, "jal", tasks, place),
+        Op::Jump(place) => write_jump(text, "j", labels, place),
+        Op::JumpLink(place) => write_jump(text, "jal", labels, place),
         Op::JumpReg(rs) => write_one(text, "jr", rs),
         Op::JumpLinkReg(rd, rs) => write_two(text, "jalr", rd, rs),
         Op::Out(rs) => write_one(text, "out", rs),
@@ -206,12 +207,12 @@ fn stop_mark(stop: Stop) -> &'static str
 /// An instruction with its marks, without the line's end.
 pub(crate) fn write_marked(
     text: &mut String,
-    tasks: &[Descriptor],
+    labels: &Labels,
     marked: &Marked,
 ) -> Result<(), AllocError>
-    ensures { OnOk result (string_bytes text.new ≡ string_bytes text.old ++ marked_text tasks.now marked.now) }
+    ensures { OnOk result (string_bytes text.new ≡ string_bytes text.old ++ marked_text labels.now marked.now) }
 {
-    write_op(text, tasks, &marked.op)?;
+    write_op(text, labels, &marked.op)?;
     text.push_str(forward_mark(marked.forward))?;
     text.push_str(stop_mark(marked.stop))
 }

@@ -2,6 +2,7 @@
 #![tactic(auto)]
 
 mod instructions;
+mod labels;
 mod mnemonics;
 mod pieces;
 pub mod print;

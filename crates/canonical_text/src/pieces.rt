@@ -1,30 +1,23 @@
 //! Pieces of a line: registers, places, numbers, with commas between them.
 
-ghost use Rattle.std.specs.Prelude.{◌≡◌, ℕ, ◌++◌, ◌∷◌, ◌<◌, [], ◌==◌, false, not, OnOk, IfOk, string_bytes, map, find, option_copied};
+ghost use Rattle.std.specs.Prelude.{◌≡◌, ℕ, ◌++◌, ◌∷◌, ◌<◌, [], false, not, OnOk, IfOk, string_bytes, map};
 ghost use Rattle.mips_plain.specs.Words.{has};
 ghost use Rattle.std.specs.Fmt.{digit_glyph};
 ghost use Rattle.canonical_text.specs.CanonicalText.{comma_unless as comma_text, no_pieces, commas, listed, members, register_text, place_named, place_text, hexadecimal};
 
+use crate::labels::Labels;
 use mips_plain::number::{Place, Reg, RegSet};
 use std::alloc::AllocError;
-use task_descriptor::descriptor::Descriptor;
-
-/// The task that begins at a place.
-pub(crate) fn task_at(tasks: &[Descriptor], index: u32) -> Option<&Descriptor>
-    ensures { option_copied result ≡ find (λ t. t.entry == index) tasks.now }
-{
-    tasks.iter().find(|task| task.entry.get() == index)
-}
 
 pub(crate) fn write_place(
     text: &mut String,
-    tasks: &[Descriptor],
+    labels: &Labels,
     place: Place,
 ) -> Result<(), AllocError>
-    ensures { OnOk result (string_bytes text.new ≡ string_bytes text.old ++ place_text tasks.now place) }
+    ensures { OnOk result (string_bytes text.new ≡ string_bytes text.old ++ place_text labels.now place) }
 {
     let index = place.get();
-    match task_at(tasks, index) {
+    match labels.task_at(index) {
         Some(task) => text.push_str(task.name.as_str()),
         None => write!(text, "@{index}"),
     }
@@ -67,13 +60,13 @@ fn has_number(set: RegSet, number: u8) -> bool
 
 pub(crate) fn write_places(
     text: &mut String,
-    tasks: &[Descriptor],
+    labels: &Labels,
     places: &[Place],
 ) -> Result<(), AllocError>
-    ensures { OnOk result (string_bytes text.new ≡ string_bytes text.old ++ commas (map (place_text tasks.now) places.now)) }
+    ensures { OnOk result (string_bytes text.new ≡ string_bytes text.old ++ commas (map (place_text labels.now) places.now)) }
 {
     for (index, place) in places.iter().enumerate() {
-        write_next_place(text, index == 0, tasks, *place)?;
+        write_next_place(text, index == 0, labels, *place)?;
     }
     Ok(())
 }
@@ -81,13 +74,13 @@ pub(crate) fn write_places(
 fn write_next_place(
     text: &mut String,
     is_first: bool,
-    tasks: &[Descriptor],
+    labels: &Labels,
     place: Place,
 ) -> Result<(), AllocError>
-    ensures { OnOk result (string_bytes text.new ≡ string_bytes text.old ++ (comma_text is_first ++ place_text tasks.now place)) }
+    ensures { OnOk result (string_bytes text.new ≡ string_bytes text.old ++ (comma_text is_first ++ place_text labels.now place)) }
 {
     text.push_str(comma_unless(is_first))?;
-    write_place(text, tasks, place)
+    write_place(text, labels, place)
 }
 
 /// A hexadecimal digit.

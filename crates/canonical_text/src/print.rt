@@ -5,20 +5,21 @@ ghost use Rattle.std.specs.List.{flat_map};
 ghost use Rattle.canonical_text.specs.CanonicalText.{line, listed, members, register_text, place_text, task_line, label_line, code_line, code_lines, word_line, byte_line, data_lines, section, start_line, canonical_text};
 
 use crate::instructions::write_marked;
-use crate::pieces::{task_at, write_hexadecimal, write_places, write_registers};
+use crate::labels::Labels;
+use crate::pieces::{write_hexadecimal, write_places, write_registers};
 use mips_plain::number::{Place, RegSet};
 use std::alloc::{AllocError, Global};
 use task_descriptor::descriptor::{Descriptor, Marked};
 use task_descriptor::program::Program;
 
-fn write_task(text: &mut String, tasks: &[Descriptor], task: &Descriptor) -> Result<(), AllocError>
-    ensures { OnOk result (string_bytes text.new ≡ string_bytes text.old ++ task_line tasks.now task.now) }
+fn write_task(text: &mut String, labels: &Labels, task: &Descriptor) -> Result<(), AllocError>
+    ensures { OnOk result (string_bytes text.new ≡ string_bytes text.old ++ task_line labels.now task.now) }
 {
     let name = task.name.as_str();
     write!(text, ".task {name} create=")?;
     write_create(text, task.create)?;
     text.push_str(" targets=")?;
-    write_targets(text, tasks, task.targets.as_slice())?;
+    write_targets(text, labels, task.targets.as_slice())?;
     text.push('\n')?;
     Ok(())
 }
@@ -32,24 +33,20 @@ fn write_create(text: &mut String, create: RegSet) -> Result<(), AllocError>
     Ok(())
 }
 
-fn write_targets(
-    text: &mut String,
-    tasks: &[Descriptor],
-    targets: &[Place],
-) -> Result<(), AllocError>
-    ensures { OnOk result (string_bytes text.new ≡ string_bytes text.old ++ listed (map (place_text tasks.now) targets.now)) }
+fn write_targets(text: &mut String, labels: &Labels, targets: &[Place]) -> Result<(), AllocError>
+    ensures { OnOk result (string_bytes text.new ≡ string_bytes text.old ++ listed (map (place_text labels.now) targets.now)) }
 {
     if targets.is_empty() {
         return text.push('-');
     }
-    write_places(text, tasks, targets)
+    write_places(text, labels, targets)
 }
 
-fn write_tasks(text: &mut String, tasks: &[Descriptor]) -> Result<(), AllocError>
-    ensures { OnOk result (string_bytes text.new ≡ string_bytes text.old ++ flat_map (task_line tasks.now) tasks.now) }
+fn write_tasks(text: &mut String, labels: &Labels) -> Result<(), AllocError>
+    ensures { OnOk result (string_bytes text.new ≡ string_bytes text.old ++ flat_map (task_line labels.now) labels.now) }
 {
-    for task in tasks {
-        write_task(text, tasks, task)?;
+    for task in labels.tasks() {
+        write_task(text, labels, task)?;
     }
     Ok(())
 }
@@ -68,23 +65,24 @@ fn write_label(text: &mut String, task: Option<&Descriptor>) -> Result<(), Alloc
 
 fn write_instruction(
     text: &mut String,
-    tasks: &[Descriptor],
+    labels: &Labels,
     index: u32,
     marked: &Marked,
 ) -> Result<(), AllocError>
-    ensures { OnOk result (string_bytes text.new ≡ string_bytes text.old ++ code_line tasks.now index marked.now) }
+    requires { index ≤ 4096 }
+    ensures { OnOk result (string_bytes text.new ≡ string_bytes text.old ++ code_line labels.now index marked.now) }
 {
-    write_label(text, task_at(tasks, index))?;
-    write_marked(text, tasks, marked)?;
+    write_label(text, labels.task_at(index))?;
+    write_marked(text, labels, marked)?;
     text.push('\n')
 }
 
-fn write_code(text: &mut String, tasks: &[Descriptor], code: &[Marked]) -> Result<(), AllocError>
+fn write_code(text: &mut String, labels: &Labels, code: &[Marked]) -> Result<(), AllocError>
     requires { length code.now ≤ 4096 }
-    ensures { OnOk result (string_bytes text.new ≡ string_bytes text.old ++ code_lines tasks.now 0 code.now) }
+    ensures { OnOk result (string_bytes text.new ≡ string_bytes text.old ++ code_lines labels.now 0 code.now) }
 {
     for (index, marked) in code.iter().enumerate() {
-        write_instruction(text, tasks, index as u32, marked)?;
+        write_instruction(text, labels, index as u32, marked)?;
     }
     Ok(())
 }
@@ -170,10 +168,10 @@ pub fn print(alloc: Global, program: &Program) -> Result<Vec<u8>, AllocError>
 fn write_program(text: &mut String, program: &Program) -> Result<(), AllocError>
     ensures { OnOk result (string_bytes text.new ≡ string_bytes text.old ++ canonical_text program.now) }
 {
-    let tasks = program.tasks();
-    write_start(text, task_at(tasks, program.start().get()))?;
-    write_tasks(text, tasks)?;
-    write_code(text, tasks, program.code())?;
+    let labels = Labels::new(program.tasks());
+    write_start(text, labels.task_at(program.start().get()))?;
+    write_tasks(text, &labels)?;
+    write_code(text, &labels, program.code())?;
     write_section(text, ".data", program.bytes())?;
     write_section(text, ".rodata", program.fixed())?;
     Ok(())

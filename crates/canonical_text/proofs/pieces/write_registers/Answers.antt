@@ -1,5 +1,5 @@
 -- A register that is a member is one piece more.
-use Rattle.std.proofs.Common.{◌≡◌, ◌++◌, List, ℕ, Bool, true, false, arith, not, sym, ◌∙◌, ap, string_bytes}
+use Rattle.std.proofs.Common.{◌≡◌, ◌++◌, List, ℕ, arith, not, sym, ◌∙◌, ap, string_bytes}
 use Rattle.canonical_text.specs.CanonicalText.{commas}
 use Rattle.canonical_text.proofs.Members.{member_written, member_not_first, members_without, texts_below, all_members}
 use Rattle.canonical_text.specs.CanonicalText.{no_pieces}

@@ -1,5 +1,5 @@
 -- Fewer than four bytes are left.
-use Rattle.std.proofs.Common.{◌≡◌, ◌<◌, ◌++◌, ◌∙◌, List, ℕ, ap, sym, drop, length, arith, length-drop, string_bytes}
+use Rattle.std.proofs.Common.{◌++◌, ◌∙◌, List, ℕ, ap, sym, drop, arith, length-drop, string_bytes}
 use Rattle.std.specs.List.{flat_map}
 use Rattle.canonical_text.specs.CanonicalText.{byte_line}
 use Rattle.canonical_text.proofs.DataLines.{data_lines_short}
