@@ -1,5 +1,5 @@
 //! Checks by several workers: what they answer, that two of them work side by side, and certificates that
-//! several workers read. The expected values are those of the specification's worked examples.
+//! several workers read. The expected values were worked out by hand.
 
 use annotated_asm::assembler::assemble;
 use mark_checker::finding::{Finding, Rule};
