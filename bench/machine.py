@@ -1,11 +1,11 @@
 #!/usr/bin/env python3
-"""Times the machine's calls: events on one thread, and leases. Needs python3 and rt.
+"""Times the machine's calls: events on one thread, and bursts handed in. Needs python3 and rt.
 
     machine.py [--rounds N]
 
 It puts machine.rt.txt into the repository as a crate of its own, builds it (proved,
 which takes a minute or two where the crates below are proved already), takes it
-away again, and times the program. The least processor time of the rounds counts.
+away again, and times the program. The least time of the rounds counts.
 """
 import argparse
 import pathlib
@@ -19,6 +19,20 @@ TOP = HERE.parent
 NAME = "machine_bench"
 LINE = f"{NAME}: annotated_asm annotator mark_checker machine_events unit_core sequencer\n"
 
+# Two tasks, the first of which never ends and waits for no register.
+SMALL = ".task A create=- targets=A,B\n.task B create=- targets=-\nA: sll $0,$0,0\nj A\nB: halt\n"
+CODE, TASKS = 4096, 1024
+
+
+def largest():
+    """As many tasks and instructions as there may be, each task reaching all of the code."""
+    lines = [f".task T{task} create=- targets=T{task}" for task in range(TASKS)]
+    for index in range(CODE):
+        if index % (CODE // TASKS) == 0:
+            lines.append(f"T{index * TASKS // CODE}:")
+        lines.append("j T0" if index == CODE - 1 else "sll $0,$0,0")
+    return "\n".join(lines) + "\n"
+
 
 def built(folder):
     """Builds the program and leaves a copy of it in the folder."""
@@ -28,7 +42,7 @@ def built(folder):
         (crate / "src").mkdir(parents=True)
         shutil.copy(HERE / "machine.rt.txt", crate / "src" / "main.rt")
         listed.write_text(before.rstrip("\n") + "\n" + LINE)
-        run = subprocess.run(["rt", "run", "--", "events", "1", "0"], cwd=crate, capture_output=True, text=True)
+        run = subprocess.run(["rt", "run", "--", str(folder / "small"), "events", "1", "0"], cwd=crate, capture_output=True, text=True)
         if run.returncode:
             raise SystemExit(run.stdout + run.stderr)
         return shutil.copy(crate / "out" / NAME, folder)
@@ -38,33 +52,46 @@ def built(folder):
 
 
 def measured(program, rounds, words):
-    """The least processor time of a run in seconds, and what it writes."""
-    times = []
+    """The least processor time of a run in seconds, and what the runs write."""
+    times, written = [], []
     for _ in range(rounds):
         start = resource.getrusage(resource.RUSAGE_CHILDREN)
         run = subprocess.run([program, *map(str, words)], capture_output=True, text=True, check=True)
         end = resource.getrusage(resource.RUSAGE_CHILDREN)
         times.append(end.ru_utime + end.ru_stime - start.ru_utime - start.ru_stime)
-    return min(times), run.stdout.strip()
+        written.append(run.stdout.split())
+    return min(times), written
+
+
+def least(program, rounds, words):
+    """The least time in ns of 64 instructions, as the program measures it."""
+    return min(int(words[1]) for words in measured(program, rounds, words)[1])
 
 
 def main():
     options = argparse.ArgumentParser(description="Times the machine's calls.")
     options.add_argument("--rounds", type=int, default=7)
     rounds = options.parse_args().rounds
-    with tempfile.TemporaryDirectory(prefix="multiscalar-bench-") as folder:
+    with tempfile.TemporaryDirectory(prefix="multiscalar-bench-") as name:
+        folder = pathlib.Path(name)
+        small, large = folder / "small", folder / "large"
+        small.write_text(SMALL)
+        large.write_text(largest())
         program = built(folder)
         for units in (1, 4, 16):
-            base, _ = measured(program, rounds, ("events", units, 0))
-            spent, executed = measured(program, rounds, ("events", units, 900000))
+            base, _ = measured(program, rounds, (small, "events", units, 0))
+            spent, written = measured(program, rounds, (small, "events", units, 900000))
             each = (spent - base) / 900000
-            print(f"{units:2} units: {each * 1e9:5.1f} ns per event, {1e-6 / each:4.0f} million a second; head executed {executed}")
-        for log in (0, 1000, 10000, 100000, 400000):
-            count = 2000 if log <= 10000 else 100
-            base, _ = measured(program, rounds, ("leases", log, 0))
-            lent, _ = measured(program, rounds, ("leases", log, count))
-            taken, _ = measured(program, rounds, ("bursts", log, count))
-            print(f"log of {log:6}: lease {(lent - base) / count * 1e6:8.2f} us, lease with a burst of one step handed in {(taken - base) / count * 1e6:8.2f} us")
+            print(f"{units:2} units: {each * 1e9:5.1f} ns per event, {1e-6 / each:4.0f} million a second; head executed {written[0][0]}")
+        for kind, text, log, before in (
+            ("a certificate of two tasks", small, 0, 0),
+            ("a certificate of two tasks", small, 100000, 900000),
+            ("the largest certificate", large, 0, 0),
+            ("the largest certificate", large, 100000, 900000),
+        ):
+            single = least(program, rounds, (text, "single", log, before, 1500))
+            burst = least(program, rounds, (text, "bursts", log, before, 1500))
+            print(f"log of {log:6}, history of {before:6}, {kind}: 64 events {single:5} ns; lease, burst of 64 and check-in {burst:5} ns")
 
 
 if __name__ == "__main__":

@@ -1,7 +1,10 @@
 //! The calls of a machine: events one by one, head events, units lent and bursts handed in, and the
 //! predictors.
 
-use crate::programs::{COUNT, COUNT_CERTIFICATE, COUNT_FORWARDED, DIAMOND, DIAMOND_CERTIFICATE};
+use crate::programs::{
+    COUNT, COUNT_CERTIFICATE, COUNT_FORWARDED, COUNT_WITH_THREE_TARGETS, DIAMOND,
+    DIAMOND_CERTIFICATE, LOAD_CERTIFICATE, LOAD_OF_7, LOAD_OF_8,
+};
 use annotated_asm::assembler::assemble;
 use machine_events::event::{Commit, Event, Refused, Standing};
 use mark_checker::accept::Accepted;
@@ -13,7 +16,7 @@ use sequencer::machine::{Machine, MachineFault};
 use sequencer::predict::{First, Last, Predict, Script};
 use std::alloc::Global;
 use std::process::Abort;
-use unit_core::burst::Burst;
+use unit_core::burst::{Burst, MOST_STEPS};
 
 fn register(rt: &impl Abort, number: u8) -> Reg {
     Reg::new(number).expect(rt, "a register")
@@ -51,8 +54,19 @@ fn expect_applied(rt: &impl Abort, machine: &mut Machine<'_>, event: &Event) {
 
 // Lends a unit, makes a burst of at most 64 steps on it, and asserts how many it has.
 fn burst_on<'a>(rt: &impl Abort, machine: &Machine<'a>, unit: u32, steps: u32) -> Burst<'a> {
-    let lent = machine.lease(unit).ok().expect(rt, "room for a lease");
-    let burst = Burst::run(lent.expect(rt, "a unit at work"), 64);
+    short_burst_on(rt, machine, unit, 64, steps)
+}
+
+// The same with at most so many steps.
+fn short_burst_on<'a>(
+    rt: &impl Abort,
+    machine: &Machine<'a>,
+    unit: u32,
+    most: u32,
+    steps: u32,
+) -> Burst<'a> {
+    assert!(rt; most <= MOST_STEPS);
+    let burst = Burst::run(machine.lease(unit).expect(rt, "a unit at work"), most);
     assert_eq!(rt; burst.steps(), steps);
     burst
 }
@@ -120,16 +134,60 @@ fn squash_behind_a_lease(rt: &impl Abort, machine: &mut Machine<'_>) {
     expect_value(rt, machine, 2, 9, 0);
 }
 
-// The same serial number and registers, and another program: one mark differs.
+// The same serial number and registers, and another program: a mark of an instruction differs, which
+// the burst executed.
 #[test]
 fn burst_of_another_program(rt: HostRuntime) {
     let other = accepted(&rt, rt.alloc(), COUNT_FORWARDED, COUNT_CERTIFICATE);
     let accepted = accepted(&rt, rt.alloc(), COUNT, COUNT_CERTIFICATE);
+    let mut lender = begun_on_one_unit(&rt, rt.alloc(), &accepted);
+    let mut machine = begun_on_one_unit(&rt, rt.alloc(), &other);
+    for begun in [&mut lender, &mut machine] {
+        apply_all(&rt, begun, &[Event::Exec(0), Event::Exec(0)]);
+    }
+    let burst = burst_on(&rt, &lender, 0, 2);
+    expect_taken(&rt, &mut machine, burst, 0, 3);
+    let burst = burst_on(&rt, &lender, 0, 2);
+    expect_taken(&rt, &mut lender, burst, 2, 5);
+}
+
+// Where the burst did not come to what differs, it is one of either program.
+#[test]
+fn burst_of_the_same_stretch(rt: HostRuntime) {
+    let other = accepted(&rt, rt.alloc(), COUNT_FORWARDED, COUNT_CERTIFICATE);
+    let accepted = accepted(&rt, rt.alloc(), COUNT, COUNT_CERTIFICATE);
     let lender = begun_on_one_unit(&rt, rt.alloc(), &accepted);
-    let burst = burst_on(&rt, &lender, 0, 4);
+    let burst = burst_on(&rt, &lender, 0, 1);
+    let mut machine = begun_on_one_unit(&rt, rt.alloc(), &other);
+    expect_taken(&rt, &mut machine, burst, 1, 2);
+    expect_value(&rt, &machine, 0, 8, 1);
+}
+
+// The descriptor of the task differs: one more target.
+#[test]
+fn burst_of_another_task(rt: HostRuntime) {
+    let other = accepted(&rt, rt.alloc(), COUNT_WITH_THREE_TARGETS, COUNT_CERTIFICATE);
+    let accepted = accepted(&rt, rt.alloc(), COUNT, COUNT_CERTIFICATE);
+    let lender = begun_on_one_unit(&rt, rt.alloc(), &accepted);
+    let burst = burst_on(&rt, &lender, 0, 1);
     let mut machine = begun_on_one_unit(&rt, rt.alloc(), &other);
     expect_taken(&rt, &mut machine, burst, 0, 1);
-    expect_value(&rt, &machine, 0, 8, 0);
+}
+
+// Read-only data differs, which a burst of four steps loads, and one of two does not.
+#[test]
+fn burst_of_other_data(rt: HostRuntime) {
+    let other = accepted(&rt, rt.alloc(), LOAD_OF_8, LOAD_CERTIFICATE);
+    let accepted = accepted(&rt, rt.alloc(), LOAD_OF_7, LOAD_CERTIFICATE);
+    let lender = begun_on_one_unit(&rt, rt.alloc(), &accepted);
+    let mut machine = begun_on_one_unit(&rt, rt.alloc(), &other);
+    let loaded = burst_on(&rt, &lender, 0, 4);
+    expect_taken(&rt, &mut machine, loaded, 0, 1);
+    let before = short_burst_on(&rt, &lender, 0, 2, 2);
+    expect_taken(&rt, &mut machine, before, 2, 3);
+    let loaded = burst_on(&rt, &machine, 0, 2);
+    expect_taken(&rt, &mut machine, loaded, 2, 5);
+    expect_value(&rt, &machine, 0, 8, 8);
 }
 
 // A machine of one unit with its first task assigned.
@@ -152,8 +210,7 @@ fn burst_with_no_step(rt: HostRuntime) {
 }
 
 fn expect_no_lease(rt: &impl Abort, machine: &Machine<'_>, unit: u32) {
-    let lent = machine.lease(unit).ok().expect(rt, "room for a lease");
-    assert!(rt; lent.is_none());
+    assert!(rt; machine.lease(unit).is_none());
 }
 
 #[test]
@@ -231,7 +288,8 @@ fn finishes_where_a_unit_ran_ahead(rt: HostRuntime) {
 }
 
 fn expect_last(rt: &impl Abort, machine: &Machine<'_>, event: Event) {
-    assert_eq!(rt; machine.history().last().copied(), Some(event));
+    let last = machine.history().last().copied();
+    assert_eq!(rt; last.map(|run| run.event), Some(event));
 }
 
 // The first unit executes its task, and the second one two instructions.
@@ -298,6 +356,58 @@ fn expect_no_data(rt: &impl Abort, machine: &Machine<'_>) {
     let zero = Gpr::new(0).expect(rt, "a register");
     let load = Op::Load(LoadKind::Lw, zero, zero, 0);
     assert_eq!(rt; machine.memory().load(&load, 0x1001_0000), Ok(0));
+}
+
+// Equal events in a row are one run, single events and those of a burst alike.
+#[test]
+fn history_is_kept_as_runs(rt: HostRuntime) {
+    let accepted = accepted(&rt, rt.alloc(), COUNT, COUNT_CERTIFICATE);
+    let mut machine = begun_on_one_unit(&rt, rt.alloc(), &accepted);
+    apply_all(&rt, &mut machine, &[Event::Exec(0), Event::Exec(0)]);
+    let burst = burst_on(&rt, &machine, 0, 2);
+    expect_taken(&rt, &mut machine, burst, 2, 5);
+    let drain = Event::Drain(0, register(&rt, 10));
+    expect_applied(&rt, &mut machine, &drain);
+    expect_runs(&rt, &machine, &[(Event::Assign(0), 1), (Event::Exec(0), 4), (drain, 1)]);
+}
+
+fn expect_runs(rt: &impl Abort, machine: &Machine<'_>, runs: &[(Event, u32)]) {
+    assert_eq!(rt; machine.history().len(), runs.len());
+    for (run, (event, count)) in machine.history().iter().zip(runs) {
+        assert_eq!(rt; (run.event, run.count), (*event, *count));
+    }
+}
+
+// Each Assign gives the next serial number, and a unit keeps its number round the ring.
+#[test]
+fn serial_numbers_are_of_units(rt: HostRuntime) {
+    let accepted = accepted(&rt, rt.alloc(), COUNT, COUNT_CERTIFICATE);
+    let mut machine = machine(&rt, rt.alloc(), &accepted, 2);
+    apply_all(&rt, &mut machine, &[Event::Assign(0), Event::Assign(0)]);
+    expect_units(&rt, &machine, &[Some(0), Some(1), None]);
+    expect_finished(&rt, &mut machine, 5, (4, 5));
+    expect_units(&rt, &machine, &[None, Some(1), None]);
+    expect_applied(&rt, &mut machine, &Event::Assign(1));
+    expect_units(&rt, &machine, &[None, Some(1), Some(0)]);
+}
+
+// Asserts which unit has each serial number from 0 on.
+fn expect_units(rt: &impl Abort, machine: &Machine<'_>, units: &[Option<u32>]) {
+    for (serial, unit) in (0..4).zip(units) {
+        assert_eq!(rt; machine.unit_with(serial), *unit);
+    }
+}
+
+// Program and certificate are compared by value.
+#[test]
+fn machine_is_over_its_program(rt: HostRuntime) {
+    let first = accepted(&rt, rt.alloc(), COUNT, COUNT_CERTIFICATE);
+    let equal = accepted(&rt, rt.alloc(), COUNT, COUNT_CERTIFICATE);
+    let other = accepted(&rt, rt.alloc(), COUNT_FORWARDED, COUNT_CERTIFICATE);
+    let machine = machine(&rt, rt.alloc(), &first, 2);
+    assert!(rt; machine.is_over(&equal, 2));
+    assert!(rt; !machine.is_over(&equal, 1));
+    assert!(rt; !machine.is_over(&other, 2));
 }
 
 #[test]

@@ -28,7 +28,21 @@ out $9
 halt
 ";
 
-/// The certificate of both.
+/// `COUNT`, where the first task names a target twice.
+pub const COUNT_WITH_THREE_TARGETS: &str = ".start A
+.task A create=$8,$9,$10 targets=A,B,A
+.task B create=- targets=-
+A:
+addiu $8,$8,1 !f
+addu $9,$9,$8 !f
+slti $10,$8,4
+bne $10,$0,A !s
+B:
+out $9
+halt
+";
+
+/// The certificate of the three.
 pub const COUNT_CERTIFICATE: &str = "cert 1
 task A
 0 00000700
@@ -67,4 +81,42 @@ task D
 4 00000200
 5 00000000
 6 00000000
+";
+
+/// Loads 7 from read-only data and puts it out.
+pub const LOAD_OF_7: &str = ".task A create=$8 targets=B
+.task B create=- targets=-
+.rodata
+K: .word 7
+.text
+A: la $8,K
+lw $8,0($8)
+j B !s
+B: out $8
+halt
+";
+
+/// The same with 8.
+pub const LOAD_OF_8: &str = ".task A create=$8 targets=B
+.task B create=- targets=-
+.rodata
+K: .word 8
+.text
+A: la $8,K
+lw $8,0($8)
+j B !s
+B: out $8
+halt
+";
+
+/// The certificate of both.
+pub const LOAD_CERTIFICATE: &str = "cert 1
+task A
+0 00000100
+1 00000100
+2 00000100
+3 00000000
+task B
+4 00000000
+5 00000000
 ";

@@ -2,6 +2,8 @@
 use Rattle.std.proofs.Common.{◌≡◌, ℕ, suc, ◌+◌, ◌<◌, ◌≤◌, List, [], ◌∷◌, ◌++◌, length, Some, refl, sym, ap, ◌∙◌, subst, arith, length-append}
 use Rattle.std.specs.Prelude.{slice_get, slice_set}
 use Rattle.std.proofs.lemmas.List.Sums.{sum_by-set, sum_by_push, sum_by-take-le, sum_by-cons}
+use Rattle.std.specs.List.{All}
+use Rattle.std.proofs.lemmas.List.Elements.{All-nil, All-cons}
 use Rattle.std.proofs.lemmas.Option.{slice_get_within, get_or_from_slice_get}
 use Rattle.mips_plain.specs.Words.{address}
 use Rattle.task_descriptor.specs.Listing.{Listing}
@@ -14,6 +16,7 @@ use Rattle.machine_model.specs.HeadEvent.{active_after}
 use Rattle.machine_events.specs.declared.event.Commit.{Commit}
 use Rattle.machine_events.specs.declared.event.Event.{Event}
 use Rattle.machine_events.specs.declared.event.Event.TheVariants.{Assign, Exec, Transfer, Drain, Squash, Retire, Fault, Drop}
+use Rattle.sequencer.specs.Rings.{EventFits}
 
 -- more events behind a replay
 
@@ -138,3 +141,34 @@ fits_from count p units (x ∷ es) s s' h e =
 
 pub queue_fits : EventsCount → (p : Listing) (units : ℕ) (events : List Event) (s : State) → Replays p units events s → length s.queue ≤ units
 queue_fits count p units events s h = fits_from count p units events (opening p) s h (omega arith)
+
+-- an event that is allowed names a task or a position that is there
+
+event_fits : (p : Listing) (units : ℕ) (s s' : State) (e : Event) → Next p units s e s' → length s.queue ≤ units → 0 < units → EventFits (length p.tasks) units e
+event_fits p units s s' (Assign t) next fits some = next.does.is_task
+event_fits p units s s' (Exec k) next fits some =
+    let d = next.does in
+    let within : k < length s.queue = slice_get_within s.queue k d.unit d.is_unit in omega arith
+event_fits p units s s' (Transfer k r) next fits some =
+    let d = next.does in
+    let within : k < length s.queue = slice_get_within s.queue k d.unit d.is_unit in omega arith
+event_fits p units s s' (Drain k r) next fits some =
+    let d = next.does in
+    let within : k < length s.queue = slice_get_within s.queue k d.unit d.is_unit in omega arith
+event_fits p units s s' (Squash k) next fits some =
+    let d = next.does in
+    let within : k < length s.queue = slice_get_within s.queue k d.unit d.is_unit in omega arith
+event_fits p units s s' Retire next fits some = some
+event_fits p units s s' Fault next fits some = some
+event_fits p units s s' (Drop k) next fits some =
+    let d = next.does in
+    let within : k < length s.queue = slice_get_within s.queue k d.unit d.is_unit in omega arith
+
+events_fit_from : EventsCount → (p : Listing) (units : ℕ) (es : List Event) (s s' : State) → ReplaysFrom p units s es s' → length s.queue ≤ units → 0 < units → All (EventFits (length p.tasks) units) es
+events_fit_from count p units [] s s' h within some = All-nil (EventFits (length p.tasks) units)
+events_fit_from count p units (e ∷ es) s s' h within some =
+    All-cons (EventFits (length p.tasks) units) e es (event_fits p units s h.0 e h.1 within some)
+    (events_fit_from count p units es h.0 s' h.2 (fits p units s h.0 e h.1 (count p units s h.0 e h.1).1 within) some)
+
+pub events_fit : EventsCount → (p : Listing) (units : ℕ) (events : List Event) (s : State) → 0 < units → Replays p units events s → All (EventFits (length p.tasks) units) events
+events_fit count p units events s some h = events_fit_from count p units events (opening p) s h (omega arith) some

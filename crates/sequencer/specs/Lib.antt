@@ -1,5 +1,6 @@
 pub mod Scripts
 pub mod Seen
+pub mod Histories
 pub mod Rings
 pub mod Choices
 pub mod Finish

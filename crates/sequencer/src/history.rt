@@ -1,47 +1,53 @@
-//! The events of a machine so far, in room that is reserved once.
+//! The events of a machine so far, as runs of equal events, in room that is reserved once.
 
-use machine_events::event::Event;
+use machine_events::event::{Event, EventRun};
 use processor_steps::processor::MOST_EVENTS;
 use std::alloc::{AllocError, Global};
 use std::marker::Model;
 
-/// The events so far. Their number and the spare places add up to at least 1,000,000, so an event that
-/// fits takes no memory.
+/// The events so far. There are at least 1,000,000 places for runs, and each run has an event, so an event
+/// that fits takes no memory.
 #[derive(Debug, Drop)]
 pub(crate) struct History {
-    events: Vec<Event>,
+    runs: Vec<EventRun>,
+    total: usize,
 }
 
 impl Model for History {
-    ghost use Rattle.std.specs.Prelude.{◌≤◌, List, vec_capacity};
+    ghost use Rattle.std.specs.Prelude.{◌≡◌, ◌≤◌, List, length, vec_capacity};
     ghost use Rattle.machine_model.specs.Answer.{most_events};
+    ghost use Rattle.machine_events.specs.Runs.{events_of};
     ghost use Rattle.machine_events.specs.declared.event.Event.{Event};
+    ghost use Rattle.sequencer.specs.Histories.{AreCounted};
 
     ghost Value = { List Event };
 
-    ghost view = { λ h. h.events.items };
+    ghost view = { λ h. events_of h.runs.items };
 
-    ghost invariant = { λ h. most_events ≤ vec_capacity h.events };
+    ghost invariant = { λ h. (most_events ≤ vec_capacity h.runs) × (h.total ≡ length (events_of h.runs.items)) × AreCounted h.runs.items };
 }
 
 impl History {
     ghost use Rattle.std.specs.Prelude.{◌≡◌, ◌+◌, ◌<◌, ◌≤◌, [], ◌∷◌, ◌++◌, length, replicate, IfOk};
     ghost use Rattle.machine_model.specs.Answer.{most_events};
+    ghost use Rattle.machine_events.specs.Runs.{events_of};
+    ghost use Rattle.sequencer.specs.Histories.{AreCounted};
 
     /// No event, with its room reserved.
     pub(crate) fn new(alloc: Global) -> Result<History, AllocError>
         ensures { IfOk result (λ history. history ≡ []) }
     {
-        let events = Vec::with_capacity(alloc, MOST_EVENTS)?;
-        Ok(History { events })
+        let runs = Vec::with_capacity(alloc, MOST_EVENTS)?;
+        Ok(History { runs, total: 0 })
     }
 
-    /// The events, the first first.
+    /// The events as runs, the first first.
     #[inline]
-    pub(crate) fn as_slice(&self) -> &[Event]
-        ensures { result.now ≡ self.now }
+    pub(crate) fn runs(&self) -> &[EventRun]
+        ensures value { events_of result.now ≡ self.now }
+        ensures counted { AreCounted result.now }
     {
-        &self.events
+        &self.runs
     }
 
     /// How many events there are.
@@ -49,7 +55,7 @@ impl History {
     pub(crate) fn len(&self) -> usize
         ensures { result ≡ length self.now }
     {
-        self.events.len()
+        self.total
     }
 
     /// Appends an event.
@@ -58,27 +64,49 @@ impl History {
         requires { length self.old < most_events }
         ensures { self.new ≡ self.old ++ event ∷ [] }
     {
-        self.events.push_reserved(event);
+        self.push_many(event, 1);
     }
 
-    /// Appends so many instructions of the unit at a position.
-    pub(crate) fn push_execs(&mut self, position: u32, count: u32)
-        requires { length self.old + count ≤ most_events }
-        ensures { self.new ≡ self.old ++ replicate count (Event.Exec position) }
+    /// Appends an event so many times, once at least.
+    #[inline]
+    pub(crate) fn push_many(&mut self, event: Event, count: u32)
+        requires some { 0 < count }
+        requires room { length self.old + count ≤ most_events }
+        ensures { self.new ≡ self.old ++ replicate count event }
     {
-        append_execs(&mut self.events, position, count);
+        append(&mut self.runs, event, count);
+        self.total += count as usize;
     }
 }
 
-ghost use Rattle.std.specs.Prelude.{◌≡◌, ◌+◌, ◌≤◌, ◌++◌, replicate, vec_len, vec_capacity};
+ghost use Rattle.std.specs.Prelude.{◌≡◌, ◌+◌, ◌<◌, ◌≤◌, ◌++◌, length, replicate, vec_capacity};
+ghost use Rattle.machine_model.specs.Answer.{most_events};
+ghost use Rattle.machine_events.specs.Runs.{events_of};
+ghost use Rattle.sequencer.specs.Histories.{AreCounted};
 
-/// Appends so many instructions of the unit at a position, in room that is there.
-fn append_execs(events: &mut Vec<Event>, position: u32, count: u32)
-    requires { vec_len events.old + count ≤ vec_capacity events.old }
-    ensures items { events.new.items ≡ events.old.items ++ replicate count (Event.Exec position) }
-    ensures capacity { vec_capacity events.new ≡ vec_capacity events.old }
+/// Appends an event so many times to runs, in room that is there: the last run grows where it is one of
+/// the same event.
+#[inline]
+fn append(runs: &mut Vec<EventRun>, event: Event, count: u32)
+    requires counted { AreCounted runs.old.items }
+    requires some { 0 < count }
+    requires room { length (events_of runs.old.items) + count ≤ most_events }
+    requires capacity { most_events ≤ vec_capacity runs.old }
+    ensures events { events_of runs.new.items ≡ events_of runs.old.items ++ replicate count event }
+    ensures counted { AreCounted runs.new.items }
+    ensures capacity { vec_capacity runs.new ≡ vec_capacity runs.old }
 {
-    for _ in 0..count {
-        events.push_reserved(Event::Exec(position));
+    let Some(last) = runs.pop() else {
+        runs.push_reserved(EventRun { event, count });
+        return;
+    };
+    if last.event == event {
+        runs.push_reserved(EventRun {
+            event,
+            count: last.count + count,
+        });
+        return;
     }
+    runs.push_reserved(last);
+    runs.push_reserved(EventRun { event, count });
 }

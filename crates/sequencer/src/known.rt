@@ -1,6 +1,7 @@
 //! What is known of every machine over an accepted program, from the theorems about the model.
 
-ghost use Rattle.std.specs.Prelude.{◌≡◌, ℕ, ◌+◌, ◌≤◌, List, [], ◌∷◌, ◌++◌, None, length};
+ghost use Rattle.std.specs.Prelude.{◌≡◌, ℕ, ◌+◌, ◌<◌, ◌≤◌, List, [], ◌∷◌, ◌++◌, None, length};
+ghost use Rattle.std.specs.List.{All};
 ghost use Rattle.machine_model.specs.Machine.{State};
 ghost use Rattle.machine_model.specs.Step.{Next};
 ghost use Rattle.machine_model.specs.Replay.{ReplaysFrom, Replays};
@@ -9,6 +10,7 @@ ghost use Rattle.machine_model.specs.Claims.{count_h};
 ghost use Rattle.machine_model.specs.HeadEvent.{growth};
 ghost use Rattle.machine_events.specs.declared.event.Event.{Event};
 ghost use Rattle.processor_steps.specs.Seen.{ArePlaced, executed_by};
+ghost use Rattle.sequencer.specs.Rings.{AreDistinct, EventFits};
 
 use accepted_laws::laws::replayed_places_masked;
 use machine_model::laws::{
@@ -25,6 +27,8 @@ pub(crate) fn known(accepted: &Accepted)
     ensures more { (units : ℕ) (first second : List Event) (s s' : State) → Replays accepted.now.program units first s → ReplaysFrom accepted.now.program units s second s' → Replays accepted.now.program units (first ++ second) s' }
     ensures executed { (units : ℕ) (events : List Event) (s : State) → Replays accepted.now.program units events s → executed_by s ≤ length events }
     ensures fits { (units : ℕ) (events : List Event) (s : State) → Replays accepted.now.program units events s → length s.queue ≤ units }
+    ensures distinct { (units : ℕ) (events : List Event) (s : State) → Replays accepted.now.program units events s → AreDistinct s.queue }
+    ensures in_range { (units : ℕ) (events : List Event) (s : State) → 0 < units → Replays accepted.now.program units events s → All (EventFits (length accepted.now.program.tasks) units) events }
     ensures assigned { (units : ℕ) (events : List Event) (s : State) → Replays accepted.now.program units events s → s.assigns ≤ length events }
 {
     // A program says that it is well formed, which the laws ask for, where its start is read.

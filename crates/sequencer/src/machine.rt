@@ -3,7 +3,7 @@
 use crate::history::History;
 use crate::known::known;
 use accepted_laws::laws::{accepted_headline, accepted_never_stuck};
-use machine_events::event::{Commit, Event, Refused, Standing};
+use machine_events::event::{Commit, Event, EventRun, Refused, Standing};
 use mark_checker::accept::Accepted;
 use mips_plain::memory::Memory;
 use mips_plain::number::{Place, Reg};
@@ -46,11 +46,13 @@ impl<'a> Model for Machine<'a> {
 
 impl<'a> Machine<'a> {
     ghost use Rattle.std.specs.Prelude.{◌≡◌, ℕ, ◌+◌, ◌%◌, ◌<◌, ◌≤◌, ◌⊎◌, ◌↔◌, List, [], ◌∷◌, ◌++◌, length, slice_get, nat_lt, if◌then◌else◌, Ok, Err, Some, None, IfOk, IfErr, OnOk, OnErr, IfSome, IfNone, IsSome, IsTrue, true, false};
+    ghost use Rattle.std.specs.List.{All};
     ghost use Rattle.std.specs.Option.{option_and_then};
     ghost use Rattle.machine_model.specs.Machine.{State, opening, value as value_of};
     ghost use Rattle.machine_model.specs.Step.{Next};
     ghost use Rattle.machine_model.specs.Answer.{after, refusal, most_events};
     ghost use Rattle.machine_model.specs.HeadEvent.{head_event as head_event_of, event_of_queue, growth};
+    ghost use Rattle.machine_events.specs.Runs.{events_of};
     ghost use Rattle.machine_events.specs.declared.event.Event.{Event};
     ghost use Rattle.machine_events.specs.declared.event.Event.TheVariants.{Assign, Exec, Retire};
     ghost use Rattle.machine_events.specs.declared.event.Refused.TheVariants as refused;
@@ -62,7 +64,8 @@ impl<'a> Machine<'a> {
     ghost use Rattle.sequencer.specs.Seen.{IsMachine, state, units_of, answer_to, IsAnswered, Applies, SameRing};
     ghost use Rattle.sequencer.specs.Choices.{choices_of, choice_of, MayFollow};
     ghost use Rattle.sequencer.specs.Finish.{RunsByHead, IsHeadRefused};
-    ghost use Rattle.sequencer.specs.Rings.{unit_for};
+    ghost use Rattle.sequencer.specs.Rings.{unit_for, AreDistinct, EventFits};
+    ghost use Rattle.sequencer.specs.Histories.{AreCounted};
 
     /// A machine at the start of the program, with so many units, 1 to 16, none of them at work. It
     /// reserves the room of its history, once.
@@ -197,13 +200,17 @@ impl<'a> Machine<'a> {
         Ok(true)
     }
 
-    /// The events that were applied, the first first. The machine is always their replay.
-    pub fn history(&self) -> &[Event]
-        ensures value { result.now ≡ self.now.history }
+    /// The events that were applied, the first first, as runs of equal events. The machine is always
+    /// their replay.
+    pub fn history(&self) -> &[EventRun]
+        ensures value { events_of result.now ≡ self.now.history }
+        ensures counted { AreCounted result.now }
         ensures replay { Replays self.now.accepted.program (units_of self.now) self.now.history (state self.now) }
         ensures room { length self.now.history ≤ most_events }
+        ensures in_range { All (EventFits (length self.now.accepted.program.tasks) (units_of self.now)) self.now.history }
     {
-        self.history.as_slice()
+        self.is_known();
+        self.history.runs()
     }
 
     /// How many events were applied.
@@ -213,12 +220,22 @@ impl<'a> Machine<'a> {
         self.history.len()
     }
 
+    /// Whether the machine was made over an equal program and certificate, with so many units. They are
+    /// compared by value.
+    pub fn is_over(&self, accepted: &Accepted, units: u32) -> bool
+        ensures { IsTrue result ↔ ((self.now.accepted ≡ accepted.now) × (units_of self.now ≡ units)) }
+    {
+        self.processor.places() == units && is_same(self.accepted, accepted)
+    }
+
     /// What the laws say of this machine; the call does nothing.
     pub(crate) fn is_known(&self)
         ensures placed { ArePlaced self.now.accepted (state self.now).queue }
         ensures assigned { (state self.now).assigns ≤ length self.now.history }
         ensures executed { executed_by (state self.now) ≤ length self.now.history }
         ensures room { length self.now.history ≤ most_events }
+        ensures distinct { AreDistinct (state self.now).queue }
+        ensures in_range { All (EventFits (length self.now.accepted.program.tasks) (units_of self.now)) self.now.history }
         ensures allowed { (e : Event) (s : State) → Next self.now.accepted.program (units_of self.now) (state self.now) e s → refusal self.now.accepted.program (units_of self.now) (state self.now) e ≡ None }
         ensures grows { (e : Event) (s : State) → Next self.now.accepted.program (units_of self.now) (state self.now) e s → count_h s ≡ count_h (state self.now) + growth (state self.now) e }
         ensures fits { length (state self.now).queue ≤ units_of self.now }
@@ -366,6 +383,15 @@ impl<'a> Machine<'a> {
         None
     }
 
+    /// The number round the ring of the unit at a position.
+    #[inline]
+    pub(crate) fn number_at(&self, position: u32) -> u32
+        ensures { result ≡ unit_for self.now (Exec position) }
+    {
+        let units = self.processor.places() as usize;
+        ((self.processor.commits().len() + position as usize) % units) as u32
+    }
+
     /// The number of the unit that the next Assign fills; `None` where all are at work.
     pub fn next_unit(&self) -> Option<u32>
         ensures { (task : ℕ) → result ≡ (if nat_lt (length (state self.now).queue) (units_of self.now) then Some (unit_for self.now (Assign task)) else None) }
@@ -422,4 +448,16 @@ impl<'a> Machine<'a> {
             None => None,
         }
     }
+}
+
+ghost use Rattle.std.specs.Prelude.{◌≡◌, ◌↔◌, IsTrue};
+
+/// Whether program and certificate are the same.
+fn is_same(accepted: &Accepted, other: &Accepted) -> bool
+    ensures { IsTrue result ↔ (accepted.now ≡ other.now) }
+{
+    if !accepted.program().is_same(other.program()) {
+        return false;
+    }
+    accepted.cert().is_same(other.cert())
 }

@@ -83,8 +83,7 @@ impl<'a> Trial<'a> {
     /// A burst of at most so many steps.
     fn burst(&self, rt: &impl Abort, most: u32) -> Burst<'a> {
         assert!(rt; most <= MOST_STEPS);
-        let lease = self.unit.lease(self.accepted).ok();
-        Burst::run(lease.expect(rt, "room for a lease"), most)
+        Burst::run(self.unit.lease(self.accepted), most)
     }
 }
 
@@ -165,16 +164,34 @@ fn arrived_register_is_used(rt: HostRuntime) {
     expect_value(&rt, &ahead.unit, 8, 3);
 }
 
+// A burst ends behind the instruction that sends a register for the first time, and its reads come
+// behind those that were there.
+#[test]
+fn bursts_end_behind_first_sends(rt: HostRuntime) {
+    let accepted = count(&rt, rt.alloc());
+    let mut trial = Trial::new(&rt, rt.alloc(), &accepted, zeros(&rt, 0));
+    for (steps, reads) in [(1, 1), (1, 2), (2, 4), (0, 4)] {
+        let burst = trial.burst(&rt, MOST_STEPS);
+        expect_taken(&rt, &mut trial.unit, burst, steps, steps);
+        assert_eq!(rt; trial.unit.reads().len(), reads);
+    }
+    assert_eq!(rt; trial.unit.spot(), Spot::Stopped(0x0040_0000));
+    for (read, index) in trial.unit.reads().iter().zip(0..4) {
+        assert_eq!(rt; read.pc, 0x0040_0000 + 4 * index);
+    }
+}
+
 #[test]
 fn burst_is_taken_once(rt: HostRuntime) {
     let accepted = count(&rt, rt.alloc());
-    let trial = Trial::new(&rt, rt.alloc(), &accepted, zeros(&rt, 0x20));
+    let mut trial = Trial::new(&rt, rt.alloc(), &accepted, zeros(&rt, 0x20));
+    expect_steps(&rt, &mut trial, &[None, None]);
     let burst = trial.burst(&rt, 64);
-    let again = trial.burst(&rt, 2);
+    let again = trial.burst(&rt, 1);
     let Trial { mut unit, .. } = trial;
     assert_eq!(rt; unit.arrive(register(&rt, 5), 9), Ok(()));
-    expect_taken(&rt, &mut unit, burst, 4, 4);
-    expect_taken(&rt, &mut unit, again, 2, 0);
+    expect_taken(&rt, &mut unit, burst, 2, 2);
+    expect_taken(&rt, &mut unit, again, 1, 0);
     expect_value(&rt, &unit, 5, 9);
     assert_eq!(rt; unit.reads().len(), 4);
 }
@@ -182,5 +199,6 @@ fn burst_is_taken_once(rt: HostRuntime) {
 /// Asserts how many steps a burst has, and how many of them a unit takes over.
 fn expect_taken(rt: &impl Abort, unit: &mut Unit, burst: Burst<'_>, steps: u32, taken: u32) {
     assert_eq!(rt; burst.steps(), steps);
+    assert_eq!(rt; burst.after().reads().len(), steps as usize);
     assert_eq!(rt; unit.take(burst).ok(), Some(taken));
 }

@@ -3,7 +3,8 @@ use Rattle.task_descriptor.specs.Listing.{IsWellFormed}
 use Rattle.machine_model.specs.Machine.{State}
 use Rattle.machine_model.specs.Step.{Next}
 use Rattle.machine_model.specs.Answer.{refusal}
-use Rattle.sequencer.proofs.Runs.{replays_more, replay_executes, replay_assigns, queue_fits}
+use Rattle.sequencer.proofs.Runs.{replays_more, replay_executes, replay_assigns, queue_fits, events_fit}
+use Rattle.sequencer.proofs.Serials.{serials_distinct}
 use Rattle.sequencer.proofs.Verdicts.{none_refused}
 use Rattle.sequencer.proofs.known.known.Goals as goal
 
@@ -40,3 +41,9 @@ returns-clause-assigned c = λ units events s replay. replay_assigns c.args.acce
 
 pub returns-clause-fits : goal.returns-clause-fits
 returns-clause-fits c = λ units events s replay. queue_fits c.events_count.ensures c.args.accepted.now.program units events s replay
+
+pub returns-clause-distinct : goal.returns-clause-distinct
+returns-clause-distinct c = λ units events s replay. serials_distinct c.args.accepted.now.program units events s replay
+
+pub returns-clause-in_range : goal.returns-clause-in_range
+returns-clause-in_range c = λ units events s some replay. events_fit c.events_count.ensures c.args.accepted.now.program units events s some replay

@@ -8,6 +8,8 @@ use Rattle.machine_model.specs.Claims.{count_h}
 use Rattle.machine_model.specs.HeadEvent.{growth}
 use Rattle.processor_steps.specs.Seen.{ProcessorView, Keeps, Steps, ArePlaced, state_of}
 use Rattle.sequencer.specs.Seen.{MachineView, IsMachine, state, units_of}
+use Rattle.std.specs.List.{All}
+use Rattle.sequencer.specs.Rings.{AreDistinct, EventFits}
 use Rattle.sequencer.proofs.Machines.{applied, goes_on}
 use Rattle.sequencer.proofs.machine.Machine.is_known.Goals as goal
 
@@ -48,3 +50,15 @@ returns-clause-fits c =
     let i = c.self.inside in
     subst (λ (x : MachineView). length (state x).queue ≤ units_of x) c.self.view_is
     (c.known.ensures.fits i.processor.queue.places i.history (state_of i.processor) c.self.invariant.replay)
+
+pub returns-clause-distinct : goal.returns-clause-distinct
+returns-clause-distinct c =
+    let i = c.self.inside in
+    subst (λ (x : MachineView). AreDistinct (state x).queue) c.self.view_is
+    (c.known.ensures.distinct i.processor.queue.places i.history (state_of i.processor) c.self.invariant.replay)
+
+pub returns-clause-in_range : goal.returns-clause-in_range
+returns-clause-in_range c =
+    let i = c.self.inside in
+    subst (λ (x : MachineView). All (EventFits (length x.accepted.program.tasks) (units_of x)) x.history) c.self.view_is
+    (c.known.ensures.in_range i.processor.queue.places i.history (state_of i.processor) c.self.invariant.some_unit c.self.invariant.replay)

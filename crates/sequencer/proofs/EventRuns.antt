@@ -1,0 +1,67 @@
+-- The events of runs, with one run more, or with a longer last one; and events compared.
+use Rattle.std.proofs.Common.{◌≡◌, ℕ, zero, suc, ◌+◌, ◌<◌, ◌≤◌, List, [], ◌∷◌, ◌++◌, length, replicate, refl, sym, ap, ◌∙◌, true, arith, append_assoc, length-append, true≢false, eqb-true}
+use Rattle.std.proofs.lemmas.Grind.{flat_map-append}
+use Rattle.std.proofs.lemmas.List.{length-replicate, append-nil}
+use Rattle.std.proofs.lemmas.List.Concat.{flat_map-cons}
+use Rattle.std.proofs.lemmas.Bool.{and_parts}
+use Rattle.std.specs.Prelude.{nat_eq}
+use Rattle.std.proofs.lemmas.List.Elements.{All-head, All-tail}
+use Rattle.machine_events.specs.Runs.{events_of}
+use Rattle.machine_events.specs.declared.event.Event.{Event}
+use Rattle.machine_events.specs.declared.event.Event.TheVariants as event
+use Rattle.machine_events.specs.contracts.event.EventPartialEq.TheImpl as compared
+use Rattle.machine_events.specs.declared.event.EventRun.{EventRun}
+use Rattle.sequencer.specs.Histories.{AreCounted}
+
+abbrev events : EventRun → List Event
+events run = replicate run.count run.event
+
+-- one run more
+pub joined : (runs : List EventRun) (run : EventRun) → events_of (runs ++ run ∷ []) ≡ events_of runs ++ replicate run.count run.event
+joined runs run =
+    flat_map-append events runs (run ∷ [])
+    ∙ ap (λ (es : List Event). events_of runs ++ es) (flat_map-cons events run [] ∙ append-nil (replicate run.count run.event))
+
+repeated : (m n : ℕ) (e : Event) → replicate (m + n) e ≡ replicate m e ++ replicate n e
+repeated zero n e = ap (λ (k : ℕ). replicate k e) (let same : 0 + n ≡ n = omega arith in same)
+repeated (suc m) n e =
+    ap (λ (k : ℕ). replicate k e) (let same : suc m + n ≡ suc (m + n) = omega arith in same)
+    ∙ ap (λ (es : List Event). e ∷ es) (repeated m n e)
+
+-- a longer last run
+pub grown : (runs : List EventRun) (e : Event) (m n : ℕ) → events_of (runs ++ record { event = e; count = m + n } ∷ []) ≡ events_of (runs ++ record { event = e; count = m } ∷ []) ++ replicate n e
+grown runs e m n =
+    joined runs (record { event = e; count = m + n })
+    ∙ (ap (λ (es : List Event). events_of runs ++ es) (repeated m n e)
+    ∙ (sym (append_assoc (events_of runs) (replicate m e) (replicate n e))
+    ∙ ap (λ (es : List Event). es ++ replicate n e) (sym (joined runs (record { event = e; count = m })))))
+
+-- there are no more runs than events, and none is longer than all of them
+pub few_runs : (runs : List EventRun) → AreCounted runs → length runs ≤ length (events_of runs)
+few_runs [] all = omega arith
+few_runs (run ∷ runs) all =
+    let some : 0 < run.count = All-head (λ (r : EventRun). 0 < r.count) run runs all in
+    let rest : length runs ≤ length (events_of runs) = few_runs runs (All-tail (λ (r : EventRun). 0 < r.count) run runs all) in
+    let long : length (events_of (run ∷ runs)) ≡ length (replicate run.count run.event) + length (events_of runs) =
+    ap (λ (es : List Event). length es) (flat_map-cons events run runs) ∙ length-append (replicate run.count run.event) (events_of runs) in
+    omega (arith, length-replicate run.count run.event)
+
+pub last_within : (runs : List EventRun) (run : EventRun) → run.count ≤ length (events_of (runs ++ run ∷ []))
+last_within runs run =
+    let long : length (events_of (runs ++ run ∷ [])) ≡ length (events_of runs) + length (replicate run.count run.event) =
+    ap (λ (es : List Event). length es) (joined runs run) ∙ length-append (events_of runs) (replicate run.count run.event) in
+    omega (arith, length-replicate run.count run.event)
+
+-- what the derived comparison of events finds the same is the same
+pub same_event : (e f : Event) → compared.eq-value.it e f ≡ true → e ≡ f
+same_event (event.Assign t) (event.Assign u) is = ap event.Assign (eqb-true t u is)
+same_event (event.Exec j) (event.Exec k) is = ap event.Exec (eqb-true j k is)
+same_event (event.Transfer j q) (event.Transfer k r) is =
+    let both = and_parts (nat_eq j k) (nat_eq q r) is in λ i. event.Transfer (eqb-true j k both.0 i) (eqb-true q r both.1 i)
+same_event (event.Drain j q) (event.Drain k r) is =
+    let both = and_parts (nat_eq j k) (nat_eq q r) is in λ i. event.Drain (eqb-true j k both.0 i) (eqb-true q r both.1 i)
+same_event (event.Squash j) (event.Squash k) is = ap event.Squash (eqb-true j k is)
+same_event event.Retire event.Retire is = refl
+same_event event.Fault event.Fault is = refl
+same_event (event.Drop j) (event.Drop k) is = ap event.Drop (eqb-true j k is)
+same_event _ _ is = absurd (true≢false (sym is))
