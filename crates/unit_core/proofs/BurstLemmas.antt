@@ -1,10 +1,13 @@
 -- A step reads no log, and of its program only its own instruction and, for a load, read-only data. So
 -- what was made on one program and a unit without a log holds of another with the same stretch, too.
-use Rattle.std.specs.Prelude.{◌≡◌, ℕ, zero, suc, ◌+◌, ◌<◌, ◌≤◌, ◌||◌, ◌++◌, ◌∷◌, [], List, Bool, true, false, cond, Option, Some, None, min, max, slice_get}
+use Rattle.std.specs.Prelude.{◌≡◌, ℕ, zero, suc, ◌+◌, ◌<◌, ◌≤◌, ◌||◌, ◌++◌, ◌∷◌, [], List, Bool, true, false, cond, Option, Some, None, ◌-◌, ◌*◌, ◌%◌, min, max, nat_eq, nat_le, slice_get, unwrap_or}
 use Rattle.std.proofs.Common.{refl, sym, ap, ◌∙◌, subst, arith, append_assoc, add-one}
 use Rattle.std.proofs.Math.Path.{fun_ext}
+use Rattle.std.proofs.lemmas.Bool.{cond-true, le-leb, eq-eqb, and_from}
 use Rattle.std.proofs.lemmas.List.{append-nil}
-use Rattle.mips_plain.specs.Words.{address, byte_of}
+use Rattle.std.proofs.lemmas.List.Sums.{fold_push}
+use Rattle.std.specs.Option.{option_map}
+use Rattle.mips_plain.specs.Words.{address, byte_of, index_of}
 use Rattle.mips_plain.specs.Access.{is_load}
 use Rattle.mips_plain.specs.Effect.{written, outcome_after}
 use Rattle.mips_plain.specs.declared.outcome.Outcome.{Outcome}
@@ -20,7 +23,7 @@ use Rattle.machine_model.specs.Machine.{Words, Active}
 use Rattle.machine_model.specs.Step.{with_written, with_sent, with_place, with_log, place_after, executed, after_exec}
 use Rattle.machine_model.specs.Burst.{no_memory, StepsAlone, Burst}
 use Rattle.unit_core.specs.Units.{UnitView, active_of}
-use Rattle.unit_core.specs.Bursts.{no_stretch, longer, SameStretch, Makes}
+use Rattle.unit_core.specs.Bursts.{no_stretch, longer, index_of_read, is_load_at, stretch_of, SameStretch, Makes, HasSentTheSame, SendsLast}
 use Rattle.unit_core.specs.declared.stretch.Stretch.{Stretch}
 
 -- what an instruction writes depends on read-only data for a load alone
@@ -91,3 +94,30 @@ has_instruction s index loads p q same = same.code index (omega arith) (omega ar
 
 pub has_fixed : (s : Stretch) (index : ℕ) (loads : Bool) (p q : Listing) → SameStretch (longer s index loads) p q → loads ≡ true → q.fixed ≡ p.fixed
 has_fixed s index loads p q same e = same.fixed (or_second s.loads loads e)
+
+-- The stretch of the reads, with one more
+
+index_back : (i : ℕ) → index_of (address i) ≡ Some i
+unfolding address index_of
+index_back i =
+    let first : nat_le 0x400000 (0x400000 + 4 * i) ≡ true = le-leb _ _ (omega arith) in
+    let exact : nat_eq ((0x400000 + 4 * i - 0x400000) % 4) 0 ≡ true = eq-eqb _ _ (omega arith) in
+    cond-true _ _ _ (and_from _ _ first exact) ∙ ap Some (omega arith)
+
+pub longer_stretch : (p : Listing) (s s' : Stretch) (loads : Bool) (u u' : Active) (step : StepsAlone p u u') → loads ≡ is_load step.at.op → s' ≡ longer s step.index loads → s ≡ stretch_of p u.log → s' ≡ stretch_of p u'.log
+longer_stretch p s s' loads u u' step is_loads is before =
+    let read : Read = record { pc = address step.index; a = step.a; b = step.b } in
+    let index : index_of_read read ≡ step.index = ap (λ (o : Option ℕ). unwrap_or o 0) (index_back step.index) in
+    let at : is_load_at p step.index ≡ is_load step.at.op = ap (λ (o : Option Marked). unwrap_or (option_map (λ (m : Marked). is_load m.op) o) false) step.is_there in
+    let log : u'.log ≡ u.log ++ read ∷ [] = ap (λ (x : Active). x.log) step.is in
+    is
+    ∙ (λ j. longer (before j) (sym index j) ((is_loads ∙ sym at) j))
+    ∙ ap (λ (i : ℕ). longer (stretch_of p u.log) (index_of_read read) (is_load_at p i)) (sym index)
+    ∙ sym (ap (λ (l : List Read). stretch_of p l) log ∙ fold_push (λ (x : Stretch) (r : Read). longer x (index_of_read r) (is_load_at p (index_of_read r))) no_stretch u.log read)
+
+-- One step more where nothing was sent for the first time
+
+pub one_sends : (p : Listing) (s s' : Stretch) (u mid : UnitView) (steps : ℕ) → Makes p s u steps mid → ((q : Listing) → SameStretch s' p q → SameStretch s p q) → HasSentTheSame (active_of mid) (active_of u) → SendsLast p s' u (steps + 1)
+one_sends p s s' u mid steps made less same n is =
+    let one : steps ≡ n = omega arith in
+    (mid, subst (λ (k : ℕ). Makes p s' u k mid) one (λ q at log. made q (less q at) log), same)

@@ -1,19 +1,21 @@
 //! Work outside the lock: a unit is lent, a burst of its instructions is made on the copy, and the
 //! unit takes the burst over.
 
-ghost use Rattle.std.specs.Prelude.{◌≡◌, ℕ, ◌<◌, ◌≤◌, ◌++◌, [], List, IfSome, IfNone, IfOk, IfErr, OnOk, OnErr, IsTrue, ◌↔◌};
+ghost use Rattle.std.specs.Prelude.{◌≡◌, ℕ, ◌<◌, ◌≤◌, ◌++◌, [], List, IfSome, IfNone, IfOk, IfErr, OnOk, OnErr, IsTrue, ◌↔◌, is_some};
+ghost use Rattle.mips_plain.specs.Words.{has};
 ghost use Rattle.mips_plain.specs.declared.outcome.Read.{Read};
 ghost use Rattle.task_descriptor.specs.Listing.{Listing};
 ghost use Rattle.machine_model.specs.Step.{with_log};
 ghost use Rattle.machine_model.specs.Burst.{StepsAlone};
 ghost use Rattle.unit_core.specs.Units.{active_of, IsPlaced};
-ghost use Rattle.unit_core.specs.Bursts.{HasMore, IsMade, IsOf, Makes, SameStretch, carried_on};
+ghost use Rattle.unit_core.specs.Bursts.{HasMore, IsMade, IsOf, Makes, SameStretch, SendsLast, carried_on, stretch_of};
 
 use crate::step::is_load;
 use crate::stretch::{Stretch, has_same_task};
 use crate::unit::Unit;
 use machine_events::event::Spot;
 use mark_checker::accept::Accepted;
+use mips_plain::number::RegSet;
 use mips_plain::outcome::OutOfMemory;
 use std::marker::Model;
 use task_descriptor::program::Program;
@@ -68,6 +70,7 @@ fn step_ahead(accepted: &Accepted, unit: &mut Unit, stretch: Stretch) -> Option<
     ensures narrower { IfSome result (λ s. (q : Listing) → SameStretch s accepted.now.program q → SameStretch stretch accepted.now.program q) }
     ensures step { IfSome result (λ s. (q : Listing) → SameStretch s accepted.now.program q → (log : List Read)
         → StepsAlone q (with_log (active_of unit.old) (log ++ unit.old.log)) (with_log (active_of unit.new) (log ++ unit.new.log))) }
+    ensures stretch { IfSome result (λ s. stretch ≡ stretch_of accepted.now.program unit.old.log → s ≡ stretch_of accepted.now.program unit.new.log) }
     ensures none { IfNone result (unit.new ≡ unit.old) }
     ensures placed { IsPlaced accepted.now (active_of unit.new) }
 {
@@ -82,6 +85,14 @@ fn step_ahead(accepted: &Accepted, unit: &mut Unit, stretch: Stretch) -> Option<
     }
 }
 
+/// Whether a unit has sent the registers of a set and no others.
+#[inline]
+fn has_sent(unit: &Unit, set: RegSet) -> bool
+    ensures { IsTrue result → (r : ℕ) → is_some ((active_of unit.now).sent r) ≡ has set r }
+{
+    unit.sent_set() == set
+}
+
 /// Executes instructions ahead until one is refused or sends a register for the first time, at most
 /// `most`, and answers how many, and their stretch.
 fn run_ahead(accepted: &Accepted, unit: &mut Unit, most: u32) -> (u32, Stretch)
@@ -89,6 +100,8 @@ fn run_ahead(accepted: &Accepted, unit: &mut Unit, most: u32) -> (u32, Stretch)
     requires no_log { unit.old.log ≡ [] }
     ensures few { result.0 ≤ most }
     ensures made { Makes accepted.now.program result.1 unit.old result.0 unit.new }
+    ensures stretch { result.1 ≡ stretch_of accepted.now.program unit.new.log }
+    ensures sends_last { SendsLast accepted.now.program result.1 unit.old result.0 }
     ensures placed { IsPlaced accepted.now (active_of unit.new) }
 {
     let sent = unit.sent_set();
@@ -100,7 +113,7 @@ fn run_ahead(accepted: &Accepted, unit: &mut Unit, most: u32) -> (u32, Stretch)
         };
         stretch = more;
         steps += 1;
-        if unit.sent_set() != sent {
+        if !has_sent(unit, sent) {
             break;
         }
     }
@@ -118,6 +131,7 @@ impl<'a> Burst<'a> {
         ensures before { result.before ≡ lease.entry.unit }
         ensures few { result.steps ≤ most }
         ensures made { IsMade result }
+        ensures sends_last { SendsLast result.accepted.program result.stretch result.before result.steps }
     {
         let Lease { accepted, unit } = lease;
         let mut after = unit.without_log();

@@ -169,15 +169,25 @@ fn arrived_register_is_used(rt: HostRuntime) {
 #[test]
 fn bursts_end_behind_first_sends(rt: HostRuntime) {
     let accepted = count(&rt, rt.alloc());
-    let mut trial = Trial::new(&rt, rt.alloc(), &accepted, zeros(&rt, 0));
-    for (steps, reads) in [(1, 1), (1, 2), (2, 4), (0, 4)] {
-        let burst = trial.burst(&rt, MOST_STEPS);
-        expect_taken(&rt, &mut trial.unit, burst, steps, steps);
-        assert_eq!(rt; trial.unit.reads().len(), reads);
+    for (before, steps) in [(0, 1), (1, 1), (2, 2), (4, 0)] {
+        let trial = Trial::new(&rt, rt.alloc(), &accepted, zeros(&rt, 0));
+        expect_burst_behind(&rt, trial, before, steps);
     }
-    assert_eq!(rt; trial.unit.spot(), Spot::Stopped(0x0040_0000));
-    for (read, index) in trial.unit.reads().iter().zip(0..4) {
-        assert_eq!(rt; read.pc, 0x0040_0000 + 4 * index);
+}
+
+/// Asserts how many steps a burst has behind so many instructions, and that the reads of both are there.
+fn expect_burst_behind(rt: &impl Abort, trial: Trial<'_>, before: u32, steps: u32) {
+    let mut trial = trial;
+    for _ in 0..before {
+        assert_eq!(rt; trial.step(rt), None);
+    }
+    let burst = trial.burst(rt, MOST_STEPS);
+    let Trial { mut unit, .. } = trial;
+    expect_taken(rt, &mut unit, burst, steps, steps);
+    let addresses = [0x0040_0000, 0x0040_0004, 0x0040_0008, 0x0040_000C];
+    assert_eq!(rt; unit.reads().len(), before as usize + steps as usize);
+    for (read, address) in unit.reads().iter().zip(addresses) {
+        assert_eq!(rt; read.pc, address);
     }
 }
 
