@@ -368,7 +368,11 @@ fn history_is_kept_as_runs(rt: HostRuntime) {
     expect_taken(&rt, &mut machine, burst, 2, 5);
     let drain = Event::Drain(0, register(&rt, 10));
     expect_applied(&rt, &mut machine, &drain);
-    expect_runs(&rt, &machine, &[(Event::Assign(0), 1), (Event::Exec(0), 4), (drain, 1)]);
+    expect_runs(
+        &rt,
+        &machine,
+        &[(Event::Assign(0), 1), (Event::Exec(0), 4), (drain, 1)],
+    );
 }
 
 fn expect_runs(rt: &impl Abort, machine: &Machine<'_>, runs: &[(Event, u32)]) {

@@ -9,4 +9,5 @@ mod known;
 mod listing;
 pub mod processor;
 mod queue;
+mod ready;
 mod tries;

@@ -7,3 +7,4 @@ mod history;
 mod known;
 pub mod machine;
 pub mod predict;
+mod ready;
