@@ -3,3 +3,5 @@
 
 #[cfg(test)]
 mod checks;
+#[cfg(test)]
+mod runs;

@@ -1,0 +1,4 @@
+pub mod Counting
+pub mod HeadUnits
+pub mod Assigning
+pub mod Locked

@@ -1,0 +1,30 @@
+use Rattle.std.proofs.Common.{◌≡◌, ℕ, ◌+◌, ◌%◌, List, length, Option, Some, sym, ap, ◌∙◌}
+use Rattle.std.proofs.lemmas.List.{length-replicate}
+use Rattle.std.specs.Prelude.{replicate, slice_index, slice_set}
+use Rattle.std.specs.Option.{option_map}
+use Rattle.machine_events.specs.declared.event.Event.TheVariants.{Exec}
+use Rattle.unit_core.specs.Units.{UnitView}
+use Rattle.processor_steps.specs.Seen.{position_with}
+use Rattle.sequencer.specs.Seen.{state}
+use Rattle.sequencer.specs.Rings.{unit_for}
+use Rattle.threaded_runner.proofs.Locked.{execs_own, more}
+use Rattle.threaded_runner.proofs.desk.Desk.check_in.Goals as goal
+
+pub invariant_of-self-then-events-gt0 : goal.invariant_of-self-then-events-gt0
+invariant_of-self-then-events-gt0 g c =
+    let i = c.self.inside in
+    let m = i.machine in
+    let b = c.args.burst in
+    let unit = c.in-Some.unit in
+    let taken = c.in_ok-events.ensures.taken c.if-events-gt0.true in
+    let k = taken.1.fresh.position in
+    let unit_at = λ (position : ℕ). unit_for m (Exec position) in
+    let serial : c.serial.result ≡ b.before.serial = c.serial.ensures ∙ ap (λ (u : UnitView). u.serial) c.before-2.ensures in
+    let found : Some unit ≡ Some (unit_at k) =
+    c.in-Some.ensures ∙ ap (λ (s : ℕ). option_map unit_at (position_with (state m).queue s)) serial ∙ ap (λ (o : Option ℕ). option_map unit_at o) taken.1.owner in
+    let belongs : unit_for m (Exec k) ≡ unit = cc in
+    let worker = unit % c.len.result in
+    more m c.hand_in.new.machine i.counts.items c.add.new.counts.items (replicate b.steps (Exec k)) unit b.steps c.len.result i.is_stopped c.self.invariant
+    (execs_own m (length i.counts.items) unit k b.steps c.known.ensures.retired c.known.ensures.active belongs)
+    (length-replicate b.steps (Exec k)) taken.1.history c.in_ok-events.ensures.kept.units (c.len.ensures ∙ i.counts.ok.0)
+    (c.add.ensures ∙ ap (λ (n : ℕ). slice_set i.counts.items worker (slice_index i.counts.items worker + n)) taken.0)

@@ -1,0 +1,4 @@
+pub mod Counts
+pub mod Turns
+pub mod Desks
+pub mod Examples

@@ -1,0 +1,268 @@
+//! What the lock holds: the machine, the predictor, how many events each worker applied, and the note that
+//! the run must stop for want of memory.
+
+use crate::counts::{add, zeros};
+use crate::known::{head_is_first, known};
+use crate::report::{How, Report, RunFault};
+use machine_events::event::{Event, Refused, Standing};
+use mark_checker::accept::Accepted;
+use sequencer::machine::Machine;
+use sequencer::predict::Predict;
+use std::alloc::{AllocError, Global};
+use std::marker::Model;
+use unit_core::burst::Burst;
+
+/// What the lock holds.
+#[derive(Drop)]
+pub(crate) struct Desk<'a, P: Predict> {
+    machine: Machine<'a>,
+    predictor: P,
+    counts: Vec<u64>,
+    is_stopped: bool,
+    asleep: [bool; 16],
+}
+
+impl<'a, P: Predict> Model for Desk<'a, P> {
+    ghost use Rattle.threaded_runner.specs.Desks.{DeskView, IsDesk};
+
+    ghost Value = { DeskView };
+
+    ghost view = { λ d. record { machine = d.machine; counts = d.counts.items; is_stopped = d.is_stopped } };
+
+    ghost invariant = { λ d. IsDesk (record { machine = d.machine; counts = d.counts.items; is_stopped = d.is_stopped }) };
+}
+
+impl<'a, P: Predict> Desk<'a, P> {
+    ghost use Rattle.std.specs.Prelude.{◌≡◌, ◌+◌, ◌<◌, ◌≤◌, ◌⊎◌, ◌↔◌, [], IfOk, IfErr, OnOk, OnErr, IsTrue, length, true};
+    ghost use Rattle.sequencer.specs.Seen.{state, units_of, SameRing, Applies};
+    ghost use Rattle.sequencer.specs.Rings.{unit_for};
+    ghost use Rattle.machine_model.specs.Answer.{most_events};
+    ghost use Rattle.machine_model.specs.Replay.{Replays};
+    ghost use Rattle.threaded_runner.specs.Counts.{IsCounted};
+    ghost use Rattle.threaded_runner.specs.Turns.{MayChoose};
+    ghost use Rattle.machine_events.specs.declared.event.Standing.TheVariants as standing;
+
+    /// A machine at its start, of which no worker has applied an event.
+    pub(crate) fn new(
+        alloc: Global,
+        machine: Machine<'a>,
+        predictor: P,
+        workers: u32,
+    ) -> Result<Desk<'a, P>, AllocError>
+        requires workers { 0 < workers }
+        requires start { machine.history ≡ [] }
+        ensures { IfOk result (λ desk. (desk.machine ≡ machine.entry) × (length desk.counts ≡ workers)) }
+    {
+        let counts = zeros(alloc, workers)?;
+        Ok(Desk {
+            machine,
+            predictor,
+            counts,
+            is_stopped: false,
+            asleep: [false; 16],
+        })
+    }
+
+    /// The machine.
+    #[inline]
+    pub(crate) fn machine(&self) -> &Machine<'a>
+        ensures { result.now ≡ self.now.machine }
+    {
+        &self.machine
+    }
+
+    /// Whether no worker goes on: the note stands, the run has ended, or the history has reached the
+    /// budget.
+    pub(crate) fn is_done(&self, budget: u32) -> bool
+        ensures { IsTrue result ↔ ((self.now.is_stopped ≡ true) ⊎ ((state self.now.machine).outcome ≡ standing.Running → ⊥) ⊎ (budget ≤ length self.now.machine.history)) }
+    {
+        self.is_stopped
+            || self.machine.outcome() != Standing::Running
+            || self.machine.length() >= budget as usize
+    }
+
+    /// Notes that the run must stop for want of memory.
+    pub(crate) fn stop(&mut self)
+        ensures { self.new ≡ record self.old { is_stopped = true } }
+    {
+        self.is_stopped = true;
+    }
+
+    /// Applies an event of a unit, and counts it for the worker of that unit.
+    ///
+    /// # Errors
+    ///
+    /// What the machine refuses the event by; nothing is changed then.
+    pub(crate) fn apply(&mut self, unit: u32, event: Event) -> Result<(), Refused>
+        requires { unit_for self.old.machine event ≡ unit }
+        ensures ok { OnOk result (Applies self.old.machine event self.new.machine) }
+        ensures err { OnErr result (self.new ≡ self.old) }
+        ensures kept { SameRing self.old.machine self.new.machine }
+        ensures workers { length self.new.counts ≡ length self.old.counts }
+    {
+        known(&self.machine);
+        self.machine.apply(event)?;
+        known(&self.machine);
+        let worker = unit as usize % self.counts.len();
+        add(&mut self.counts, worker, 1);
+        Ok(())
+    }
+
+    /// Asks the predictor which target comes next, and applies the Assign of it, which is the unit's.
+    ///
+    /// # Errors
+    ///
+    /// What the machine refuses the event by; nothing is changed then but the predictor.
+    pub(crate) fn choose(&mut self, unit: u32) -> Result<(), Refused>
+        requires { MayChoose self.old.machine unit }
+    {
+        let targets = self.machine.choices();
+        let answer = self.predictor.choose(targets);
+        match self.machine.choice(answer) {
+            Some(event) => self.apply(unit, event),
+            None => Ok(()),
+        }
+    }
+
+    /// Hands in a burst, and counts its events for the worker of the unit that takes it over. Answers 0
+    /// where the burst is stale or has no step; nothing is changed then.
+    ///
+    /// # Errors
+    ///
+    /// What the machine refuses the burst by; nothing is changed then.
+    pub(crate) fn check_in(&mut self, burst: Burst<'_>) -> Result<u32, Refused>
+        ensures stale { IfOk result (λ events. events ≡ 0 → self.new ≡ self.old) }
+        ensures err { OnErr result (self.new ≡ self.old) }
+        ensures workers { length self.new.counts ≡ length self.old.counts }
+    {
+        known(&self.machine);
+        let Some(unit) = self.machine.unit_with(burst.before().serial()) else {
+            return Ok(0);
+        };
+        let events = hand_in(&mut self.machine, burst)?;
+        if events > 0 {
+            known(&self.machine);
+            let worker = unit as usize % self.counts.len();
+            add(&mut self.counts, worker, events);
+        }
+        Ok(events)
+    }
+
+    /// Applies the head event, and counts it for the worker of its unit; answers whether it was not refused
+    /// and there was one.
+    fn apply_head_event(&mut self) -> bool
+        ensures grows { IsTrue result → (length self.new.machine.history ≡ length self.old.machine.history + 1) × (length self.new.machine.history ≤ most_events) }
+        ensures workers { length self.new.counts ≡ length self.old.counts }
+    {
+        head_is_first(&self.machine);
+        let unit = self.machine.head_unit();
+        let Some(event) = self.machine.head_event() else {
+            return false;
+        };
+        if self.apply(unit, event).is_err() {
+            return false;
+        }
+        known(&self.machine);
+        true
+    }
+
+    /// Goes on by head events until no worker would; where one is refused the note stands.
+    fn finish(&mut self, budget: u32)
+        ensures done { (self.new.is_stopped ≡ true) ⊎ ((state self.new.machine).outcome ≡ standing.Running → ⊥) ⊎ (budget ≤ length self.new.machine.history) }
+        ensures workers { length self.new.counts ≡ length self.old.counts }
+    {
+        while !self.is_done(budget) {
+            if !self.apply_head_event() {
+                self.stop();
+                return;
+            }
+        }
+    }
+
+    /// The report of the run, once all workers have ended; where nothing ended them the run goes on by
+    /// head events first.
+    ///
+    /// # Errors
+    ///
+    /// `OutOfMemory` where the note stands, else `Foreign` where the machine was not made over this program
+    /// and certificate with so many units, or there were not so many workers.
+    pub(crate) fn report(
+        mut self,
+        accepted: &Accepted,
+        units: u32,
+        workers: u32,
+        budget: u32,
+    ) -> Result<Report<'a>, RunFault>
+        ensures fault { IfErr result (λ fault. (fault ≡ RunFault.OutOfMemory) ⊎ (fault ≡ RunFault.Foreign)) }
+        ensures over { IfOk result (λ report. (report.machine.accepted ≡ accepted.now) × (units_of report.machine ≡ units)) }
+        ensures replay { IfOk result (λ report. Replays report.machine.accepted.program (units_of report.machine) report.machine.history (state report.machine)) }
+        ensures counts { IfOk result (λ report. (length report.counts.items ≡ workers) × IsCounted units report.machine.history report.counts.items) }
+        ensures ended { IfOk result (λ report. (report.how ≡ How.Ended) ↔ ((state report.machine).outcome ≡ standing.Running → ⊥)) }
+        ensures spent { IfOk result (λ report. report.how ≡ How.OutOfBudget → budget ≤ length report.machine.history) }
+    {
+        self.finish(budget);
+        let Desk {
+            machine,
+            predictor: _,
+            counts,
+            is_stopped,
+            asleep: _,
+        } = self;
+        if is_stopped {
+            return Err(RunFault::OutOfMemory);
+        }
+        if counts.len() != workers as usize || !machine.is_over(accepted, units) {
+            return Err(RunFault::Foreign);
+        }
+        known(&machine);
+        let how = match machine.outcome() {
+            Standing::Running => How::OutOfBudget,
+            _ => How::Ended,
+        };
+        Ok(Report {
+            machine,
+            counts,
+            how,
+        })
+    }
+
+    /// Notes that a worker waits.
+    pub(crate) fn fall_asleep(&mut self, worker: u32) {
+        if let Some(asleep) = self.asleep.get_mut(worker as usize) {
+            *asleep = true;
+        }
+    }
+
+    /// Notes that a worker does not wait.
+    pub(crate) fn awake(&mut self, worker: u32) {
+        if let Some(asleep) = self.asleep.get_mut(worker as usize) {
+            *asleep = false;
+        }
+    }
+
+    /// Whether a worker waits.
+    pub(crate) fn is_asleep(&self, worker: u32) -> bool {
+        match self.asleep.get(worker as usize) {
+            Some(asleep) => *asleep,
+            None => false,
+        }
+    }
+}
+
+ghost use Rattle.std.specs.Prelude.{◌≡◌, ◌<◌, IfOk, OnErr};
+ghost use Rattle.sequencer.specs.Seen.{SameRing};
+ghost use Rattle.sequencer.specs.Bursts.{Takes};
+
+/// Hands a burst in; one that is refused is gone.
+fn hand_in(machine: &mut Machine<'_>, burst: Burst<'_>) -> Result<u32, Refused>
+    ensures taken { IfOk result (λ events. 0 < events → (events ≡ burst.entry.steps) × Takes machine.old burst.entry machine.new) }
+    ensures stale { IfOk result (λ events. events ≡ 0 → machine.new ≡ machine.old) }
+    ensures err { OnErr result (machine.new ≡ machine.old) }
+    ensures kept { SameRing machine.old machine.new }
+{
+    let answer = machine.apply_burst(burst);
+    match &answer {
+        Ok(events) => Ok(*events),
+        Err((_, refused)) => Err(*refused),
+    }
+}

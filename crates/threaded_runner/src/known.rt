@@ -1,0 +1,46 @@
+//! What is known of every machine; each call does nothing.
+
+ghost use Rattle.std.specs.Prelude.{◌≡◌, ℕ, ◌<◌, ◌≤◌, length, Some, None};
+ghost use Rattle.machine_model.specs.Machine.{State};
+ghost use Rattle.machine_model.specs.Answer.{most_events, refusal};
+ghost use Rattle.machine_model.specs.HeadEvent.{head_event};
+ghost use Rattle.machine_model.specs.Replay.{Replays};
+ghost use Rattle.machine_model.specs.Step.{Next};
+ghost use Rattle.machine_events.specs.declared.event.Event.{Event};
+ghost use Rattle.machine_events.specs.declared.event.Event.TheVariants.{Exec};
+ghost use Rattle.machine_events.specs.declared.event.Standing.TheVariants as standing;
+ghost use Rattle.sequencer.specs.Seen.{state, units_of};
+ghost use Rattle.sequencer.specs.Rings.{unit_for};
+ghost use Rattle.threaded_runner.specs.Counts.{retired_by, active_by};
+ghost use Rattle.threaded_runner.specs.Turns.{IsOwn};
+
+use crate::laws::history_counts;
+use sequencer::machine::Machine;
+
+/// The machine is the replay of its history, which has room for itself and says how many tasks have
+/// retired and how many units are at work.
+pub(crate) fn known(machine: &Machine<'_>)
+    ensures replay { Replays machine.now.accepted.program (units_of machine.now) machine.now.history (state machine.now) }
+    ensures room { length machine.now.history ≤ most_events }
+    ensures retired { retired_by machine.now.history ≡ length (state machine.now).commits }
+    ensures active { active_by machine.now.history ≡ length (state machine.now).queue }
+{
+    history_counts();
+    let _ = machine.history();
+}
+
+/// An event is a unit's own where the machine step allows it, or where nothing refuses it, and the history
+/// has room.
+pub(crate) fn is_allowed(machine: &Machine<'_>)
+    ensures unrefused { (e : Event) (unit : ℕ) → (state machine.now).outcome ≡ standing.Running → refusal machine.now.accepted.program (units_of machine.now) (state machine.now) e ≡ None → length machine.now.history < most_events → unit_for machine.now e ≡ unit → IsOwn machine.now unit e }
+    ensures allowed { (e : Event) (unit : ℕ) (s : State) → Next machine.now.accepted.program (units_of machine.now) (state machine.now) e s → length machine.now.history < most_events → unit_for machine.now e ≡ unit → IsOwn machine.now unit e }
+{
+    machine.answers();
+}
+
+/// The head event belongs to the unit at position 0.
+pub(crate) fn head_is_first(machine: &Machine<'_>)
+    ensures { (e : Event) → head_event machine.now.accepted.program (state machine.now) ≡ Some e → unit_for machine.now e ≡ unit_for machine.now (Exec 0) }
+{
+    let _ = machine.length();
+}

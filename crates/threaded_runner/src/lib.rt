@@ -1,0 +1,16 @@
+//! Threads over one machine: one lock, a worker for each unit or for several, bursts away from the lock.
+#![tactic(auto)]
+
+mod counts;
+pub mod deciding;
+mod desk;
+pub mod gate;
+mod hold;
+mod known;
+pub mod laws;
+mod pace;
+pub mod report;
+pub mod runner;
+mod share;
+pub mod turn;
+mod worker;

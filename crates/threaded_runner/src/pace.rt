@@ -1,0 +1,39 @@
+//! How a worker goes on with one of its units.
+
+use unit_core::burst::MOST_STEPS;
+
+/// The most instructions of a task's first burst.
+const FIRST_STEPS: u32 = 64;
+
+/// How a worker goes on with a unit.
+#[derive(Clone, Copy, Debug, PartialEq, Eq)]
+pub(crate) struct Pace {
+    /// The most instructions of the next burst.
+    pub(crate) most: u32,
+    /// How many instructions are executed one by one before it.
+    pub(crate) single: u32,
+    /// How many tasks had retired when the unit was dropped for want of memory.
+    pub(crate) dropped_at: Option<usize>,
+}
+
+impl Pace {
+    /// The pace of a unit that begins a task, so many of whose instructions are executed one by one
+    /// before the first burst.
+    pub(crate) fn new(single: u32) -> Pace {
+        Pace {
+            most: FIRST_STEPS,
+            single,
+            dropped_at: None,
+        }
+    }
+
+    /// After a burst that was taken over with as many steps as it was to have at most.
+    pub(crate) fn double(&mut self) {
+        self.most = self.most.saturating_mul(2).min(MOST_STEPS);
+    }
+
+    /// After a stale burst.
+    pub(crate) fn begin_again(&mut self) {
+        self.most = FIRST_STEPS;
+    }
+}

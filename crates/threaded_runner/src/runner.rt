@@ -1,0 +1,157 @@
+//! The run of a program by threads.
+
+ghost use Rattle.std.specs.Prelude.{◌≡◌, ◌<◌, ◌≤◌, ◌⊎◌, ◌↔◌, length, IfOk, IfErr};
+ghost use Rattle.machine_events.specs.declared.event.Standing.TheVariants as standing;
+ghost use Rattle.machine_model.specs.Replay.{Replays};
+ghost use Rattle.sequencer.specs.Seen.{state, units_of};
+ghost use Rattle.threaded_runner.specs.Counts.{IsCounted};
+
+use crate::desk::Desk;
+use crate::gate::RunGate;
+use crate::hold::Worker;
+use crate::report::{How, Report, RunFault};
+use crate::share::Share;
+use crate::worker::{serve, wake_all};
+use mark_checker::accept::Accepted;
+use sequencer::machine::{MOST_UNITS, Machine};
+use sequencer::predict::Predict;
+use std::alloc::{AllocError, Global};
+use std::sync::{Condvar, Mutex, Wait};
+use std::thread;
+use std::thread::Threads;
+
+/// The most events of a run.
+const MOST_BUDGET: u32 = 1_000_000;
+
+/// Runs the accepted program on a machine of so many units, 1 to 16, with one thread for each unit, until
+/// the run has ended or the history has `budget` events, 1 to 1,000,000; a burst that is handed in late may
+/// go beyond. The predictor chooses behind a task that has not stopped, and the gate is called around each
+/// burst. The calling thread waits until all others have ended.
+///
+/// # Errors
+///
+/// `Units`, `Budget`, `OutOfMemory` and `Foreign`, in this order. After each the predictor and the machine
+/// are gone.
+pub fn run_threads<'a, P: Predict, G: RunGate, R: Threads + Wait + Sync>(
+    rt: &R,
+    alloc: Global,
+    accepted: &'a Accepted,
+    units: u32,
+    budget: u32,
+    predictor: P,
+    gate: &G,
+) -> Result<Report<'a>, RunFault>
+    ensures units { (result ≡ Err RunFault.Units) ↔ ((units ≡ 0) ⊎ (16 < units)) }
+    ensures budget { (result ≡ Err RunFault.Budget) ↔ ((0 < units) × (units ≤ 16) × ((budget ≡ 0) ⊎ (1000000 < budget))) }
+    ensures over { IfOk result (λ report. (report.machine.accepted ≡ accepted.now) × (units_of report.machine ≡ units)) }
+    ensures replay { IfOk result (λ report. Replays report.machine.accepted.program (units_of report.machine) report.machine.history (state report.machine)) }
+    ensures counts { IfOk result (λ report. (length report.counts.items ≡ units) × IsCounted units report.machine.history report.counts.items) }
+    ensures ended { IfOk result (λ report. (report.how ≡ How.Ended) ↔ ((state report.machine).outcome ≡ standing.Running → ⊥)) }
+    ensures spent { IfOk result (λ report. report.how ≡ How.OutOfBudget → budget ≤ length report.machine.history) }
+{
+    run_workers(rt, alloc, accepted, units, units, budget, predictor, gate)
+}
+
+/// The same with a number of threads, 1 to `units`: worker j serves the units u with u modulo `workers`
+/// equal to j, from the head on. With one worker only the head's task is worked on.
+///
+/// # Errors
+///
+/// `Units`, also where the number of workers is not 1 to `units`; `Budget`, `OutOfMemory` and `Foreign`, in
+/// this order. After each the predictor and the machine are gone.
+pub fn run_workers<'a, P: Predict, G: RunGate, R: Threads + Wait + Sync>(
+    rt: &R,
+    alloc: Global,
+    accepted: &'a Accepted,
+    units: u32,
+    workers: u32,
+    budget: u32,
+    predictor: P,
+    gate: &G,
+) -> Result<Report<'a>, RunFault>
+    ensures units { (result ≡ Err RunFault.Units) ↔ ((units ≡ 0) ⊎ (16 < units) ⊎ (workers ≡ 0) ⊎ (units < workers)) }
+    ensures budget { (result ≡ Err RunFault.Budget) ↔ ((units ≤ 16) × (0 < workers) × (workers ≤ units) × ((budget ≡ 0) ⊎ (1000000 < budget))) }
+    ensures over { IfOk result (λ report. (report.machine.accepted ≡ accepted.now) × (units_of report.machine ≡ units)) }
+    ensures replay { IfOk result (λ report. Replays report.machine.accepted.program (units_of report.machine) report.machine.history (state report.machine)) }
+    ensures counts { IfOk result (λ report. (length report.counts.items ≡ workers) × IsCounted units report.machine.history report.counts.items) }
+    ensures ended { IfOk result (λ report. (report.how ≡ How.Ended) ↔ ((state report.machine).outcome ≡ standing.Running → ⊥)) }
+    ensures spent { IfOk result (λ report. report.how ≡ How.OutOfBudget → budget ≤ length report.machine.history) }
+{
+    if units == 0 || units > MOST_UNITS || workers == 0 || workers > units {
+        return Err(RunFault::Units);
+    }
+    if budget == 0 || budget > MOST_BUDGET {
+        return Err(RunFault::Budget);
+    }
+    let Ok(bells) = new_bells(alloc, workers) else {
+        return Err(RunFault::OutOfMemory);
+    };
+    let desk = new_desk(alloc, accepted, units, workers, predictor)?;
+    let shared = Mutex::new(desk);
+    work(rt, &shared, bells.as_slice(), gate, units, workers, budget);
+    shared.into_inner().report(accepted, units, workers, budget)
+}
+
+/// A desk with a machine at its start.
+fn new_desk<'a, P: Predict>(
+    alloc: Global,
+    accepted: &'a Accepted,
+    units: u32,
+    workers: u32,
+    predictor: P,
+) -> Result<Desk<'a, P>, RunFault>
+    requires units { (0 < units) × (units ≤ 16) }
+    requires workers { 0 < workers }
+    ensures { IfErr result (λ fault. fault ≡ RunFault.OutOfMemory) }
+{
+    let Ok(machine) = Machine::new(alloc, accepted, units) else {
+        return Err(RunFault::OutOfMemory);
+    };
+    match Desk::new(alloc, machine, predictor, workers) {
+        Ok(desk) => Ok(desk),
+        Err(_) => Err(RunFault::OutOfMemory),
+    }
+}
+
+/// A bell for each worker.
+fn new_bells(alloc: Global, workers: u32) -> Result<Vec<Condvar>, AllocError> {
+    let mut bells = Vec::with_capacity(alloc, workers as usize)?;
+    for _ in 0..workers {
+        bells.push(Condvar::new())?;
+    }
+    Ok(bells)
+}
+
+/// One thread for each worker; returns when all have ended.
+fn work<'a, 't, P: Predict, G: RunGate, R: Threads + Wait + Sync>(
+    rt: &'t R,
+    shared: &'t Mutex<Desk<'a, P>>,
+    bells: &'t [Condvar],
+    gate: &'t G,
+    units: u32,
+    workers: u32,
+    budget: u32,
+) {
+    thread::scope(thread::scope_env(), rt, |scope| {
+        for number in 0..workers {
+            let share = Share {
+                units,
+                workers,
+                worker: number,
+            };
+            let worker = Worker::new(share, budget);
+            if scope
+                .spawn(move || serve(rt, shared, bells, gate, worker))
+                .is_err()
+            {
+                give_up(rt, shared, bells);
+            }
+        }
+    });
+}
+
+/// Notes that a thread could not be made, and wakes all workers.
+fn give_up<P: Predict, R: Wait>(rt: &R, shared: &Mutex<Desk<'_, P>>, bells: &[Condvar]) {
+    shared.lock(rt).stop();
+    wake_all(bells);
+}

@@ -1,0 +1,50 @@
+//! Which units a worker serves, and the first of them that has something to do.
+
+ghost use Rattle.std.specs.Prelude.{◌≡◌, ◌<◌, IfSome};
+ghost use Rattle.threaded_runner.specs.Turns.{IsTurn};
+
+use crate::deciding::turn;
+use crate::turn::Turn;
+use sequencer::machine::Machine;
+
+/// The units of one worker: those whose number, modulo the number of workers, is the worker's.
+#[derive(Clone, Copy, Debug, PartialEq, Eq)]
+pub(crate) struct Share {
+    /// How many units there are, 1 to 16.
+    pub(crate) units: u32,
+    /// How many workers, 1 to that.
+    pub(crate) workers: u32,
+    /// The number of the worker.
+    pub(crate) worker: u32,
+}
+
+impl Share {
+    /// Whether the worker serves a unit.
+    fn has(self, unit: u32) -> bool {
+        self.workers != 0 && unit % self.workers == self.worker
+    }
+
+    /// The first of the worker's units, from the head on, that does not wait, with its turn.
+    pub(crate) fn first_turn(self, machine: &Machine<'_>) -> Option<(u32, Turn)>
+        ensures { IfSome result (λ found. IsTurn machine.now found.0 found.1) }
+    {
+        let head = machine.head_unit();
+        for unit in head..self.units {
+            if self.has(unit) {
+                match turn(machine, unit) {
+                    Turn::Wait => {}
+                    ready => return Some((unit, ready)),
+                }
+            }
+        }
+        for unit in 0..head {
+            if self.has(unit) {
+                match turn(machine, unit) {
+                    Turn::Wait => {}
+                    ready => return Some((unit, ready)),
+                }
+            }
+        }
+        None
+    }
+}
