@@ -97,9 +97,10 @@ pub const RUN: &str = "Runs a program on a machine of some units, in threads";
 
 /// `run`.
 pub const RUN_LONG: &str =
-    "Runs a program on a machine of some units, in threads, after the check. Each unit takes one task: the
-oldest runs for good, and the others run ahead on tasks that are guessed. In which order the threads
-come makes no difference to what a program does: one that halts puts out the words that `seq` writes.
+    "Runs a program on a machine of some units, in threads, after the check. Each unit takes one task. The
+oldest is sure to be the right one; the others run ahead on tasks that are guessed, and are given up
+where the guess was wrong. The order of the threads makes no difference to what a program does: one
+that halts puts out the words that `seq` writes.
 
 Writes the words that `out` sent, in decimal, one on a line, and then how the run ended, as `replay`
 writes it:
@@ -124,8 +125,9 @@ pub const RUN_EMIT: &str =
 events of the run)";
 
 /// `--workers` of `run`.
-pub const RUN_WORKERS: &str =
-    "How many threads serve the units, 1 to 16; never more than units [default: one for each unit]";
+pub const RUN_WORKERS: &str = "How many threads serve the units, 1 to 16; never more than units
+
+[default: one for each unit]";
 
 /// `--budget` of `run`.
 pub const RUN_BUDGET: &str = "How many events end the run, 1 to 1000000";

@@ -5,11 +5,12 @@
 ghost use Rattle.std.specs.Prelude.{◌≤◌};
 
 use command_line::words::{UsageFault, job_of};
-use jobs::job::{Paths, Texts};
+use jobs::job::{Job, Paths, Texts};
 use std::process::ExitCode;
 use std::{env, fs, io};
+use verdict_report::fault::ServeFault;
 use verdict_report::files::fetch;
-use verdict_report::serve::{ServeFault, serve};
+use verdict_report::serve::serve;
 
 /// The most bytes of a program text.
 const MOST_PROGRAM: u64 = 4_194_304;
@@ -31,14 +32,20 @@ enum Fault {
 }
 
 fn main(rt: HostRuntime) -> ExitCode {
-    ExitCode::from(match work(&rt) {
+    let served = match read(&rt) {
+        Ok((job, texts)) => {
+            serve(&rt, rt.alloc(), &job, &texts, &mut io::writer(&rt)).map_err(Fault::Serve)
+        }
+        Err(fault) => Err(fault),
+    };
+    ExitCode::from(match served {
         Ok(status) => status,
         Err(fault) => tell(&rt, &fault),
     })
 }
 
-// The words, then the files, then the job; the first fault ends the program.
-fn work(rt: &HostRuntime) -> Result<u8, Fault> {
+// The words, then the files; the first fault ends the program.
+fn read(rt: &HostRuntime) -> Result<(Job, Texts), Fault> {
     let words = read_words(rt)?;
     let (job, paths) = job_of(rt.alloc(), words.as_slice()).map_err(Fault::Usage)?;
     let Paths {
@@ -51,7 +58,7 @@ fn work(rt: &HostRuntime) -> Result<u8, Fault> {
         certificate: read_other(rt, certificate, job.has_certificate())?,
         script: read_other(rt, script, job.has_script())?,
     };
-    serve(rt.alloc(), &job, &texts, &mut io::writer(rt)).map_err(Fault::Serve)
+    Ok((job, texts))
 }
 
 fn read_words(rt: &HostRuntime) -> Result<Vec<String>, Fault> {

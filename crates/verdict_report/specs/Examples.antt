@@ -13,7 +13,7 @@ use Rattle.mark_checker.specs.Rules.{each}
 use Rattle.machine_model.specs.Answer.{least}
 use Rattle.machine_model.specs.Examples.{unlisted_jump, jump_unlisted}
 use Rattle.verdict_report.specs.OutputTexts.{Report}
-use Rattle.verdict_report.specs.JudgedTexts.{program_judged}
+use Rattle.verdict_report.specs.JudgedTexts.{goes_on, program_judged}
 use Rattle.verdict_report.specs.SeqText.{seq_read, seq_text}
 use Rattle.verdict_report.specs.ReplayText.{events_report, script_report, replay_text}
 
@@ -51,7 +51,7 @@ replayed units script = replay_text units count_text count_certificate (lines sc
 
 -- what is left to be computed once the program text is read
 abbrev counting : ℕ → List (List ℕ) → Result Listing AsmFault → Report
-counting units script read = program_judged (script_report units (lines script)) read count_certificate
+counting units script read = goes_on (script_report units (lines script)) (program_judged read count_certificate)
 
 -- the second unit waits for register 8 until it has been transferred
 abbrev waiting : List (List ℕ)
@@ -86,7 +86,7 @@ lacking_certificate = lines (
 pub findings_first : replay_text 2 count_text lacking_certificate (codes "exec")
     ≡ report (codes "A 1 rule 3 $9" ∷ codes "refused 1" ∷ []) 1
 unfolding digits each
-findings_first = ap (λ (r : Result Listing AsmFault). program_judged (script_report 2 (codes "exec")) r lacking_certificate) count_is
+findings_first = ap (λ (r : Result Listing AsmFault). goes_on (script_report 2 (codes "exec")) (program_judged r lacking_certificate)) count_is
 
 -- a run that ends at an address that no task lists
 pub jump_is_unlisted : events_report 1 unlisted_jump jump_unlisted

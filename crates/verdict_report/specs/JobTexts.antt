@@ -1,5 +1,5 @@
 -- What a job writes of its texts, and the status (own choice).
-use Rattle.std.specs.Prelude.{◌≡◌, ℕ, List, Option, Result, Ok, Err}
+use Rattle.std.specs.Prelude.{◌≡◌, ℕ, Bool, true, false, List, Option, Result, Ok, Err}
 use Rattle.std.specs.Io.KnownBytes.{Appends}
 use Rattle.task_descriptor.specs.Listing.{Listing}
 use Rattle.annotated_asm.specs.declared.fault.AsmFault.{AsmFault}
@@ -9,9 +9,10 @@ use Rattle.verdict_report.specs.OutputTexts.{Report, program_refused}
 use Rattle.verdict_report.specs.SeqText.{seq_text}
 use Rattle.verdict_report.specs.CheckText.{check_text}
 use Rattle.verdict_report.specs.ReplayText.{replay_text}
+use Rattle.verdict_report.specs.RunText.{IsRunText}
 use Rattle.verdict_report.specs.AnnotateText.{IsAnnotateReport}
 use Rattle.jobs.specs.declared.job.Job.{Job}
-use Rattle.jobs.specs.declared.job.Job.TheVariants.{Seq, Print, Annotate, Check, Replay}
+use Rattle.jobs.specs.declared.job.Job.TheVariants.{Seq, Print, Annotate, Check, Replay, Run}
 use Rattle.jobs.specs.declared.job.Texts.{Texts}
 
 abbrev pub print_read : Result Listing AsmFault → Report
@@ -22,14 +23,19 @@ print_read (Err fault) = program_refused fault
 abbrev pub print_text : List ℕ → Report
 print_text text = print_read (parse text)
 
--- what a job may write of its texts
+-- the job runs threads over a machine
+abbrev pub is_run : Job → Bool
+is_run (Run units workers budget predict emit) = true
+is_run _ = false
+
+-- what a job may write of its texts; how many threads there are does not matter
 abbrev pub IsReportOf : Job → Texts → Report → Type 0
 IsReportOf (Seq budget) texts report = report ≡ seq_text budget texts.program.items
 IsReportOf Print texts report = report ≡ print_text texts.program.items
 IsReportOf (Annotate emit) texts report = IsAnnotateReport emit texts.program.items report
 IsReportOf (Check workers) texts report = report ≡ check_text texts.program.items texts.certificate.items
 IsReportOf (Replay units) texts report = report ≡ replay_text units texts.program.items texts.certificate.items texts.script.items
-IsReportOf _ texts report = ⊥
+IsReportOf (Run units workers budget predict emit) texts report = IsRunText units budget emit texts.program.items texts.certificate.items report
 
 -- a job is done: a report of it was added to what the writer holds, and the status is its
 pub record IsDone (job : Job) (texts : Texts) (status : ℕ) (old new : Option (List ℕ)) : Type 0 where

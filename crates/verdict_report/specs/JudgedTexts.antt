@@ -1,6 +1,6 @@
--- What a job with a certificate writes before its own text, and in which order (own choice): a program
--- that is refused, a certificate that is refused, or what the rules find. `rest` is what the job writes
--- of a program in which nothing is found.
+-- How a program text and the text of its certificate are judged, and in which order (own choice): a
+-- program that is refused, a certificate that is refused, what the rules find, or a program in which they
+-- find nothing.
 use Rattle.std.specs.Prelude.{ℕ, List, [], ◌∷◌, Result, Ok, Err}
 use Rattle.task_descriptor.specs.Listing.{Listing}
 use Rattle.annotated_asm.specs.declared.fault.AsmFault.{AsmFault}
@@ -12,17 +12,30 @@ use Rattle.mark_checker.specs.Rules.{all_rules}
 use Rattle.verdict_report.specs.OutputTexts.{Report, program_refused}
 use Rattle.verdict_report.specs.VerdictTexts.{certificate_refused, program_found}
 
-abbrev pub findings_judged : (rest : Listing → Report) → Listing → List Finding → Report
-findings_judged rest p [] = rest p
-findings_judged rest p (finding ∷ more) = program_found p (finding ∷ more)
+-- what is written of the two texts, or the program in which nothing is found
+pub data Judgement : Type 0 where
+  refused : Report → Judgement
+  accepted : Listing → Judgement
 
-abbrev pub certificate_judged : (rest : Listing → Report) → Listing → Result (List (List (ℕ × ℕ))) CertFault → Report
-certificate_judged rest p (Ok cert) = findings_judged rest p (all_rules p cert)
-certificate_judged rest p (Err fault) = certificate_refused fault
+abbrev pub findings_judged : Listing → List Finding → Judgement
+findings_judged p [] = accepted p
+findings_judged p (finding ∷ more) = refused (program_found p (finding ∷ more))
 
-abbrev pub program_judged : (rest : Listing → Report) → Result Listing AsmFault → (certificate : List ℕ) → Report
-program_judged rest (Ok p) certificate = certificate_judged rest p (cert_parse certificate (names_of p))
-program_judged rest (Err fault) certificate = program_refused fault
+abbrev pub certificate_judged : Listing → Result (List (List (ℕ × ℕ))) CertFault → Judgement
+certificate_judged p (Ok cert) = findings_judged p (all_rules p cert)
+certificate_judged p (Err fault) = refused (certificate_refused fault)
+
+abbrev pub program_judged : Result Listing AsmFault → (certificate : List ℕ) → Judgement
+program_judged (Ok p) certificate = certificate_judged p (cert_parse certificate (names_of p))
+program_judged (Err fault) certificate = refused (program_refused fault)
+
+abbrev pub judgement : (program certificate : List ℕ) → Judgement
+judgement program certificate = program_judged (parse program) certificate
+
+-- what a job writes that goes on with a program in which nothing is found
+abbrev pub goes_on : (rest : Listing → Report) → Judgement → Report
+goes_on rest (refused report) = report
+goes_on rest (accepted p) = rest p
 
 abbrev pub judged : (rest : Listing → Report) → (program certificate : List ℕ) → Report
-judged rest program certificate = program_judged rest (parse program) certificate
+judged rest program certificate = goes_on rest (judgement program certificate)

@@ -6,7 +6,9 @@ pub mod CheckText
 pub mod AnnotateText
 pub mod MachineText
 pub mod ReplayText
+pub mod RunText
 pub mod JobTexts
 pub mod Judging
 pub mod Playing
+pub mod Runs
 pub mod Examples

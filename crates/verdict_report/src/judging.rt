@@ -1,12 +1,10 @@
-//! What every job with a certificate does first.
+//! What `replay` and `run` do first.
 ghost use Rattle.std.specs.Prelude.{◌≡◌, ◌≢◌, [], IfOk};
-ghost use Rattle.task_descriptor.specs.Listing.{Listing};
 ghost use Rattle.mask_certificate.specs.CertificateReading.{cert_parse, names_of};
 ghost use Rattle.mark_checker.specs.Rules.{all_rules};
-ghost use Rattle.verdict_report.specs.OutputTexts.{Report as Said};
 ghost use Rattle.verdict_report.specs.VerdictTexts.{program_found};
-ghost use Rattle.verdict_report.specs.JudgedTexts.{certificate_judged, findings_judged};
-ghost use Rattle.verdict_report.specs.Judging.{IsJudged, goes_on};
+ghost use Rattle.verdict_report.specs.JudgedTexts.{certificate_judged, findings_judged, judgement};
+ghost use Rattle.verdict_report.specs.Judging.{as_judgement};
 
 use crate::report::{Report, refused_program};
 use crate::verdict_text::{found_program, refused_certificate};
@@ -31,7 +29,7 @@ pub enum Judged {
 
 /// Judges a program text, then the text of its certificate, and then the one by the other.
 pub fn judge(alloc: Global, program: &[u8], certificate: &[u8]) -> Result<Judged, AllocError>
-    ensures { IfOk result (λ judged. IsJudged program.now certificate.now judged) }
+    ensures { IfOk result (λ judged. as_judgement judged ≡ judgement program.now certificate.now) }
 {
     match assemble(alloc, program) {
         Ok(program) => judge_program(alloc, program, certificate),
@@ -42,8 +40,8 @@ pub fn judge(alloc: Global, program: &[u8], certificate: &[u8]) -> Result<Judged
 
 // Judges the text of a program's certificate.
 fn judge_program(alloc: Global, program: Program, certificate: &[u8]) -> Result<Judged, AllocError>
-    ensures { IfOk result (λ judged. (rest : Listing → Said) →
-        goes_on rest judged ≡ certificate_judged rest program (cert_parse certificate.now (names_of program))) }
+    ensures { IfOk result (λ judged.
+        as_judgement judged ≡ certificate_judged program (cert_parse certificate.now (names_of program))) }
 {
     match read(alloc, certificate, &program) {
         Ok(cert) => judge_marks(alloc, program, cert),
@@ -54,8 +52,7 @@ fn judge_program(alloc: Global, program: Program, certificate: &[u8]) -> Result<
 
 // Judges a program by its certificate.
 fn judge_marks(alloc: Global, program: Program, cert: Cert) -> Result<Judged, AllocError>
-    ensures { IfOk result (λ judged. (rest : Listing → Said) →
-        goes_on rest judged ≡ findings_judged rest program (all_rules program cert)) }
+    ensures { IfOk result (λ judged. as_judgement judged ≡ findings_judged program (all_rules program cert)) }
 {
     match accept::Accepted::new(program, cert) {
         Ok(accepted) => Ok(Judged::Accepted(accepted)),

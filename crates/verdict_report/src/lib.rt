@@ -1,19 +1,21 @@
 //! What the program writes: from a reader to the bytes of a file, and from a job and its texts to the
 //! bytes that it writes and its status.
 //!
-//! A job is added by what it writes in `specs/`, with its line in `IsReportOf` and in `is_served`, by
-//! the module that writes it, and by its arm in `serve`.
+//! A job is added by what it writes in `specs/`, with its line in `IsReportOf`, by the module that writes
+//! it, and by its arm in `serve`.
 #![tactic(auto)]
 
 pub mod annotating;
 pub mod checking;
 pub mod event_text;
+pub mod fault;
 pub mod files;
 pub mod judging;
 pub mod machine_text;
 pub mod plain_text;
 pub mod replaying;
 pub mod report;
+pub mod running;
 pub mod sequential;
 pub mod serve;
 pub mod verdict_text;

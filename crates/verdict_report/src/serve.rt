@@ -1,75 +1,79 @@
 //! Doing a job: its text is built whole, and then written.
-ghost use Rattle.std.specs.Prelude.{◌≡◌, ◌≢◌, true, Err, IfOk, OnOk, OnErr};
+ghost use Rattle.std.specs.Prelude.{◌≡◌, ◌≢◌, false, Err, IfOk, OnOk, OnErr};
 ghost use Rattle.std.specs.Io.KnownBytes.{Appends, Keeps};
-ghost use Rattle.jobs.specs.Served.{is_served};
-ghost use Rattle.verdict_report.specs.JobTexts.{IsDone, IsReportOf, print_text};
+ghost use Rattle.verdict_report.specs.JobTexts.{IsDone, IsReportOf, is_run, print_text};
 
 use crate::annotating::annotate;
 use crate::checking::check;
+use crate::fault::ServeFault;
 use crate::replaying::replay;
 use crate::report::{Report, refused_program};
+use crate::running::{Extent, run};
 use crate::sequential::seq;
 use annotated_asm::assembler::assemble;
 use annotated_asm::fault::AsmFault;
 use jobs::job::{Job, Texts};
 use std::alloc::{AllocError, Global};
 use std::io::Write;
-use thiserror::Error;
+use std::sync::Wait;
+use std::thread::Threads;
 
-/// Why a job was not done.
-#[derive(Clone, Copy, Debug, PartialEq, Eq, Error)]
-pub enum ServeFault {
-    /// 1: memory ran out; nothing was written.
-    #[error("1 OutOfMemory")]
-    OutOfMemory,
-    /// 2: the writer failed; it is not known how much was written.
-    #[error("2 Write")]
-    Write,
-    /// 3: the threads gave back another machine; nothing was written.
-    #[error("3 Foreign")]
-    Foreign,
-}
-
-/// Does a job: builds its text whole, writes it, and answers the status of the program, 0 to 3. The
-/// caller passes a job that is there. Want of memory may come at any point; nothing is written then.
-/// (own choice)
-pub fn serve<W: Write>(
+/// Does a job: builds its text whole, writes it, and answers the status of the program, 0 to 3. Want of
+/// memory may come at any point; nothing is written then. `check` and `run` make threads. (own choice)
+pub fn serve<W: Write, R: Threads + Wait + Sync>(
+    rt: &R,
     alloc: Global,
     job: &Job,
     texts: &Texts,
     writer: &mut W,
 ) -> Result<u8, ServeFault>
-    requires { is_served job.now ≡ true }
     ensures done { IfOk result (λ status. IsDone job.now texts.now status
         (W.contents writer.old) (W.contents writer.new)) }
-    ensures nothing { result ≡ Err ServeFault.OutOfMemory →
-        Keeps (W.contents writer.old) (W.contents writer.new) }
-    ensures own { result ≢ Err ServeFault.Foreign }
+    ensures nothing { OnErr result (result ≢ Err ServeFault.Write →
+        Keeps (W.contents writer.old) (W.contents writer.new)) }
+    ensures own { is_run job.now ≡ false → result ≢ Err ServeFault.Foreign }
 {
-    let report = report_of(alloc, job, texts).map_err(|_| ServeFault::OutOfMemory)?;
+    let report = report_of(rt, alloc, job, texts)?;
     deliver(writer, report.bytes())?;
     Ok(report.status())
 }
 
 // What a job writes, and the status.
-fn report_of(alloc: Global, job: &Job, texts: &Texts) -> Result<Report, AllocError>
-    requires { is_served job.now ≡ true }
-    ensures { IfOk result (λ report. IsReportOf job.now texts.now report) }
+fn report_of<R: Threads + Wait + Sync>(
+    rt: &R,
+    alloc: Global,
+    job: &Job,
+    texts: &Texts,
+) -> Result<Report, ServeFault>
+    ensures report { IfOk result (λ report. IsReportOf job.now texts.now report) }
+    ensures fault { result ≢ Err ServeFault.Write }
+    ensures own { is_run job.now ≡ false → result ≢ Err ServeFault.Foreign }
 {
     let program = texts.program.as_slice();
+    let certificate = texts.certificate.as_slice();
     match job {
-        Job::Seq { budget } => seq(alloc, *budget, program),
-        Job::Print => print(alloc, program),
-        Job::Annotate { emit } => annotate(alloc, *emit, program),
-        Job::Check { .. } => check(alloc, program, texts.certificate.as_slice()),
-        Job::Replay { units } => replay(
-            alloc,
-            *units,
-            program,
-            texts.certificate.as_slice(),
-            texts.script.as_slice(),
-        ),
-        _ => unreachable!(),
+        Job::Seq { budget } => Ok(seq(alloc, *budget, program)?),
+        Job::Print => Ok(print(alloc, program)?),
+        Job::Annotate { emit } => Ok(annotate(alloc, *emit, program)?),
+        Job::Check { workers } => Ok(check(rt, alloc, *workers, program, certificate)?),
+        Job::Replay { units } => {
+            let script = texts.script.as_slice();
+            Ok(replay(alloc, *units, program, certificate, script)?)
+        }
+        Job::Run {
+            units,
+            workers,
+            budget,
+            predict,
+            emit,
+        } => {
+            let extent = Extent {
+                units: *units,
+                workers: *workers,
+                budget: *budget,
+            };
+            run(rt, alloc, extent, predict, *emit, program, certificate)
+        }
     }
 }
 

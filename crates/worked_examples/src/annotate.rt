@@ -1,6 +1,6 @@
 //! `annotate`: what is proposed, and what `check` says of it.
 
-use crate::answers::{EMPTY, Row, answer, expect, texts_of};
+use crate::answers::{Bench, EMPTY, Row, answer, expect, texts_of};
 use crate::programs::{
     COUNT, COUNT_BARE, COUNT_CERTIFICATE_WIDE, COUNT_CREATES_LESS, COUNT_FORWARDED, DIAMOND,
     FIVE_FINDINGS, PAIR, READ_ONLY, RELEASE, SPIN, UNLISTED_JUMP, WRONG_PATH_LOAD, WRONG_PATH_SPIN,
@@ -64,7 +64,7 @@ fn refuses_texts(rt: HostRuntime) {
 }
 
 // What the words write of a program, with status 0.
-fn annotated(rt: &impl Abort, alloc: Global, words: &str, program: &[u8]) -> Vec<u8> {
+fn annotated(rt: &impl Bench, alloc: Global, words: &str, program: &[u8]) -> Vec<u8> {
     let texts = texts_of(rt, alloc, program, b"", b"");
     let (written, status) = answer(rt, alloc, words, &texts);
     assert_eq!(rt; status, 0, "{words}");
@@ -73,7 +73,7 @@ fn annotated(rt: &impl Abort, alloc: Global, words: &str, program: &[u8]) -> Vec
 
 // Asserts what `check` writes of a program and its certificate.
 fn expect_checked(
-    rt: &impl Abort,
+    rt: &impl Bench,
     alloc: Global,
     program: &[u8],
     certificate: &[u8],
@@ -85,7 +85,7 @@ fn expect_checked(
 }
 
 // Asserts what `check` writes of the program that is proposed and its certificate.
-fn expect_proposed(rt: &impl Abort, alloc: Global, program: &str, expected: &str, status: u8) {
+fn expect_proposed(rt: &impl Bench, alloc: Global, program: &str, expected: &str, status: u8) {
     let program = program.as_bytes();
     let proposed = annotated(rt, alloc, "annotate a.s", program);
     let certificate = annotated(rt, alloc, "annotate --emit cert a.s", program);

@@ -4,7 +4,14 @@ use command_line::words::job_of;
 use jobs::job::Texts;
 use std::alloc::Global;
 use std::process::Abort;
+use std::sync::Wait;
+use std::thread::Threads;
 use verdict_report::serve::serve;
+
+/// What a test's runtime may do: stop, wait, and make threads.
+pub trait Bench: Abort + Threads + Wait + Sync {}
+
+impl<R: Abort + Threads + Wait + Sync> Bench for R {}
 
 /// A run of the program: its command line, its texts, and what it answers.
 #[derive(Clone, Copy)]
@@ -35,7 +42,7 @@ pub const EMPTY: Row<'static> = Row {
 
 impl Row<'_> {
     /// Asserts the answer, and that a certificate in `cert 1` gives the same in `cert 2`.
-    pub fn runs(&self, rt: &impl Abort, alloc: Global) {
+    pub fn runs(&self, rt: &impl Bench, alloc: Global) {
         self.runs_with(rt, alloc, self.certificate);
         if self.certificate.starts_with("cert 1") {
             let wide = widened(rt, alloc, self.certificate);
@@ -44,7 +51,7 @@ impl Row<'_> {
     }
 
     // Asserts the answer where the certificate is this one.
-    fn runs_with(&self, rt: &impl Abort, alloc: Global, certificate: &str) {
+    fn runs_with(&self, rt: &impl Bench, alloc: Global, certificate: &str) {
         let program = self.program.as_bytes();
         let script = self.script.as_bytes();
         let texts = texts_of(rt, alloc, program, certificate.as_bytes(), script);
@@ -88,7 +95,7 @@ fn copy(rt: &impl Abort, alloc: Global, text: &[u8]) -> Vec<u8> {
 
 /// Asserts what the words write of texts, and the status.
 pub fn expect(
-    rt: &impl Abort,
+    rt: &impl Bench,
     alloc: Global,
     words: &str,
     texts: &Texts,
@@ -104,12 +111,12 @@ pub fn expect(
 }
 
 /// What the words write of texts, and the status.
-pub fn answer(rt: &impl Abort, alloc: Global, words: &str, texts: &Texts) -> (Vec<u8>, u8) {
+pub fn answer(rt: &impl Bench, alloc: Global, words: &str, texts: &Texts) -> (Vec<u8>, u8) {
     let words = words_of(rt, alloc, words);
     let job = job_of(alloc, words.as_slice()).ok();
     let (job, _) = job.expect(rt, "a job");
     let mut written = Vec::new(alloc);
-    let status = serve(alloc, &job, texts, &mut written).ok();
+    let status = serve(rt, alloc, &job, texts, &mut written).ok();
     (written, status.expect(rt, "a status"))
 }
 

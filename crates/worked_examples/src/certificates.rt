@@ -1,6 +1,6 @@
 //! What `check` says of every beginning of a certificate.
 
-use crate::answers::{expect, texts_of};
+use crate::answers::{Bench, expect, texts_of};
 use crate::programs::{COUNT, COUNT_CERTIFICATE, COUNT_CERTIFICATE_WIDE};
 use std::alloc::Global;
 use std::process::Abort;
@@ -29,7 +29,7 @@ fn said_of_lines(lines: usize) -> &'static str {
 }
 
 // Asserts what `check` says of a beginning of the certificate of `COUNT`.
-fn expect_refused(rt: &impl Abort, alloc: Global, beginning: &[u8]) {
+fn expect_refused(rt: &impl Bench, alloc: Global, beginning: &[u8]) {
     let texts = texts_of(rt, alloc, COUNT.as_bytes(), beginning, b"");
     let said = said_of(rt, alloc, beginning);
     expect(rt, alloc, "check a.s a.cert", &texts, said.as_str(), 1);
@@ -42,7 +42,7 @@ fn reads_beginnings_of_a_certificate(rt: HostRuntime) {
     }
 }
 
-fn expect_beginnings(rt: &impl Abort, alloc: Global, certificate: &[u8]) {
+fn expect_beginnings(rt: &impl Bench, alloc: Global, certificate: &[u8]) {
     for len in 0..certificate.len() {
         expect_refused(rt, alloc, &certificate[..len]);
     }

@@ -1,13 +1,14 @@
 //! Readers and writers that fail.
 
-use crate::answers::texts_of;
+use crate::answers::{Bench, texts_of};
 use jobs::job::Job;
 use std::alloc::Global;
 use std::io;
 use std::io::{ErrorKind, Read, Write};
 use std::process::Abort;
+use verdict_report::fault::ServeFault;
 use verdict_report::files::{FetchFault, fetch};
-use verdict_report::serve::{ServeFault, serve};
+use verdict_report::serve::serve;
 
 // Gives one byte a read, is interrupted first, and fails at its last read.
 #[derive(Drop)]
@@ -109,10 +110,10 @@ impl Write for Full {
 }
 
 // Asserts what `print` of a text with a fault answers where the writer has this room.
-fn expect_written(rt: &impl Abort, alloc: Global, room: u32, expected: Result<u8, ServeFault>) {
+fn expect_written(rt: &impl Bench, alloc: Global, room: u32, expected: Result<u8, ServeFault>) {
     let texts = texts_of(rt, alloc, b"foo", b"", b"");
     let mut writer = Full { room };
-    let answer = serve(alloc, &Job::Print, &texts, &mut writer);
+    let answer = serve(rt, alloc, &Job::Print, &texts, &mut writer);
     assert_eq!(rt; answer, expected, "room for {room}");
 }
 

@@ -28,6 +28,8 @@ mod replay;
 #[cfg(test)]
 mod replayed_values;
 #[cfg(test)]
+mod run;
+#[cfg(test)]
 mod scripts;
 #[cfg(test)]
 mod seq;

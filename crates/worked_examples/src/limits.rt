@@ -1,6 +1,6 @@
 //! Programs at the limits and just beyond.
 
-use crate::answers::{answer, expect, texts_of};
+use crate::answers::{Bench, answer, expect, texts_of};
 use std::alloc::Global;
 use std::process::Abort;
 
@@ -84,7 +84,7 @@ fn write_section(rt: &impl Abort, alloc: Global, text: &mut String, name: &str, 
 }
 
 // What `print` writes of a program, with status 0.
-fn printed(rt: &impl Abort, alloc: Global, program: &[u8]) -> Vec<u8> {
+fn printed(rt: &impl Bench, alloc: Global, program: &[u8]) -> Vec<u8> {
     let texts = texts_of(rt, alloc, program, b"", b"");
     let (printed, status) = answer(rt, alloc, "print a.s", &texts);
     assert_eq!(rt; status, 0);
@@ -100,7 +100,7 @@ fn prints_the_largest_program(rt: HostRuntime) {
 }
 
 // Asserts what `print` says of a text.
-fn expect_refused(rt: &impl Abort, alloc: Global, program: &[u8], expected: &str) {
+fn expect_refused(rt: &impl Bench, alloc: Global, program: &[u8], expected: &str) {
     let texts = texts_of(rt, alloc, program, b"", b"");
     expect(rt, alloc, "print a.s", &texts, expected, 1);
 }

@@ -340,3 +340,24 @@ task B
 task C
 2 00000000
 ";
+
+/// The certificate of `SPIN`.
+pub const SPIN_CERTIFICATE: &str = "cert 1
+task A
+0 00000000
+";
+
+/// The certificate of `DIAMOND`.
+pub const DIAMOND_CERTIFICATE: &str = "cert 1
+task A
+0 00000100
+1 00000000
+task B
+2 00000000
+task C
+3 00000000
+task D
+4 00000200
+5 00000000
+6 00000000
+";

@@ -1,6 +1,6 @@
 //! `replay`: what it writes of scripts.
 
-use crate::answers::{EMPTY, Row};
+use crate::answers::{Bench, EMPTY, Row};
 use crate::programs::{
     COUNT, COUNT_CERTIFICATE, COUNT_CERTIFICATE_LACKING, READ_ONLY, READ_ONLY_CERTIFICATE,
     UNLISTED_JUMP, UNLISTED_JUMP_CERTIFICATE, WRONG_PATH_LOAD, WRONG_PATH_LOAD_CERTIFICATE,
@@ -11,10 +11,9 @@ use crate::scripts::{
     WRONG_PATH_LOADED, WRONG_PATH_SPUN, answers_of, events_of,
 };
 use std::alloc::Global;
-use std::process::Abort;
 
 // Asserts a row whose script stands with its answers; what it expects is written behind these.
-fn replays(rt: &impl Abort, alloc: Global, row: &Row<'_>) {
+fn replays(rt: &impl Bench, alloc: Global, row: &Row<'_>) {
     let script = events_of(rt, alloc, row.script);
     let expected = answers_of(rt, alloc, row.script, row.expected);
     let row = Row {

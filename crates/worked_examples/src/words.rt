@@ -2,7 +2,7 @@
 
 use crate::answers::words_of;
 use command_line::words::{UsageFault, job_of};
-use jobs::job::{Emit, Job, Paths};
+use jobs::job::{Emit, Job, Paths, Prediction, RunEmit};
 use std::alloc::Global;
 use std::process::Abort;
 
@@ -14,8 +14,49 @@ enum Wanted {
     Annotate(Emit),
     Check(u32),
     Replay(u32),
-    Run,
+    Run(WantedRun),
 }
+
+// What `run` takes.
+#[derive(Clone, Copy, PartialEq)]
+struct WantedRun {
+    units: u32,
+    workers: u32,
+    budget: u32,
+    predict: Wanting,
+    emit: RunEmit,
+}
+
+// How the next task is to be guessed; of a list how many numbers it has, and the first.
+#[derive(Clone, Copy, PartialEq)]
+enum Wanting {
+    First,
+    Last,
+    List(usize, Option<u32>),
+}
+
+impl Wanting {
+    // The prediction that was given.
+    fn of(predict: &Prediction) -> Wanting {
+        match predict {
+            Prediction::First => Wanting::First,
+            Prediction::Last => Wanting::Last,
+            Prediction::List(answers) => {
+                let numbers = answers.as_slice();
+                Wanting::List(numbers.len(), numbers.first().copied())
+            }
+        }
+    }
+}
+
+// `run` with nothing but its files.
+const PLAIN_RUN: WantedRun = WantedRun {
+    units: 4,
+    workers: 4,
+    budget: 1_000_000,
+    predict: Wanting::First,
+    emit: RunEmit::Report,
+};
 
 impl Wanted {
     // The job that was given.
@@ -26,7 +67,19 @@ impl Wanted {
             Job::Annotate { emit } => Wanted::Annotate(*emit),
             Job::Check { workers } => Wanted::Check(workers.get()),
             Job::Replay { units } => Wanted::Replay(units.get()),
-            Job::Run { .. } => Wanted::Run,
+            Job::Run {
+                units,
+                workers,
+                budget,
+                predict,
+                emit,
+            } => Wanted::Run(WantedRun {
+                units: units.get(),
+                workers: workers.get(),
+                budget: budget.get(),
+                predict: Wanting::of(predict),
+                emit: *emit,
+            }),
         }
     }
 
@@ -34,7 +87,7 @@ impl Wanted {
     fn files(self) -> (&'static str, &'static str) {
         match self {
             Wanted::Replay(_) => ("a.cert", "a.events"),
-            Wanted::Check(_) | Wanted::Run => ("a.cert", ""),
+            Wanted::Check(_) | Wanted::Run(_) => ("a.cert", ""),
             _ => ("", ""),
         }
     }
@@ -56,6 +109,69 @@ const JOBS: [(&str, Wanted); 13] = [
     ("annotate a.s --emit cert", Wanted::Annotate(Emit::Cert)),
     ("annotate --emit keep a.s", Wanted::Annotate(Emit::Keep)),
 ];
+
+// Words of `run`.
+const RUNS: [(&str, WantedRun); 8] = [
+    ("run a.s a.cert", PLAIN_RUN),
+    (
+        "run --units 16 a.s a.cert",
+        WantedRun {
+            units: 16,
+            workers: 16,
+            ..PLAIN_RUN
+        },
+    ),
+    (
+        "run --workers 1 a.s a.cert",
+        WantedRun {
+            workers: 1,
+            ..PLAIN_RUN
+        },
+    ),
+    (
+        "run a.s a.cert --units 2 --workers 16",
+        WantedRun {
+            units: 2,
+            workers: 16,
+            ..PLAIN_RUN
+        },
+    ),
+    (
+        "run a.s a.cert --budget 100",
+        WantedRun {
+            budget: 100,
+            ..PLAIN_RUN
+        },
+    ),
+    (
+        "run a.s a.cert --predict last",
+        WantedRun {
+            predict: Wanting::Last,
+            ..PLAIN_RUN
+        },
+    ),
+    (
+        "run a.s a.cert --predict 15,0,07",
+        WantedRun {
+            predict: Wanting::List(3, Some(15)),
+            ..PLAIN_RUN
+        },
+    ),
+    (
+        "run a.s a.cert --emit script",
+        WantedRun {
+            emit: RunEmit::Script,
+            ..PLAIN_RUN
+        },
+    ),
+];
+
+#[test]
+fn reads_runs(rt: HostRuntime) {
+    for &(line, wanted) in &RUNS {
+        expect_read(&rt, rt.alloc(), line, Wanted::Run(wanted));
+    }
+}
 
 // The job of the words, or why there is none.
 fn read(rt: &impl Abort, alloc: Global, line: &str) -> Result<(Job, Paths), UsageFault> {
@@ -86,7 +202,7 @@ fn expect_path(rt: &impl Abort, line: &str, path: &String, expected: &str) {
     assert!(rt; path.as_str() == expected, "{line}");
 }
 
-const NO_JOBS: [&str; 17] = [
+const NO_JOBS: [&str; 24] = [
     "seq",
     "seq a.s b.s",
     "seq a.s --budget 0",
@@ -103,6 +219,13 @@ const NO_JOBS: [&str; 17] = [
     "replay a.s a.cert a.events --units 0",
     "replay a.s a.cert a.events --units 17",
     "replay a.s a.cert a.events --budget 3",
+    "run a.s",
+    "run a.s a.cert a.events",
+    "run a.s a.cert --units 0",
+    "run a.s a.cert --units 17",
+    "run a.s a.cert --workers 0",
+    "run a.s a.cert --workers 17",
+    "run a.s a.cert --budget 0",
     "foo",
 ];
 
@@ -114,7 +237,13 @@ fn refuses_words(rt: HostRuntime) {
     }
 }
 
-const NO_EMIT: [&str; 2] = ["annotate a.s --emit xml", "annotate a.s --emit Text"];
+const NO_EMIT: [&str; 5] = [
+    "annotate a.s --emit xml",
+    "annotate a.s --emit Text",
+    "annotate a.s --emit script",
+    "run a.s a.cert --emit xml",
+    "run a.s a.cert --emit text",
+];
 
 #[test]
 fn refuses_other_values_of_emit(rt: HostRuntime) {
@@ -122,4 +251,29 @@ fn refuses_other_values_of_emit(rt: HostRuntime) {
         let refused = read(&rt, rt.alloc(), line);
         assert!(rt; matches!(refused, Err(UsageFault::Emit)), "{line}");
     }
+}
+
+// A value of `--predict` is looked at before that of `--emit`.
+const NO_PREDICTION: [&str; 5] = [
+    "run a.s a.cert --predict 1,,0",
+    "run a.s a.cert --predict 16",
+    "run a.s a.cert --predict 001",
+    "run a.s a.cert --predict Last",
+    "run a.s a.cert --predict 1,,0 --emit xml",
+];
+
+#[test]
+fn refuses_other_values_of_predict(rt: HostRuntime) {
+    for &line in &NO_PREDICTION {
+        let refused = read(&rt, rt.alloc(), line);
+        assert!(rt; matches!(refused, Err(UsageFault::Predict)), "{line}");
+    }
+}
+
+// What `clap` decides comes before either.
+#[test]
+fn refuses_words_first(rt: HostRuntime) {
+    let line = "run a.s a.cert --units 17 --predict 1,,0 --emit xml";
+    let refused = read(&rt, rt.alloc(), line);
+    assert!(rt; matches!(refused, Err(UsageFault::Words(_))), "{line}");
 }

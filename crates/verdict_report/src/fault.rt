@@ -1,0 +1,29 @@
+//! Why a job is not done.
+
+use std::alloc::AllocError;
+use thiserror::Error;
+
+/// Why a job was not done.
+#[derive(Clone, Copy, Debug, PartialEq, Eq, Error)]
+pub enum ServeFault {
+    /// 1: memory ran out, or a thread of `run` could not be made; nothing was written.
+    #[error("1 OutOfMemory")]
+    OutOfMemory,
+    /// 2: the writer failed; it is not known how much was written.
+    #[error("2 Write")]
+    Write,
+    /// 3: the threads of `run` gave back another machine; nothing was written.
+    #[error("3 Foreign")]
+    Foreign,
+}
+
+impl From<AllocError> for ServeFault {
+    ghost use Rattle.std.specs.Prelude.{◌≡◌};
+    ghost use Rattle.verdict_report.specs.declared.fault.ServeFault.TheVariants.{OutOfMemory};
+
+    ghost from_gives = { λ _ e. e ≡ OutOfMemory };
+
+    fn from(_error: AllocError) -> ServeFault {
+        ServeFault::OutOfMemory
+    }
+}

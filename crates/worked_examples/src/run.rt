@@ -1,0 +1,213 @@
+//! `run`: what threads come to is the same whatever their order.
+
+use crate::answers::{Bench, EMPTY, Row, answer, expect, texts_of};
+use crate::programs::{
+    COUNT, COUNT_CERTIFICATE, COUNT_CERTIFICATE_LACKING, DIAMOND, DIAMOND_CERTIFICATE, PRODUCT,
+    PRODUCT_CERTIFICATE, READ_ONLY, READ_ONLY_CERTIFICATE, RELEASE, RELEASE_CERTIFICATE, SPIN,
+    SPIN_CERTIFICATE, UNLISTED_JUMP, UNLISTED_JUMP_CERTIFICATE,
+};
+use std::alloc::Global;
+
+const RUN: Row<'static> = Row {
+    words: "run a.s a.cert",
+    ..EMPTY
+};
+
+const COUNTED: Row<'static> = Row {
+    program: COUNT,
+    certificate: COUNT_CERTIFICATE,
+    expected: "10\nretired 4 c 16 h 18\nhalted\n",
+    ..RUN
+};
+
+const UNITS: [u32; 4] = [1, 2, 4, 16];
+
+const PREDICTIONS: [&str; 3] = ["first", "last", "1,0"];
+
+// Asserts a row with these units, by one thread for each unit and by one thread alone.
+fn runs_on(rt: &impl Bench, alloc: Global, row: &Row<'_>, units: u32, predict: &str) {
+    for workers in ["", " --workers 1", " --workers 16"] {
+        let words = format!(in alloc;
+            "run a.s a.cert --units {units}{workers} --predict {predict}"
+        );
+        let words = words.ok().expect(rt, "room for words");
+        let row = Row {
+            words: words.as_str(),
+            ..*row
+        };
+        row.runs(rt, alloc);
+    }
+}
+
+#[test]
+fn runs_count(rt: HostRuntime) {
+    for &units in &UNITS {
+        for predict in PREDICTIONS {
+            runs_on(&rt, rt.alloc(), &COUNTED, units, predict);
+        }
+    }
+}
+
+const PROGRAMS: [Row<'static>; 6] = [
+    Row {
+        program: UNLISTED_JUMP,
+        certificate: UNLISTED_JUMP_CERTIFICATE,
+        expected: "retired 0 c 0 h 3\nunlisted 00400010\n",
+        status: 1,
+        ..RUN
+    },
+    Row {
+        program: RELEASE,
+        certificate: RELEASE_CERTIFICATE,
+        expected: "0\nretired 1 c 3 h 5\nhalted\n",
+        ..RUN
+    },
+    Row {
+        program: PRODUCT,
+        certificate: PRODUCT_CERTIFICATE,
+        expected: "4294967292\n4\nretired 1 c 2 h 7\nhalted\n",
+        ..RUN
+    },
+    Row {
+        program: DIAMOND,
+        certificate: DIAMOND_CERTIFICATE,
+        expected: "7\nretired 2 c 3 h 6\nhalted\n",
+        ..RUN
+    },
+    // The head takes the way on which a load traps.
+    Row {
+        program: READ_ONLY_TRAPS,
+        certificate: READ_ONLY_CERTIFICATE,
+        expected: "retired 1 c 2 h 6\ntrapped 2 OutOfRange\n",
+        status: 1,
+        ..RUN
+    },
+    // The squares of -2 are the same signed, but for their upper half.
+    Row {
+        program: SIGNED_PRODUCT,
+        certificate: PRODUCT_CERTIFICATE,
+        expected: "0\n4\nretired 1 c 2 h 7\nhalted\n",
+        ..RUN
+    },
+];
+
+const READ_ONLY_TRAPS: &str = ".task A create=$8 targets=B,C
+.task B create=$9,$10 targets=C
+.task C create=- targets=-
+.rodata
+K: .word 7
+.text
+A: addiu $8,$0,1 !f
+bne $8,$8,C !s
+B: la $9,K
+lw $9,0($9) !f
+lw $10,1($9) !f !s
+C: out $8
+halt
+";
+
+const SIGNED_PRODUCT: &str = ".task A create=$8,$hi,$lo targets=B
+.task B create=$9 targets=-
+A: addiu $8,$0,-2 !f
+mult $8,$8 !f !s
+B: mfhi $9
+out $9
+mflo $9 !f
+out $9
+halt
+";
+
+#[test]
+fn runs_programs(rt: HostRuntime) {
+    for row in &PROGRAMS {
+        row.runs(&rt, rt.alloc());
+        for &units in &UNITS {
+            runs_on(&rt, rt.alloc(), row, units, "last");
+        }
+    }
+}
+
+const SPUN: Row<'static> = Row {
+    words: "run --budget 100 a.s a.cert",
+    program: SPIN,
+    certificate: SPIN_CERTIFICATE,
+    expected: "out of budget\n",
+    status: 3,
+    ..EMPTY
+};
+
+#[test]
+fn runs_out_of_budget(rt: HostRuntime) {
+    SPUN.runs(&rt, rt.alloc());
+}
+
+// The texts are judged before anything runs.
+const JUDGED_BEFORE: [(&str, &str, &str); 3] = [
+    ("foo", "cert 3\n", "program refused: 4 Mnemonic line 1\n"),
+    (COUNT, "cert 3\n", "certificate refused: 1 Header\n"),
+    (
+        COUNT,
+        COUNT_CERTIFICATE_LACKING,
+        "A 1 rule 3 $9\nrefused 1\n",
+    ),
+];
+
+#[test]
+fn judges_before_the_run(rt: HostRuntime) {
+    for &(program, certificate, expected) in &JUDGED_BEFORE {
+        for words in ["run a.s a.cert", "run --emit script a.s a.cert"] {
+            let row = Row {
+                words,
+                program,
+                certificate,
+                expected,
+                status: 1,
+                ..EMPTY
+            };
+            row.runs(&rt, rt.alloc());
+        }
+    }
+}
+
+// Asserts that `replay` of the script that `run` writes allows each event, and ends as `run` says.
+fn replays_run(rt: &impl Bench, alloc: Global, row: &Row<'_>, units: u32) {
+    let words = format!(in alloc; "run --emit script --units {units} --predict last a.s a.cert");
+    let words = words.ok().expect(rt, "room for words");
+    let (program, certificate) = (row.program.as_bytes(), row.certificate.as_bytes());
+    let texts = texts_of(rt, alloc, program, certificate, b"");
+    let (script, status) = answer(rt, alloc, words.as_str(), &texts);
+    assert_eq!(rt; status, row.status, "{units} units");
+    let events = script.iter().filter(|byte| **byte == b'\n').count();
+    let words = format!(in alloc; "replay --units {units} a.s a.cert a.events");
+    let words = words.ok().expect(rt, "room for words");
+    let expected = allowed(rt, alloc, events, row.expected);
+    let texts = texts_of(rt, alloc, program, certificate, script.as_slice());
+    expect(
+        rt,
+        alloc,
+        words.as_str(),
+        &texts,
+        expected.as_str(),
+        row.status,
+    );
+}
+
+// The answers to so many events that are allowed, and then the closing lines.
+fn allowed(rt: &impl Bench, alloc: Global, events: usize, closing: &str) -> String {
+    let mut text = String::new(alloc);
+    for number in 1..=events {
+        assert!(rt; writeln!(text, "{number} ok").is_ok());
+    }
+    assert!(rt; text.push_str(closing).is_ok());
+    text
+}
+
+#[test]
+fn replays_what_was_run(rt: HostRuntime) {
+    for &units in &UNITS {
+        replays_run(&rt, rt.alloc(), &COUNTED, units);
+        for row in &PROGRAMS {
+            replays_run(&rt, rt.alloc(), row, units);
+        }
+    }
+}
