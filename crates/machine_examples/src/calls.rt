@@ -142,9 +142,8 @@ fn burst_of_another_program(rt: HostRuntime) {
     let accepted = accepted(&rt, rt.alloc(), COUNT, COUNT_CERTIFICATE);
     let mut lender = begun_on_one_unit(&rt, rt.alloc(), &accepted);
     let mut machine = begun_on_one_unit(&rt, rt.alloc(), &other);
-    for begun in [&mut lender, &mut machine] {
-        apply_all(&rt, begun, &[Event::Exec(0), Event::Exec(0)]);
-    }
+    apply_all(&rt, &mut lender, &[Event::Exec(0), Event::Exec(0)]);
+    apply_all(&rt, &mut machine, &[Event::Exec(0), Event::Exec(0)]);
     let burst = burst_on(&rt, &lender, 0, 2);
     expect_taken(&rt, &mut machine, burst, 0, 3);
     let burst = burst_on(&rt, &lender, 0, 2);
