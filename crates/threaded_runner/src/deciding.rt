@@ -14,14 +14,14 @@ use machine_events::event::{Event, Spot};
 use processor_steps::processor::MOST_EVENTS;
 use sequencer::machine::Machine;
 
-/// How many instructions beyond 3 h may have been executed, h being those of the retired tasks and the
-/// head: with more, the units ahead of the head pause.
+/// How many events beyond 3 h the history may have, h being the instructions of the retired tasks and of
+/// the head: with more, the units ahead of the head pause.
 const MOST_AHEAD: u64 = 65_536;
 
 /// What the worker of a unit of the ring does next. An event that it names is allowed and belongs to the
 /// unit; so does each that may be chosen. It is never `Wait` for the unit to which the head event belongs,
-/// as long as the history has room. A unit ahead of the head executes nothing while more than 65,536 + 2 h
-/// instructions beyond h were executed, h being those of the retired tasks and the head: so no wrong path
+/// as long as the history has room. A unit ahead of the head executes nothing while the history has more
+/// than 65,536 + 3 h events, h being the instructions of the retired tasks and of the head: so no wrong path
 /// uses up the history. Takes no memory.
 pub fn turn(machine: &Machine<'_>, unit: u32) -> Turn
     ensures own { IsTurn machine.now unit result }
