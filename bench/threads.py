@@ -102,7 +102,7 @@ def cases(program, folder):
     source.write_text(TINY)
     certificate, script = kept(program, folder, "tiny", source, "--units", "4", "--workers", "1")
     for workers in (1, 4):
-        yield Case(f"tiny, 4 units, {workers} workers", ["run", "--units", 4, "--workers", workers, source, certificate], 3)
+        yield Case(f"tiny, 4 units, {workers} workers", ["run", "--units", 4, "--workers", workers, source, certificate])
     yield Case("tiny, replay of the run with 1 worker", ["replay", "--units", 4, source, certificate, script])
     for rounds in (3000, 30000, 300000):
         source = folder / f"long{rounds}.s"
