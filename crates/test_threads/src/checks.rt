@@ -19,48 +19,8 @@ use std::thread;
 use std::thread::Threads;
 use std::time::Duration;
 use task_descriptor::program::Program;
-
-const COUNT: &str = ".start A
-.task A create=$8,$9,$10 targets=A,B
-.task B create=- targets=-
-A:
-addiu $8,$8,1 !f
-addu $9,$9,$8 !f
-slti $10,$8,4
-bne $10,$0,A !s
-B:
-out $9
-halt
-";
-
-const COUNT_CERTIFICATE: &str = "cert 1
-task A
-0 00000700
-1 00000600
-2 00000400
-3 00000000
-task B
-4 00000000
-5 00000000
-";
-
-const FIVE_FINDINGS: &str = ".task A create=- targets=B
-.task B create=$9 targets=D
-.task C create=- targets=-
-A: addiu $8,$0,1 !f !s
-B: addiu $9,$0,2 !s
-C: out $9
-D: halt
-";
-
-const FIVE_FINDINGS_CERTIFICATE: &str = "cert 1
-task A
-0 00000100
-task B
-1 00000200
-task C
-2 00000000
-";
+use test_programs::certificates::{COUNT_CERTIFICATE, FIVE_FINDINGS_CERTIFICATE};
+use test_programs::programs::{COUNT, FIVE_FINDINGS};
 
 /// A program with its certificate.
 fn parts(rt: &impl Abort, alloc: Global, program: &str, cert: &str) -> (Program, Cert) {

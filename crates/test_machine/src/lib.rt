@@ -4,5 +4,3 @@
 
 #[cfg(test)]
 mod calls;
-#[cfg(test)]
-mod programs;

@@ -1,6 +1,5 @@
 //! The calls below the jobs.
 
-use crate::programs::{COUNT, COUNT_CERTIFICATE, COUNT_CERTIFICATE_LACKING};
 use crate::replayed_values::accepted;
 use annotated_asm::assembler::assemble;
 use mark_checker::check::{check_task, verdict};
@@ -8,6 +7,8 @@ use mark_checker::finding::{Finding, Rule};
 use mask_certificate::reading::read;
 use mips_plain::number::Reg;
 use task_graph::members::members;
+use test_programs::certificates::{COUNT_CERTIFICATE, COUNT_CERTIFICATE_LACKING};
+use test_programs::programs::COUNT;
 
 #[test]
 fn finds_members(rt: HostRuntime) {

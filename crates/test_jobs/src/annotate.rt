@@ -1,12 +1,13 @@
 //! `annotate`: what is proposed, and what `check` says of it.
 
 use crate::answers::{Bench, EMPTY, Row, answer, expect, texts_of};
-use crate::programs::{
-    COUNT, COUNT_BARE, COUNT_CERTIFICATE_WIDE, COUNT_CREATES_LESS, COUNT_FORWARDED, DIAMOND,
-    FIVE_FINDINGS, PAIR, READ_ONLY, RELEASE, SPIN, UNLISTED_JUMP, WRONG_PATH_LOAD, WRONG_PATH_SPIN,
-};
 use std::alloc::Global;
 use std::process::Abort;
+use test_programs::certificates::COUNT_CERTIFICATE_WIDE;
+use test_programs::programs::{
+    COUNT, COUNT_BARE, COUNT_CREATES_LESS, COUNT_FORWARDED, DIAMOND, FIVE_FINDINGS, PAIR,
+    READ_ONLY, RELEASE, SPIN, UNLISTED_JUMP, WRONG_PATH_LOAD, WRONG_PATH_SPIN,
+};
 
 // All three values of `--emit`. The proposal forwards $10 as well, since no path writes it again.
 const PROPOSALS: [Row<'static>; 4] = [

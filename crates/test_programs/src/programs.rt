@@ -1,4 +1,4 @@
-//! The program texts and certificates that several tests share.
+//! Program texts.
 
 /// Adds 1 to $8 and $8 to $9 until $8 is 4, one task for each round, and puts out $9; in canonical
 /// text.
@@ -224,140 +224,54 @@ C: out $9
 D: halt
 ";
 
-/// The certificate of `COUNT`.
-pub const COUNT_CERTIFICATE: &str = "cert 1
-task A
-0 00000700
-1 00000600
-2 00000400
-3 00000000
-task B
-4 00000000
-5 00000000
+/// `COUNT`, where the first task names a target twice.
+pub const COUNT_WITH_THREE_TARGETS: &str = ".start A
+.task A create=$8,$9,$10 targets=A,B,A
+.task B create=- targets=-
+A:
+addiu $8,$8,1 !f
+addu $9,$9,$8 !f
+slti $10,$8,4
+bne $10,$0,A !s
+B:
+out $9
+halt
 ";
 
-/// The same with masks of 16 digits.
-pub const COUNT_CERTIFICATE_WIDE: &str = "cert 2
-task A
-0 0000000000000700
-1 0000000000000600
-2 0000000000000400
-3 0000000000000000
-task B
-4 0000000000000000
-5 0000000000000000
+/// Loads 7 from read-only data and puts it out.
+pub const LOAD_OF_7: &str = ".task A create=$8 targets=B
+.task B create=- targets=-
+.rodata
+K: .word 7
+.text
+A: la $8,K
+lw $8,0($8)
+j B !s
+B: out $8
+halt
 ";
 
-/// That of `COUNT` without $9 in the mask of the instruction that writes it.
-pub const COUNT_CERTIFICATE_LACKING: &str = "cert 1
-task A
-0 00000700
-1 00000400
-2 00000400
-3 00000000
-task B
-4 00000000
-5 00000000
+/// `LOAD_OF_7` with 8 in its place.
+pub const LOAD_OF_8: &str = ".task A create=$8 targets=B
+.task B create=- targets=-
+.rodata
+K: .word 8
+.text
+A: la $8,K
+lw $8,0($8)
+j B !s
+B: out $8
+halt
 ";
 
-/// The certificate of `RELEASE`.
-pub const RELEASE_CERTIFICATE: &str = "cert 1
-task A
-0 00000300
-1 00000100
-2 00000100
-3 00000000
-4 00000000
-task B
-5 00000000
-6 00000000
-";
-
-/// A certificate for `FIVE_FINDINGS`.
-pub const FIVE_FINDINGS_CERTIFICATE: &str = "cert 1
-task A
-0 00000100
-task B
-1 00000200
-task C
-2 00000000
-";
-
-/// The certificate of `PRODUCT`; HI and LO are bits 32 and 33.
-pub const PRODUCT_CERTIFICATE: &str = "cert 2
-task A
-0 0000000300000100
-1 0000000300000000
-task B
-2 0000000000000200
-3 0000000000000200
-4 0000000000000200
-5 0000000000000000
-6 0000000000000000
-";
-
-/// The certificate of `READ_ONLY`.
-pub const READ_ONLY_CERTIFICATE: &str = "cert 1
-task A
-0 00000100
-1 00000000
-task B
-2 00000600
-3 00000600
-4 00000600
-5 00000400
-task C
-6 00000000
-7 00000000
-";
-
-/// The certificate of `WRONG_PATH_LOAD`.
-pub const WRONG_PATH_LOAD_CERTIFICATE: &str = "cert 1
-task A
-0 00000100
-1 00000000
-task B
-2 00000800
-task C
-3 00000000
-4 00000000
-";
-
-/// The certificate of `UNLISTED_JUMP`.
-pub const UNLISTED_JUMP_CERTIFICATE: &str = "cert 1
-task A
-0 80000000
-1 80000000
-2 00000000
-";
-
-/// The certificate of `WRONG_PATH_SPIN`.
-pub const WRONG_PATH_SPIN_CERTIFICATE: &str = "cert 1
-task A
-0 00000000
-task B
-1 00000000
-task C
-2 00000000
-";
-
-/// The certificate of `SPIN`.
-pub const SPIN_CERTIFICATE: &str = "cert 1
-task A
-0 00000000
-";
-
-/// The certificate of `DIAMOND`.
-pub const DIAMOND_CERTIFICATE: &str = "cert 1
-task A
-0 00000100
-1 00000000
-task B
-2 00000000
-task C
-3 00000000
-task D
-4 00000200
-5 00000000
-6 00000000
+/// `RELEASE` with $7, which is never written, in the create mask.
+pub const RELEASE_CREATES_MORE: &str = ".task A create=$7,$8,$9 targets=B
+.task B create=- targets=-
+A: addiu $9,$0,5 !f
+bne $9,$0,S
+addiu $8,$0,1 !f
+j B !s
+S: release $8 !s
+B: out $8
+halt
 ";

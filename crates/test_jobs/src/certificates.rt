@@ -1,9 +1,10 @@
 //! What `check` says of every beginning of a certificate.
 
 use crate::answers::{Bench, expect, texts_of};
-use crate::programs::{COUNT, COUNT_CERTIFICATE, COUNT_CERTIFICATE_WIDE};
 use std::alloc::Global;
 use std::process::Abort;
+use test_programs::certificates::{COUNT_CERTIFICATE, COUNT_CERTIFICATE_WIDE};
+use test_programs::programs::COUNT;
 
 // What `check` says of a beginning of the certificate of `COUNT`, which has 9 lines.
 fn said_of(rt: &impl Abort, alloc: Global, beginning: &[u8]) -> String {

@@ -20,8 +20,6 @@ mod limits;
 #[cfg(test)]
 mod print;
 #[cfg(test)]
-mod programs;
-#[cfg(test)]
 mod ranges;
 #[cfg(test)]
 mod replay;

@@ -1,7 +1,9 @@
 //! `seq`.
 
 use crate::answers::{EMPTY, Row};
-use crate::programs::{COUNT, COUNT_WITHOUT_HALT, END_OF_CODE, PRODUCT, READ_ONLY, UNLISTED_JUMP};
+use test_programs::programs::{
+    COUNT, COUNT_WITHOUT_HALT, END_OF_CODE, PRODUCT, READ_ONLY, UNLISTED_JUMP,
+};
 
 // A run that halts, and one that traps.
 const HALTS: Row<'static> = Row {

@@ -1,16 +1,16 @@
 //! `replay`: what it writes of scripts.
 
 use crate::answers::{Bench, EMPTY, Row};
-use crate::programs::{
-    COUNT, COUNT_CERTIFICATE, COUNT_CERTIFICATE_LACKING, READ_ONLY, READ_ONLY_CERTIFICATE,
-    UNLISTED_JUMP, UNLISTED_JUMP_CERTIFICATE, WRONG_PATH_LOAD, WRONG_PATH_LOAD_CERTIFICATE,
-    WRONG_PATH_SPIN, WRONG_PATH_SPIN_CERTIFICATE,
-};
 use crate::scripts::{
     COUNT_DROPPED, COUNT_REFUSED, COUNT_TAKEN_AGAIN, COUNT_WAITS, JUMP_UNLISTED, READ_AHEAD,
     WRONG_PATH_LOADED, WRONG_PATH_SPUN, answers_of, events_of,
 };
 use std::alloc::Global;
+use test_programs::certificates::{
+    COUNT_CERTIFICATE, COUNT_CERTIFICATE_LACKING, READ_ONLY_CERTIFICATE, UNLISTED_JUMP_CERTIFICATE,
+    WRONG_PATH_LOAD_CERTIFICATE, WRONG_PATH_SPIN_CERTIFICATE,
+};
+use test_programs::programs::{COUNT, READ_ONLY, UNLISTED_JUMP, WRONG_PATH_LOAD, WRONG_PATH_SPIN};
 
 // Asserts a row whose script stands with its answers; what it expects is written behind these.
 fn replays(rt: &impl Bench, alloc: Global, row: &Row<'_>) {

@@ -1,7 +1,7 @@
 //! `print`.
 
 use crate::answers::{EMPTY, Row, expect, texts_of};
-use crate::programs::{COUNT, COUNT_OTHERWISE};
+use test_programs::programs::{COUNT, COUNT_OTHERWISE};
 
 const PRINTED: Row<'static> = Row {
     words: "print a.s",

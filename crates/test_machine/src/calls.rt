@@ -1,10 +1,6 @@
 //! The calls of a machine: events one by one, head events, units lent and bursts handed in, and the
 //! predictors.
 
-use crate::programs::{
-    COUNT, COUNT_CERTIFICATE, COUNT_FORWARDED, COUNT_WITH_THREE_TARGETS, DIAMOND,
-    DIAMOND_CERTIFICATE, LOAD_CERTIFICATE, LOAD_OF_7, LOAD_OF_8,
-};
 use annotated_asm::assembler::assemble;
 use machine_events::event::{Commit, Event, Refused, Standing};
 use mark_checker::accept::Accepted;
@@ -16,6 +12,10 @@ use sequencer::machine::{Machine, MachineFault};
 use sequencer::predict::{First, Last, Predict, Script};
 use std::alloc::Global;
 use std::process::Abort;
+use test_programs::certificates::{COUNT_CERTIFICATE, DIAMOND_CERTIFICATE, LOAD_CERTIFICATE};
+use test_programs::programs::{
+    COUNT, COUNT_FORWARDED, COUNT_WITH_THREE_TARGETS, DIAMOND, LOAD_OF_7, LOAD_OF_8,
+};
 use unit_core::burst::{Burst, MOST_STEPS};
 
 fn register(rt: &impl Abort, number: u8) -> Reg {

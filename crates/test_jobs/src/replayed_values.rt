@@ -1,6 +1,5 @@
 //! What the units of a machine hold after the events of a script.
 
-use crate::programs::{COUNT, COUNT_CERTIFICATE, READ_ONLY, READ_ONLY_CERTIFICATE};
 use crate::scripts::{COUNT_TAKEN_AGAIN, COUNT_WAITS, READ_AHEAD_BEGUN, events_of};
 use annotated_asm::assembler::assemble;
 use event_script::reading::read as read_script;
@@ -10,6 +9,8 @@ use mips_plain::number::Reg;
 use sequencer::machine::Machine;
 use std::alloc::Global;
 use std::process::Abort;
+use test_programs::certificates::{COUNT_CERTIFICATE, READ_ONLY_CERTIFICATE};
+use test_programs::programs::{COUNT, READ_ONLY};
 
 // A machine of two units after a script, and the values that its units hold.
 #[derive(Clone, Copy)]

@@ -1,12 +1,12 @@
 //! `run`: what threads come to is the same whatever their order.
 
 use crate::answers::{Bench, EMPTY, Row, answer, expect, texts_of};
-use crate::programs::{
-    COUNT, COUNT_CERTIFICATE, COUNT_CERTIFICATE_LACKING, DIAMOND, DIAMOND_CERTIFICATE, PRODUCT,
-    PRODUCT_CERTIFICATE, READ_ONLY, READ_ONLY_CERTIFICATE, RELEASE, RELEASE_CERTIFICATE, SPIN,
-    SPIN_CERTIFICATE, UNLISTED_JUMP, UNLISTED_JUMP_CERTIFICATE,
-};
 use std::alloc::Global;
+use test_programs::certificates::{
+    COUNT_CERTIFICATE, COUNT_CERTIFICATE_LACKING, DIAMOND_CERTIFICATE, PRODUCT_CERTIFICATE,
+    READ_ONLY_CERTIFICATE, RELEASE_CERTIFICATE, SPIN_CERTIFICATE, UNLISTED_JUMP_CERTIFICATE,
+};
+use test_programs::programs::{COUNT, DIAMOND, PRODUCT, READ_ONLY, RELEASE, SPIN, UNLISTED_JUMP};
 
 const RUN: Row<'static> = Row {
     words: "run a.s a.cert",

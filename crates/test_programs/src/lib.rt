@@ -1,0 +1,5 @@
+//! The program texts and certificates that the tests share.
+#![tactic(auto)]
+
+pub mod certificates;
+pub mod programs;
