@@ -5,4 +5,5 @@ pub mod Layout
 pub mod Resolve
 pub mod Expansions
 pub mod ProgramText
+pub mod FaultText
 pub mod Examples

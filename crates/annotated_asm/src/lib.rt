@@ -4,6 +4,7 @@
 
 pub mod assembler;
 pub mod fault;
+mod fault_text;
 mod item;
 mod layout;
 mod resolve;

@@ -1,3 +1,4 @@
 pub mod EventScript
 pub mod ScriptText
+pub mod FaultText
 pub mod Examples

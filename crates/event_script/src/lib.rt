@@ -2,6 +2,7 @@
 #![tactic(auto)]
 
 pub mod fault;
+mod fault_text;
 pub mod reading;
 #[cfg(test)]
 mod tests;

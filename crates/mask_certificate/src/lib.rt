@@ -6,6 +6,7 @@
 pub mod block;
 pub mod certificate;
 pub mod fault;
+mod fault_text;
 pub mod laws;
 pub mod masks;
 pub mod reading;

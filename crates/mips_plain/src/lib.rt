@@ -10,3 +10,4 @@ pub mod outcome;
 pub mod parts;
 pub mod plain;
 pub(crate) mod processor;
+mod trap_text;

@@ -2,6 +2,7 @@
 //! (Sohi, Breach, Vijaykumar, "Multiscalar Processors", ISCA 1995, section 2.2).
 #![tactic(auto)]
 
+mod build_fault_text;
 mod check;
 pub mod descriptor;
 mod marks;

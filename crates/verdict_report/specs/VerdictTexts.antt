@@ -4,19 +4,10 @@ use Rattle.std.specs.Fmt.{decimal}
 use Rattle.task_descriptor.specs.Listing.{Listing}
 use Rattle.task_descriptor.specs.declared.descriptor.Descriptor.{Descriptor}
 use Rattle.mask_certificate.specs.declared.fault.CertFault.{CertFault}
-use Rattle.mask_certificate.specs.declared.fault.CertFault.TheVariants.{Header, Line, TaskName, MissingTask, Shape, OutOfMemory}
+use Rattle.mask_certificate.specs.FaultText.{cert_fault_text}
 use Rattle.mark_checker.specs.Numbers.{number_of}
 use Rattle.mark_checker.specs.declared.finding.Finding.{Finding}
 use Rattle.verdict_report.specs.OutputTexts.{Report}
-
--- the number and the name of what is wrong with a certificate text, and the line
-abbrev pub cert_fault_text : CertFault → List ℕ
-cert_fault_text Header = codes "1 Header"
-cert_fault_text (Line line) = codes "2 Line " ++ decimal line
-cert_fault_text (TaskName line) = codes "3 TaskName " ++ decimal line
-cert_fault_text MissingTask = codes "4 MissingTask"
-cert_fault_text Shape = codes "5 Shape"
-cert_fault_text OutOfMemory = codes "6 OutOfMemory"
 
 -- what every job with a certificate writes of a text that is none
 abbrev pub certificate_refused : CertFault → Report

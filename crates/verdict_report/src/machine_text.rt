@@ -4,7 +4,7 @@ ghost use Rattle.std.specs.String.{string_bytes};
 ghost use Rattle.sequencer.specs.Seen.{state};
 ghost use Rattle.verdict_report.specs.MachineText.{machine_text, retired_text, standing_status, standing_text};
 
-use crate::plain_text::{trap_name, write_words};
+use crate::plain_text::write_words;
 use machine_events::event::Standing;
 use sequencer::machine::Machine;
 use std::alloc::AllocError;
@@ -16,10 +16,7 @@ fn write_standing(text: &mut String, standing: Standing) -> Result<(), AllocErro
     match standing {
         Standing::Running => write!(text, "running"),
         Standing::Halted => write!(text, "halted"),
-        Standing::Trapped(trap) => {
-            let name = trap_name(trap);
-            write!(text, "trapped {name}")
-        }
+        Standing::Trapped(trap) => write!(text, "trapped {trap}"),
         Standing::Unlisted(address) => write!(text, "unlisted {address:08x}"),
     }
 }

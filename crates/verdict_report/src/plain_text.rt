@@ -1,22 +1,10 @@
 //! The text of a plain run.
 ghost use Rattle.std.specs.Prelude.{◌≡◌, ◌++◌, OnOk};
 ghost use Rattle.std.specs.String.{string_bytes};
-ghost use Rattle.verdict_report.specs.OutputTexts.{words_text, trap_text, closing_text, closing_status};
+ghost use Rattle.verdict_report.specs.OutputTexts.{words_text, closing_text, closing_status};
 
-use mips_plain::outcome::{Outcome, Trap};
+use mips_plain::outcome::Outcome;
 use std::alloc::AllocError;
-
-/// The number and the name of a trap.
-pub fn trap_name(trap: Trap) -> &'static str
-    ensures { result.now ≡ trap_text trap }
-{
-    match trap {
-        Trap::Unaligned => "1 Unaligned",
-        Trap::OutOfRange => "2 OutOfRange",
-        Trap::BadPc => "3 BadPc",
-        Trap::ReadOnly => "4 ReadOnly",
-    }
-}
 
 /// Adds output words to a text, unsigned decimal, one on a line.
 pub fn write_words(text: &mut String, words: &[u32]) -> Result<(), AllocError>
@@ -35,10 +23,7 @@ pub fn write_closing(text: &mut String, outcome: Outcome, count: u64) -> Result<
     match outcome {
         Outcome::Running => writeln!(text, "out of budget after {count} instructions"),
         Outcome::Halted => writeln!(text, "halted after {count} instructions"),
-        Outcome::Trapped(trap) => {
-            let name = trap_name(trap);
-            writeln!(text, "trapped {name} after {count} instructions")
-        }
+        Outcome::Trapped(trap) => writeln!(text, "trapped {trap} after {count} instructions"),
     }
 }
 

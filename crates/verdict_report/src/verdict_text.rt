@@ -1,7 +1,7 @@
 //! The texts of a certificate that is refused, and of a verdict.
 ghost use Rattle.std.specs.Prelude.{◌≡◌, ◌++◌, slice_get, OnOk, IfOk};
 ghost use Rattle.std.specs.String.{string_bytes};
-ghost use Rattle.verdict_report.specs.VerdictTexts.{cert_fault_text, certificate_refused, finding_text, name_at, program_accepted, program_found, register_text};
+ghost use Rattle.verdict_report.specs.VerdictTexts.{certificate_refused, finding_text, name_at, program_accepted, program_found, register_text};
 ghost use Rattle.std.specs.List.{flat_map};
 
 use crate::report::Report;
@@ -11,28 +11,12 @@ use mips_plain::number::Reg;
 use std::alloc::{AllocError, Global};
 use task_descriptor::program::Program;
 
-// Adds the number and the name of what is wrong with a certificate text, and the line.
-fn write_cert_fault(text: &mut String, fault: CertFault) -> Result<(), AllocError>
-    ensures { OnOk result (string_bytes text.new ≡ string_bytes text.old ++ cert_fault_text fault) }
-{
-    match fault {
-        CertFault::Header => write!(text, "1 Header"),
-        CertFault::Line(line) => write!(text, "2 Line {line}"),
-        CertFault::TaskName(line) => write!(text, "3 TaskName {line}"),
-        CertFault::MissingTask => write!(text, "4 MissingTask"),
-        CertFault::Shape => write!(text, "5 Shape"),
-        CertFault::OutOfMemory => write!(text, "6 OutOfMemory"),
-    }
-}
-
 /// What every job with a certificate writes of a text that is none.
 pub fn refused_certificate(alloc: Global, fault: CertFault) -> Result<Report, AllocError>
     ensures { IfOk result (λ report. report ≡ certificate_refused fault) }
 {
     let mut text = String::new(alloc);
-    write!(text, "certificate refused: ")?;
-    write_cert_fault(&mut text, fault)?;
-    writeln!(text, "")?;
+    writeln!(text, "certificate refused: {fault}")?;
     Ok(Report::new(text.into_bytes(), 1))
 }
 
