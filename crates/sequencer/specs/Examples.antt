@@ -1,5 +1,5 @@
--- Worked examples, computed by the checker: what may be assigned next, and which unit of the ring an
--- event belongs to.
+-- Worked examples, computed by the checker: what may be assigned next, which unit of the ring an event
+-- belongs to, and how many instructions some events executed.
 use Rattle.std.specs.Prelude.{◌≡◌, [], ◌∷◌, Some, None}
 use Rattle.std.proofs.Common.{refl}
 use Rattle.mips_plain.specs.Words.{address, index_of}
@@ -8,8 +8,9 @@ use Rattle.machine_model.specs.Machine.{State, opening}
 use Rattle.machine_model.specs.Answer.{play, least}
 use Rattle.machine_model.specs.HeadEvent.{unit_of}
 use Rattle.machine_model.specs.Examples.{count}
-use Rattle.machine_events.specs.declared.event.Event.TheVariants.{Assign, Exec, Retire}
+use Rattle.machine_events.specs.declared.event.Event.TheVariants.{Assign, Exec, Drain, Retire, Drop}
 use Rattle.sequencer.specs.Choices.{choices_of, choice_of}
+use Rattle.sequencer.specs.Histories.{executed_in}
 
 -- on an empty queue the task at the next address, whatever the answer
 pub first_task : choice_of count (opening count) 5 ≡ Some (Assign 0)
@@ -62,3 +63,11 @@ unit_of_next = refl
 
 pub unit_of_free : unit_of 4 5 2 (Assign 0) ≡ 3
 unit_of_free = refl
+
+-- two instructions of the head and one of the unit behind it, which is then given up
+pub executes_three : executed_in (Assign 0 ∷ Exec 0 ∷ Assign 1 ∷ Exec 1 ∷ Exec 0 ∷ Drop 1 ∷ []) ≡ 3
+executes_three = refl
+
+-- no other event executes an instruction
+pub executes_none : executed_in (Assign 0 ∷ Drain 0 8 ∷ Retire ∷ []) ≡ 0
+executes_none = refl

@@ -11,6 +11,7 @@ use std::marker::Model;
 pub(crate) struct History {
     runs: Vec<EventRun>,
     total: usize,
+    executed: usize,
 }
 
 impl Model for History {
@@ -18,27 +19,31 @@ impl Model for History {
     ghost use Rattle.machine_model.specs.Answer.{most_events};
     ghost use Rattle.machine_events.specs.Runs.{events_of};
     ghost use Rattle.machine_events.specs.declared.event.Event.{Event};
-    ghost use Rattle.sequencer.specs.Histories.{AreCounted};
+    ghost use Rattle.sequencer.specs.Histories.{AreCounted, executed_in};
 
     ghost Value = { List Event };
 
     ghost view = { λ h. events_of h.runs.items };
 
-    ghost invariant = { λ h. (most_events ≤ vec_capacity h.runs) × (h.total ≡ length (events_of h.runs.items)) × AreCounted h.runs.items };
+    ghost invariant = { λ h. (most_events ≤ vec_capacity h.runs) × (h.total ≡ length (events_of h.runs.items)) × (h.executed ≡ executed_in (events_of h.runs.items)) × AreCounted h.runs.items };
 }
 
 impl History {
     ghost use Rattle.std.specs.Prelude.{◌≡◌, ◌+◌, ◌<◌, ◌≤◌, [], ◌∷◌, ◌++◌, length, replicate, IfOk};
     ghost use Rattle.machine_model.specs.Answer.{most_events};
     ghost use Rattle.machine_events.specs.Runs.{events_of};
-    ghost use Rattle.sequencer.specs.Histories.{AreCounted};
+    ghost use Rattle.sequencer.specs.Histories.{AreCounted, executed_in};
 
     /// No event, with its room reserved.
     pub(crate) fn new(alloc: Global) -> Result<History, AllocError>
         ensures { IfOk result (λ history. history ≡ []) }
     {
         let runs = Vec::with_capacity(alloc, MOST_EVENTS)?;
-        Ok(History { runs, total: 0 })
+        Ok(History {
+            runs,
+            total: 0,
+            executed: 0,
+        })
     }
 
     /// The events as runs, the first first.
@@ -58,6 +63,14 @@ impl History {
         self.total
     }
 
+    /// How many of the events are Exec events.
+    #[inline]
+    pub(crate) fn executed(&self) -> usize
+        ensures { result ≡ executed_in self.now }
+    {
+        self.executed
+    }
+
     /// Appends an event.
     #[inline]
     pub(crate) fn push(&mut self, event: Event)
@@ -74,15 +87,29 @@ impl History {
         requires room { length self.old + count ≤ most_events }
         ensures { self.new ≡ self.old ++ replicate count event }
     {
+        let executed = executions(&event, count);
         append(&mut self.runs, event, count);
         self.total += count as usize;
+        self.executed += executed as usize;
     }
 }
 
 ghost use Rattle.std.specs.Prelude.{◌≡◌, ◌+◌, ◌<◌, ◌≤◌, ◌++◌, length, replicate, vec_capacity};
 ghost use Rattle.machine_model.specs.Answer.{most_events};
 ghost use Rattle.machine_events.specs.Runs.{events_of};
-ghost use Rattle.sequencer.specs.Histories.{AreCounted};
+ghost use Rattle.sequencer.specs.Histories.{AreCounted, executed_in};
+
+/// How many instructions an event executes that is there so many times.
+#[inline]
+fn executions(event: &Event, count: u32) -> u32
+    ensures { result ≡ executed_in (replicate count event.now) }
+{
+    if matches!(event, Event::Exec(_)) {
+        count
+    } else {
+        0
+    }
+}
 
 /// Appends an event so many times to runs, in room that is there: the last run grows where it is one of
 /// the same event.

@@ -65,7 +65,7 @@ impl<'a> Machine<'a> {
     ghost use Rattle.sequencer.specs.Choices.{choices_of, choice_of, MayFollow};
     ghost use Rattle.sequencer.specs.Finish.{RunsByHead, IsHeadRefused};
     ghost use Rattle.sequencer.specs.Rings.{unit_for, AreDistinct, EventFits};
-    ghost use Rattle.sequencer.specs.Histories.{AreCounted};
+    ghost use Rattle.sequencer.specs.Histories.{AreCounted, executed_in};
 
     /// A machine at the start of the program, with so many units, 1 to 16, none of them at work. It
     /// reserves the room of its history, once.
@@ -218,6 +218,14 @@ impl<'a> Machine<'a> {
         ensures { result ≡ length self.now.history }
     {
         self.history.len()
+    }
+
+    /// How many instructions the units executed, on paths that were given up too: the Exec events of
+    /// the history.
+    pub fn executed(&self) -> usize
+        ensures { result ≡ executed_in self.now.history }
+    {
+        self.history.executed()
     }
 
     /// Whether the machine was made over an equal program and certificate, with so many units. They are
