@@ -1,4 +1,5 @@
 pub mod Seen
 pub mod Choices
 pub mod Parts
+pub mod LeastRegisters
 pub mod Examples

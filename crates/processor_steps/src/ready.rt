@@ -1,11 +1,14 @@
 //! What a unit is ready for, beside what the head is.
 
-ghost use Rattle.std.specs.Prelude.{◌≡◌, ◌↔◌, false, None, Some, IfSome, IsTrue, slice_get};
+ghost use Rattle.std.specs.Prelude.{◌≡◌, ℕ, ◌<◌, ◌↔◌, ◌&&◌, false, None, Some, IsTrue, slice_get, is_none, is_some};
 ghost use Rattle.std.specs.Option.{option_map};
-ghost use Rattle.machine_model.specs.Machine.{Active};
-ghost use Rattle.machine_model.specs.Answer.{refusal};
+ghost use Rattle.mips_plain.specs.Words.{has};
+ghost use Rattle.machine_model.specs.Machine.{Active, creates, pass, value};
+ghost use Rattle.machine_model.specs.Answer.{refusal, exit_of};
 ghost use Rattle.machine_events.specs.declared.event.Event.TheVariants as event;
+ghost use Rattle.unit_core.specs.Units.{active_of};
 ghost use Rattle.unit_core.specs.UnitStep.{wait_of};
+ghost use Rattle.processor_steps.specs.LeastRegisters.{IsLeast};
 ghost use Rattle.processor_steps.specs.Seen.{state_of, ArePlaced};
 
 use crate::listing::created;
@@ -43,33 +46,42 @@ impl Processor {
         }
     }
 
-    /// The least register that the unit at a position may take from the unit before it.
+    /// The least register that the unit at a position may take from the unit before it; `None` exactly
+    /// where it may take none.
     pub fn register_to_take(&self, program: &Program, position: u32) -> Option<Reg>
-        ensures { IfSome result (λ r. refusal program.now self.now.queue.places (state_of self.now) (event.Transfer position r) ≡ None) }
+        ensures { IsLeast (λ r. refusal program.now self.now.queue.places (state_of self.now) (event.Transfer position r) ≡ None) result }
+    {
+        next_member(self.registers_to_take(program, position), 0)
+    }
+
+    /// The registers that the unit at a position may take from the unit before it.
+    fn registers_to_take(&self, program: &Program, position: u32) -> RegSet
+        ensures { (r : ℕ) → r < 34 → has result r ≡ is_none (refusal program.now self.now.queue.places (state_of self.now) (event.Transfer position r)) }
     {
         if position == 0 {
-            return None;
+            return RegSet::empty();
         }
-        let giver = self.unit(position - 1)?;
-        let taker = self.unit(position)?;
-        let register = next_member(passed(program, giver).minus(taker.arrived_set()), 0)?;
-        match self.word_to_take(program, position, register) {
-            Ok(_) => Some(register),
-            Err(_) => None,
+        match (self.unit(position - 1), self.unit(position)) {
+            (Some(giver), Some(taker)) => passed(program, giver).minus(taker.arrived_set()),
+            _ => RegSet::empty(),
         }
     }
 
-    /// The least register that the unit at a position, which has stopped, may send.
+    /// The least register that the unit at a position, which has stopped, may send; `None` exactly where
+    /// it may send none.
     pub fn register_to_send(&self, program: &Program, position: u32) -> Option<Reg>
-        ensures { IfSome result (λ r. refusal program.now self.now.queue.places (state_of self.now) (event.Drain position r) ≡ None) }
+        ensures { IsLeast (λ r. refusal program.now self.now.queue.places (state_of self.now) (event.Drain position r) ≡ None) result }
     {
-        let unit = self.unit(position)?;
-        let unsent = created(program, unit.task()).minus(unit.sent_set());
-        let known = unit.local_set().union(unit.arrived_set());
-        let register = next_member(common(unsent, known), 0)?;
-        match self.may_send(program, position, register) {
-            Ok(()) => Some(register),
-            Err(_) => None,
+        next_member(self.registers_to_send(program, position), 0)
+    }
+
+    /// The registers that the unit at a position, which has stopped, may send.
+    fn registers_to_send(&self, program: &Program, position: u32) -> RegSet
+        ensures { (r : ℕ) → r < 34 → has result r ≡ is_none (refusal program.now self.now.queue.places (state_of self.now) (event.Drain position r)) }
+    {
+        match self.unit(position) {
+            Some(unit) => registers_left(program, unit),
+            None => RegSet::empty(),
         }
     }
 }
@@ -77,13 +89,32 @@ impl Processor {
 /// The registers that a unit passes on: those of its create mask that it sent, and the others that
 /// arrived.
 #[inline]
-fn passed(program: &Program, giver: &Unit) -> RegSet {
+fn passed(program: &Program, giver: &Unit) -> RegSet
+    ensures { (r : ℕ) → r < 34 → has result r ≡ is_some (pass program.now (active_of giver.now) r) }
+{
     let create = created(program, giver.task());
     common(create, giver.sent_set()).union(giver.arrived_set().minus(create))
 }
 
+/// The registers of its create mask that a unit has not sent and has a value of; none where it has not
+/// stopped.
+#[inline]
+fn registers_left(program: &Program, unit: &Unit) -> RegSet
+    ensures { (r : ℕ) → r < 34 → has result r ≡ (is_some (exit_of (active_of unit.now).place) && creates program.now (active_of unit.now).task r && is_none ((active_of unit.now).sent r) && is_some (value (active_of unit.now) r)) }
+{
+    match unit.spot() {
+        Spot::Stopped(_) => common(
+            created(program, unit.task()).minus(unit.sent_set()),
+            unit.known_set(),
+        ),
+        Spot::Inside(_) => RegSet::empty(),
+    }
+}
+
 /// The registers of both sets.
 #[inline]
-fn common(set: RegSet, other: RegSet) -> RegSet {
+fn common(set: RegSet, other: RegSet) -> RegSet
+    ensures { (r : ℕ) → has result r ≡ (has set r && has other r) }
+{
     set.minus(set.minus(other))
 }
