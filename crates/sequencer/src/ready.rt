@@ -5,7 +5,7 @@ use machine_events::event::Spot;
 use mips_plain::number::Reg;
 
 impl<'a> Machine<'a> {
-    ghost use Rattle.std.specs.Prelude.{◌≡◌, ◌↔◌, ◌<◌, false, None, Some, Ok, IfSome, IsTrue, slice_get, length};
+    ghost use Rattle.std.specs.Prelude.{◌≡◌, ◌↔◌, ◌<◌, false, None, Some, Ok, IsTrue, slice_get, length};
     ghost use Rattle.std.specs.Option.{option_map};
     ghost use Rattle.machine_model.specs.Machine.{Active, State};
     ghost use Rattle.machine_model.specs.Step.{Next};
@@ -14,6 +14,7 @@ impl<'a> Machine<'a> {
     ghost use Rattle.machine_events.specs.declared.event.Event.TheVariants.{Exec, Transfer, Drain};
     ghost use Rattle.machine_events.specs.declared.event.Standing.TheVariants as standing;
     ghost use Rattle.unit_core.specs.UnitStep.{wait_of};
+    ghost use Rattle.processor_steps.specs.LeastRegisters.{IsLeast};
     ghost use Rattle.sequencer.specs.Seen.{state, units_of, answer_to};
     ghost use Rattle.sequencer.specs.Rings.{unit_for};
 
@@ -45,19 +46,19 @@ impl<'a> Machine<'a> {
         self.processor.can_run_ahead(self.accepted, position)
     }
 
-    /// A register that the unit at a position may take from the unit before it, the least one. Takes no
-    /// memory.
+    /// The least register that the unit at a position may take from the unit before it; `None` exactly
+    /// where it may take none. Takes no memory.
     pub fn register_to_take(&self, position: u32) -> Option<Reg>
-        ensures { IfSome result (λ r. refusal self.now.accepted.program (units_of self.now) (state self.now) (Transfer position r) ≡ None) }
+        ensures { IsLeast (λ r. refusal self.now.accepted.program (units_of self.now) (state self.now) (Transfer position r) ≡ None) result }
     {
         self.processor
             .register_to_take(self.accepted.program(), position)
     }
 
-    /// A register that the unit at a position, which has stopped, may send, the least one. Takes no
-    /// memory.
+    /// The least register that the unit at a position, which has stopped, may send; `None` exactly where
+    /// it may send none. Takes no memory.
     pub fn register_to_send(&self, position: u32) -> Option<Reg>
-        ensures { IfSome result (λ r. refusal self.now.accepted.program (units_of self.now) (state self.now) (Drain position r) ≡ None) }
+        ensures { IsLeast (λ r. refusal self.now.accepted.program (units_of self.now) (state self.now) (Drain position r) ≡ None) result }
     {
         self.processor
             .register_to_send(self.accepted.program(), position)
