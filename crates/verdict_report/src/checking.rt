@@ -1,5 +1,7 @@
 //! The job `check`.
 ghost use Rattle.std.specs.Prelude.{◌≡◌, IfOk};
+ghost use Rattle.annotated_asm.specs.Steps.{Answers};
+ghost use Rattle.annotated_asm.specs.ProgramText.{parse};
 ghost use Rattle.mask_certificate.specs.CertificateReading.{cert_parse, names_of};
 ghost use Rattle.mark_checker.specs.Rules.{all_rules};
 ghost use Rattle.verdict_report.specs.CheckText.{check_text};
@@ -15,8 +17,9 @@ use mask_certificate::certificate::Cert;
 use mask_certificate::fault::CertFault;
 use parallel_check::checking::verdict_shared;
 use parallel_check::gate::Open;
-use parallel_check::reading::read_shared;
+use parallel_check::reading::{ReadAhead, is_shared_out};
 use std::alloc::{AllocError, Global};
+use std::thread;
 use std::thread::Threads;
 use task_descriptor::program::Program;
 
@@ -31,11 +34,38 @@ pub fn check<R: Threads + Sync>(
 ) -> Result<Report, AllocError>
     ensures { IfOk result (λ report. report ≡ check_text program.now certificate.now) }
 {
-    match assemble(alloc, program) {
-        Ok(program) => check_certificate(rt, alloc, workers, &program, certificate),
+    let (assembled, ahead) = read_texts(rt, alloc, workers, program, certificate);
+    match assembled {
+        Ok(program) => check_certificate(rt, alloc, workers, &program, ahead?),
         Err(AsmFault::OutOfMemory) => Err(AllocError),
         Err(fault) => refused_program(alloc, fault),
     }
+}
+
+// Reads the program, and the certificate as far as that goes without it. Where the certificate is shared
+// out, a thread of its own reads the program meanwhile.
+fn read_texts<'a, R: Threads + Sync>(
+    rt: &R,
+    alloc: Global,
+    workers: Workers,
+    program: &[u8],
+    certificate: &'a [u8],
+) -> (Result<Program, AsmFault>, Result<ReadAhead<'a>, AllocError>)
+    ensures program { Answers (λ p. p) result.0 (parse program.now) }
+    ensures certificate { IfOk result.1 (λ ahead. ahead ≡ certificate.now) }
+{
+    let workers = workers.get();
+    if is_shared_out(certificate, workers) {
+        return thread::join(
+            rt,
+            || assemble(alloc, program),
+            || ReadAhead::new(rt, alloc, certificate, workers),
+        );
+    }
+    (
+        assemble(alloc, program),
+        ReadAhead::new(rt, alloc, certificate, workers),
+    )
 }
 
 // Checks a program with the text of its certificate.
@@ -44,12 +74,12 @@ fn check_certificate<R: Threads + Sync>(
     alloc: Global,
     workers: Workers,
     program: &Program,
-    certificate: &[u8],
+    certificate: ReadAhead<'_>,
 ) -> Result<Report, AllocError>
     ensures { IfOk result (λ report.
-        report ≡ goes_on program_accepted (certificate_judged program.now (cert_parse certificate.now (names_of program.now)))) }
+        report ≡ goes_on program_accepted (certificate_judged program.now (cert_parse certificate.entry (names_of program.now)))) }
 {
-    match read_shared(rt, alloc, certificate, program, workers.get()) {
+    match certificate.read(alloc, program) {
         Ok(cert) => check_marks(rt, alloc, workers, program, &cert),
         Err(CertFault::OutOfMemory) => Err(AllocError),
         Err(fault) => refused_certificate(alloc, fault),
