@@ -21,6 +21,11 @@ LINE = f"{NAME}: annotated_asm annotator mark_checker machine_events unit_core s
 
 # Two tasks, the first of which never ends and waits for no register.
 SMALL = ".task A create=- targets=A,B\n.task B create=- targets=-\nA: sll $0,$0,0\nj A\nB: halt\n"
+# The same with loads, of as many bytes of read-only data as there may be.
+LOADS = (
+    ".task A create=$8,$9 targets=A,B\n.task B create=- targets=-\nA: lui $8,4096\nlw $9,0($8)\nj A\nB: halt\n.rodata\n"
+    + ".word 1,2,3,4,5,6,7,8\n" * 2048
+)
 CODE, TASKS = 4096, 1024
 
 
@@ -74,8 +79,9 @@ def main():
     rounds = options.parse_args().rounds
     with tempfile.TemporaryDirectory(prefix="multiscalar-bench-") as name:
         folder = pathlib.Path(name)
-        small, large = folder / "small", folder / "large"
+        small, loads, large = folder / "small", folder / "loads", folder / "large"
         small.write_text(SMALL)
+        loads.write_text(LOADS)
         large.write_text(largest())
         program = built(folder)
         for units in (1, 4, 16):
@@ -86,6 +92,8 @@ def main():
         for kind, text, log, before in (
             ("a certificate of two tasks", small, 0, 0),
             ("a certificate of two tasks", small, 100000, 900000),
+            ("loads of the most read-only data", loads, 0, 0),
+            ("loads of the most read-only data", loads, 100000, 900000),
             ("the largest certificate", large, 0, 0),
             ("the largest certificate", large, 100000, 900000),
         ):
