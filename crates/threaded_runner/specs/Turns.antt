@@ -1,14 +1,16 @@
 -- What a worker does next for one unit (own).
-use Rattle.std.specs.Prelude.{◌≡◌, ℕ, ◌<◌, [], false, length, slice_get, Some, None, Ok}
+use Rattle.std.specs.Prelude.{◌≡◌, ℕ, ◌+◌, ◌*◌, ◌-◌, ◌<◌, [], false, length, slice_get, Some, None, Ok}
 use Rattle.machine_model.specs.Machine.{Active}
 use Rattle.machine_model.specs.Answer.{most_events}
 use Rattle.machine_model.specs.HeadEvent.{head_event}
 use Rattle.machine_events.specs.declared.event.Event.{Event}
 use Rattle.machine_events.specs.declared.event.Event.TheVariants.{Assign, Exec}
+use Rattle.machine_model.specs.Claims.{count_h}
 use Rattle.unit_core.specs.UnitStep.{wait_of}
 use Rattle.sequencer.specs.Seen.{MachineView, state, units_of, answer_to}
 use Rattle.sequencer.specs.Rings.{unit_for}
 use Rattle.sequencer.specs.Choices.{choices_of}
+use Rattle.sequencer.specs.Histories.{executed_in}
 use Rattle.threaded_runner.specs.declared.turn.Turn.{Turn}
 use Rattle.threaded_runner.specs.declared.turn.Turn.TheVariants.{Apply, Choose, Burst, Wait}
 
@@ -43,3 +45,8 @@ pub record CanGoOn (m : MachineView) (unit : ℕ) : Type 0 where
   pub event : Event
   pub is_head_event : head_event m.accepted.program (state m) ≡ Some event
   pub belongs : unit_for m event ≡ unit
+
+-- units ahead of the head execute nothing: beside the h instructions of the retired tasks and of the head,
+-- more than 65,536 + 2 h were executed
+abbrev pub Pauses : MachineView → Type 0
+Pauses m = 65536 + 2 * count_h (state m) < executed_in m.history - count_h (state m)

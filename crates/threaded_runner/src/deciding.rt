@@ -1,42 +1,46 @@
 //! What a worker does next: one function of the machine and the number of the unit.
 
-ghost use Rattle.std.specs.Prelude.{◌≡◌, ◌<◌, length};
+ghost use Rattle.std.specs.Prelude.{◌≡◌, ◌<◌, ◌⊎◌, ◌↔◌, IsTrue, length};
 ghost use Rattle.machine_model.specs.Answer.{most_events};
 ghost use Rattle.machine_events.specs.declared.event.Event.TheVariants.{Exec};
 ghost use Rattle.machine_events.specs.declared.event.Standing.TheVariants as standing;
 ghost use Rattle.sequencer.specs.Seen.{state};
 ghost use Rattle.sequencer.specs.Rings.{unit_for};
-ghost use Rattle.threaded_runner.specs.Turns.{IsTurn, IsOwn, CanGoOn};
+ghost use Rattle.threaded_runner.specs.Turns.{IsTurn, IsOwn, CanGoOn, Pauses};
 
 use crate::known::{head_is_first, is_allowed};
 use crate::turn::Turn;
-use machine_events::event::{Event, Spot};
+use machine_events::event::{Event, Spot, Standing};
 use processor_steps::processor::MOST_EVENTS;
 use sequencer::machine::Machine;
 
-/// How many events beyond 3 h the history may have, h being the instructions of the retired tasks and of
-/// the head: with more, the units ahead of the head pause.
+/// How many instructions beyond 2 h may have been executed beside h, h being those of the retired tasks and
+/// of the head: with more, the units ahead of the head pause.
 const MOST_AHEAD: u64 = 65_536;
 
 /// What the worker of a unit of the ring does next. An event that it names is allowed and belongs to the
 /// unit; so does each that may be chosen. It is never `Wait` for the unit to which the head event belongs,
-/// as long as the history has room. A unit ahead of the head executes nothing while the history has more
-/// than 65,536 + 3 h events, h being the instructions of the retired tasks and of the head: so no wrong path
+/// as long as the history has room. A unit ahead of the head executes nothing while more than 65,536 + 2 h
+/// instructions beside h were executed, h being those of the retired tasks and of the head: so no wrong path
 /// uses up the history. Takes no memory.
 pub fn turn(machine: &Machine<'_>, unit: u32) -> Turn
     ensures own { IsTurn machine.now unit result }
     ensures goes_on { CanGoOn machine.now unit → length machine.now.history < most_events → result ≡ Turn.Wait → ⊥ }
+    ensures pauses { result ≡ Turn.Burst → (unit_for machine.now (Exec 0) ≡ unit) ⊎ (Pauses machine.now → ⊥) }
 {
     is_allowed(machine);
     head_is_first(machine);
-    let Some(event) = machine.head_event() else {
-        return Turn::Wait;
-    };
     if machine.length() >= MOST_EVENTS {
         return Turn::Wait;
     }
     if machine.head_unit() == unit {
-        return turn_of_head(machine, unit, event);
+        return match machine.head_event() {
+            Some(event) => turn_of_head(machine, unit, event),
+            None => Turn::Wait,
+        };
+    }
+    if machine.outcome() != Standing::Running {
+        return Turn::Wait;
     }
     match machine.position(unit) {
         Some(position) => turn_ahead(machine, unit, position),
@@ -66,7 +70,8 @@ fn turn_ahead(machine: &Machine<'_>, unit: u32, position: u32) -> Turn
     requires at { unit_for machine.now (Exec position) ≡ unit }
     requires running { (state machine.now).outcome ≡ standing.Running }
     requires room { length machine.now.history < most_events }
-    ensures { IsTurn machine.now unit result }
+    ensures own { IsTurn machine.now unit result }
+    ensures pauses { result ≡ Turn.Burst → Pauses machine.now → ⊥ }
 {
     is_allowed(machine);
     if let Some(register) = machine.register_to_take(position) {
@@ -87,7 +92,8 @@ fn turn_at_exit(machine: &Machine<'_>, unit: u32, position: u32) -> Turn
     requires at { unit_for machine.now (Exec position) ≡ unit }
     requires running { (state machine.now).outcome ≡ standing.Running }
     requires room { length machine.now.history < most_events }
-    ensures { IsTurn machine.now unit result }
+    ensures own { IsTurn machine.now unit result }
+    ensures no_burst { result ≡ Turn.Burst → ⊥ }
 {
     is_allowed(machine);
     if machine.enabled(Event::Squash(position)) {
@@ -103,7 +109,8 @@ fn turn_at_exit(machine: &Machine<'_>, unit: u32, position: u32) -> Turn
 fn turn_of_free(machine: &Machine<'_>, unit: u32) -> Turn
     requires running { (state machine.now).outcome ≡ standing.Running }
     requires room { length machine.now.history < most_events }
-    ensures { IsTurn machine.now unit result }
+    ensures own { IsTurn machine.now unit result }
+    ensures no_burst { result ≡ Turn.Burst → ⊥ }
 {
     is_allowed(machine);
     match machine.next_unit() {
@@ -120,7 +127,10 @@ fn turn_of_free(machine: &Machine<'_>, unit: u32) -> Turn
 }
 
 /// Whether units ahead of the head execute nothing, so that no wrong path uses up the history.
-fn pauses(machine: &Machine<'_>) -> bool {
+fn pauses(machine: &Machine<'_>) -> bool
+    ensures { IsTrue result ↔ Pauses machine.now }
+{
     let (_, h) = machine.counts();
-    machine.length() as u64 > h.saturating_mul(3).saturating_add(MOST_AHEAD)
+    let beside = (machine.executed() as u64).saturating_sub(h);
+    beside > h.saturating_mul(2).saturating_add(MOST_AHEAD)
 }

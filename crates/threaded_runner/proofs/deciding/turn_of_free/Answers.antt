@@ -8,8 +8,8 @@ use Rattle.sequencer.specs.Rings.{unit_for}
 use Rattle.threaded_runner.proofs.Assigning.{assign_allowed, next_is}
 use Rattle.threaded_runner.proofs.deciding.turn_of_free.Goals as goal
 
-pub returns-then-not-is_empty : goal.returns-then-not-is_empty
-returns-then-not-is_empty c =
+pub returns-then-not-is_empty-clause-own : goal.returns-then-not-is_empty-clause-own
+returns-then-not-is_empty-clause-own c =
     let m = c.args.machine.now in
     let next = λ (task : ℕ). next_is (nat_lt (length (state m).queue) (units_of m)) (unit_for m (Assign task)) c.in-Some.next (c.in-Some.ensures task) in
     record {
@@ -21,8 +21,8 @@ returns-then-not-is_empty c =
       is_next = λ task. (next task).1 ∙ c.if-next-unit.true;
     }
 
-pub returns-in-Some-choice : goal.returns-in-Some-choice
-returns-in-Some-choice c =
+pub returns-in-Some-choice-clause-own : goal.returns-in-Some-choice-clause-own
+returns-in-Some-choice-clause-own c =
     let m = c.args.machine.now in
     let may = c.in-Some-choice.ensures.follows in
     let next = next_is (nat_lt (length (state m).queue) (units_of m)) (unit_for m (Assign may.0)) c.in-Some.next (c.in-Some.ensures may.0) in
