@@ -1,9 +1,11 @@
 //! What the lock holds: the machine, the predictor, how many events each worker applied, and the note that
 //! the run must stop for want of memory.
 
+use crate::called::Called;
 use crate::counts::{add, zeros};
 use crate::known::{head_is_first, known};
 use crate::report::{How, Report, RunFault};
+use crate::share::Share;
 use machine_events::event::{Event, Refused, Standing};
 use mark_checker::accept::Accepted;
 use sequencer::machine::Machine;
@@ -33,13 +35,14 @@ impl<'a, P: Predict> Model for Desk<'a, P> {
 }
 
 impl<'a, P: Predict> Desk<'a, P> {
-    ghost use Rattle.std.specs.Prelude.{◌≡◌, ◌+◌, ◌<◌, ◌≤◌, ◌⊎◌, ◌↔◌, [], IfOk, IfErr, OnOk, OnErr, IsTrue, length, true};
+    ghost use Rattle.std.specs.Prelude.{◌≡◌, ◌+◌, ◌<◌, ◌≤◌, ◌⊎◌, ◌↔◌, [], IfOk, IfErr, OnOk, OnErr, IsTrue, length, true, false};
     ghost use Rattle.sequencer.specs.Seen.{state, units_of, SameRing, Applies};
     ghost use Rattle.sequencer.specs.Rings.{unit_for};
     ghost use Rattle.machine_model.specs.Answer.{most_events};
     ghost use Rattle.machine_model.specs.Replay.{Replays};
     ghost use Rattle.threaded_runner.specs.Counts.{IsCounted};
     ghost use Rattle.threaded_runner.specs.Turns.{MayChoose};
+    ghost use Rattle.machine_events.specs.declared.event.Event.TheVariants.{Exec};
     ghost use Rattle.machine_events.specs.declared.event.Standing.TheVariants as standing;
 
     /// A machine at its start, of which no worker has applied an event.
@@ -86,6 +89,7 @@ impl<'a, P: Predict> Desk<'a, P> {
         ensures { self.new ≡ record self.old { is_stopped = true } }
     {
         self.is_stopped = true;
+        self.wake_all();
     }
 
     /// Applies an event of a unit, and counts it for the worker of that unit.
@@ -106,6 +110,35 @@ impl<'a, P: Predict> Desk<'a, P> {
         let worker = unit as usize % self.counts.len();
         add(&mut self.counts, worker, 1);
         Ok(())
+    }
+
+    /// The head executes instructions, at most so many, each counted for the worker of its unit; answers how
+    /// many. It ends before that where one is refused.
+    pub(crate) fn run_head(&mut self, most: u32) -> u32
+        ensures few { result ≤ most }
+        ensures grows { length self.new.machine.history ≡ length self.old.machine.history + result }
+        ensures kept { SameRing self.old.machine self.new.machine }
+        ensures workers { length self.new.counts ≡ length self.old.counts }
+    {
+        let mut steps = 0;
+        for _ in 0..most {
+            if !self.run_one() {
+                break;
+            }
+            steps += 1;
+        }
+        steps
+    }
+
+    /// The head executes one instruction; answers whether it did.
+    fn run_one(&mut self) -> bool
+        ensures ran { result ≡ true → Applies self.old.machine (Exec 0) self.new.machine }
+        ensures refused { result ≡ false → self.new ≡ self.old }
+        ensures kept { SameRing self.old.machine self.new.machine }
+        ensures workers { length self.new.counts ≡ length self.old.counts }
+    {
+        let unit = self.machine.head_unit();
+        self.apply(unit, Event::Exec(0)).is_ok()
     }
 
     /// Asks the predictor which target comes next, and applies the Assign of it, which is the unit's.
@@ -226,15 +259,44 @@ impl<'a, P: Predict> Desk<'a, P> {
         })
     }
 
+    /// The workers that wait and now have something to do; they count as awake from here on.
+    pub(crate) fn call(&mut self, share: Share) -> Called
+        ensures { self.new ≡ self.old }
+    {
+        let mut called = Called::none();
+        if share.is_all() {
+            return called;
+        }
+        for worker in 0..share.workers {
+            let theirs = Share { worker, ..share };
+            if self.is_asleep(worker) && theirs.first_turn(&self.machine).is_some() {
+                self.awake(worker);
+                called.add(worker);
+            }
+        }
+        called
+    }
+
+    /// Notes that no worker waits.
+    pub(crate) fn wake_all(&mut self)
+        ensures { self.new ≡ self.old }
+    {
+        self.asleep = [false; 16];
+    }
+
     /// Notes that a worker waits.
-    pub(crate) fn fall_asleep(&mut self, worker: u32) {
+    pub(crate) fn fall_asleep(&mut self, worker: u32)
+        ensures { self.new ≡ self.old }
+    {
         if let Some(asleep) = self.asleep.get_mut(worker as usize) {
             *asleep = true;
         }
     }
 
     /// Notes that a worker does not wait.
-    pub(crate) fn awake(&mut self, worker: u32) {
+    pub(crate) fn awake(&mut self, worker: u32)
+        ensures { self.new ≡ self.old }
+    {
         if let Some(asleep) = self.asleep.get_mut(worker as usize) {
             *asleep = false;
         }

@@ -33,6 +33,8 @@ pub(crate) struct Loan<'a> {
 pub(crate) enum Then<'a> {
     /// Makes a burst.
     Burst(Loan<'a>),
+    /// Makes a burst of this unit, of so many steps at most, on the unit itself.
+    BurstInPlace(u32, u32),
     /// Waits until the machine has changed.
     Wait,
     /// Takes the lock again, since there may be more to do.
@@ -85,8 +87,8 @@ impl Worker {
                     }
                 }
                 Turn::Burst => {
-                    if let Some(loan) = self.lend(desk, unit) {
-                        return Then::Burst(loan);
+                    if let Some(then) = self.lend(desk, unit) {
+                        return then;
                     }
                 }
                 Turn::Wait => return Then::Wait,
@@ -153,8 +155,9 @@ impl Worker {
         }
     }
 
-    /// Lends a unit whose next instruction may stand in a burst, or executes that instruction alone.
-    fn lend<'a, P: Predict>(&mut self, desk: &mut Desk<'a, P>, unit: u32) -> Option<Loan<'a>> {
+    /// Lends a unit whose next instruction may stand in a burst, or executes that instruction alone. A worker
+    /// that serves all units makes short bursts in place: nobody else waits for the lock.
+    fn lend<'a, P: Predict>(&mut self, desk: &mut Desk<'a, P>, unit: u32) -> Option<Then<'a>> {
         let pace = self.pace(unit);
         if pace.single > 0 {
             self.execute(desk, unit);
@@ -162,8 +165,11 @@ impl Worker {
         }
         let room = (self.budget as usize).saturating_sub(desk.machine().length());
         let most = (pace.most as usize).min(room).min(MOST_STEPS as usize) as u32;
+        if self.share.is_all() && pace.is_first() {
+            return Some(Then::BurstInPlace(unit, most));
+        }
         match desk.machine().lease(unit) {
-            Some(lease) => Some(Loan { unit, lease, most }),
+            Some(lease) => Some(Then::Burst(Loan { unit, lease, most })),
             None => None,
         }
     }
@@ -179,6 +185,24 @@ impl Worker {
         if desk.apply(unit, Event::Exec(position)).is_err() {
             self.give_up(desk, unit);
         }
+    }
+
+    /// The head, which is this unit, executes so many instructions at most; answers how many.
+    pub(crate) fn run_in_place<P: Predict>(
+        &mut self,
+        desk: &mut Desk<'_, P>,
+        unit: u32,
+        most: u32,
+    ) -> u32 {
+        let steps = desk.run_head(most);
+        if let Some(pace) = self.paces.get_mut(unit as usize) {
+            if steps == 0 {
+                pace.single = EVENTS_OF_A_HOLD;
+            } else if steps == most {
+                pace.double();
+            }
+        }
+        steps
     }
 
     /// Want of memory for an event of a unit: one that is not the head is dropped, and at the head the run
@@ -219,6 +243,7 @@ impl Worker {
             Ok(0) if steps == 0 => pace.single = EVENTS_OF_A_HOLD,
             Ok(0) => pace.begin_again(),
             Ok(events) if events == most => pace.double(),
+            Ok(events) if self.share.is_all() && pace.is_short(events) => pace.begin_again(),
             Ok(_) => {}
             Err(_) => pace.single = EVENTS_OF_A_HOLD,
         }

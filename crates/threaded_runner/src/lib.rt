@@ -1,6 +1,8 @@
 //! Threads over one machine: one lock, a worker for each unit or for several, bursts away from the lock.
 #![tactic(auto)]
 
+mod bell;
+mod called;
 mod counts;
 pub mod deciding;
 mod desk;

@@ -27,6 +27,16 @@ impl Pace {
         }
     }
 
+    /// Whether the next burst is as short as a task's first.
+    pub(crate) fn is_first(self) -> bool {
+        self.most == FIRST_STEPS
+    }
+
+    /// Whether a burst of so many steps is shorter than a task's first may be.
+    pub(crate) fn is_short(self, steps: u32) -> bool {
+        steps < FIRST_STEPS
+    }
+
     /// After a burst that was taken over with as many steps as it was to have at most.
     pub(crate) fn double(&mut self) {
         self.most = self.most.saturating_mul(2).min(MOST_STEPS);

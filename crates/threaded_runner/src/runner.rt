@@ -6,17 +6,18 @@ ghost use Rattle.machine_model.specs.Replay.{Replays};
 ghost use Rattle.sequencer.specs.Seen.{state, units_of};
 ghost use Rattle.threaded_runner.specs.Counts.{IsCounted};
 
+use crate::bell::Bell;
 use crate::desk::Desk;
 use crate::gate::RunGate;
 use crate::hold::Worker;
 use crate::report::{How, Report, RunFault};
 use crate::share::Share;
-use crate::worker::{serve, wake_all};
+use crate::worker::{ring_all, serve};
 use mark_checker::accept::Accepted;
 use sequencer::machine::{MOST_UNITS, Machine};
 use sequencer::predict::Predict;
 use std::alloc::{AllocError, Global};
-use std::sync::{Condvar, Mutex, Wait};
+use std::sync::{Mutex, Wait};
 use std::thread;
 use std::thread::Threads;
 
@@ -114,10 +115,10 @@ fn new_desk<'a, P: Predict>(
 }
 
 /// A bell for each worker.
-fn new_bells(alloc: Global, workers: u32) -> Result<Vec<Condvar>, AllocError> {
+fn new_bells(alloc: Global, workers: u32) -> Result<Vec<Bell>, AllocError> {
     let mut bells = Vec::with_capacity(alloc, workers as usize)?;
     for _ in 0..workers {
-        bells.push(Condvar::new())?;
+        bells.push(Bell::new())?;
     }
     Ok(bells)
 }
@@ -126,7 +127,7 @@ fn new_bells(alloc: Global, workers: u32) -> Result<Vec<Condvar>, AllocError> {
 fn work<'a, 't, P: Predict, G: RunGate, R: Threads + Wait + Sync>(
     rt: &'t R,
     shared: &'t Mutex<Desk<'a, P>>,
-    bells: &'t [Condvar],
+    bells: &'t [Bell],
     gate: &'t G,
     units: u32,
     workers: u32,
@@ -150,8 +151,8 @@ fn work<'a, 't, P: Predict, G: RunGate, R: Threads + Wait + Sync>(
     });
 }
 
-/// Notes that a thread could not be made, and wakes all workers.
-fn give_up<P: Predict, R: Wait>(rt: &R, shared: &Mutex<Desk<'_, P>>, bells: &[Condvar]) {
+/// Notes that a thread could not be made, and rings for all workers.
+fn give_up<P: Predict, R: Wait>(rt: &R, shared: &Mutex<Desk<'_, P>>, bells: &[Bell]) {
     shared.lock(rt).stop();
-    wake_all(bells);
+    ring_all(bells);
 }

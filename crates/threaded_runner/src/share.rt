@@ -21,7 +21,17 @@ pub(crate) struct Share {
 impl Share {
     /// Whether the worker serves a unit.
     fn has(self, unit: u32) -> bool {
-        self.workers != 0 && unit % self.workers == self.worker
+        match self.workers {
+            0 => false,
+            1 => true,
+            workers if workers == self.units => unit == self.worker,
+            workers => unit % workers == self.worker,
+        }
+    }
+
+    /// Whether one worker serves all units.
+    pub(crate) fn is_all(self) -> bool {
+        self.workers == 1
     }
 
     /// The first of the worker's units, from the head on, that does not wait, with its turn.

@@ -1,0 +1,51 @@
+//! What a worker with nothing to do waits for.
+
+use std::sync::atomic::{AtomicU64, Ordering};
+use std::sync::{Condvar, Mutex, MutexGuard, Wait};
+
+/// How often a worker looks whether its bell has rung before it sleeps: some microseconds, less than it
+/// takes to wake a thread that sleeps.
+const LOOKS: u32 = 200;
+
+/// What a worker with nothing to do waits for.
+#[derive(Drop)]
+pub(crate) struct Bell {
+    rings: AtomicU64,
+    sleeper: Condvar,
+}
+
+impl Bell {
+    /// A bell that has not rung.
+    pub(crate) fn new() -> Bell {
+        Bell {
+            rings: AtomicU64::new(0),
+            sleeper: Condvar::new(),
+        }
+    }
+
+    /// Rings, for whoever waits.
+    pub(crate) fn ring(&self) {
+        self.rings.fetch_add(1, Ordering::SeqCst);
+        self.sleeper.notify_all();
+    }
+
+    /// Looks for a while, without the lock, whether it rings.
+    pub(crate) fn listen(&self) {
+        let heard = self.rings.load(Ordering::SeqCst);
+        for _ in 0..LOOKS {
+            if self.rings.load(Ordering::SeqCst) != heard {
+                return;
+            }
+            std::hint::spin_loop();
+        }
+    }
+
+    /// Sleeps until it rings, or for no reason not so long; the lock is free meanwhile.
+    pub(crate) fn sleep<'l, T, R: Wait>(
+        &self,
+        rt: &R,
+        guard: MutexGuard<'l, T>,
+    ) -> MutexGuard<'l, T> {
+        self.sleeper.wait(rt, guard)
+    }
+}
