@@ -1,0 +1,17 @@
+-- What was read is what `read_texts` answers.
+use Rattle.std.proofs.Common.{rules}
+use Rattle.program_edge.proofs.answer.answer_job.Goals as goal
+
+pub returns-in-Ok : goal.returns-in-Ok
+returns-in-Ok g c = record {
+  read = c.read_texts.result;
+  texts = c.read_texts.ensures;
+  served = rw c.in-Ok.is c.answer_texts.ensures;
+}
+
+pub returns-in-Err : goal.returns-in-Err
+returns-in-Err g c = record {
+  read = c.read_texts.result;
+  texts = c.read_texts.ensures;
+  served = rw c.in-Err.is c.tell.ensures;
+}

@@ -1,0 +1,3 @@
+pub mod FileTexts
+pub mod Telling
+pub mod Answering

@@ -1,0 +1,63 @@
+-- What the program says of a fault, where, and its status (own choice).
+use Rattle.std.specs.Prelude.{◌≡◌, ◌⊎◌, ℕ, Bool, true, false, List, [], ◌∷◌, ◌++◌, ◌&&◌, if◌then◌else◌, codes, Option}
+use Rattle.std.specs.Io.KnownBytes.{Appends, Keeps}
+use Rattle.std.specs.String.{string_bytes}
+use Rattle.program_edge.specs.declared.fault.Fault.{Fault}
+use Rattle.program_edge.specs.declared.fault.Fault.TheVariants.{Help, Words, NoText, Predict, Emit, OutOfMemory, File, Serve}
+use Rattle.clap.specs.Values.{kind_of}
+use Rattle.clap.specs.declared.error.kind.ErrorKind.{ErrorKind}
+use Rattle.clap.specs.declared.error.kind.ErrorKind.TheVariants as kind
+use Rattle.command_line.specs.declared.words.UsageFault.{UsageFault}
+use Rattle.command_line.specs.declared.words.UsageFault.TheVariants as usage
+use Rattle.verdict_report.specs.declared.fault.ServeFault.{ServeFault}
+use Rattle.verdict_report.specs.declared.fault.ServeFault.TheVariants as serve
+
+-- `clap` has something to show, and no mistake to explain
+abbrev pub is_shown : ErrorKind → Bool
+is_shown kind.DisplayHelp = true
+is_shown kind.DisplayVersion = true
+is_shown _ = false
+
+-- what a job that was not done is called
+abbrev pub serve_name : ServeFault → List ℕ
+serve_name serve.OutOfMemory = codes "1 OutOfMemory"
+serve_name serve.Write = codes "2 Write"
+serve_name serve.Foreign = codes "3 Foreign"
+
+-- what a fault is called behind `multiscalar: `
+abbrev pub name_of : Fault → List ℕ
+name_of NoText = codes "1 Words"
+name_of Predict = codes "2 Predict"
+name_of Emit = codes "3 Emit"
+name_of OutOfMemory = codes "4 OutOfMemory"
+name_of (File path) = codes "file " ++ string_bytes path
+name_of (Serve fault) = serve_name fault
+name_of _ = []
+
+-- what is said: a text as it stands, or one line
+abbrev pub said_of : Fault → List ℕ
+said_of (Help text) = string_bytes text
+said_of (Words text) = string_bytes text
+said_of fault = codes "multiscalar: " ++ (name_of fault ++ 10 ∷ [])
+
+-- help is no fault
+abbrev pub is_help : Fault → Bool
+is_help (Help text) = true
+is_help _ = false
+
+-- a fault was told: help on standard output, any other fault on standard error, and the other stream stays
+-- as it was; the status is 0 for help that was written whole, else 2
+abbrev pub IsTold : Fault → (status : ℕ) → (is_told : Bool) → (output output' errors errors' : Option (List ℕ)) → Type 0
+IsTold fault status is_told output output' errors errors' =
+    (status ≡ (if is_help fault && is_told then 0 else 2))
+    × (is_told ≡ true → Appends (if is_help fault then output else errors) (if is_help fault then output' else errors') (said_of fault))
+    × Keeps (if is_help fault then errors else output) (if is_help fault then errors' else output')
+
+-- what is told of a fault of the words; the text of `clap`'s own faults is `clap`'s
+abbrev pub IsFaultOf : UsageFault → Fault → Type 0
+IsFaultOf (usage.Words error) (Help text) = is_shown (kind_of error) ≡ true
+IsFaultOf (usage.Words error) (Words text) = is_shown (kind_of error) ≡ false
+IsFaultOf (usage.Words error) fault = fault ≡ OutOfMemory
+IsFaultOf usage.Predict fault = fault ≡ Predict
+IsFaultOf usage.Emit fault = fault ≡ Emit
+IsFaultOf usage.OutOfMemory fault = fault ≡ OutOfMemory

@@ -1,0 +1,45 @@
+//! What the words of the command line ask for.
+ghost use Rattle.std.specs.Prelude.{IfOk};
+ghost use Rattle.jobs.specs.Files.{HasFilesOf};
+ghost use Rattle.program_edge.specs.Telling.{IsFaultOf};
+
+use crate::fault::Fault;
+use command_line::words::{UsageFault, job_of};
+use jobs::job::{Job, Paths};
+use std::alloc::Global;
+use std::env;
+use std::io::ErrorKind;
+use std::rt::Env;
+
+/// The job that the words of this process ask for, or the fault of its words. (own choice)
+pub fn asked<R: Env + AllocGlobal>(rt: &R) -> Result<(Job, Paths), Fault>
+    ensures { IfOk result (λ asked. HasFilesOf asked.0 asked.1) }
+{
+    let words = read_words(rt)?;
+    job_of(rt.alloc(), words.as_slice()).map_err(|fault| fault_of(rt.alloc(), fault))
+}
+
+// The words, the program's own name first.
+fn read_words<R: Env + AllocGlobal>(rt: &R) -> Result<Vec<String>, Fault> {
+    match env::args(rt) {
+        Ok(words) => words.collect(rt.alloc()).map_err(|_| Fault::OutOfMemory),
+        Err(error) if error.kind() == ErrorKind::OutOfMemory => Err(Fault::OutOfMemory),
+        Err(_) => Err(Fault::NoText),
+    }
+}
+
+/// The fault that is told for one of the words. `OutOfMemory` may come in place of a text. (own choice)
+pub fn fault_of(alloc: Global, fault: UsageFault) -> Fault
+    ensures { IsFaultOf fault result }
+{
+    match fault {
+        UsageFault::Words(error) => match format!(in alloc; "{error}") {
+            Ok(text) if error.use_stderr() => Fault::Words(text),
+            Ok(text) => Fault::Help(text),
+            Err(_) => Fault::OutOfMemory,
+        },
+        UsageFault::Predict => Fault::Predict,
+        UsageFault::Emit => Fault::Emit,
+        UsageFault::OutOfMemory => Fault::OutOfMemory,
+    }
+}

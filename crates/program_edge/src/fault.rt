@@ -1,0 +1,24 @@
+//! Why the program does no job.
+
+use verdict_report::fault::ServeFault;
+
+/// Why the program does no job: it says so, and ends with status 2, or with 0 for help.
+#[derive(Debug, Drop)]
+pub enum Fault {
+    /// The words ask for help, which is this text.
+    Help(String),
+    /// The words give no job; the text says why.
+    Words(String),
+    /// A word is no text.
+    NoText,
+    /// The value of `--predict` is none.
+    Predict,
+    /// The value of `--emit` is none.
+    Emit,
+    /// Memory ran out before the files were read.
+    OutOfMemory,
+    /// The file of this path can't be read, or is too long.
+    File(String),
+    /// The job was not done.
+    Serve(ServeFault),
+}

@@ -1,0 +1,26 @@
+//! The program, but for its two streams.
+ghost use Rattle.std.specs.Prelude.{Result};
+ghost use Rattle.program_edge.specs.FileTexts.{Unknown};
+ghost use Rattle.program_edge.specs.Answering.{IsRunOf};
+
+use crate::answer::answer;
+use crate::asked::asked;
+use crate::named_files::SystemFiles;
+use std::io::Write;
+use std::rt::{Env, Files};
+use std::sync::Wait;
+use std::thread::Threads;
+
+/// Runs the program on the words and the files of this process, and answers its status, 0 to 3. (own choice)
+pub fn run<R: Env + Files + AllocGlobal + Threads + Wait + Sync, O: Write, E: Write>(
+    rt: &R,
+    output: &mut O,
+    errors: &mut E,
+) -> u8
+    ensures { IsRunOf result
+        record { output = O.contents output.old; errors = E.contents errors.old }
+        record { output = O.contents output.new; errors = E.contents errors.new } }
+{
+    let files = SystemFiles::new(rt);
+    answer(rt, rt.alloc(), asked(rt), &files, output, errors).status
+}
