@@ -1,5 +1,5 @@
 -- Which files give the texts of a job, and which file is at fault (own choice).
-use Rattle.std.specs.Prelude.{◌≡◌, ◌≢◌, ◌⊎◌, ◌≤◌, ◌+◌, nat_le, ℕ, Bool, true, false, if◌then◌else◌, List, [], length, take, ⊤, Option, Some, None, MatchOption, Result, Ok, Err}
+use Rattle.std.specs.Prelude.{◌≡◌, ◌≤◌, ◌+◌, nat_le, ℕ, Bool, true, false, if◌then◌else◌, List, [], length, take, ⊤, Option, Some, None, MatchOption, Result, Ok, Err}
 use Rattle.std.specs.String.{string_bytes}
 use Rattle.std.specs.declared.string.String.{String}
 use Rattle.std.specs.declared.alloc.Global.{Global}

@@ -16,7 +16,14 @@ pub fn asked<R: Env + AllocGlobal>(rt: &R) -> Result<(Job, Paths), Fault>
     ensures { IfOk result (λ asked. HasFilesOf asked.0 asked.1) }
 {
     let words = read_words(rt)?;
-    job_of(rt.alloc(), words.as_slice()).map_err(|fault| fault_of(rt.alloc(), fault))
+    asked_by(rt.alloc(), words.as_slice())
+}
+
+/// The job that words ask for, or their fault. The first word is the program's own name. (own choice)
+pub fn asked_by(alloc: Global, words: &[String]) -> Result<(Job, Paths), Fault>
+    ensures { IfOk result (λ asked. HasFilesOf asked.0 asked.1) }
+{
+    job_of(alloc, words).map_err(|fault| fault_of(alloc, fault))
 }
 
 // The words, the program's own name first.

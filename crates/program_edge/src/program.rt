@@ -1,6 +1,4 @@
 //! The program, but for its two streams.
-ghost use Rattle.std.specs.Prelude.{Result};
-ghost use Rattle.program_edge.specs.FileTexts.{Unknown};
 ghost use Rattle.program_edge.specs.Answering.{IsRunOf};
 
 use crate::answer::answer;

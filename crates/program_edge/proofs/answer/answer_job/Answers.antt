@@ -1,5 +1,4 @@
 -- What was read is what `read_texts` answers.
-use Rattle.std.proofs.Common.{rules}
 use Rattle.program_edge.proofs.answer.answer_job.Goals as goal
 
 pub returns-in-Ok : goal.returns-in-Ok
