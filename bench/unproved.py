@@ -1,18 +1,27 @@
 #!/usr/bin/env python3
-"""Times the proved program beside two plain Rust programs without proofs. Needs
+"""Times the proved program beside plain Rust programs without proofs. Needs
 python3, rt and rustc.
 
-    unproved.py [--rounds N]
+    unproved.py [--rounds N] [--builds N] [--only WORD]
 
-The programs of unproved/ do the same work with the same structures: events on a
-machine with 1, 4 and 16 units, and reading and checking the largest certificate.
-They are run in turn with the proved ones, so that a slow minute of the machine
-falls on both, and the least processor time of the rounds counts: user and system
-time, since most of it goes into memory that is touched for the first time.
+The programs of unproved/ do the same work with the same structures: the plain
+machine on the kernels, events on a machine with 1, 4 and 16 units, reading and
+checking the largest certificate, and printing the maximal program. They are run
+in turn with the proved ones, so that a slow minute of the machine falls on both.
+Of the certificate and the events the least processor time of the rounds counts,
+user and system time, since most of it goes into memory that is touched for the
+first time; of the kernels and the printer the median.
+
+How a compiler lays out a loop moves its time by a third, so the plain machine
+and the printer are built several times, with the functions at other alignments.
+Where `spim`, `qemu-mipsel` and `mipsel-linux-gnu-as` are installed, SPIM and
+QEMU run the same kernels in turn with both.
 """
 import argparse
 import pathlib
 import resource
+import shutil
+import statistics
 import subprocess
 import tempfile
 
@@ -23,10 +32,12 @@ HERE = pathlib.Path(__file__).resolve().parent
 EVENTS = 900000
 
 
-def compiled(name, folder):
-    """Builds a program of unproved/."""
-    program = pathlib.Path(folder) / f"unproved_{name}"
-    subprocess.run(["rustc", "--edition", "2021", "-O", "-o", program, HERE / "unproved" / f"{name}.rs"], check=True)
+def compiled(name, folder, build=0):
+    """Builds a program of unproved/; the builds differ in how functions are aligned."""
+    program = pathlib.Path(folder) / f"unproved_{name}_{build}"
+    layout = ["-C", f"llvm-args=-align-all-functions={4 + build}"] if build else []
+    words = ["rustc", "--edition", "2021", "-O", *layout, "-o", program, HERE / "unproved" / f"{name}.rs"]
+    subprocess.run(words, check=True)
     return program
 
 
@@ -42,6 +53,77 @@ def least(rounds, *commands):
     """The least processor time of each command, run in turn."""
     times = [[spent(words) for words in commands] for _ in range(rounds)]
     return [min(column) for column in zip(*times)]
+
+
+def medians(rounds, *commands):
+    """The median processor time of each command, run in turn."""
+    times = [[spent(words) for words in commands] for _ in range(rounds)]
+    return [statistics.median(column) for column in zip(*times)]
+
+
+def for_others(kernel, folder):
+    """The kernel as other assemblers read it: no tasks or marks, `out` as a move that nothing reads, and
+    `halt` as a call of the system. Answers SPIM's command and QEMU's, where these are installed."""
+    lines = []
+    for line in kernel.read_text().splitlines():
+        line = line.split("#")[0].split("!")[0]
+        words = line.split()
+        if words[:1] == ["out"]:
+            line = f"move $3, {words[1]}"
+        elif words[:1] == ["halt"]:
+            line = "HALT"
+        elif words[:1] == [".task"]:
+            continue
+        lines.append(line.replace("MAIN:", "main:\n__start:"))
+    text = ".globl main\n.globl __start\n.text\n" + "\n".join(lines) + "\n"
+    spim, linux = folder / f"{kernel.stem}.spim.s", folder / f"{kernel.stem}.linux.s"
+    spim.write_text(text.replace("__start:\n", "").replace(".globl __start\n", "").replace("HALT", "li $2, 10\nsyscall"))
+    linux.write_text(text.replace("HALT", "li $2, 4001\nli $4, 0\nsyscall"))
+    commands = {}
+    if shutil.which("spim"):
+        commands["SPIM"] = ["spim", "-nomapped_io", "-f", spim]
+    if shutil.which("qemu-mipsel") and shutil.which("mipsel-linux-gnu-as"):
+        made, program = folder / f"{kernel.stem}.o", folder / f"{kernel.stem}.elf"
+        subprocess.run(["mipsel-linux-gnu-as", "-mips32", "-o", made, linux], check=True)
+        subprocess.run(["mipsel-linux-gnu-ld", "-e", "__start", "-o", program, made], check=True)
+        commands["QEMU"] = ["qemu-mipsel", program]
+    return commands
+
+
+def kernels(rounds, builds, proved, folder):
+    """The plain machine: nanoseconds an instruction, the same process with a program of 18 taken off."""
+    folder = pathlib.Path(folder)
+    small = HERE.parent / "examples" / "count" / "program.s"
+    plain = [compiled("plain", folder, build) for build in range(builds)]
+    nothing = folder / "nothing.s"
+    nothing.write_text("MAIN:\n        halt\n")
+    empty, ratios = for_others(nothing, folder), []
+    for kernel in sorted((HERE / "kernels").glob("*.s")):
+        first = subprocess.run([proved, "seq", kernel], capture_output=True, check=True, text=True).stdout.split()
+        count = int(first[first.index("instructions") - 1])
+        others = for_others(kernel, folder)
+        commands = [[proved, "seq", small], [proved, "seq", kernel]]
+        commands += [[program, text] for program in plain for text in (small, kernel)]
+        commands += [words for name in others for words in (empty[name], others[name])]
+        times = medians(rounds, *commands)
+        each = [(full - base) / count * 1e9 for base, full in zip(times[::2], times[1::2])]
+        ours, theirs = each[0], statistics.median(each[1:1 + builds])
+        ratios.append(ours / theirs)
+        line = f"{kernel.stem}: {ours:.2f} ns an instruction, without proofs {theirs:.2f} ns: {ours / theirs:.2f} times"
+        for name, other in zip(others, each[1 + builds:]):
+            line += f"; {name} {other:.2f} ns"
+        print(line)
+    print(f"all kernels: {statistics.geometric_mean(ratios):.2f} times, {builds} builds, {rounds} rounds each")
+
+
+def printing(rounds, builds, proved, folder):
+    program = pathlib.Path(folder) / "program.s"
+    program.write_text(bench.maximal_program())
+    commands = [[proved, "print", program]] + [[compiled("printer", folder, build), program] for build in range(builds)]
+    ours, *others = medians(rounds, *commands)
+    theirs = statistics.median(others)
+    print(f"print of {program.stat().st_size} bytes: {ours * 1e3:.1f} ms, without proofs {theirs * 1e3:.1f} ms: "
+          f"{ours / theirs:.2f} times, {builds} builds, {rounds} rounds")
 
 
 def events(rounds, proved, plain):
@@ -67,10 +149,19 @@ def certificate(rounds, proved, plain, folder):
 def main():
     options = argparse.ArgumentParser(description=__doc__, formatter_class=argparse.RawDescriptionHelpFormatter)
     options.add_argument("--rounds", type=int, default=12)
-    rounds = options.parse_args().rounds
+    options.add_argument("--builds", type=int, default=3)
+    options.add_argument("--only", default="", help="certificate, events, kernels or print")
+    given = options.parse_args()
+    rounds, builds = given.rounds, given.builds
     with tempfile.TemporaryDirectory(prefix="multiscalar-bench-") as folder:
-        certificate(rounds, bench.built(), compiled("checker", folder), folder)
-        events(rounds, machine.built(folder), compiled("machine", folder))
+        if given.only in "kernels":
+            kernels(rounds, builds, bench.built(), folder)
+        if given.only in "print":
+            printing(rounds, builds, bench.built(), folder)
+        if given.only in "certificate":
+            certificate(rounds, bench.built(), compiled("checker", folder), folder)
+        if given.only in "events":
+            events(rounds, machine.built(folder), compiled("machine", folder))
 
 
 if __name__ == "__main__":

@@ -3,11 +3,16 @@
 #![tactic(auto)]
 
 pub mod arithmetic;
+pub(crate) mod decoded;
+pub(crate) mod decoding;
 pub mod instruction;
 pub mod memory;
 pub mod number;
 pub mod outcome;
 pub mod parts;
+pub(crate) mod places;
 pub mod plain;
 pub(crate) mod processor;
+pub(crate) mod registers;
 mod trap_text;
+pub(crate) mod turn;

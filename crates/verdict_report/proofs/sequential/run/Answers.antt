@@ -14,8 +14,10 @@ run-requires c =
 
 pub returns : goal.returns
 returns c =
-    let begins : IsAfter (input c.args.program.now) 0 c.in_ok-machine.machine = search rules in
-    let made : Makes c.from.result c.in_ok-machine.machine c.run.new.self = search rules in
+    let begins : IsAfter (input c.args.program.now) 0 c.in_ok-machine.machine =
+    search (rules, c.plain, c.map_err, c.in_ok-machine) in
+    let made : Makes c.from.result c.in_ok-machine.machine c.run.new.self =
+    search (rules, c.run, c.map_err-2, c.in_ok-map_err) in
     let steps : 0 + c.from.result ≡ c.args.budget = omega arith in
     let after : IsAfter (input c.args.program.now) c.args.budget c.run.new.self =
     subst (λ n. IsAfter (input c.args.program.now) n c.run.new.self) steps (made (input c.args.program.now) 0 begins) in
