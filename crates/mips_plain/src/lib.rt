@@ -5,6 +5,7 @@
 pub mod arithmetic;
 pub(crate) mod decoded;
 pub(crate) mod decoding;
+pub(crate) mod execution;
 pub mod instruction;
 pub mod memory;
 pub mod number;
