@@ -1,0 +1,17 @@
+-- The instructions that are counted are among the events, of which there are at most a million.
+use Rattle.std.proofs.Common.{◌≡◌, Some, length, sym, ap, ◌∙◌, arith}
+use Rattle.std.specs.Prelude.{slice_get}
+use Rattle.mips_plain.specs.declared.outcome.Read.{Read}
+use Rattle.unit_core.specs.Units.{active_of}
+use Rattle.processor_steps.specs.Seen.{ProcessorView, state_of}
+use Rattle.sequencer.specs.Seen.{MachineView, state}
+use Rattle.sequencer.proofs.Runs.{log_within}
+use Rattle.sequencer.proofs.machine.Machine.counts.Goals as goal
+
+pub overflow_add-len : goal.overflow_add-len
+overflow_add-len c =
+    let s = state c.args.self.now in
+    let u = active_of c.in-Some.head.now in
+    let there : slice_get s.queue 0 ≡ Some u = sym (c.in-Some.ensures ∙ ap (λ (v : MachineView). slice_get (state v).queue 0) c.self.view_is) in
+    let within = log_within s.queue 0 u there in
+    omega (arith, within, c.is_known.ensures.executed, c.is_known.ensures.room, c.claims.ensures.claims.number)
