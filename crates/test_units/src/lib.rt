@@ -7,6 +7,4 @@ mod ports;
 #[cfg(test)]
 mod programs;
 #[cfg(test)]
-mod read_logs;
-#[cfg(test)]
 mod units;

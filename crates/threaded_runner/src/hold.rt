@@ -4,7 +4,6 @@ ghost use Rattle.std.specs.Prelude.{◌≡◌, ◌≤◌};
 ghost use Rattle.sequencer.specs.Rings.{unit_for};
 ghost use Rattle.threaded_runner.specs.Turns.{MayChoose};
 
-use crate::deciding::turn_at_head;
 use crate::desk::Desk;
 use crate::pace::Pace;
 use crate::share::Share;
@@ -12,28 +11,30 @@ use crate::turn::Turn;
 use machine_events::event::{Event, Refused};
 use sequencer::machine::Machine;
 use sequencer::predict::Predict;
-use unit_core::burst::{Burst, MOST_STEPS};
+use unit_core::burst::{Burst, Lease, MOST_STEPS};
 
 /// The most events of one hold of the lock, but for the check-in of a burst.
 const EVENTS_OF_A_HOLD: u32 = 64;
 
-/// The burst that is made next of a unit.
+/// A unit that is lent to make a burst on.
 #[derive(Drop)]
-pub(crate) struct NextBurst {
+pub(crate) struct Loan<'a> {
     /// The number of the unit.
     pub(crate) unit: u32,
-    /// How many instructions at most.
+    /// The unit as it is.
+    pub(crate) lease: Lease<'a>,
+    /// The most instructions of the burst.
     pub(crate) most: u32,
     ghost few: { most ≤ 65536 },
 }
 
 /// What a worker does once it lets go of the lock.
 #[derive(Drop)]
-pub(crate) enum Then {
-    /// Makes a burst on the unit, which is to be lent.
-    Burst(NextBurst),
-    /// Goes on with the head where it is, by as many events as the burst may have instructions.
-    BurstInPlace(NextBurst),
+pub(crate) enum Then<'a> {
+    /// Makes a burst.
+    Burst(Loan<'a>),
+    /// Makes a burst of this unit, of so many steps at most, on the unit itself.
+    BurstInPlace(u32, u32),
     /// Waits until the machine has changed.
     Wait,
     /// Takes the lock again, since there may be more to do.
@@ -66,7 +67,7 @@ impl Worker {
     }
 
     /// Applies events of the worker's units, at most 64.
-    pub(crate) fn hold<P: Predict>(&mut self, desk: &mut Desk<'_, P>) -> Then {
+    pub(crate) fn hold<'a, P: Predict>(&mut self, desk: &mut Desk<'a, P>) -> Then<'a> {
         for _ in 0..EVENTS_OF_A_HOLD {
             if desk.is_done(self.budget) {
                 return Then::End;
@@ -86,7 +87,7 @@ impl Worker {
                     }
                 }
                 Turn::Burst => {
-                    if let Some(then) = self.next_burst(desk, unit) {
+                    if let Some(then) = self.lend(desk, unit) {
                         return then;
                     }
                 }
@@ -154,10 +155,9 @@ impl Worker {
         }
     }
 
-    /// The burst that is made next of a unit whose next instruction may stand in one, unless that instruction
-    /// is executed alone here. A worker that serves all units makes short bursts in place: nobody else waits
-    /// for the lock.
-    fn next_burst<P: Predict>(&mut self, desk: &mut Desk<'_, P>, unit: u32) -> Option<Then> {
+    /// Lends a unit whose next instruction may stand in a burst, or executes that instruction alone. A worker
+    /// that serves all units makes short bursts in place: nobody else waits for the lock.
+    fn lend<'a, P: Predict>(&mut self, desk: &mut Desk<'a, P>, unit: u32) -> Option<Then<'a>> {
         let pace = self.pace(unit);
         if pace.single > 0 {
             self.execute(desk, unit);
@@ -165,11 +165,12 @@ impl Worker {
         }
         let room = (self.budget as usize).saturating_sub(desk.machine().length());
         let most = (pace.most as usize).min(room).min(MOST_STEPS as usize) as u32;
-        let next = NextBurst { unit, most };
         if self.share.is_all() && pace.is_first() {
-            Some(Then::BurstInPlace(next))
-        } else {
-            Some(Then::Burst(next))
+            return Some(Then::BurstInPlace(unit, most));
+        }
+        match desk.machine().lease(unit) {
+            Some(lease) => Some(Then::Burst(Loan { unit, lease, most })),
+            None => None,
         }
     }
 
@@ -186,50 +187,22 @@ impl Worker {
         }
     }
 
-    /// The head, which is the unit of this burst, executes its instructions where it is, and goes on from task
-    /// to task by the events that `turn` names: so many events at most. Answers how many instructions that
-    /// were.
+    /// The head, which is this unit, executes so many instructions at most; answers how many.
     pub(crate) fn run_in_place<P: Predict>(
         &mut self,
         desk: &mut Desk<'_, P>,
-        next: &NextBurst,
+        unit: u32,
+        most: u32,
     ) -> u32 {
-        let mut steps: u32 = 0;
-        let mut left = next.most;
-        for _ in 0..next.most {
-            let run = desk.run_head(left);
-            steps = steps.saturating_add(run);
-            left -= run;
-            if left == 0 || !self.apply_at_head(desk) {
-                break;
+        let steps = desk.run_head(most);
+        if let Some(pace) = self.paces.get_mut(unit as usize) {
+            if steps == 0 {
+                pace.single = EVENTS_OF_A_HOLD;
+            } else if steps == most {
+                pace.double();
             }
-            left -= 1;
         }
-        self.note_steps(next, steps);
         steps
-    }
-
-    /// Applies the event that the turn of the head's unit names; answers whether it names one.
-    fn apply_at_head<P: Predict>(&mut self, desk: &mut Desk<'_, P>) -> bool {
-        let machine = desk.machine();
-        let head = machine.head_unit();
-        match turn_at_head(machine, head) {
-            Turn::Apply(event) => self.apply(desk, head, event),
-            _ => false,
-        }
-    }
-
-    /// After a burst in place with so many instructions: as many as there may be are all of one task, which
-    /// gets longer bursts from here on.
-    fn note_steps(&mut self, next: &NextBurst, steps: u32) {
-        let Some(pace) = self.paces.get_mut(next.unit as usize) else {
-            return;
-        };
-        if steps == 0 {
-            pace.single = EVENTS_OF_A_HOLD;
-        } else if steps == next.most {
-            pace.double();
-        }
     }
 
     /// Want of memory for an event of a unit: one that is not the head is dropped, and at the head the run
@@ -247,28 +220,29 @@ impl Worker {
         }
     }
 
-    /// Hands in a burst that was made of a next.
+    /// Hands in a burst that was made on a unit.
     pub(crate) fn check_in<P: Predict>(
         &mut self,
         desk: &mut Desk<'_, P>,
-        next: &NextBurst,
+        unit: u32,
+        most: u32,
         burst: Burst<'_>,
     ) {
         let steps = burst.steps();
         let answer = desk.check_in(burst);
         if let Err(Refused::OutOfMemory) = answer {
-            if desk.machine().head_unit() != next.unit {
-                self.give_up(desk, next.unit);
+            if desk.machine().head_unit() != unit {
+                self.give_up(desk, unit);
                 return;
             }
         }
-        let Some(pace) = self.paces.get_mut(next.unit as usize) else {
+        let Some(pace) = self.paces.get_mut(unit as usize) else {
             return;
         };
         match answer {
             Ok(0) if steps == 0 => pace.single = EVENTS_OF_A_HOLD,
             Ok(0) => pace.begin_again(),
-            Ok(events) if events == next.most => pace.double(),
+            Ok(events) if events == most => pace.double(),
             Ok(events) if self.share.is_all() && pace.is_short(events) => pace.begin_again(),
             Ok(_) => {}
             Err(_) => pace.single = EVENTS_OF_A_HOLD,

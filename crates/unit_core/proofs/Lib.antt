@@ -1,4 +1,3 @@
 pub mod StepLemmas
 pub mod UnitLemmas
 pub mod BurstLemmas
-pub mod Chunks

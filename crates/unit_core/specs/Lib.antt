@@ -1,4 +1,3 @@
-pub mod Logs
 pub mod Units
 pub mod Worlds
 pub mod UnitStep

@@ -235,7 +235,7 @@ impl Unit {
 
     /// Goes on as the unit of a burst did: its reads come behind the log, and what arrived stays
     /// arrived. The caller sees to it that the unit is as it was lent, logs aside, but for registers
-    /// that arrived since. Where the reads are many they are moved, not copied.
+    /// that arrived since.
     ///
     /// # Errors
     ///
@@ -246,24 +246,10 @@ impl Unit {
         ensures back { IfErr result (λ back. back.0 ≡ burst.entry) }
         ensures err { OnErr result (self.new ≡ self.old) }
     {
-        let Burst {
-            accepted,
-            before,
-            steps,
-            mut after,
-            stretch,
-        } = burst;
-        if let Err(refused) = after.hand_over_reads(&mut self.log) {
-            let back = Burst {
-                accepted,
-                before,
-                steps,
-                after,
-                stretch,
-            };
-            return Err((back, refused));
+        if self.append(burst.after.reads()).is_err() {
+            return Err((burst, OutOfMemory));
         }
-        self.go_on_as(&after);
+        self.go_on_as(&burst.after);
         Ok(())
     }
 }

@@ -4,7 +4,6 @@
 
 pub mod burst;
 pub mod laws;
-pub mod read_log;
 mod step;
 pub mod stretch;
 pub mod unit;

@@ -10,5 +10,5 @@ overflow_cast-commit c =
     let u = active_of c.in-Some.head.now in
     let there : slice_get (actives c.args.self.now.queue) 0 ≡ Some u =
     ap (λ (v : ProcessorView). slice_get (actives v.queue) 0) (sym c.self.view_is) ∙ sym c.in-Some.ensures.active in
-    let same : c.len.result ≡ length u.log = c.len.ensures ∙ ap (λ (x : List Read). length x) c.reads.ensures in
+    let same : length c.reads.result.now ≡ length u.log = ap (λ (x : List Read). length x) c.reads.ensures in
     omega (arith, c.requires.small u there)
