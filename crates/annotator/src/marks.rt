@@ -1,9 +1,9 @@
 //! The marks to propose: which instructions carry a forward bit, and what the tasks create.
 
 ghost use Rattle.std.specs.Prelude.{◌≡◌, ℕ, ◌<◌, ◌||◌, ◌↔◌, true, length, IfOk, Some, slice_get, slice_index};
-ghost use Rattle.std.specs.List.{All, list_any};
+ghost use Rattle.std.specs.List.{All};
 ghost use Rattle.mips_plain.specs.Words.{has};
-ghost use Rattle.task_descriptor.specs.Listing.{IsWellFormed, registers};
+ghost use Rattle.task_descriptor.specs.Listing.{IsWellFormed};
 ghost use Rattle.task_descriptor.specs.declared.descriptor.Marked.{Marked};
 ghost use Rattle.mark_checker.specs.CheckerSteps.{holds_at};
 ghost use Rattle.annotator.specs.Least.{IsLeast};
@@ -16,6 +16,7 @@ use mips_plain::instruction::Op;
 use mips_plain::number::RegSet;
 use std::alloc::{AllocError, Global};
 use task_descriptor::descriptor::Marked;
+use task_descriptor::marks::has_member;
 use task_descriptor::program::Program;
 use task_graph::edges::next_inside;
 
@@ -78,13 +79,6 @@ fn writes_last(program: &Program, masks: &[RegSet], op: &Op, i: u32) -> bool
     let written = op.dests();
     let again = written_behind(program, masks, i);
     has_member(written) && written.is_subset(written.minus(again))
-}
-
-/// Whether the set has a register.
-fn has_member(set: RegSet) -> bool
-    ensures { result ≡ list_any (has set) registers }
-{
-    set.bits() != 0
 }
 
 /// The registers that paths from the inner successors of the instruction may write.

@@ -11,7 +11,7 @@ pub mod memory;
 pub mod number;
 pub mod outcome;
 pub mod parts;
-pub(crate) mod places;
+pub mod places;
 pub mod plain;
 pub(crate) mod processor;
 pub(crate) mod registers;

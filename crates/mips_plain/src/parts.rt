@@ -10,6 +10,7 @@ use crate::arithmetic::{
 };
 use crate::instruction::{MoveFromKind, MoveToKind, Op};
 use crate::number::{Gpr, Place, Reg, RegSet};
+use crate::places::address_of;
 
 /// The register that a move from HI or LO reads.
 #[inline]
@@ -39,15 +40,6 @@ pub(crate) fn following(pc: u32) -> u32
     ensures { result ≡ (pc + 4) % 2 ^ 32 }
 {
     pc.wrapping_add(4)
-}
-
-/// The address of a place in the code.
-#[inline]
-#[tactic(auto, unfolding(crate::specs::Words::address))]
-pub(crate) fn address_of(place: Place) -> u32
-    ensures { result ≡ address place }
-{
-    0x0040_0000 + 4 * place.get()
 }
 
 /// A set with a register beside its members, if there is one.
@@ -190,9 +182,9 @@ impl Op {
         ensures { result ≡ turn self.now a b pc }
     {
         match *self {
-            Op::BranchTwo(kind, _, _, place) if takes_two(kind, a, b) => address_of(place),
-            Op::BranchOne(kind, _, place) if takes_one(kind, a) => address_of(place),
-            Op::Jump(place) | Op::JumpLink(place) => address_of(place),
+            Op::BranchTwo(kind, _, _, place) if takes_two(kind, a, b) => address_of(place.get()),
+            Op::BranchOne(kind, _, place) if takes_one(kind, a) => address_of(place.get()),
+            Op::Jump(place) | Op::JumpLink(place) => address_of(place.get()),
             Op::JumpReg(_) | Op::JumpLinkReg(..) => a,
             Op::Halt => pc,
             _ => following(pc),

@@ -9,8 +9,9 @@ ghost use Rattle.machine_model.specs.HeadEvent.{task_beginning as task_beginning
 
 use machine_events::event::Spot;
 use mips_plain::number::{Place, RegSet};
+use mips_plain::places::CODE_START;
 use task_descriptor::descriptor::Descriptor;
-use task_descriptor::program::{CODE_START, Program};
+use task_descriptor::program::Program;
 
 #[tactic(auto, unfolding(mips_plain::specs::Words::address))]
 /// The address at which a task begins; that of index 0 for a number beyond the tasks.

@@ -5,7 +5,7 @@
 mod build_fault_text;
 mod check;
 pub mod descriptor;
-mod marks;
+pub mod marks;
 pub mod name;
 pub mod places;
 pub mod program;

@@ -29,7 +29,8 @@ fn has_destination(op: &Op) -> bool
     has_member(op.dests())
 }
 
-fn has_member(set: RegSet) -> bool
+/// Whether the set has a register.
+pub fn has_member(set: RegSet) -> bool
     ensures { result ≡ list_any (has set) registers }
 {
     set.bits() != 0

@@ -7,6 +7,7 @@ use crate::same::{are_same_tasks, is_same_code};
 use mips_plain::instruction::Op;
 use mips_plain::number::Place;
 use mips_plain::outcome::OutOfMemory;
+use mips_plain::places::{CODE_START, address_of};
 use mips_plain::plain::Plain;
 use std::alloc::{AllocError, Global};
 use std::marker::Model;
@@ -19,9 +20,6 @@ pub const MOST_TARGETS: usize = 16;
 
 /// The most bytes of data, and of read-only data, that a program gives.
 pub const MOST_BYTES: usize = 65_536;
-
-/// Where code begins (own choice).
-pub const CODE_START: u32 = 0x0040_0000;
 
 /// What a program is made of, not yet looked at.
 #[derive(Debug, Drop)]
@@ -210,12 +208,11 @@ impl Program {
         }
     }
 
-    #[tactic(auto, unfolding(mips_plain::specs::Words::address))]
     /// The address of an instruction of this index, 0x00400000 + 4 * index (own choice).
     pub fn address(&self, place: Place) -> u32
         ensures { result ≡ address place }
     {
-        CODE_START + 4 * place.get()
+        address_of(place.get())
     }
 
     /// The index of the instruction at an address; `None` where no instruction is there.

@@ -20,7 +20,6 @@ use machine_events::event::Spot;
 use mips_plain::instruction::Op;
 use mips_plain::number::{Reg, RegSet};
 use mips_plain::outcome::Read;
-use mips_plain::plain::CODE_START;
 use register_ring::held::RegisterWords;
 use register_ring::members::next_member;
 use register_ring::port::Port;
@@ -49,16 +48,6 @@ impl Next<'_> {
             b: self.b,
         }
     }
-}
-
-/// The address of the instruction at an index.
-#[inline]
-#[tactic(auto, unfolding(mips_plain::specs::Words::address))]
-pub(crate) fn address_of(index: u32) -> u32
-    requires { index < 4096 }
-    ensures { result ≡ address index }
-{
-    CODE_START + 4 * index
 }
 
 /// Whether an instruction waits for its operands alone: each but a `release` does.
