@@ -1,2 +1,3 @@
+pub mod DifferLemmas
 pub mod MemberLemmas
 pub mod PortLemmas

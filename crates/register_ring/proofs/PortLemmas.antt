@@ -66,15 +66,7 @@ put_is_first words r w none =
 pub no_pair : (held : Held) (r : ℕ) → has held.set r ≡ false → pairs held r ≡ None
 no_pair held r e = cond-false _ _ _ e
 
--- pairs that are within one another are the same
-same_option : (o p : Option ℕ) → ((w : ℕ) → o ≡ Some w → p ≡ Some w) → ((w : ℕ) → p ≡ Some w → o ≡ Some w) → o ≡ p
-same_option None None f g = refl
-same_option None (Some x) f g = g x refl
-same_option (Some x) p f g = sym (f x refl)
-
-pub same_pairs : (f g : Words) → AllIn f g → AllIn g f → f ≡ g
-same_pairs f g there back = fun_ext (λ (r : ℕ). same_option (f r) (g r) (there r) (back r))
-
+-- pairs that are the same are within one another
 pub all_same : (f g : Words) → f ≡ g → AllIn f g
 all_same f g e r w h = sym (ap (λ (k : Words). k r) e) ∙ h
 
