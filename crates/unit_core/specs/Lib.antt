@@ -1,3 +1,4 @@
+pub mod Logs
 pub mod Units
 pub mod Worlds
 pub mod UnitStep

@@ -235,7 +235,7 @@ impl Unit {
 
     /// Goes on as the unit of a burst did: its reads come behind the log, and what arrived stays
     /// arrived. The caller sees to it that the unit is as it was lent, logs aside, but for registers
-    /// that arrived since.
+    /// that arrived since. Where the reads are many they are moved, not copied.
     ///
     /// # Errors
     ///
@@ -246,10 +246,24 @@ impl Unit {
         ensures back { IfErr result (λ back. back.0 ≡ burst.entry) }
         ensures err { OnErr result (self.new ≡ self.old) }
     {
-        if self.append(burst.after.reads()).is_err() {
-            return Err((burst, OutOfMemory));
+        let Burst {
+            accepted,
+            before,
+            steps,
+            mut after,
+            stretch,
+        } = burst;
+        if let Err(refused) = self.take_reads_of(&mut after) {
+            let back = Burst {
+                accepted,
+                before,
+                steps,
+                after,
+                stretch,
+            };
+            return Err((back, refused));
         }
-        self.go_on_as(&burst.after);
+        self.go_on_as(&after);
         Ok(())
     }
 }

@@ -4,6 +4,7 @@
 
 pub mod burst;
 pub mod laws;
+pub mod read_log;
 mod step;
 pub mod stretch;
 pub mod unit;

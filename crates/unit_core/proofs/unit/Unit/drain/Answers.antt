@@ -15,7 +15,7 @@ use Rattle.unit_core.proofs.unit.Unit.drain.Goals as goal
 pub returns-clause-answer : goal.returns-clause-answer
 returns-clause-answer c =
     let p = c.args.accepted.now.program in
-    let u : UnitView = record { task = c.self.inside.task; serial = c.self.inside.serial; place = c.self.inside.spot; port = c.self.inside.port; local = c.self.inside.local; log = c.self.inside.log.items } in
+    let u : UnitView = record { task = c.self.inside.task; serial = c.self.inside.serial; place = c.self.inside.spot; port = c.self.inside.port; local = c.self.inside.local; log = c.self.inside.log.reads } in
     let r = c.args.register in
     let after : UnitView = record u { port = c.send.new.self } in
     let tasks : c.tasks.result.now ≡ p.tasks =

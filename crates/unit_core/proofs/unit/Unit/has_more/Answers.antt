@@ -11,8 +11,8 @@ use Rattle.unit_core.proofs.unit.Unit.has_more.Goals as goal
 
 pub returns-then-not-is_within : goal.returns-then-not-is_within
 returns-then-not-is_within c =
-    let u : UnitView = record { task = c.self.inside.task; serial = c.self.inside.serial; place = c.self.inside.spot; port = c.self.inside.port; local = c.self.inside.local; log = c.self.inside.log.items } in
-    let b : UnitView = record { task = c.before-2.inside.task; serial = c.before-2.inside.serial; place = c.before-2.inside.spot; port = c.before-2.inside.port; local = c.before-2.inside.local; log = c.before-2.inside.log.items } in
+    let u : UnitView = record { task = c.self.inside.task; serial = c.self.inside.serial; place = c.self.inside.spot; port = c.self.inside.port; local = c.self.inside.local; log = c.self.inside.log.reads } in
+    let b : UnitView = record { task = c.before-2.inside.task; serial = c.before-2.inside.serial; place = c.before-2.inside.spot; port = c.before-2.inside.port; local = c.before-2.inside.local; log = c.before-2.inside.log.reads } in
     let differs : HasMore (active_of b) (active_of u) → IsTrue false =
     λ h. absurd (false≢true (sym c.if-not-is_within.true ∙ c.is_within.ensures.1 (h.more, sym (ap (λ (a : Active). a.sent) h.is)))) in (
       λ never. absurd (false≢true never),
@@ -22,8 +22,8 @@ returns-then-not-is_within c =
 
 pub returns : goal.returns
 returns c =
-    let u : UnitView = record { task = c.self.inside.task; serial = c.self.inside.serial; place = c.self.inside.spot; port = c.self.inside.port; local = c.self.inside.local; log = c.self.inside.log.items } in
-    let b : UnitView = record { task = c.before-2.inside.task; serial = c.before-2.inside.serial; place = c.before-2.inside.spot; port = c.before-2.inside.port; local = c.before-2.inside.local; log = c.before-2.inside.log.items } in
+    let u : UnitView = record { task = c.self.inside.task; serial = c.self.inside.serial; place = c.self.inside.spot; port = c.self.inside.port; local = c.self.inside.local; log = c.self.inside.log.reads } in
+    let b : UnitView = record { task = c.before-2.inside.task; serial = c.before-2.inside.serial; place = c.before-2.inside.spot; port = c.before-2.inside.port; local = c.before-2.inside.local; log = c.before-2.inside.log.reads } in
     let within = c.is_within.ensures.0 c.if-not-is_within.false in
     let place = c.is_same_spot.ensures.0 c.if-not-is_same_spot.false in
     let same : IsTrue c.is_same.result → HasMore (active_of b) (active_of u) =

@@ -1,0 +1,159 @@
+//! A log of reads in chunks, so that a long log joins another one without being copied.
+
+ghost use Rattle.std.specs.Prelude.{◌≡◌, ℕ, ◌+◌, ◌<◌, ◌≤◌, [], ◌∷◌, ◌++◌, length, flat_map, OnOk, OnErr, vec_len, vec_capacity};
+
+use mips_plain::outcome::{OutOfMemory, Read};
+use std::alloc::{AllocError, Global};
+use std::marker::Model;
+use std::mem;
+
+/// Where the current chunks of two logs have at most so many reads together, one is copied behind the
+/// other. Own choice: 12 KB.
+const SHORT: usize = 1_000;
+
+/// The most reads that closed chunks may have, which is more than any memory holds.
+const MOST: usize = 1 << 62;
+
+/// What instructions read, the first first: some closed chunks, which stay as they are, and behind them
+/// the current one, to which a read is pushed.
+#[derive(Debug, Drop)]
+pub struct ReadLog {
+    closed: Vec<Vec<Read>>,
+    closed_len: usize,
+    current: Vec<Read>,
+}
+
+impl Model for ReadLog {
+    ghost use Rattle.std.specs.Prelude.{◌≡◌, ◌-◌, ◌≤◌, ◌^◌, ◌++◌, length, flat_map, vec_len, vec_capacity};
+    ghost use Rattle.unit_core.specs.Logs.{LogView};
+
+    ghost Value = { LogView };
+
+    ghost view = { λ l. record {
+      reads = flat_map (λ c. c.items) l.closed.items ++ l.current.items;
+      room = vec_capacity l.current - vec_len l.current;
+    } };
+
+    ghost invariant = { λ l. (length (flat_map (λ c. c.items) l.closed.items) ≡ l.closed_len) × (l.closed_len ≤ 2 ^ 62) };
+}
+
+impl ReadLog {
+    /// A log without a read. Takes no memory.
+    pub fn new(alloc: Global) -> ReadLog
+        ensures { result.reads ≡ [] }
+    {
+        ReadLog {
+            closed: Vec::new(alloc),
+            closed_len: 0,
+            current: Vec::new(alloc),
+        }
+    }
+
+    /// Another log, without a read, that takes its memory where this one does. Takes none yet.
+    pub fn emptied(&self) -> ReadLog
+        ensures { result.reads ≡ [] }
+    {
+        ReadLog::new(*self.current.allocator())
+    }
+
+    /// How many reads it has.
+    #[inline]
+    pub fn len(&self) -> usize
+        ensures { result ≡ length self.now.reads }
+    {
+        self.closed_len + self.current.len()
+    }
+
+    /// Its reads as they lie in memory: chunk behind chunk, and behind these the last one.
+    pub fn chunks(&self) -> (&[Vec<Read>], &[Read])
+        ensures { self.now.reads ≡ flat_map (λ c. c.items) result.0.now ++ result.1.now }
+    {
+        (&self.closed, &self.current)
+    }
+
+    /// Sees to it that one more read finds room.
+    ///
+    /// # Errors
+    ///
+    /// `AllocError` where the growth is refused; nothing is changed then.
+    #[inline]
+    pub fn reserve_one(&mut self) -> Result<(), AllocError>
+        ensures reads { self.new.reads ≡ self.old.reads }
+        ensures room { OnOk result (0 < self.new.room) }
+    {
+        self.current.reserve(1)
+    }
+
+    /// Puts a read behind all others, for which there is room.
+    #[inline]
+    pub fn push_reserved(&mut self, read: Read)
+        requires { 0 < self.old.room }
+        ensures { self.new.reads ≡ self.old.reads ++ read ∷ [] }
+    {
+        self.current.push_reserved(read);
+    }
+
+    /// Puts the reads of another log behind its own; the other one keeps none. Only short logs are
+    /// copied: of a long one the chunks are moved.
+    ///
+    /// # Errors
+    ///
+    /// `OutOfMemory` where a growth is refused; nothing is changed then.
+    pub fn append(&mut self, other: &mut ReadLog) -> Result<(), OutOfMemory>
+        ensures reads { OnOk result (self.new.reads ≡ self.old.reads ++ other.old.reads) }
+        ensures emptied { OnOk result (other.new.reads ≡ []) }
+        ensures err { OnErr result ((self.new.reads ≡ self.old.reads) × (other.new.reads ≡ other.old.reads)) }
+    {
+        if other.closed.is_empty() && self.current.len() + other.current.len() <= SHORT {
+            self.current.append(&mut other.current)?;
+            return Ok(());
+        }
+        self.move_from(other)
+    }
+
+    /// Closes its current chunk, and moves the chunks of another log behind it: the other one's current
+    /// chunk is then its own.
+    fn move_from(&mut self, other: &mut ReadLog) -> Result<(), OutOfMemory>
+        ensures reads { OnOk result (self.new.reads ≡ self.old.reads ++ other.old.reads) }
+        ensures emptied { OnOk result (other.new.reads ≡ []) }
+        ensures err { OnErr result ((self.new.reads ≡ self.old.reads) × (other.new.reads ≡ other.old.reads)) }
+    {
+        let closed_len = self.len().saturating_add(other.closed_len);
+        if closed_len > MOST {
+            return Err(OutOfMemory);
+        }
+        self.closed.reserve(other.closed.len() + 1)?;
+        close(&mut self.closed, &mut self.current);
+        move_all(&mut self.closed, &mut other.closed);
+        mem::swap(&mut self.current, &mut other.current);
+        self.closed_len = closed_len;
+        other.closed_len = 0;
+        Ok(())
+    }
+}
+
+/// Puts a chunk behind the closed ones, where it has any read.
+fn close(closed: &mut Vec<Vec<Read>>, current: &mut Vec<Read>)
+    requires { vec_len closed.old < vec_capacity closed.old }
+    ensures reads { flat_map (λ c. c.items) closed.new.items ≡ flat_map (λ c. c.items) closed.old.items ++ current.old.items }
+    ensures emptied { current.new.items ≡ [] }
+    ensures len { vec_len closed.new ≤ vec_len closed.old + 1 }
+    ensures capacity { vec_capacity closed.new ≡ vec_capacity closed.old }
+{
+    if current.is_empty() {
+        return;
+    }
+    let empty = Vec::new(*current.allocator());
+    closed.push_reserved(mem::replace(current, empty));
+}
+
+/// Moves chunks behind the closed ones.
+fn move_all(closed: &mut Vec<Vec<Read>>, more: &mut Vec<Vec<Read>>)
+    requires { vec_len closed.old + vec_len more.old ≤ vec_capacity closed.old }
+    ensures reads { flat_map (λ c. c.items) closed.new.items ≡ flat_map (λ c. c.items) closed.old.items ++ flat_map (λ c. c.items) more.old.items }
+    ensures emptied { more.new.items ≡ [] }
+    ensures len { vec_len closed.new ≡ vec_len closed.old + vec_len more.old }
+    ensures capacity { vec_capacity closed.old ≤ vec_capacity closed.new }
+{
+    let _ = closed.append(more);
+}
