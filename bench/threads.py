@@ -9,7 +9,8 @@ wait for a core is not what is meant to be timed.
 
   parallel   forty tasks of some 20,000 register-only instructions; each needs
              one register of the one before, which is sent at once
-  tiny       tasks of four instructions, up to 1,000,000 events
+  tiny       100,000 tasks of four instructions: 600,000 events with one
+             worker, some 800,000 with four, which pass registers on
   long       one task of 9,000, 90,000 and 900,000 instructions
   kernels    those of kernels/, with marks by `annotate`
 """
@@ -48,7 +49,8 @@ TINY = """\
 .task I create=$11 targets=A
 .task A create=$8,$9,$10 targets=A,B
 .task B create=- targets=-
-I: lui $11,2 !f
+I: lui $11,1
+ori $11,$11,0x86a0 !f
 j A !s
 A: addiu $8,$8,1 !f
 addu $9,$9,$8 !f

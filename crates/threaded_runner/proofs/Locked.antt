@@ -1,5 +1,6 @@
 -- The counts stay right where the machine and one worker's count grow by the same events.
-use Rattle.std.proofs.Common.{◌≡◌, ℕ, ◌+◌, ◌*◌, ◌%◌, ◌<◌, List, [], ◌∷◌, ◌++◌, length, Bool, refl, sym, ap, ◌∙◌, subst, arith, length-set}
+use Rattle.std.proofs.Common.{◌≡◌, ℕ, ◌+◌, ◌*◌, ◌%◌, ◌<◌, List, [], ◌∷◌, ◌++◌, length, Bool, refl, sym, ap, ◌∙◌, subst, arith, length-set, append_assoc}
+use Rattle.std.proofs.lemmas.List.{replicate_more}
 use Rattle.std.specs.Prelude.{slice_index, slice_set, nat_eq, if◌then◌else◌, replicate}
 use Rattle.machine_model.specs.HeadEvent.{unit_of}
 use Rattle.machine_events.specs.declared.event.Event.{Event}
@@ -52,3 +53,11 @@ more m m' counts counts' es unit n workers stopped d own long history units same
           (subst (λ (x : List ℕ). IsCounted (units_of m) (m.history ++ es) x) (sym now)
           (counted_more (units_of m) unit n m.history es counts d.some_worker d.counted own long)));
     }
+
+-- one event more behind several
+pub one_more : (start before now : List Event) (n : ℕ) (e : Event) → before ≡ start ++ replicate n e → now ≡ before ++ e ∷ [] → now ≡ start ++ replicate (n + 1) e
+one_more start before now n e long more =
+    more
+    ∙ ap (λ (h : List Event). h ++ e ∷ []) long
+    ∙ append_assoc start (replicate n e) (e ∷ [])
+    ∙ ap (λ (es : List Event). start ++ es) (replicate_more n e)

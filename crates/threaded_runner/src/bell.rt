@@ -29,9 +29,13 @@ impl Bell {
         self.sleeper.notify_all();
     }
 
-    /// Looks for a while, without the lock, whether it rings.
-    pub(crate) fn listen(&self) {
-        let heard = self.rings.load(Ordering::SeqCst);
+    /// How often it has rung.
+    pub(crate) fn rings(&self) -> u64 {
+        self.rings.load(Ordering::SeqCst)
+    }
+
+    /// Looks for a while, without the lock, whether it has rung more often than so.
+    pub(crate) fn listen(&self, heard: u64) {
         for _ in 0..LOOKS {
             if self.rings.load(Ordering::SeqCst) != heard {
                 return;

@@ -28,18 +28,11 @@ pub fn turn(machine: &Machine<'_>, unit: u32) -> Turn
     ensures goes_on { CanGoOn machine.now unit → length machine.now.history < most_events → result ≡ Turn.Wait → ⊥ }
     ensures pauses { result ≡ Turn.Burst → (unit_for machine.now (Exec 0) ≡ unit) ⊎ (Pauses machine.now → ⊥) }
 {
-    is_allowed(machine);
     head_is_first(machine);
-    if machine.length() >= MOST_EVENTS {
-        return Turn::Wait;
-    }
     if machine.head_unit() == unit {
-        return match machine.head_event() {
-            Some(event) => turn_of_head(machine, unit, event),
-            None => Turn::Wait,
-        };
+        return turn_at_head(machine, unit);
     }
-    if machine.outcome() != Standing::Running {
+    if machine.length() >= MOST_EVENTS || machine.outcome() != Standing::Running {
         return Turn::Wait;
     }
     match machine.position(unit) {
@@ -48,7 +41,27 @@ pub fn turn(machine: &Machine<'_>, unit: u32) -> Turn
     }
 }
 
-/// The turn of the unit to which the head event belongs.
+/// What `turn` answers for the unit at position 0: the one to which the head event belongs.
+#[inline]
+pub(crate) fn turn_at_head(machine: &Machine<'_>, unit: u32) -> Turn
+    requires { unit_for machine.now (Exec 0) ≡ unit }
+    ensures own { IsTurn machine.now unit result }
+    ensures goes_on { CanGoOn machine.now unit → length machine.now.history < most_events → result ≡ Turn.Wait → ⊥ }
+{
+    is_allowed(machine);
+    head_is_first(machine);
+    if machine.length() >= MOST_EVENTS {
+        return Turn::Wait;
+    }
+    match machine.head_event() {
+        Some(event) => turn_of_head(machine, unit, event),
+        None => Turn::Wait,
+    }
+}
+
+/// The turn of the unit to which the head event belongs, which is this one. No other event than an Exec can
+/// stand in a burst.
+#[inline]
 fn turn_of_head(machine: &Machine<'_>, unit: u32, event: Event) -> Turn
     requires own { IsOwn machine.now unit event }
     requires head { unit_for machine.now (Exec 0) ≡ unit }
@@ -58,7 +71,7 @@ fn turn_of_head(machine: &Machine<'_>, unit: u32, event: Event) -> Turn
     ensures goes_on { result ≡ Turn.Wait → ⊥ }
 {
     is_allowed(machine);
-    if machine.can_run_ahead(0) {
+    if matches!(&event, Event::Exec(_)) && machine.can_run_ahead(0) {
         Turn::Burst
     } else {
         Turn::Apply(event)

@@ -35,7 +35,7 @@ impl<'a, P: Predict> Model for Desk<'a, P> {
 }
 
 impl<'a, P: Predict> Desk<'a, P> {
-    ghost use Rattle.std.specs.Prelude.{◌≡◌, ◌+◌, ◌<◌, ◌≤◌, ◌⊎◌, ◌↔◌, [], IfOk, IfErr, OnOk, OnErr, IsTrue, length, true, false};
+    ghost use Rattle.std.specs.Prelude.{◌≡◌, ◌+◌, ◌<◌, ◌≤◌, ◌⊎◌, ◌↔◌, [], ◌++◌, replicate, IfOk, IfErr, OnOk, OnErr, IsTrue, length, true};
     ghost use Rattle.sequencer.specs.Seen.{state, units_of, SameRing, Applies};
     ghost use Rattle.sequencer.specs.Rings.{unit_for};
     ghost use Rattle.machine_model.specs.Answer.{most_events};
@@ -76,6 +76,7 @@ impl<'a, P: Predict> Desk<'a, P> {
 
     /// Whether no worker goes on: the note stands, the run has ended, or the history has reached the
     /// budget.
+    #[inline]
     pub(crate) fn is_done(&self, budget: u32) -> bool
         ensures { IsTrue result ↔ ((self.now.is_stopped ≡ true) ⊎ ((state self.now.machine).outcome ≡ standing.Running → ⊥) ⊎ (budget ≤ length self.now.machine.history)) }
     {
@@ -97,6 +98,7 @@ impl<'a, P: Predict> Desk<'a, P> {
     /// # Errors
     ///
     /// What the machine refuses the event by; nothing is changed then.
+    #[inline]
     pub(crate) fn apply(&mut self, unit: u32, event: Event) -> Result<(), Refused>
         requires { unit_for self.old.machine event ≡ unit }
         ensures ok { OnOk result (Applies self.old.machine event self.new.machine) }
@@ -107,8 +109,7 @@ impl<'a, P: Predict> Desk<'a, P> {
         known(&self.machine);
         self.machine.apply(event)?;
         known(&self.machine);
-        let worker = unit as usize % self.counts.len();
-        add(&mut self.counts, worker, 1);
+        add(&mut self.counts, unit, 1);
         Ok(())
     }
 
@@ -116,29 +117,15 @@ impl<'a, P: Predict> Desk<'a, P> {
     /// many. It ends before that where one is refused.
     pub(crate) fn run_head(&mut self, most: u32) -> u32
         ensures few { result ≤ most }
-        ensures grows { length self.new.machine.history ≡ length self.old.machine.history + result }
+        ensures ran { self.new.machine.history ≡ self.old.machine.history ++ replicate result (Exec 0) }
         ensures kept { SameRing self.old.machine self.new.machine }
         ensures workers { length self.new.counts ≡ length self.old.counts }
     {
-        let mut steps = 0;
-        for _ in 0..most {
-            if !self.run_one() {
-                break;
-            }
-            steps += 1;
-        }
-        steps
-    }
-
-    /// The head executes one instruction; answers whether it did.
-    fn run_one(&mut self) -> bool
-        ensures ran { result ≡ true → Applies self.old.machine (Exec 0) self.new.machine }
-        ensures refused { result ≡ false → self.new ≡ self.old }
-        ensures kept { SameRing self.old.machine self.new.machine }
-        ensures workers { length self.new.counts ≡ length self.old.counts }
-    {
+        known(&self.machine);
         let unit = self.machine.head_unit();
-        self.apply(unit, Event::Exec(0)).is_ok()
+        let steps = exec_head(&mut self.machine, most);
+        add(&mut self.counts, unit, steps);
+        steps
     }
 
     /// Asks the predictor which target comes next, and applies the Assign of it, which is the unit's.
@@ -175,8 +162,7 @@ impl<'a, P: Predict> Desk<'a, P> {
         let events = hand_in(&mut self.machine, burst)?;
         if events > 0 {
             known(&self.machine);
-            let worker = unit as usize % self.counts.len();
-            add(&mut self.counts, worker, events);
+            add(&mut self.counts, unit, events);
         }
         Ok(events)
     }
@@ -311,9 +297,28 @@ impl<'a, P: Predict> Desk<'a, P> {
     }
 }
 
-ghost use Rattle.std.specs.Prelude.{◌≡◌, ◌<◌, IfOk, OnErr};
+ghost use Rattle.std.specs.Prelude.{◌≡◌, ◌<◌, ◌≤◌, ◌++◌, replicate, IfOk, OnErr};
+ghost use Rattle.machine_events.specs.declared.event.Event.TheVariants.{Exec};
 ghost use Rattle.sequencer.specs.Seen.{SameRing};
 ghost use Rattle.sequencer.specs.Bursts.{Takes};
+
+/// The head executes instructions, at most so many; answers how many. It ends before that where one is
+/// refused.
+#[tactic(auto, using(crate::proofs::Locked::one_more))]
+fn exec_head(machine: &mut Machine<'_>, most: u32) -> u32
+    ensures few { result ≤ most }
+    ensures ran { machine.new.history ≡ machine.old.history ++ replicate result (Exec 0) }
+    ensures kept { SameRing machine.old machine.new }
+{
+    let mut steps = 0;
+    for _ in 0..most {
+        if machine.apply(Event::Exec(0)).is_err() {
+            break;
+        }
+        steps += 1;
+    }
+    steps
+}
 
 /// Hands a burst in; one that is refused is gone.
 fn hand_in(machine: &mut Machine<'_>, burst: Burst<'_>) -> Result<u32, Refused>

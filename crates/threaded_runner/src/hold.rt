@@ -4,6 +4,7 @@ ghost use Rattle.std.specs.Prelude.{◌≡◌, ◌≤◌};
 ghost use Rattle.sequencer.specs.Rings.{unit_for};
 ghost use Rattle.threaded_runner.specs.Turns.{MayChoose};
 
+use crate::deciding::turn_at_head;
 use crate::desk::Desk;
 use crate::pace::Pace;
 use crate::share::Share;
@@ -11,30 +12,31 @@ use crate::turn::Turn;
 use machine_events::event::{Event, Refused};
 use sequencer::machine::Machine;
 use sequencer::predict::Predict;
-use unit_core::burst::{Burst, Lease, MOST_STEPS};
+use unit_core::burst::{Burst, MOST_STEPS};
 
 /// The most events of one hold of the lock, but for the check-in of a burst.
 const EVENTS_OF_A_HOLD: u32 = 64;
 
-/// A unit that is lent to make a burst on.
+/// The most events by which a worker that serves all units goes on with the head where it is.
+const EVENTS_IN_PLACE: u32 = 1_024;
+
+/// The burst that is made next of a unit.
 #[derive(Drop)]
-pub(crate) struct Loan<'a> {
+pub(crate) struct NextBurst {
     /// The number of the unit.
     pub(crate) unit: u32,
-    /// The unit as it is.
-    pub(crate) lease: Lease<'a>,
-    /// The most instructions of the burst.
+    /// How many instructions at most.
     pub(crate) most: u32,
     ghost few: { most ≤ 65536 },
 }
 
 /// What a worker does once it lets go of the lock.
 #[derive(Drop)]
-pub(crate) enum Then<'a> {
-    /// Makes a burst.
-    Burst(Loan<'a>),
-    /// Makes a burst of this unit, of so many steps at most, on the unit itself.
-    BurstInPlace(u32, u32),
+pub(crate) enum Then {
+    /// Makes a burst on the unit, which is to be lent.
+    Burst(NextBurst),
+    /// Goes on with the head where it is, by as many events as the burst may have instructions.
+    BurstInPlace(NextBurst),
     /// Waits until the machine has changed.
     Wait,
     /// Takes the lock again, since there may be more to do.
@@ -57,7 +59,7 @@ impl Worker {
         Worker {
             share,
             budget,
-            paces: [Pace::new(0); 16],
+            paces: [Pace::new(); 16],
         }
     }
 
@@ -67,7 +69,7 @@ impl Worker {
     }
 
     /// Applies events of the worker's units, at most 64.
-    pub(crate) fn hold<'a, P: Predict>(&mut self, desk: &mut Desk<'a, P>) -> Then<'a> {
+    pub(crate) fn hold<P: Predict>(&mut self, desk: &mut Desk<'_, P>) -> Then {
         for _ in 0..EVENTS_OF_A_HOLD {
             if desk.is_done(self.budget) {
                 return Then::End;
@@ -87,7 +89,7 @@ impl Worker {
                     }
                 }
                 Turn::Burst => {
-                    if let Some(then) = self.lend(desk, unit) {
+                    if let Some(then) = self.next_burst(desk, unit) {
                         return then;
                     }
                 }
@@ -144,65 +146,103 @@ impl Worker {
     fn pace(&self, unit: u32) -> Pace {
         match self.paces.get(unit as usize) {
             Some(pace) => *pace,
-            None => Pace::new(0),
+            None => Pace::new(),
         }
     }
 
     /// The unit begins a task.
     fn begin(&mut self, unit: u32) {
         if let Some(pace) = self.paces.get_mut(unit as usize) {
-            *pace = Pace::new(0);
+            *pace = pace.of_next_task();
         }
     }
 
-    /// Lends a unit whose next instruction may stand in a burst, or executes that instruction alone. A worker
-    /// that serves all units makes short bursts in place: nobody else waits for the lock.
-    fn lend<'a, P: Predict>(&mut self, desk: &mut Desk<'a, P>, unit: u32) -> Option<Then<'a>> {
+    /// The burst that is made next of a unit whose next instruction may stand in one, unless instructions are
+    /// executed one by one here. A worker that serves all units makes short bursts in place: nobody else waits
+    /// for the lock.
+    fn next_burst<P: Predict>(&mut self, desk: &mut Desk<'_, P>, unit: u32) -> Option<Then> {
         let pace = self.pace(unit);
+        let room = self.room(desk.machine());
         if pace.single > 0 {
-            self.execute(desk, unit);
+            self.execute(desk, unit, pace.single.min(room));
             return None;
         }
-        let room = (self.budget as usize).saturating_sub(desk.machine().length());
-        let most = (pace.most as usize).min(room).min(MOST_STEPS as usize) as u32;
         if self.share.is_all() && pace.is_first() {
-            return Some(Then::BurstInPlace(unit, most));
-        }
-        match desk.machine().lease(unit) {
-            Some(lease) => Some(Then::Burst(Loan { unit, lease, most })),
-            None => None,
+            let most = EVENTS_IN_PLACE.min(room);
+            Some(Then::BurstInPlace(NextBurst { unit, most }))
+        } else {
+            let most = pace.most.min(room);
+            Some(Then::Burst(NextBurst { unit, most }))
         }
     }
 
-    /// The unit executes one instruction.
-    fn execute<P: Predict>(&mut self, desk: &mut Desk<'_, P>, unit: u32) {
-        let Some(position) = desk.machine().position(unit) else {
-            return;
+    /// How many events the budget leaves room for, at most as many as a burst may have.
+    fn room(&self, machine: &Machine<'_>) -> u32
+        ensures { result ≤ 65536 }
+    {
+        let room = (self.budget as usize).saturating_sub(machine.length());
+        room.min(MOST_STEPS as usize) as u32
+    }
+
+    /// The unit executes instructions under the lock: the head at most so many, another unit one.
+    fn execute<P: Predict>(&mut self, desk: &mut Desk<'_, P>, unit: u32, most: u32) {
+        let steps = match desk.machine().position(unit) {
+            Some(0) => desk.run_head(most),
+            Some(position) => u32::from(desk.apply(unit, Event::Exec(position)).is_ok()),
+            None => return,
         };
-        if let Some(pace) = self.paces.get_mut(unit as usize) {
-            pace.single = pace.single.saturating_sub(1);
-        }
-        if desk.apply(unit, Event::Exec(position)).is_err() {
+        if steps == 0 {
             self.give_up(desk, unit);
         }
+        if let Some(pace) = self.paces.get_mut(unit as usize) {
+            pace.single = pace.single.saturating_sub(steps.max(1));
+        }
     }
 
-    /// The head, which is this unit, executes so many instructions at most; answers how many.
+    /// The head, which is the unit of this burst, executes its instructions where it is, and goes on from task
+    /// to task by the events that `turn` names: so many events at most. Answers how many instructions that
+    /// were.
     pub(crate) fn run_in_place<P: Predict>(
         &mut self,
         desk: &mut Desk<'_, P>,
-        unit: u32,
-        most: u32,
+        next: &NextBurst,
     ) -> u32 {
-        let steps = desk.run_head(most);
-        if let Some(pace) = self.paces.get_mut(unit as usize) {
-            if steps == 0 {
-                pace.single = EVENTS_OF_A_HOLD;
-            } else if steps == most {
-                pace.double();
+        let mut steps: u32 = 0;
+        let mut left = next.most;
+        for _ in 0..next.most {
+            let run = desk.run_head(left);
+            steps = steps.saturating_add(run);
+            left -= run;
+            if left == 0 || !self.apply_at_head(desk) {
+                break;
             }
+            left -= 1;
         }
+        self.note_steps(next, steps);
         steps
+    }
+
+    /// Applies the event that the turn of the head's unit names; answers whether it names one.
+    fn apply_at_head<P: Predict>(&mut self, desk: &mut Desk<'_, P>) -> bool {
+        let machine = desk.machine();
+        let head = machine.head_unit();
+        match turn_at_head(machine, head) {
+            Turn::Apply(event) => self.apply(desk, head, event),
+            _ => false,
+        }
+    }
+
+    /// After a burst in place with so many instructions: as many as there may be are all of one task, which
+    /// gets longer bursts from here on.
+    fn note_steps(&mut self, next: &NextBurst, steps: u32) {
+        let Some(pace) = self.paces.get_mut(next.unit as usize) else {
+            return;
+        };
+        if steps == 0 {
+            pace.single = EVENTS_OF_A_HOLD;
+        } else if steps == next.most {
+            pace.double();
+        }
     }
 
     /// Want of memory for an event of a unit: one that is not the head is dropped, and at the head the run
@@ -220,31 +260,31 @@ impl Worker {
         }
     }
 
-    /// Hands in a burst that was made on a unit.
+    /// Hands in a burst that was made of a next.
     pub(crate) fn check_in<P: Predict>(
         &mut self,
         desk: &mut Desk<'_, P>,
-        unit: u32,
-        most: u32,
+        next: &NextBurst,
         burst: Burst<'_>,
     ) {
         let steps = burst.steps();
         let answer = desk.check_in(burst);
         if let Err(Refused::OutOfMemory) = answer {
-            if desk.machine().head_unit() != unit {
-                self.give_up(desk, unit);
+            if desk.machine().head_unit() != next.unit {
+                self.give_up(desk, next.unit);
                 return;
             }
         }
-        let Some(pace) = self.paces.get_mut(unit as usize) else {
+        let Some(pace) = self.paces.get_mut(next.unit as usize) else {
             return;
         };
         match answer {
             Ok(0) if steps == 0 => pace.single = EVENTS_OF_A_HOLD,
             Ok(0) => pace.begin_again(),
-            Ok(events) if events == most => pace.double(),
-            Ok(events) if self.share.is_all() && pace.is_short(events) => pace.begin_again(),
-            Ok(_) => {}
+            Ok(events) if events == next.most => pace.double(),
+            Ok(events) if !pace.is_short(events) => {}
+            Ok(_) if self.share.is_all() => pace.begin_again(),
+            Ok(_) => pace.single = EVENTS_OF_A_HOLD,
             Err(_) => pace.single = EVENTS_OF_A_HOLD,
         }
     }

@@ -17,12 +17,21 @@ pub(crate) struct Pace {
 }
 
 impl Pace {
-    /// The pace of a unit that begins a task, so many of whose instructions are executed one by one
-    /// before the first burst.
-    pub(crate) fn new(single: u32) -> Pace {
+    /// The pace of a unit that has had no task.
+    pub(crate) fn new() -> Pace {
         Pace {
             most: FIRST_STEPS,
-            single,
+            single: 0,
+            dropped_at: None,
+        }
+    }
+
+    /// The pace of the unit's next task: its bursts begin anew, behind the instructions that were still to be
+    /// executed one by one.
+    pub(crate) fn of_next_task(self) -> Pace {
+        Pace {
+            most: FIRST_STEPS,
+            single: self.single,
             dropped_at: None,
         }
     }
@@ -32,7 +41,8 @@ impl Pace {
         self.most == FIRST_STEPS
     }
 
-    /// Whether a burst of so many steps is shorter than a task's first may be.
+    /// Whether a burst of so many steps is shorter than a task's first may be: to lend the unit and to hand
+    /// the burst in then costs more than to execute as many instructions one by one.
     pub(crate) fn is_short(self, steps: u32) -> bool {
         steps < FIRST_STEPS
     }

@@ -3,7 +3,7 @@
 ghost use Rattle.std.specs.Prelude.{◌≡◌, ◌<◌, IfSome};
 ghost use Rattle.threaded_runner.specs.Turns.{IsTurn};
 
-use crate::deciding::turn;
+use crate::deciding::{turn, turn_at_head};
 use crate::turn::Turn;
 use sequencer::machine::Machine;
 
@@ -34,11 +34,26 @@ impl Share {
         self.workers == 1
     }
 
-    /// The first of the worker's units, from the head on, that does not wait, with its turn.
+    /// The first of the worker's units, from the head on, that does not wait, with its turn. A worker that
+    /// serves all units has the head's: the head waits only where all do.
+    #[inline]
     pub(crate) fn first_turn(self, machine: &Machine<'_>) -> Option<(u32, Turn)>
         ensures { IfSome result (λ found. IsTurn machine.now found.0 found.1) }
     {
         let head = machine.head_unit();
+        if !self.is_all() {
+            return self.first_turn_from(machine, head);
+        }
+        match turn_at_head(machine, head) {
+            Turn::Wait => None,
+            ready => Some((head, ready)),
+        }
+    }
+
+    /// The first of the worker's units, from this one on round the ring, that does not wait, with its turn.
+    fn first_turn_from(self, machine: &Machine<'_>, head: u32) -> Option<(u32, Turn)>
+        ensures { IfSome result (λ found. IsTurn machine.now found.0 found.1) }
+    {
         for unit in head..self.units {
             if self.has(unit) {
                 match turn(machine, unit) {

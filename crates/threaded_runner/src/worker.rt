@@ -3,10 +3,10 @@
 use crate::bell::Bell;
 use crate::desk::Desk;
 use crate::gate::RunGate;
-use crate::hold::{Loan, Then, Worker};
+use crate::hold::{NextBurst, Then, Worker};
 use sequencer::predict::Predict;
-use std::sync::{Mutex, Wait};
-use unit_core::burst::Burst;
+use std::sync::{Mutex, MutexGuard, Wait};
+use unit_core::burst::{Burst, Lease};
 
 /// Serves a worker's units until the run is over. A hold of the lock that changed the machine rings for the
 /// workers that wait and now have something to do, once the lock is free; the end rings for all.
@@ -18,53 +18,98 @@ pub(crate) fn serve<P: Predict, G: RunGate, R: Wait>(
     mut worker: Worker,
 ) {
     let share = worker.share();
-    let number = share.worker;
-    let Some(bell) = bells.get(number as usize) else {
+    let Some(bell) = bells.get(share.worker as usize) else {
         return;
     };
     let mut desk = shared.lock(rt);
     for _ in rt.forever() {
         let then = worker.hold(&mut *desk);
         let called = desk.call(share);
-        let waits = matches!(&then, Then::Wait) && called.is_empty();
-        if waits {
-            desk.fall_asleep(number);
-        }
-        if matches!(&then, Then::End) {
-            desk.wake_all();
-        }
-        drop(desk);
-        called.ring(bells);
         match then {
-            Then::Burst(loan) => {
-                let Loan { unit, lease, most } = loan;
-                gate.before(number);
-                let burst = Burst::run(lease, most);
-                gate.after(number, burst.steps());
-                desk = shared.lock(rt);
-                worker.check_in(&mut *desk, unit, most, burst);
+            Then::Burst(next) => {
+                let lease = desk.machine().lease(next.unit);
+                drop(desk);
+                called.ring(bells);
+                desk = burst_on(rt, shared, gate, &mut worker, &next, lease);
             }
-            Then::BurstInPlace(unit, most) => {
-                gate.before(number);
-                let steps = worker.run_in_place(&mut *shared.lock(rt), unit, most);
-                gate.after(number, steps);
-                desk = shared.lock(rt);
+            Then::BurstInPlace(next) => {
+                drop(desk);
+                desk = burst_in_place(rt, shared, gate, &mut worker, &next);
             }
             Then::Wait => {
-                if waits {
-                    bell.listen();
-                }
-                desk = shared.lock(rt);
-                if waits && desk.is_asleep(number) {
-                    desk = bell.sleep(rt, desk);
-                    desk.awake(number);
-                }
+                desk.fall_asleep(share.worker);
+                let heard = bell.rings();
+                drop(desk);
+                called.ring(bells);
+                desk = wait_for(bell, heard, rt, shared, share.worker);
             }
-            Then::GoOn => desk = shared.lock(rt),
-            Then::End => break,
+            Then::GoOn => {
+                drop(desk);
+                called.ring(bells);
+                desk = shared.lock(rt);
+            }
+            Then::End => {
+                desk.wake_all();
+                break;
+            }
         }
     }
+    drop(desk);
     ring_all(bells);
+}
+
+/// Makes a burst on a unit that was lent, and takes the lock to hand it in.
+fn burst_on<'l, 'a, P: Predict, G: RunGate, R: Wait>(
+    rt: &R,
+    shared: &'l Mutex<Desk<'a, P>>,
+    gate: &G,
+    worker: &mut Worker,
+    next: &NextBurst,
+    lease: Option<Lease<'a>>,
+) -> MutexGuard<'l, Desk<'a, P>> {
+    let number = worker.share().worker;
+    let Some(lease) = lease else {
+        return shared.lock(rt);
+    };
+    gate.before(number);
+    let burst = Burst::run(lease, next.most);
+    gate.after(number, burst.steps());
+    let mut desk = shared.lock(rt);
+    worker.check_in(&mut *desk, next, burst);
+    desk
+}
+
+/// Makes a burst on the head itself, under the lock, which is free while the gate is called; then takes the
+/// lock again.
+fn burst_in_place<'l, 'a, P: Predict, G: RunGate, R: Wait>(
+    rt: &R,
+    shared: &'l Mutex<Desk<'a, P>>,
+    gate: &G,
+    worker: &mut Worker,
+    next: &NextBurst,
+) -> MutexGuard<'l, Desk<'a, P>> {
+    let number = worker.share().worker;
+    gate.before(number);
+    let steps = worker.run_in_place(&mut *shared.lock(rt), next);
+    gate.after(number, steps);
+    shared.lock(rt)
+}
+
+/// Waits until a worker's bell has rung more often than so, and takes the lock.
+fn wait_for<'l, 'a, P: Predict, R: Wait>(
+    bell: &Bell,
+    heard: u64,
+    rt: &R,
+    shared: &'l Mutex<Desk<'a, P>>,
+    number: u32,
+) -> MutexGuard<'l, Desk<'a, P>> {
+    bell.listen(heard);
+    let mut desk = shared.lock(rt);
+    if desk.is_asleep(number) {
+        desk = bell.sleep(rt, desk);
+        desk.awake(number);
+    }
+    desk
 }
 
 /// Rings for all workers.

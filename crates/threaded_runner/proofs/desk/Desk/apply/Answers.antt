@@ -1,4 +1,4 @@
-use Rattle.std.proofs.Common.{◌≡◌, ◌∷◌, [], length, refl, ap, ◌∙◌}
+use Rattle.std.proofs.Common.{◌≡◌, ◌∷◌, [], length, refl, ap, ◌∙◌, vec_len}
 use Rattle.sequencer.specs.Rings.{unit_for}
 use Rattle.threaded_runner.specs.Desks.{DeskView}
 use Rattle.threaded_runner.proofs.Locked.{one_own, more}
@@ -9,6 +9,6 @@ invariant_of-self-2 g c =
     let i = c.self.inside in
     let e = c.args.event in
     let belongs : unit_for i.machine e ≡ c.args.unit = ap (λ (d : DeskView). unit_for d.machine e) c.self.view_is ∙ c.requires in
-    more i.machine c.apply.new.self i.counts.items c.add.new.counts.items (e ∷ []) c.args.unit 1 c.len.result i.is_stopped c.self.invariant
+    more i.machine c.apply.new.self i.counts.items c.add.new.counts.items (e ∷ []) c.args.unit 1 (vec_len i.counts) i.is_stopped c.self.invariant
     (one_own i.machine (length i.counts.items) c.args.unit e c.known.ensures.retired c.known.ensures.active belongs)
-    refl c.in_ok-apply.ensures.ok.history c.in_ok-apply.ensures.kept.units (c.len.ensures ∙ i.counts.ok.0) c.add.ensures
+    refl c.in_ok-apply.ensures.ok.history c.in_ok-apply.ensures.kept.units i.counts.ok.0 c.add.ensures
