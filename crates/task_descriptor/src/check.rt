@@ -1,6 +1,6 @@
 //! The seven refusals of parts that make no program.
 
-ghost use Rattle.std.specs.Prelude.{◌≡◌, ◌<◌, ◌==◌, nat_lt, length, IfSome};
+ghost use Rattle.std.specs.Prelude.{◌≡◌, ◌<◌, ◌==◌, nat_lt, length, IfSome, IfOk};
 ghost use Rattle.std.specs.List.{list_any};
 ghost use Rattle.task_descriptor.specs.Listing.{build_fault, listing_of, is_too_many as is_too_many_of, has_bad_entry as has_bad_entry_of, has_duplicate as has_duplicate_of, collide, starts_at_no_entry as starts_at_no_entry_of, mark_fault as mark_fault_of};
 
@@ -8,6 +8,8 @@ use crate::descriptor::Descriptor;
 use crate::marks::{bad_mark, has_bad_mask};
 use crate::program::{BuildFault, MOST_BYTES, MOST_TARGETS, MOST_TASKS, Parts};
 use mips_plain::number::{MOST_INSTRUCTIONS, Place};
+use std::alloc::{AllocError, Global};
+use std::collections::HashSet;
 
 fn is_too_many(parts: &Parts) -> bool
     ensures { result ≡ is_too_many_of (listing_of parts.now) }
@@ -37,7 +39,35 @@ fn has_bad_entry(parts: &Parts) -> bool
         .any(|task| task.entry.get() as usize >= len)
 }
 
-fn has_duplicate(tasks: &[Descriptor]) -> bool
+/// Whether two tasks have one entry or one name. Where there is no memory to note them, each pair is compared.
+fn has_duplicate(alloc: Global, tasks: &[Descriptor]) -> bool
+    ensures { result ≡ has_duplicate_of tasks.now }
+{
+    match repeats(alloc, tasks) {
+        Ok(found) => found,
+        Err(_) => has_colliding_pair(tasks),
+    }
+}
+
+/// The same, by the entries and the names of the tasks behind each task.
+fn repeats(alloc: Global, tasks: &[Descriptor]) -> Result<bool, AllocError>
+    ensures { IfOk result (λ found. found ≡ has_duplicate_of tasks.now) }
+{
+    let mut entries = HashSet::with_capacity(alloc, tasks.len())?;
+    let mut names = HashSet::with_capacity(alloc, tasks.len())?;
+    for behind in 0..tasks.len() {
+        let task = &tasks[tasks.len() - 1 - behind];
+        if !entries.insert(task.entry.get())? {
+            return Ok(true);
+        }
+        if !names.insert(task.name.bytes())? {
+            return Ok(true);
+        }
+    }
+    Ok(false)
+}
+
+fn has_colliding_pair(tasks: &[Descriptor]) -> bool
     ensures { result ≡ has_duplicate_of tasks.now }
 {
     for (index, task) in tasks.iter().enumerate() {
@@ -87,7 +117,7 @@ pub(crate) fn fault_of(parts: &Parts) -> Option<BuildFault>
         Some(BuildFault::NoTask)
     } else if has_bad_entry(parts) {
         Some(BuildFault::BadEntry)
-    } else if has_duplicate(&parts.tasks) {
+    } else if has_duplicate(*parts.tasks.allocator(), &parts.tasks) {
         Some(BuildFault::DuplicateEntry)
     } else if has_bad_mask(&parts.tasks) {
         Some(BuildFault::BadMask)
