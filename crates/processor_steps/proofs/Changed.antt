@@ -1,15 +1,19 @@
 -- What a change of the queue alone, a new unit and the words handed over are in the model.
-use Rattle.std.proofs.Common.{◌≡◌, ℕ, suc, ◌+◌, ◌<◌, ◌≤◌, ◌≢◌, inl, inr, Bool, true, false, cond, List, ◌∷◌, [], ◌++◌, length, take, Option, Some, None, refl, sym, ap, ◌∙◌, arith, add-one, unwrap_or, get_or-set_same, get_or-set_other}
-use Rattle.std.specs.Prelude.{slice_set, slice_index, if◌then◌else◌}
+use Rattle.std.proofs.Common.{◌≡◌, ℕ, suc, ◌+◌, ◌<◌, ◌≤◌, ◌≢◌, inl, inr, Bool, true, false, cond, List, ◌∷◌, [], ◌++◌, length, take, drop, Option, Some, None, refl, sym, ap, ◌∙◌, arith, add-one, unwrap_or, get_or-set_same, get_or-set_other}
+use Rattle.std.specs.Prelude.{slice_get, slice_set, slice_index, if◌then◌else◌}
+use Rattle.std.specs.Option.{option_and_then}
 use Rattle.std.proofs.lemmas.Bool.{cases_eq, cases_lt}
 use Rattle.std.proofs.lemmas.List.{take-map, map-append}
 use Rattle.std.proofs.Math.Path.{fun_ext}
 use Rattle.mips_plain.specs.Words.{has}
+use Rattle.mips_plain.specs.declared.outcome.Read.{Read}
+use Rattle.task_descriptor.specs.Listing.{Listing}
 use Rattle.mark_checker.specs.Places.{Checked}
-use Rattle.machine_model.specs.Machine.{Active, State, Words}
-use Rattle.machine_model.specs.Step.{is_reserved, started}
-use Rattle.machine_model.specs.Answer.{with_queue, after}
-use Rattle.machine_events.specs.declared.event.Event.TheVariants.{Assign}
+use Rattle.machine_model.specs.Machine.{Active, State, Words, task_at}
+use Rattle.machine_model.specs.Step.{is_reserved, started, filled, handed_over, retire_leaves}
+use Rattle.machine_model.specs.Answer.{with_queue, with_unit, exit_of, after}
+use Rattle.machine_events.specs.declared.event.Commit.{Commit}
+use Rattle.machine_events.specs.declared.event.Event.TheVariants.{Assign, Retire}
 use Rattle.register_ring.specs.Held.{no_pairs}
 use Rattle.register_ring.specs.Ports.{Ports, arrived_of, sent_of, arrived_fresh}
 use Rattle.unit_core.specs.Units.{UnitView, active_of, begun}
@@ -86,3 +90,22 @@ assigned a v q t accum n port u pushed is reserved arrived sent more =
     ∙ ap (λ (x : Active). actives v.queue ++ x ∷ []) (is ∙ begun_started a (state_of v) v.registers accum t port reserved refl arrived sent) in
     let assigns = more ∙ add-one v.assigns in
     λ j. record (state_of v) { queue = queue j; assigns = assigns j }
+
+-- the head retired: what it sent is in the registers, its log behind the reads, and its commit behind the
+-- commits
+pub retired : (p : Listing) (v v0 : ProcessorView) (u : Active) (q : QueueView) (regs : List ℕ) (exit create : ℕ) (reads : List Read) (commits : List Commit) → v ≡ v0 → slice_get (actives v.queue) 0 ≡ Some u → option_and_then (λ x. exit_of x.place) (slice_get (actives v0.queue) 0) ≡ Some exit → create ≡ (task_at p u.task).create → ((r : ℕ) → slice_index regs r ≡ unwrap_or (if has create r then u.sent r else None) (slice_index v.registers r)) → actives q ≡ filled (λ r. slice_index regs r) (drop 1 (actives v.queue)) → reads ≡ v.reads ++ u.log → commits ≡ v.commits ++ record { task = u.task; exit = exit; count = length u.log } ∷ [] → state_of (record v { queue = q; registers = regs; next = exit; reads = reads; commits = commits }) ≡ after p (state_of v0) Retire
+retired p v v0 u q regs exit create reads commits same at exits creates handed queue joined listed =
+    let s : State = state_of v in
+    let exit_in : Option Active → ℕ = λ o. unwrap_or (option_and_then (λ (x : Active). exit_of x.place) o) 0 in
+    let leaves : Active → State = λ x. retire_leaves p s x (drop 1 s.queue) (unwrap_or (exit_of x.place) 0) in
+    let is_exit : exit ≡ unwrap_or (exit_of u.place) 0 =
+    sym (ap exit_in (sym at) ∙ ap (λ (w : ProcessorView). exit_in (slice_get (actives w.queue) 0)) same ∙ ap (λ (o : Option ℕ). unwrap_or o 0) exits) in
+    let given : (λ (r : ℕ). slice_index regs r) ≡ handed_over p u s.regs =
+    fun_ext (λ r. handed r ∙ ap (λ (m : ℕ). unwrap_or (cond (has m r) (u.sent r) None) (slice_index v.registers r)) creates) in
+    let filled_by : actives q ≡ filled (handed_over p u s.regs) (drop 1 s.queue) =
+    queue ∙ ap (λ (g : ℕ → ℕ). filled g (drop 1 s.queue)) given in
+    let all_listed : commits ≡ v.commits ++ record { task = u.task; exit = unwrap_or (exit_of u.place) 0; count = length u.log } ∷ [] =
+    listed ∙ ap (λ (e : ℕ). v.commits ++ record { task = u.task; exit = e; count = length u.log } ∷ []) is_exit in
+    let is : state_of (record v { queue = q; registers = regs; next = exit; reads = reads; commits = commits }) ≡ leaves u =
+    λ j. record s { queue = filled_by j; regs = given j; next = is_exit j; reads = joined j; commits = all_listed j } in
+    is ∙ ap (λ (o : Option Active). with_unit s o leaves) (sym at) ∙ ap (λ (w : ProcessorView). after p (state_of w) Retire) same

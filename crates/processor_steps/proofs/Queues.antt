@@ -1,5 +1,5 @@
 -- The units of a queue seen as the model's: a position, the tail.
-use Rattle.std.proofs.Common.{◌≡◌, ℕ, suc, zero, ◌+◌, ◌-◌, ◌<◌, Bool, true, false, ◌||◌, take, get_or, List, [], ◌∷◌, ◌++◌, length, Option, Some, None, refl, sym, ap, ◌∙◌, subst, arith}
+use Rattle.std.proofs.Common.{◌≡◌, ℕ, suc, zero, ◌+◌, ◌-◌, ◌<◌, Bool, true, false, ◌||◌, take, drop, get_or, List, [], ◌∷◌, ◌++◌, length, Option, Some, None, refl, sym, ap, ◌∙◌, subst, arith}
 use Rattle.std.specs.Prelude.{slice_get, slice_set, map}
 use Rattle.std.proofs.lemmas.List.{map-set, map-append, take_more}
 use Rattle.std.proofs.lemmas.List.Folds.{list_any-append}
@@ -78,6 +78,11 @@ reserved_more p us i u r within here =
     ap (λ (ws : List UnitView). is_reserved p (map active_of ws) r) (take_more us i u within ∙ ap (λ (v : UnitView). take i us ++ v ∷ []) (sym here))
     ∙ reserved_joined p (take i us) (u ∷ []) r
     ∙ ap (λ (b : Bool). is_reserved p (map active_of (take i us)) r || b) (or_false (creates p (active_of u).task r))
+
+-- behind a head that changed the queue is as it was
+pub behind_head : {X : Type 0} (xs : List X) (x : X) → drop 1 (slice_set xs 0 x) ≡ drop 1 xs
+behind_head [] x = refl
+behind_head (y ∷ ys) x = refl
 
 -- a unit put back where it was
 pub set_back : {X : Type 0} (xs : List X) (k : ℕ) (x : X) → Some x ≡ slice_get xs k → slice_set xs k x ≡ xs

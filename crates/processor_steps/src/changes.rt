@@ -1,26 +1,28 @@
 //! What an event that is allowed changes. None of these fails but for want of memory, and then nothing
 //! is changed.
 
-ghost use Rattle.std.specs.Prelude.{◌≡◌, ℕ, ◌+◌, ◌-◌, ◌^◌, ◌<◌, None, Some, IfErr, OnOk, OnErr, length, slice_get, slice_set, slice_index};
+ghost use Rattle.std.specs.Prelude.{◌≡◌, ℕ, ◌+◌, ◌-◌, ◌^◌, ◌<◌, None, Some, IfErr, OnOk, OnErr, drop, length, slice_get, slice_set, slice_index};
 ghost use Rattle.std.specs.Option.{option_and_then};
 ghost use Rattle.machine_model.specs.Machine.{Active, pass};
 ghost use Rattle.machine_model.specs.Answer.{refusal, after, exit_of, with_queue};
 ghost use Rattle.machine_events.specs.declared.event.Event.TheVariants as event;
-ghost use Rattle.processor_steps.specs.Seen.{state_of, Keeps, ArePlaced};
+ghost use Rattle.processor_steps.specs.Seen.{state_of, actives, Keeps, ArePlaced};
 ghost use Rattle.unit_core.specs.Units.{active_of};
 ghost use Rattle.unit_core.specs.Bursts.{HasMore, carried_on};
 
 use crate::listing::created;
 use crate::processor::Processor;
+use crate::queue::Queue;
 use machine_events::event::{Commit, Standing};
 use mark_checker::accept::Accepted;
 use mips_plain::number::{Reg, RegSet};
-use mips_plain::outcome::{OutOfMemory, Read};
+use mips_plain::outcome::OutOfMemory;
 use register_ring::members::next_member;
 use register_ring::port::Port;
 use std::alloc::Global;
 use task_descriptor::program::Program;
 use unit_core::burst::Burst;
+use unit_core::read_log::ReadLog;
 use unit_core::unit::Unit;
 
 impl Processor {
@@ -138,9 +140,10 @@ impl Processor {
             exit,
             count: head.reads().len() as u32,
         };
-        keep(&mut self.reads, &mut self.commits, head.reads(), commit)?;
-        hand_over(head, created(program, head.task()), &mut self.registers);
-        self.queue.pop();
+        let mut registers = self.registers;
+        hand_over(head, created(program, head.task()), &mut registers);
+        keep(&mut self.queue, &mut self.reads, &mut self.commits, commit)?;
+        self.registers = registers;
         self.queue.fill_head(&self.registers);
         self.next = exit;
         Ok(())
@@ -150,19 +153,20 @@ impl Processor {
 ghost use Rattle.std.specs.Prelude.{◌++◌, ◌∷◌, [], if◌then◌else◌, unwrap_or};
 ghost use Rattle.mips_plain.specs.Words.{has};
 
-/// Keeps what a retired task read, and its commit; nothing where there is no room for both.
+/// The head goes, and what it read is kept, and its commit; nothing where there is no room for both.
 fn keep(
-    reads: &mut Vec<Read>,
+    queue: &mut Queue,
+    reads: &mut ReadLog,
     commits: &mut Vec<Commit>,
-    log: &[Read],
     commit: Commit,
 ) -> Result<(), OutOfMemory>
-    ensures reads { OnOk result (reads.new.items ≡ reads.old.items ++ log.now) }
+    ensures queue { OnOk result (queue.new ≡ record queue.old { units = drop 1 queue.old.units }) }
+    ensures reads { OnOk result ((u : Active) → slice_get (actives queue.old) 0 ≡ Some u → reads.new.reads ≡ reads.old.reads ++ u.log) }
     ensures commits { OnOk result (commits.new.items ≡ commits.old.items ++ commit ∷ []) }
-    ensures err { OnErr result ((reads.new.items ≡ reads.old.items) × (commits.new.items ≡ commits.old.items)) }
+    ensures err { OnErr result ((queue.new ≡ queue.old) × (reads.new.reads ≡ reads.old.reads) × (commits.new.items ≡ commits.old.items)) }
 {
     commits.reserve(1)?;
-    reads.extend_from_slice(log)?;
+    queue.pop_into(reads)?;
     commits.push_reserved(commit);
     Ok(())
 }

@@ -5,10 +5,11 @@ use crate::queue::Queue;
 use machine_events::event::Commit;
 use mips_plain::memory::Memory;
 use mips_plain::number::REGISTERS;
-use mips_plain::outcome::{OutOfMemory, Read};
+use mips_plain::outcome::OutOfMemory;
 use std::alloc::Global;
 use std::marker::Model;
 use task_descriptor::program::Program;
+use unit_core::read_log::ReadLog;
 use unit_core::unit::Unit;
 use unit_core::world::World;
 
@@ -27,7 +28,7 @@ pub struct Processor {
     /// The address at which the next task after the retired ones begins.
     pub(crate) next: u32,
     /// What the retired tasks read.
-    pub(crate) reads: Vec<Read>,
+    pub(crate) reads: ReadLog,
     /// One commit for each retired task.
     pub(crate) commits: Vec<Commit>,
     /// How many times a task was assigned.
@@ -44,7 +45,7 @@ impl Model for Processor {
       registers = p.registers;
       world = p.world;
       next = p.next;
-      reads = p.reads.items;
+      reads = p.reads.reads;
       commits = p.commits.items;
       assigns = p.assigns;
     } };
@@ -76,7 +77,7 @@ impl Processor {
                 registers: [0; REGISTERS],
                 world: World::new(alloc, memory),
                 next: program.address(program.start()),
-                reads: Vec::new(alloc),
+                reads: ReadLog::new(alloc),
                 commits: Vec::new(alloc),
                 assigns: 0,
             }),
@@ -127,8 +128,8 @@ impl Processor {
 
     /// What the retired tasks read, the first first.
     #[inline]
-    pub fn reads(&self) -> &[Read]
-        ensures { result.now ≡ self.now.reads }
+    pub fn reads(&self) -> &ReadLog
+        ensures { result.now.reads ≡ self.now.reads }
     {
         &self.reads
     }

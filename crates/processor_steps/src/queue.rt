@@ -11,6 +11,7 @@ use std::alloc::{AllocError, Global};
 use std::marker::Model;
 use task_descriptor::program::Program;
 use unit_core::burst::Burst;
+use unit_core::read_log::ReadLog;
 use unit_core::unit::Unit;
 use unit_core::wait::Wait;
 use unit_core::world::World;
@@ -100,10 +101,26 @@ impl Queue {
     }
 
     /// Takes the head away.
-    pub(crate) fn pop(&mut self)
+    fn pop(&mut self)
         ensures { self.new ≡ record self.old { units = drop 1 self.old.units } }
     {
         let _ = self.ring.pop_front();
+    }
+
+    /// The head hands its reads over, behind others, and goes; nothing is changed where they find no
+    /// room.
+    pub(crate) fn pop_into(&mut self, reads: &mut ReadLog) -> Result<(), OutOfMemory>
+        ensures reads { OnOk result ((u : Active) → slice_get (actives self.old) 0 ≡ Some u → reads.new.reads ≡ reads.old.reads ++ u.log) }
+        ensures queue { OnOk result (self.new ≡ record self.old { units = drop 1 self.old.units }) }
+        ensures err { OnErr result ((self.new ≡ self.old) × (reads.new.reads ≡ reads.old.reads)) }
+    {
+        let Some(head) = self.ring.get_mut(0) else {
+            self.pop();
+            return Ok(());
+        };
+        head.hand_over_reads(reads)?;
+        self.pop();
+        Ok(())
     }
 
     /// Keeps so many units from the head on.

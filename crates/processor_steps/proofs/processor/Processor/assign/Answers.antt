@@ -11,7 +11,7 @@ use Rattle.processor_steps.proofs.processor.Processor.assign.Goals as goal
 pub returns-clause-state : goal.returns-clause-state
 returns-clause-state c =
     let i = c.self.inside in
-    let v : ProcessorView = record { queue = i.queue; registers = i.registers; world = i.world; next = i.next; reads = i.reads.items; commits = i.commits.items; assigns = i.assigns } in
+    let v : ProcessorView = record { queue = i.queue; registers = i.registers; world = i.world; next = i.next; reads = i.reads.reads; commits = i.commits.items; assigns = i.assigns } in
     let a = c.args.accepted.now in
     let reserved : (r : ℕ) → has c.reserved-reserved.result r ≡ is_reserved a.program (actives v.queue) r =
     λ r. c.reserved-reserved.ensures r ∙ ap (λ (q : Listing). is_reserved q (actives v.queue) r) c.program.ensures.value in

@@ -21,7 +21,7 @@ returns-in-Ok-clause-opening c =
     let output = c.new-in-Ok.ensures.output in
     let outcome = c.new-in-Ok.ensures.outcome in
     let next = c.address.ensures ∙ ap address c.start.ensures.value in
-    let reads = c.new-in-Ok-2.ensures.items in
+    let reads = c.new-in-Ok-2.ensures in
     let commits = c.new-in-Ok-3.ensures.items in
     λ j. record {
       queue = queue j;

@@ -15,7 +15,7 @@ exec_ahead-requires-clause-placed c = subst (λ (v : ProcessorView). ArePlaced c
 pub returns-then-position-eq0 : goal.returns-then-position-eq0
 returns-then-position-eq0 c =
     let i = c.self.inside in
-    let v : ProcessorView = record { queue = i.queue; registers = i.registers; world = i.world; next = i.next; reads = i.reads.items; commits = i.commits.items; assigns = i.assigns } in
+    let v : ProcessorView = record { queue = i.queue; registers = i.registers; world = i.world; next = i.next; reads = i.reads.reads; commits = i.commits.items; assigns = i.assigns } in
     let new : ProcessorView = record v { queue = c.exec_head.new.self; world = c.exec_head.new.world } in
     let p = c.args.accepted.now.program in
     let room : c.args.count < most_events = omega arith in
@@ -29,7 +29,7 @@ returns-then-position-eq0 c =
 pub returns-else-position-eq0 : goal.returns-else-position-eq0
 returns-else-position-eq0 c =
     let i = c.self.inside in
-    let v : ProcessorView = record { queue = i.queue; registers = i.registers; world = i.world; next = i.next; reads = i.reads.items; commits = i.commits.items; assigns = i.assigns } in
+    let v : ProcessorView = record { queue = i.queue; registers = i.registers; world = i.world; next = i.next; reads = i.reads.reads; commits = i.commits.items; assigns = i.assigns } in
     let new : ProcessorView = record v { queue = c.exec_ahead.new.self } in
     let p = c.args.accepted.now.program in
     let room : c.args.count < most_events = omega arith in
