@@ -222,12 +222,13 @@ impl Worker {
         steps
     }
 
-    /// Applies the event that the turn of the head's unit names; answers whether it names one.
+    /// Applies the event that the turn of the head's unit names; answers whether it names one and the run goes
+    /// on.
     fn apply_at_head<P: Predict>(&mut self, desk: &mut Desk<'_, P>) -> bool {
         let machine = desk.machine();
         let head = machine.head_unit();
         match turn_at_head(machine, head) {
-            Turn::Apply(event) => self.apply(desk, head, event),
+            Turn::Apply(event) => self.apply(desk, head, event) && !desk.is_done(self.budget),
             _ => false,
         }
     }
