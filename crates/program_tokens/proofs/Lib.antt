@@ -2,3 +2,4 @@ mod Capped
 mod Cuts
 mod Positions
 pub mod Steps
+mod Newlines

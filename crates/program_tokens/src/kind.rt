@@ -76,24 +76,17 @@ pub(crate) fn kind_of(first: u8, after: &[u8]) -> Kind
     }
 }
 
-/// Whether a token of this kind goes on with the byte.
-fn goes_on(kind: Kind, byte: u8) -> bool
-    ensures { result ≡ goes_on kind byte }
-{
-    match kind {
-        Kind::Name | Kind::Register => is_name_byte(byte),
-        Kind::Number | Kind::Index => byte.is_ascii_alphanumeric(),
-        Kind::Directive | Kind::Mark => byte.is_ascii_lowercase(),
-        Kind::Sign => false,
-    }
-}
-
 /// With how many of these bytes a token of this kind goes on.
 pub(crate) fn run_len(kind: Kind, bytes: &[u8]) -> usize
     ensures { result ≡ length (take_while (goes_on kind) bytes.now) }
 {
-    bytes
-        .iter()
-        .take_while(|byte| goes_on(kind, **byte))
-        .count()
+    let bytes = bytes.iter();
+    match kind {
+        Kind::Name | Kind::Register => bytes.take_while(|byte| is_name_byte(**byte)).count(),
+        Kind::Number | Kind::Index => bytes
+            .take_while(|byte| byte.is_ascii_alphanumeric())
+            .count(),
+        Kind::Directive | Kind::Mark => bytes.take_while(|byte| byte.is_ascii_lowercase()).count(),
+        Kind::Sign => 0,
+    }
 }

@@ -12,13 +12,14 @@ use crate::number::{number_in, number_of, positive};
 use crate::register::register_of;
 use crate::token::{Token, TokenFault};
 use crate::word::{directive_of, mark_of, sign_of};
+use memchr::memchr;
 use std::alloc::Global;
 use task_descriptor::name::Name;
 
 fn newline_of(text: &[u8]) -> Option<usize>
     ensures { result ≡ position (λ b. b == 10) text.now }
 {
-    text.iter().position(|byte| *byte == b'\n')
+    memchr(b'\n', text)
 }
 
 /// The first line of a text, without its LF, and what is behind the LF: further lines, the last of which
@@ -84,7 +85,11 @@ fn text_tokens(tokens: &mut Vec<Token>, text: &[u8]) -> Result<(), TokenFault>
 fn is_text(bytes: &[u8]) -> bool
     ensures { result ≡ list_all is_text_byte bytes.now }
 {
-    bytes.iter().all(|byte| is_text_byte(*byte))
+    let mut all = true;
+    for byte in bytes {
+        all &= is_text_byte(*byte);
+    }
+    all
 }
 
 /// Reads the tokens of a line, given without its LF, in place of those that the vector holds; its room is

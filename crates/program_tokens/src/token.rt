@@ -45,6 +45,13 @@ pub enum Number {
     Large,
 }
 
+impl Default for Number {
+    /// 0, which stands in the places of a list that are not used yet.
+    fn default() -> Number {
+        Number::Small(0)
+    }
+}
+
 /// What a directive's letters say.
 #[derive(Clone, Copy, Debug, PartialEq, Eq)]
 pub enum Directive {
