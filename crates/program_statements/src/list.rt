@@ -11,6 +11,7 @@ use crate::row::as_target;
 use crate::statement::{Blob, Targets};
 use mips_plain::number::{Reg, RegSet};
 use program_tokens::token::{Number, Token};
+use smallvec::SmallVec;
 use std::alloc::Global;
 
 /// The set with this register beside its members, register r being bit r.
@@ -45,10 +46,10 @@ pub fn registers_at(tokens: &[Token]) -> Result<(RegSet, &[Token]), StatementFau
 
 /// The numbers of a list.
 #[tactic(auto, using(crate::proofs::Fronts::regroup, crate::proofs::Fronts::no_front), unfolding(crate::specs::Statements::numbers_of))]
-pub fn numbers_of(alloc: Global, tokens: &[Token]) -> Result<Vec<Number>, StatementError>
+pub fn numbers_of(alloc: Global, tokens: &[Token]) -> Result<SmallVec<Number, 2>, StatementError>
     ensures { Gives (λ numbers. numbers.items) result (numbers_of tokens.now) }
 {
-    let mut numbers = Vec::new(alloc);
+    let mut numbers = SmallVec::new(alloc);
     let mut rest = tokens;
     loop {
         match rest {
@@ -107,7 +108,7 @@ pub fn targets_of(alloc: Global, places: &[Operand]) -> Result<Targets, Statemen
 pub fn words_of(alloc: Global, numbers: &[Number]) -> Result<Blob, StatementError>
     ensures { Gives (λ bytes. bytes) result (words_of numbers.now) }
 {
-    let mut bytes = Vec::new(alloc);
+    let mut bytes = SmallVec::new(alloc);
     for number in numbers {
         match word_of(*number) {
             Ok(word) => bytes.extend_from_slice(&word.to_le_bytes())?,
@@ -122,7 +123,7 @@ pub fn words_of(alloc: Global, numbers: &[Number]) -> Result<Blob, StatementErro
 pub fn bytes_of(alloc: Global, numbers: &[Number]) -> Result<Blob, StatementError>
     ensures { Gives (λ bytes. bytes) result (bytes_of numbers.now) }
 {
-    let mut bytes = Vec::new(alloc);
+    let mut bytes = SmallVec::new(alloc);
     for number in numbers {
         match byte_of(*number) {
             Ok(byte) => bytes.push(byte)?,

@@ -2,6 +2,7 @@
 
 use mips_plain::instruction::{BranchOneKind, BranchTwoKind, Op};
 use mips_plain::number::{Gpr, Place, RegSet};
+use smallvec::SmallVec;
 use std::marker::Model;
 use task_descriptor::descriptor::Stop;
 use task_descriptor::name::Name;
@@ -98,7 +99,8 @@ impl Targets {
 /// The bytes of a `.word` or `.byte` statement.
 #[derive(Debug, Drop)]
 pub struct Blob {
-    bytes: Vec<u8>,
+    // Those of two words need no memory of their own.
+    bytes: SmallVec<u8, 8>,
 }
 
 impl Model for Blob {
@@ -113,7 +115,7 @@ impl Blob {
     ghost use Rattle.std.specs.Prelude.{◌≡◌};
 
     /// These bytes.
-    pub(crate) fn new(bytes: Vec<u8>) -> Blob
+    pub(crate) fn new(bytes: SmallVec<u8, 8>) -> Blob
         ensures { result ≡ bytes.items }
     {
         Blob { bytes }
@@ -123,7 +125,7 @@ impl Blob {
     pub fn as_slice(&self) -> &[u8]
         ensures { result.now ≡ self.now }
     {
-        &self.bytes
+        self.bytes.as_slice()
     }
 }
 
