@@ -10,3 +10,4 @@ pub mod SpelledLemmas
 pub mod ReadLemmas
 pub mod NextEntry
 pub mod EndLemmas
+pub mod Telling

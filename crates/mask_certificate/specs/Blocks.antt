@@ -1,7 +1,8 @@
 -- A block of a certificate's text: the entries from a place on, read before it is known whose list they are.
-use Rattle.std.specs.Prelude.{◌≡◌, ℕ, ◌+◌, ◌-◌, ◌≤◌, List, length, drop}
+use Rattle.std.specs.Prelude.{◌≡◌, ℕ, ◌+◌, ◌-◌, ◌^◌, ◌<◌, ◌≤◌, Bool, true, List, length, drop, is_none}
 use Rattle.std.specs.List.{All}
 use Rattle.mask_certificate.specs.declared.fault.Spelling.{Spelling}
+use Rattle.mask_certificate.specs.Lists.{fault_in, first_fault}
 use Rattle.mask_certificate.specs.CertificateReading.{lines_in, entries_in}
 
 -- where a block begins
@@ -18,11 +19,23 @@ IsEnd text end = (length end ≤ length text) × (end ≡ drop (length text - le
 abbrev pub AreOf : Spelling → List ℕ → List Place → Type 0
 AreOf spelling text blocks = All (λ block. (block.spelling ≡ spelling) × (block.text ≡ text)) blocks
 
+-- This tells whether the list of a task is right: nothing is wrong in it, whichever task it is, and its
+-- masks are sets of registers.
+pub record TellsOf (list : List (ℕ × ℕ)) (right : Bool) : Type 0 where
+  pub rising : right ≡ is_none (fault_in 0 0 0 list)
+  pub masks : right ≡ true → All (λ entry. entry.1 < 2 ^ 34) list
+
+-- the same of the lists of all tasks
+pub record TellsOfAll (lists : List (List (ℕ × ℕ))) (right : Bool) : Type 0 where
+  pub rising : right ≡ is_none (first_fault 0 lists)
+  pub masks : right ≡ true → All (All (λ entry. entry.1 < 2 ^ 34)) lists
+
 -- These are the entries of the lines from the place start on, in front of the first that is none, and
--- behind the last of them stands the place end.
-pub record IsBlock (spelling : Spelling) (text : List ℕ) (start : ℕ) (entries : List (ℕ × ℕ)) (end : ℕ) : Type 0 where
+-- behind the last of them stands the place end; it is told whether they are right.
+pub record IsBlock (spelling : Spelling) (text : List ℕ) (start : ℕ) (entries : List (ℕ × ℕ)) (end : ℕ) (right : Bool) : Type 0 where
   pub begins : start ≤ length text
   pub ends : end ≤ length text
   pub entries_are : entries ≡ entries_in (lines_in spelling (drop start text))
   pub behind : lines_in spelling (drop end text) ≡ drop (length entries) (lines_in spelling (drop start text))
   pub short : length entries + (length text - end) ≤ length text - start
+  pub told : TellsOf entries right

@@ -1,5 +1,6 @@
 //! Lists of a certificate's text that are read before their turn comes.
 
+use crate::certificate::is_right;
 use crate::fault::Spelling;
 use crate::reading::list_of;
 use mips_plain::number::RegSet;
@@ -7,8 +8,9 @@ use std::alloc::{AllocError, Global};
 use std::marker::Model;
 
 /// The entries of the lines from a place of a text on, in front of the first line that is none: what
-/// reading needs of one task's list, and what it can find out before it knows whose list it is. A
-/// contract sees a block as its spelling, text and place; they determine the rest.
+/// reading needs of one task's list, and what it can find out before it knows whose list it is: whether
+/// the list rises, too, so that who takes the block over need not look at each entry again. A contract
+/// sees a block as its spelling, text and place; they determine the rest.
 #[derive(Drop)]
 pub struct Block<'a> {
     spelling: Spelling,
@@ -16,6 +18,7 @@ pub struct Block<'a> {
     start: usize,
     list: Vec<(u32, RegSet)>,
     end: usize,
+    right: bool,
 }
 
 impl<'a> Model for Block<'a> {
@@ -25,13 +28,13 @@ impl<'a> Model for Block<'a> {
 
     ghost view = { λ b. record { spelling = b.spelling; text = b.text.now; start = b.start } };
 
-    ghost invariant = { λ b. IsBlock b.spelling b.text.now b.start b.list.items b.end };
+    ghost invariant = { λ b. IsBlock b.spelling b.text.now b.start b.list.items b.end b.right };
 }
 
 impl<'a> Block<'a> {
     ghost use Rattle.std.specs.Prelude.{◌≡◌, ◌≤◌, ◌+◌, ◌-◌, length, drop, IfOk};
     ghost use Rattle.mask_certificate.specs.CertificateReading.{lines_in, entries_in};
-    ghost use Rattle.mask_certificate.specs.Blocks.{IsEnd};
+    ghost use Rattle.mask_certificate.specs.Blocks.{IsEnd, TellsOf};
 
     /// Reads the block from a place of a text on.
     ///
@@ -48,12 +51,14 @@ impl<'a> Block<'a> {
         ensures { IfOk result (λ block. block ≡ record { spelling = spelling; text = text.now; start = start }) }
     {
         let (list, rest) = list_of(alloc, spelling, &text[start..])?;
+        let right = is_right(&list);
         Ok(Block {
             spelling,
             text,
             start,
             list,
             end: text.len() - rest.len(),
+            right,
         })
     }
 
@@ -73,12 +78,13 @@ impl<'a> Block<'a> {
         self.end
     }
 
-    /// The entries, and the text behind them.
-    pub(crate) fn into_parts(self) -> (Vec<(u32, RegSet)>, &'a [u8])
+    /// The entries, whether they are right as a list of a certificate, and the text behind them.
+    pub(crate) fn into_parts(self) -> (Vec<(u32, RegSet)>, bool, &'a [u8])
         ensures entries { result.0.items ≡ entries_in (lines_in self.entry.spelling (drop self.entry.start self.entry.text)) }
-        ensures rest { lines_in self.entry.spelling result.1.now ≡ drop (length result.0.items) (lines_in self.entry.spelling (drop self.entry.start self.entry.text)) }
-        ensures shorter { length result.0.items + length result.1.now ≤ length self.entry.text - self.entry.start }
-        ensures end { IsEnd self.entry.text result.1.now }
+        ensures told { TellsOf result.0.items result.1 }
+        ensures rest { lines_in self.entry.spelling result.2.now ≡ drop (length result.0.items) (lines_in self.entry.spelling (drop self.entry.start self.entry.text)) }
+        ensures shorter { length result.0.items + length result.2.now ≤ length self.entry.text - self.entry.start }
+        ensures end { IsEnd self.entry.text result.2.now }
     {
         let Block {
             spelling: _,
@@ -86,7 +92,8 @@ impl<'a> Block<'a> {
             start: _,
             list,
             end,
+            right,
         } = self;
-        (list, &text[end..])
+        (list, right, &text[end..])
     }
 }

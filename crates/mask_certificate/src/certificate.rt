@@ -37,8 +37,9 @@ impl Model for Cert {
 }
 
 impl Cert {
-    ghost use Rattle.std.specs.Prelude.{◌≡◌, ◌<◌, ◌^◌, ◌↔◌, None, Some, true, vec_len, MatchResult};
+    ghost use Rattle.std.specs.Prelude.{◌≡◌, ◌<◌, ◌^◌, ◌↔◌, None, Some, true, false, is_none, IfSome, IfNone, vec_len, MatchResult};
     ghost use Rattle.mask_certificate.specs.Lists.{entries_of, first_fault, list_of, mask_at, Rises, IsCertificate};
+    ghost use Rattle.mask_certificate.specs.Blocks.{TellsOfAll};
 
     /// The certificate of these lists, the list at place t being that of task t. Lists that are none
     /// come back with what is wrong at the first place where something is: `NotRising` before
@@ -56,6 +57,17 @@ impl Cert {
             None => Ok(Cert { lists }),
             Some(fault) => Err((lists, fault)),
         }
+    }
+
+    /// The certificate of lists of which it is told whether they are right, so that none is looked at;
+    /// `None` where they are not. There are fewer than 2^32 lists.
+    pub(crate) fn of_told(lists: Vec<Vec<(u32, RegSet)>>, right: bool) -> Option<Cert>
+        requires few { vec_len lists < 2 ^ 32 }
+        requires told { TellsOfAll (entries_of lists.items) right }
+        ensures none { IfNone result (is_none (first_fault 0 (entries_of lists.items)) ≡ false) }
+        ensures some { IfSome result (λ cert. (is_none (first_fault 0 (entries_of lists.items)) ≡ true) × (cert ≡ entries_of lists.items)) }
+    {
+        if right { Some(Cert { lists }) } else { None }
     }
 
     /// The entries of a task, by rising index; none where the list is missing.
@@ -92,6 +104,14 @@ impl Cert {
 ghost use Rattle.std.specs.Prelude.{◌≡◌, ◌<◌, ◌^◌, ◌↔◌, true, length, IfNone};
 ghost use Rattle.std.specs.List.{All};
 ghost use Rattle.mask_certificate.specs.Lists.{entries_of, first_fault, fault_in};
+ghost use Rattle.mask_certificate.specs.Blocks.{TellsOf};
+
+/// Whether a list is right, whichever task it is of: its indices rise and lie in the code.
+pub(crate) fn is_right(list: &[(u32, RegSet)]) -> bool
+    ensures { TellsOf list.now result }
+{
+    fault_of(0, list).is_none()
+}
 
 fn first_fault_in(lists: &[Vec<(u32, RegSet)>]) -> Option<ListFault>
     requires { length lists.now < 2 ^ 32 }

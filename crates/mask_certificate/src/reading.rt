@@ -8,10 +8,10 @@ ghost use Rattle.mask_certificate.specs.declared.fault.Spelling.{Spelling};
 ghost use Rattle.mask_certificate.specs.Lists.{entries_of};
 ghost use Rattle.mask_certificate.specs.CertificateText.{Spells};
 ghost use Rattle.mask_certificate.specs.CertificateReading.{is_space, index_in, mask_in, name_in, lines_in, entries_in, behind_task_line, at_end, lists_at, spelling_of, mask_digit, is_mask_digit, Gives, cert_parse, names_of, names_in, is_newline, entry_line};
-ghost use Rattle.mask_certificate.specs.Blocks.{IsEnd, AreOf};
+ghost use Rattle.mask_certificate.specs.Blocks.{IsEnd, AreOf, TellsOf, TellsOfAll};
 
 use crate::block::Block;
-use crate::certificate::Cert;
+use crate::certificate::{Cert, is_right};
 use crate::fault::{CertFault, Spelling};
 use mips_plain::number::RegSet;
 use std::alloc::{AllocError, Global};
@@ -251,54 +251,62 @@ fn check_end(text: &[u8], line: usize) -> Result<(), CertFault>
     }
 }
 
-/// The list at the front of what is left of a text: from the last of these blocks, if it begins there,
-/// and else read. A block that begins elsewhere is let go.
+/// The list at the front of what is left of a text, whether it is right, and the text behind it: from the
+/// last of these blocks, if it begins there, and else read. A block that begins elsewhere is let go.
 fn list_at<'a>(
     alloc: Global,
     spelling: Spelling,
     text: &'a [u8],
     left: &'a [u8],
     blocks: &mut Vec<Block<'a>>,
-) -> Result<(Vec<(u32, RegSet)>, &'a [u8]), AllocError>
+) -> Result<(Vec<(u32, RegSet)>, bool, &'a [u8]), AllocError>
     requires left { IsEnd text.now left.now }
     requires blocks { AreOf spelling text.now blocks.old.items }
     ensures entries { IfOk result (λ found. found.0.items ≡ entries_in (lines_in spelling left.now)) }
-    ensures rest { IfOk result (λ found. lines_in spelling found.1.now ≡ drop (length found.0.items) (lines_in spelling left.now)) }
-    ensures shorter { IfOk result (λ found. length found.0.items + length found.1.now ≤ length left.now) }
-    ensures end { IfOk result (λ found. IsEnd text.now found.1.now) }
+    ensures told { IfOk result (λ found. TellsOf found.0.items found.1) }
+    ensures rest { IfOk result (λ found. lines_in spelling found.2.now ≡ drop (length found.0.items) (lines_in spelling left.now)) }
+    ensures shorter { IfOk result (λ found. length found.0.items + length found.2.now ≤ length left.now) }
+    ensures end { IfOk result (λ found. IsEnd text.now found.2.now) }
     ensures blocks { AreOf spelling text.now blocks.new.items }
 {
     match blocks.pop() {
         Some(block) if block.start() == text.len() - left.len() => Ok(block.into_parts()),
-        _ => list_of(alloc, spelling, left),
+        _ => {
+            let (list, rest) = list_of(alloc, spelling, left)?;
+            let right = is_right(&list);
+            Ok((list, right, rest))
+        }
     }
 }
 
-/// The lists that the lines from line 2 on spell for these tasks.
+/// The lists that the lines from line 2 on spell for these tasks, and whether they are right.
 fn lists_of<'a>(
     alloc: Global,
     spelling: Spelling,
     text: &'a [u8],
     tasks: &[Descriptor],
     mut blocks: Vec<Block<'a>>,
-) -> Result<Vec<Vec<(u32, RegSet)>>, CertFault>
+) -> Result<(Vec<Vec<(u32, RegSet)>>, bool), CertFault>
     requires long { 7 ≤ length text.now }
     requires blocks { AreOf spelling text.now blocks.items }
-    ensures lists { Gives (λ lists. entries_of lists.items) result (lists_at 2 (names_in tasks.now) (lines_in spelling (drop 7 text.now))) }
-    ensures count { IfOk result (λ lists. vec_len lists ≡ length tasks.now) }
+    ensures lists { Gives (λ found. entries_of found.0.items) result (lists_at 2 (names_in tasks.now) (lines_in spelling (drop 7 text.now))) }
+    ensures told { IfOk result (λ found. TellsOfAll (entries_of found.0.items) found.1) }
+    ensures count { IfOk result (λ found. vec_len found.0 ≡ length tasks.now) }
 {
     let mut lists = Vec::with_capacity(alloc, tasks.len())?;
+    let mut right = true;
     let mut rest = &text[FIRST_LINE..];
     let mut line = 2;
     for task in tasks {
         let left = behind(rest, line, &task.name)?;
-        let (list, after) = list_at(alloc, spelling, text, left, &mut blocks)?;
+        let (list, is_right, after) = list_at(alloc, spelling, text, left, &mut blocks)?;
         line += 1 + list.len();
+        right &= is_right;
         rest = after;
         lists.push(list)?;
     }
     check_end(rest, line)?;
-    Ok(lists)
+    Ok((lists, right))
 }
 
 /// The spelling that the first line of a text names; `None` where it names none.
@@ -329,10 +337,10 @@ fn certificate_of<'a>(
     let Some(spelling) = spelling_in(text) else {
         return Err(CertFault::Header);
     };
-    let lists = lists_of(alloc, spelling, text, tasks, blocks)?;
-    match Cert::build(lists) {
-        Ok(cert) => Ok(cert),
-        Err(_) => Err(CertFault::Shape),
+    let (lists, right) = lists_of(alloc, spelling, text, tasks, blocks)?;
+    match Cert::of_told(lists, right) {
+        Some(cert) => Ok(cert),
+        None => Err(CertFault::Shape),
     }
 }
 

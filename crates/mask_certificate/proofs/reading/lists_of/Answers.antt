@@ -1,9 +1,11 @@
 -- One list more stands before what is left.
-use Rattle.std.proofs.Common.{◌≡◌, ℕ, ◌+◌, List, ◌∷◌, length, drop, ap, sym, ◌∙◌, arith}
+use Rattle.std.proofs.Common.{◌≡◌, ℕ, ◌+◌, List, ◌∷◌, ◌&&◌, length, drop, ap, sym, ◌∙◌, subst, arith}
 use Rattle.std.proofs.lemmas.List.{at_drop_more, map_push}
 use Rattle.mask_certificate.specs.Lists.{entries_of}
 use Rattle.mask_certificate.specs.CertificateReading.{lines_in, lists_at, names_in}
+use Rattle.mask_certificate.specs.Blocks.{TellsOfAll}
 use Rattle.mask_certificate.proofs.ListsLoop.{with_front, goes_on}
+use Rattle.mask_certificate.proofs.Telling.{tells_push}
 use Rattle.mask_certificate.proofs.reading.lists_of.Goals as goal
 
 pub loop-task-preserved : goal.loop-task-preserved
@@ -29,6 +31,10 @@ loop-task-preserved c =
           ∙ ap (λ (lists : List (List (ℕ × ℕ))). with_front lists (lists_at next (names_in (drop (i + 1) tasks)) after)) (map_push _ front list)
           ∙ goes_on (entries_of front) c.loop-task.line task.name (names_in (drop (i + 1) tasks)) lines whole so_far
           body after list.items next (c.in_ok-left.ensures.lines c.args.spelling) c.in_ok-list.ensures.entries c.in_ok-list.ensures.rest (omega (arith, long));
+      told =
+          subst (λ (lists : List (List (ℕ × ℕ))). TellsOfAll lists (c.loop-task.right && c.in_ok-list.is_right))
+          (sym (ap entries_of c.in_ok-push.ensures.items ∙ map_push _ front list))
+          (tells_push (entries_of front) list.items c.loop-task.right c.in_ok-list.is_right c.loop-task.invariant.told c.in_ok-list.ensures.told);
       numbered = omega (arith, long, c.in_ok-list.ensures.shorter, c.in_ok-left.ensures.shorter);
       counted = omega (arith, c.in_ok-push.ensures.len);
       end = c.in_ok-list.ensures.end;
