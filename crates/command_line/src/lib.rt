@@ -2,4 +2,5 @@
 #![tactic(auto)]
 
 pub mod help;
+mod subcommands;
 pub mod words;

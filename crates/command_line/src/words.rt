@@ -1,18 +1,18 @@
 //! From the words of a command line to a job.
-ghost use Rattle.std.specs.Prelude.{◌≡◌, ◌≤◌, ◌==◌, IfOk, IfSome, MatchOption, All, map, length, vec_len, []};
+ghost use Rattle.std.specs.Prelude.{◌≡◌, ◌≤◌, ◌==◌, IfErr, IfOk, IfSome, MatchOption, MatchResult, All, Some, None, map, length, option_map, option_and_then, unwrap_or, vec_len, [], codes};
 ghost use Rattle.std.specs.String.{string_bytes};
 ghost use Rattle.std.specs.List.{slice_split};
+ghost use Rattle.clap.specs.Words.{first_of};
+ghost use Rattle.command_line.specs.Asked.{AskFor, IsFaultOf, IsFrom, IsNoJob, Reads, emit_in, number_at, predict_in, run_emit_in, values_in};
 ghost use Rattle.command_line.specs.Words.{answer_of, answers_of, all_there, emit_of, prediction_of, run_emit_of};
 ghost use Rattle.jobs.specs.Files.{HasFilesOf};
-ghost use Rattle.command_line.specs.declared.words.UsageFault.TheVariants.{OutOfMemory};
+ghost use Rattle.command_line.specs.declared.words.UsageFault.TheVariants.{OutOfMemory, Predict, Emit as EmitFault};
 
-use crate::help;
+use crate::subcommands::command;
+use clap::ArgMatches;
 use clap::error::ErrorKind;
-use clap::{Arg, ArgAction, ArgMatches, Command, value_parser};
 use jobs::job::{Emit, Job, Paths, Prediction, RunEmit};
-use jobs::ranges::{
-    Answers, Budget, MOST_ANSWER, MOST_ANSWERS, MOST_BUDGET, MOST_UNITS, Units, Workers,
-};
+use jobs::ranges::{Answers, Budget, MOST_ANSWER, MOST_ANSWERS, Units, Workers};
 use std::alloc::{AllocError, Global};
 use thiserror::Error;
 
@@ -43,6 +43,8 @@ impl From<AllocError> for UsageFault {
 }
 
 impl From<clap::Error> for UsageFault {
+    ghost from_gives = { λ error fault. IsFrom error fault };
+
     fn from(error: clap::Error) -> UsageFault {
         match error.kind() {
             ErrorKind::OutOfMemory => UsageFault::OutOfMemory,
@@ -55,19 +57,21 @@ impl From<clap::Error> for UsageFault {
 /// own name. What `clap` decides comes first, then the value of `--predict`, then that of `--emit`.
 /// (own choice)
 pub fn job_of(alloc: Global, words: &[String]) -> Result<(Job, Paths), UsageFault>
-    ensures { IfOk result (λ r. HasFilesOf r.0 r.1) }
+    ensures files { IfOk result (λ r. HasFilesOf r.0 r.1) }
+    ensures job { IfOk result (λ r. AskFor (map string_bytes words.now) r.0 r.1) }
+    ensures fault { IfErr result (IsFaultOf (map string_bytes words.now)) }
 {
     let matches = command(alloc)?.try_get_matches_from(words)?;
-    if let Some((name, values)) = matches.subcommand() {
-        if let Some(job) = read_job(alloc, name, values)? {
-            return Ok(job);
-        }
+    match matches.subcommand() {
+        Some((name, values)) => read_job(alloc, name, values),
+        None => Err(no_job(alloc)),
     }
-    Err(no_job(alloc))
 }
 
 // The fault of words that `clap` lets through and that are no job, of which there are none.
-fn no_job(alloc: Global) -> UsageFault {
+fn no_job(alloc: Global) -> UsageFault
+    ensures { IsNoJob result }
+{
     match command(alloc) {
         Ok(mut command) => match command.error(ErrorKind::MissingSubcommand, "no job") {
             Ok(error) => UsageFault::Words(error),
@@ -77,28 +81,9 @@ fn no_job(alloc: Global) -> UsageFault {
     }
 }
 
-// The whole command line. A subcommand is there once it stands here and in `read_job`.
-fn command<'a>(alloc: Global) -> Result<Command<'a>, AllocError> {
-    Command::new(alloc, "multiscalar")
-        .about(help::PROGRAM)
-        .long_about(help::PROGRAM_LONG)
-        .after_help(help::STATUS)
-        .subcommand_required(true)
-        .subcommand(seq(alloc)?)?
-        .subcommand(print(alloc)?)?
-        .subcommand(annotate(alloc)?)?
-        .subcommand(check(alloc)?)?
-        .subcommand(replay(alloc)?)?
-        .subcommand(run(alloc)?)
-}
-
-// The job of a subcommand; `None` where there is none of that name.
-fn read_job(
-    alloc: Global,
-    name: &str,
-    values: &ArgMatches<'_>,
-) -> Result<Option<(Job, Paths)>, UsageFault>
-    ensures { IfOk result (λ r. IfSome r (λ job. HasFilesOf job.0 job.1)) }
+// The job of a subcommand.
+fn read_job(alloc: Global, name: &str, values: &ArgMatches<'_>) -> Result<(Job, Paths), UsageFault>
+    ensures { Reads name.now (values_in values.now) result }
 {
     match name {
         "seq" => read_seq(alloc, values),
@@ -107,137 +92,14 @@ fn read_job(
         "check" => read_check(alloc, values),
         "replay" => read_replay(alloc, values),
         "run" => read_run(alloc, values),
-        _ => Ok(None),
+        _ => Err(no_job(alloc)),
     }
 }
 
-// A file that the command line has to name.
-fn file<'a>(alloc: Global, id: &'a str, name: &'a str, text: &'a str) -> Arg<'a> {
-    Arg::new(alloc, id)
-        .value_name(name)
-        .help(text)
-        .required(true)
-        .action(ArgAction::Set)
-}
-
-// An option with a word for its value, and the word that it has where it is not given.
-fn word<'a>(
-    alloc: Global,
-    id: &'a str,
-    name: &'a str,
-    text: &'a str,
-    otherwise: &'a str,
-) -> Arg<'a> {
-    Arg::new(alloc, id)
-        .long(id)
-        .value_name(name)
-        .help(text)
-        .action(ArgAction::Set)
-        .default_value(otherwise)
-}
-
-// An option with a number for its value, from 1; it need not be given.
-fn free_number<'a>(alloc: Global, id: &'a str, text: &'a str, most: u32) -> Arg<'a> {
-    let range = value_parser!(u32).range(1..=i64::from(most));
-    Arg::new(alloc, id)
-        .long(id)
-        .value_name("N")
-        .help(text)
-        .action(ArgAction::Set)
-        .value_parser(range)
-}
-
-// An option with a number for its value, from 1, and the number that it has where it is not given.
-fn number<'a>(alloc: Global, id: &'a str, text: &'a str, most: u32, otherwise: &'a str) -> Arg<'a> {
-    free_number(alloc, id, text, most).default_value(otherwise)
-}
-
-fn program<'a>(alloc: Global) -> Arg<'a> {
-    file(alloc, "program", "PROGRAM", "The program text")
-}
-
-fn certificate<'a>(alloc: Global) -> Arg<'a> {
-    file(
-        alloc,
-        "certificate",
-        "CERT",
-        "The certificate of the program",
-    )
-}
-
-fn script<'a>(alloc: Global) -> Arg<'a> {
-    file(alloc, "script", "SCRIPT", "The events, one on a line")
-}
-
-fn budget<'a>(alloc: Global, text: &'a str) -> Arg<'a> {
-    number(alloc, "budget", text, MOST_BUDGET, "1000000")
-}
-
-fn units<'a>(alloc: Global) -> Arg<'a> {
-    let text = "How many units the machine has, 1 to 16";
-    number(alloc, "units", text, MOST_UNITS, "4")
-}
-
-fn checkers<'a>(alloc: Global) -> Arg<'a> {
-    let text = "How many threads share the check, 1 to 16";
-    number(alloc, "workers", text, MOST_UNITS, "1")
-}
-
-fn workers<'a>(alloc: Global) -> Arg<'a> {
-    free_number(alloc, "workers", help::RUN_WORKERS, MOST_UNITS)
-}
-
-// A subcommand with no arguments yet.
-fn subcommand<'a>(alloc: Global, name: &'a str, text: &'a str, long: &'a str) -> Command<'a> {
-    Command::new(alloc, name).about(text).long_about(long)
-}
-
-fn seq<'a>(alloc: Global) -> Result<Command<'a>, AllocError> {
-    subcommand(alloc, "seq", help::SEQ, help::SEQ_LONG)
-        .arg(program(alloc))?
-        .arg(budget(alloc, "The most instructions, 1 to 1000000"))
-}
-
-fn print<'a>(alloc: Global) -> Result<Command<'a>, AllocError> {
-    subcommand(alloc, "print", help::PRINT, help::PRINT_LONG).arg(program(alloc))
-}
-
-fn annotate<'a>(alloc: Global) -> Result<Command<'a>, AllocError> {
-    let emit = word(alloc, "emit", "WHAT", help::ANNOTATE_EMIT, "text");
-    subcommand(alloc, "annotate", help::ANNOTATE, help::ANNOTATE_LONG)
-        .arg(program(alloc))?
-        .arg(emit)
-}
-
-fn check<'a>(alloc: Global) -> Result<Command<'a>, AllocError> {
-    subcommand(alloc, "check", help::CHECK, help::CHECK_LONG)
-        .arg(program(alloc))?
-        .arg(certificate(alloc))?
-        .arg(checkers(alloc))
-}
-
-fn replay<'a>(alloc: Global) -> Result<Command<'a>, AllocError> {
-    subcommand(alloc, "replay", help::REPLAY, help::REPLAY_LONG)
-        .arg(program(alloc))?
-        .arg(certificate(alloc))?
-        .arg(script(alloc))?
-        .arg(units(alloc))
-}
-
-fn run<'a>(alloc: Global) -> Result<Command<'a>, AllocError> {
-    subcommand(alloc, "run", help::RUN, help::RUN_LONG)
-        .arg(program(alloc))?
-        .arg(certificate(alloc))?
-        .arg(units(alloc))?
-        .arg(workers(alloc))?
-        .arg(budget(alloc, help::RUN_BUDGET))?
-        .arg(word(alloc, "predict", "HOW", help::PREDICT, "first"))?
-        .arg(word(alloc, "emit", "WHAT", help::RUN_EMIT, "report"))
-}
-
 // The program alone.
-fn program_path(alloc: Global, values: &ArgMatches<'_>) -> Result<Paths, AllocError>
-    ensures { IfOk result (λ p. (string_bytes p.certificate ≡ []) × (string_bytes p.script ≡ [])) }
+fn program_path(alloc: Global, values: &ArgMatches<'_>) -> Result<Paths, UsageFault>
+    ensures { MatchResult result (λ p. (first_of (codes "program") (values_in values.now) ≡ Some (string_bytes p.program))
+        × (string_bytes p.certificate ≡ []) × (string_bytes p.script ≡ [])) IsNoJob }
 {
     Ok(Paths {
         program: path(alloc, values, "program")?,
@@ -247,8 +109,10 @@ fn program_path(alloc: Global, values: &ArgMatches<'_>) -> Result<Paths, AllocEr
 }
 
 // The program and its certificate.
-fn certified_paths(alloc: Global, values: &ArgMatches<'_>) -> Result<Paths, AllocError>
-    ensures { IfOk result (λ p. string_bytes p.script ≡ []) }
+fn certified_paths(alloc: Global, values: &ArgMatches<'_>) -> Result<Paths, UsageFault>
+    ensures { MatchResult result (λ p. (first_of (codes "program") (values_in values.now) ≡ Some (string_bytes p.program))
+        × (first_of (codes "certificate") (values_in values.now) ≡ Some (string_bytes p.certificate))
+        × (string_bytes p.script ≡ [])) IsNoJob }
 {
     Ok(Paths {
         program: path(alloc, values, "program")?,
@@ -257,92 +121,119 @@ fn certified_paths(alloc: Global, values: &ArgMatches<'_>) -> Result<Paths, Allo
     })
 }
 
-fn path(alloc: Global, values: &ArgMatches<'_>, id: &str) -> Result<String, AllocError> {
-    String::from_str(alloc, values.get_str(id).unwrap_or(""))
-}
-
-fn read_budget(values: &ArgMatches<'_>) -> Option<Budget> {
-    values.get_one::<u32>("budget").and_then(Budget::new)
-}
-
-fn read_units(values: &ArgMatches<'_>) -> Option<Units> {
-    values.get_one::<u32>("units").and_then(Units::new)
-}
-
-fn read_workers(values: &ArgMatches<'_>) -> Option<Workers> {
-    values.get_one::<u32>("workers").and_then(Workers::new)
-}
-
-fn read_seq(alloc: Global, values: &ArgMatches<'_>) -> Result<Option<(Job, Paths)>, UsageFault>
-    ensures { IfOk result (λ r. IfSome r (λ job. HasFilesOf job.0 job.1)) }
+fn path(alloc: Global, values: &ArgMatches<'_>, id: &str) -> Result<String, UsageFault>
+    ensures { MatchResult result (λ p. first_of id.now (values_in values.now) ≡ Some (string_bytes p)) IsNoJob }
 {
-    let Some(budget) = read_budget(values) else {
-        return Ok(None);
-    };
-    Ok(Some((Job::Seq { budget }, program_path(alloc, values)?)))
+    match text(values, id) {
+        Some(path) => Ok(String::from_str(alloc, path)?),
+        None => Err(no_job(alloc)),
+    }
 }
 
-fn read_print(alloc: Global, values: &ArgMatches<'_>) -> Result<Option<(Job, Paths)>, UsageFault>
-    ensures { IfOk result (λ r. IfSome r (λ job. HasFilesOf job.0 job.1)) }
+// The value of a file or an option.
+fn text<'a>(values: &ArgMatches<'a>, id: &str) -> Option<&'a str>
+    ensures { option_map (λ t. t.now) result ≡ first_of id.now (values_in values.now) }
 {
-    Ok(Some((Job::Print, program_path(alloc, values)?)))
+    values.get_str(id)
 }
 
-fn read_annotate(alloc: Global, values: &ArgMatches<'_>) -> Result<Option<(Job, Paths)>, UsageFault>
-    ensures { IfOk result (λ r. IfSome r (λ job. HasFilesOf job.0 job.1)) }
+// The value of an option with a number.
+fn number(values: &ArgMatches<'_>, id: &str) -> Option<u32>
+    ensures { result ≡ number_at id.now (values_in values.now) }
 {
-    let Some(text) = values.get_str("emit") else {
-        return Ok(None);
-    };
-    let emit = read_emit(text).ok_or(UsageFault::Emit)?;
-    Ok(Some((Job::Annotate { emit }, program_path(alloc, values)?)))
+    values.get_one::<u32>(id)
 }
 
-fn read_check(alloc: Global, values: &ArgMatches<'_>) -> Result<Option<(Job, Paths)>, UsageFault>
-    ensures { IfOk result (λ r. IfSome r (λ job. HasFilesOf job.0 job.1)) }
+fn read_budget(alloc: Global, values: &ArgMatches<'_>) -> Result<Budget, UsageFault>
+    ensures { MatchResult result (λ b. number_at (codes "budget") (values_in values.now) ≡ Some b) IsNoJob }
 {
-    let Some(workers) = read_workers(values) else {
-        return Ok(None);
-    };
-    Ok(Some((Job::Check { workers }, certified_paths(alloc, values)?)))
+    match number(values, "budget").and_then(Budget::new) {
+        Some(budget) => Ok(budget),
+        None => Err(no_job(alloc)),
+    }
 }
 
-fn read_replay(alloc: Global, values: &ArgMatches<'_>) -> Result<Option<(Job, Paths)>, UsageFault>
-    ensures { IfOk result (λ r. IfSome r (λ job. HasFilesOf job.0 job.1)) }
+fn read_units(alloc: Global, values: &ArgMatches<'_>) -> Result<Units, UsageFault>
+    ensures { MatchResult result (λ u. number_at (codes "units") (values_in values.now) ≡ Some u) IsNoJob }
 {
-    let Some(units) = read_units(values) else {
-        return Ok(None);
-    };
+    match number(values, "units").and_then(Units::new) {
+        Some(units) => Ok(units),
+        None => Err(no_job(alloc)),
+    }
+}
+
+// The threads of a check.
+fn read_checkers(alloc: Global, values: &ArgMatches<'_>) -> Result<Workers, UsageFault>
+    ensures { MatchResult result (λ w. number_at (codes "workers") (values_in values.now) ≡ Some w) IsNoJob }
+{
+    match number(values, "workers").and_then(Workers::new) {
+        Some(workers) => Ok(workers),
+        None => Err(no_job(alloc)),
+    }
+}
+
+// The threads of a run: those that are asked for, or one for each unit.
+fn read_workers(alloc: Global, values: &ArgMatches<'_>, units: Units) -> Result<Workers, UsageFault>
+    ensures { MatchResult result (λ w. w ≡ unwrap_or (number_at (codes "workers") (values_in values.now)) units) IsNoJob }
+{
+    let count = number(values, "workers").unwrap_or(units.get());
+    match Workers::new(count) {
+        Some(workers) => Ok(workers),
+        None => Err(no_job(alloc)),
+    }
+}
+
+fn read_seq(alloc: Global, values: &ArgMatches<'_>) -> Result<(Job, Paths), UsageFault>
+    ensures { Reads (codes "seq") (values_in values.now) result }
+{
+    let budget = read_budget(alloc, values)?;
+    Ok((Job::Seq { budget }, program_path(alloc, values)?))
+}
+
+fn read_print(alloc: Global, values: &ArgMatches<'_>) -> Result<(Job, Paths), UsageFault>
+    ensures { Reads (codes "print") (values_in values.now) result }
+{
+    Ok((Job::Print, program_path(alloc, values)?))
+}
+
+fn read_annotate(alloc: Global, values: &ArgMatches<'_>) -> Result<(Job, Paths), UsageFault>
+    ensures { Reads (codes "annotate") (values_in values.now) result }
+{
+    let emit = text(values, "emit")
+        .and_then(read_emit)
+        .ok_or(UsageFault::Emit)?;
+    Ok((Job::Annotate { emit }, program_path(alloc, values)?))
+}
+
+fn read_check(alloc: Global, values: &ArgMatches<'_>) -> Result<(Job, Paths), UsageFault>
+    ensures { Reads (codes "check") (values_in values.now) result }
+{
+    let workers = read_checkers(alloc, values)?;
+    Ok((Job::Check { workers }, certified_paths(alloc, values)?))
+}
+
+fn read_replay(alloc: Global, values: &ArgMatches<'_>) -> Result<(Job, Paths), UsageFault>
+    ensures { Reads (codes "replay") (values_in values.now) result }
+{
+    let units = read_units(alloc, values)?;
     let paths = Paths {
         program: path(alloc, values, "program")?,
         certificate: path(alloc, values, "certificate")?,
         script: path(alloc, values, "script")?,
     };
-    Ok(Some((Job::Replay { units }, paths)))
+    Ok((Job::Replay { units }, paths))
 }
 
-// As many threads as are asked for, or one for each unit.
-fn workers_or_units(values: &ArgMatches<'_>, units: Units) -> Option<Workers> {
-    match values.get_one::<u32>("workers") {
-        Some(count) => Workers::new(count),
-        None => Workers::new(units.get()),
-    }
-}
-
-fn read_run(alloc: Global, values: &ArgMatches<'_>) -> Result<Option<(Job, Paths)>, UsageFault>
-    ensures { IfOk result (λ r. IfSome r (λ job. HasFilesOf job.0 job.1)) }
+fn read_run(alloc: Global, values: &ArgMatches<'_>) -> Result<(Job, Paths), UsageFault>
+    ensures { Reads (codes "run") (values_in values.now) result }
 {
-    let (Some(units), Some(budget)) = (read_units(values), read_budget(values)) else {
-        return Ok(None);
-    };
-    let Some(workers) = workers_or_units(values, units) else {
-        return Ok(None);
-    };
-    let (Some(predict), Some(emit)) = (values.get_str("predict"), values.get_str("emit")) else {
-        return Ok(None);
-    };
-    let predict = read_prediction(alloc, predict)?.ok_or(UsageFault::Predict)?;
-    let emit = read_run_emit(emit).ok_or(UsageFault::Emit)?;
+    let units = read_units(alloc, values)?;
+    let workers = read_workers(alloc, values, units)?;
+    let budget = read_budget(alloc, values)?;
+    let predict = read_predict(alloc, values)?.ok_or(UsageFault::Predict)?;
+    let emit = text(values, "emit")
+        .and_then(read_run_emit)
+        .ok_or(UsageFault::Emit)?;
     let job = Job::Run {
         units,
         workers,
@@ -350,7 +241,17 @@ fn read_run(alloc: Global, values: &ArgMatches<'_>) -> Result<Option<(Job, Paths
         predict,
         emit,
     };
-    Ok(Some((job, certified_paths(alloc, values)?)))
+    Ok((job, certified_paths(alloc, values)?))
+}
+
+// What the value of `--predict` stands for.
+fn read_predict(alloc: Global, values: &ArgMatches<'_>) -> Result<Option<Prediction>, AllocError>
+    ensures { IfOk result (λ r. r ≡ predict_in (values_in values.now)) }
+{
+    match text(values, "predict") {
+        Some(text) => read_prediction(alloc, text),
+        None => Ok(None),
+    }
 }
 
 // One number of a list of predictions.

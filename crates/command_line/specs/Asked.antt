@@ -1,0 +1,107 @@
+-- Which job the words of a command line ask for, over which files, or why none (own choice). Which
+-- subcommand the words name, and with which values, is what `clap` makes of them.
+use Rattle.std.specs.Prelude.{◌≡◌, ◌≢◌, ◌⊎◌, ℕ, true, List, [], Option, Some, None, Result, IsSome, IsSomeAnd, ⊤, if◌then◌else◌, codes, option_and_then, MatchResult, unwrap_or}
+use Rattle.std.specs.String.{string_bytes}
+use Rattle.std.specs.Str.Parse.{digits_value, without_leading_plus}
+use Rattle.clap.specs.Words.{Row, Text, first_of, found_of, kind_of, one_of, rows_of, subcommand_of}
+use Rattle.clap.specs.Faults.{fault_of}
+use Rattle.clap.specs.Kinds.{IsAmong}
+use Rattle.clap.specs.ValueTests.{is_unsigned_in}
+use Rattle.clap.specs.declared.parser.matches.ArgMatches.{ArgMatches}
+use Rattle.clap.specs.declared.error.kind.ErrorKind.TheVariants as kind
+use Rattle.clap.specs.declared.error.Error.{Error}
+use Rattle.jobs.specs.Files.{HasFilesOf, has_certificate, has_script}
+use Rattle.jobs.specs.declared.job.Emit.{Emit}
+use Rattle.jobs.specs.declared.job.RunEmit.{RunEmit}
+use Rattle.jobs.specs.declared.job.Prediction.{Prediction}
+use Rattle.jobs.specs.declared.job.Job.{Job}
+use Rattle.jobs.specs.declared.job.Job.TheVariants.{Seq, Print, Annotate, Check, Replay, Run}
+use Rattle.jobs.specs.declared.job.Paths.{Paths}
+use Rattle.command_line.specs.Words.{emit_of, prediction_of, run_emit_of}
+use Rattle.command_line.specs.CommandLine.{command_line}
+use Rattle.command_line.specs.declared.words.UsageFault.{UsageFault}
+use Rattle.command_line.specs.declared.words.UsageFault.TheVariants.{Words, Predict, Emit as EmitFault, OutOfMemory}
+
+-- the values of a subcommand's files and options
+abbrev pub values_in : ArgMatches → List Row
+values_in matches = rows_of (found_of matches)
+
+-- a number of 32 bits in decimal digits, where a plus may stand first
+abbrev pub number_of : Text → Option ℕ
+number_of text =
+    if is_unsigned_in 0 4294967295 text then Some (digits_value 10 (without_leading_plus text)) else None
+
+-- the values of an option with a number, of `--predict` and of `--emit`
+abbrev pub number_at : Text → List Row → Option ℕ
+number_at id values = option_and_then number_of (one_of id values)
+
+abbrev pub predict_in : List Row → Option Prediction
+predict_in values = option_and_then prediction_of (first_of (codes "predict") values)
+
+abbrev pub emit_in : List Row → Option Emit
+emit_in values = option_and_then emit_of (first_of (codes "emit") values)
+
+abbrev pub run_emit_in : List Row → Option RunEmit
+run_emit_in values = option_and_then run_emit_of (first_of (codes "emit") values)
+
+-- a subcommand of this name with these values gives the job
+abbrev pub Gives : Text → List Row → Job → Type 0
+Gives name values (Seq budget) =
+    (name ≡ codes "seq") × (number_at (codes "budget") values ≡ Some budget)
+Gives name values Print = name ≡ codes "print"
+Gives name values (Annotate emit) = (name ≡ codes "annotate") × (emit_in values ≡ Some emit)
+Gives name values (Check workers) =
+    (name ≡ codes "check") × (number_at (codes "workers") values ≡ Some workers)
+Gives name values (Replay units) =
+    (name ≡ codes "replay") × (number_at (codes "units") values ≡ Some units)
+Gives name values (Run units workers budget predict emit) = (name ≡ codes "run")
+    × (number_at (codes "units") values ≡ Some units)
+    × (workers ≡ unwrap_or (number_at (codes "workers") values) units)
+    × (number_at (codes "budget") values ≡ Some budget)
+    × (predict_in values ≡ Some predict) × (run_emit_in values ≡ Some emit)
+
+-- each file of the job has the name that stands in its place
+abbrev pub Names : List Row → Job → Paths → Type 0
+Names values job paths = (first_of (codes "program") values ≡ Some (string_bytes paths.program))
+    × (has_certificate job ≡ true → first_of (codes "certificate") values ≡ Some (string_bytes paths.certificate))
+    × (has_script job ≡ true → first_of (codes "script") values ≡ Some (string_bytes paths.script))
+
+-- the job and its files, of a subcommand with these values
+abbrev pub IsAsked : Text → List Row → Job → Paths → Type 0
+IsAsked name values job paths = Gives name values job × Names values job paths × HasFilesOf job paths
+
+-- the words ask for the job over these files: `clap` has no fault for them, and the subcommand that it
+-- makes of them gives the job
+abbrev pub AskFor : List Text → Job → Paths → Type 0
+AskFor words job paths = (fault_of command_line words ≡ [])
+    × IsSomeAnd (subcommand_of command_line words) (λ p. IsAsked p.0 p.1 job paths)
+
+-- the fault of a job that is not there, which `clap` leaves to no words
+abbrev pub IsNoJob : UsageFault → Type 0
+IsNoJob (Words error) = kind_of error ≡ kind.MissingSubcommand
+IsNoJob fault = fault ≡ OutOfMemory
+
+-- why a subcommand with these values gives no job
+abbrev pub Refuses : Text → List Row → UsageFault → Type 0
+Refuses name values Predict = (name ≡ codes "run") × (predict_in values ≡ None)
+Refuses name values EmitFault = ((name ≡ codes "annotate") × (emit_in values ≡ None))
+    ⊎ ((name ≡ codes "run") × IsSome (predict_in values) × (run_emit_in values ≡ None))
+Refuses name values fault = IsNoJob fault
+
+-- what reading a subcommand with these values comes to
+abbrev pub Reads : Text → List Row → Result (Job × Paths) UsageFault → Type 0
+Reads name values result = MatchResult result (λ r. IsAsked name values r.0 r.1) (Refuses name values)
+
+-- a fault of `clap`'s, or memory ran out
+abbrev pub IsFrom : Error → UsageFault → Type 0
+IsFrom error (Words same) = (same ≡ error) × (kind_of error ≢ kind.OutOfMemory)
+IsFrom error fault = (fault ≡ OutOfMemory) × (kind_of error ≡ kind.OutOfMemory)
+
+-- why the words ask for no job: `clap`'s fault has one of the kinds that it has for them, or the
+-- subcommand that it makes of them gives no job
+abbrev pub IsFaultOf : List Text → UsageFault → Type 0
+IsFaultOf words (Words error) =
+    IsAmong (kind_of error) (fault_of command_line words) ⊎ (kind_of error ≡ kind.MissingSubcommand)
+IsFaultOf words OutOfMemory = ⊤
+IsFaultOf words fault =
+    IsSomeAnd (subcommand_of command_line words) (λ p. Refuses p.0 p.1 fault)

@@ -1,0 +1,88 @@
+-- What the program takes on its command line: the subcommands, and the files and options of each (own choice).
+use Rattle.std.specs.Prelude.{◌≡◌, ℕ, pos, true, false, List, [], ◌∷◌, Some, codes}
+use Rattle.clap.specs.Words.{App, Rule, Shape, Text, app_of, new_rule}
+use Rattle.clap.specs.declared.builder.command.Command.TheViews.{out-Command as fields_of}
+use Rattle.clap.specs.Simple.{new_shape}
+use Rattle.clap.specs.declared.builder.ArgAction.TheVariants.{Set}
+use Rattle.clap.specs.declared.builder.Command.{Command}
+use Rattle.clap.specs.declared.builder.ValueParser.TheVariants.{Signed}
+
+-- a file, which has to be named
+abbrev pub file : Text → Rule
+file id = record (new_rule id) { action = Some Set; value_names = 1; required = true }
+
+-- an option `--id` with a word for its value, and the word that it has where it is not given
+abbrev pub word : Text → Text → Rule
+word id otherwise =
+    record (new_rule id) { long = Some id; action = Some Set; value_names = 1; defaults = otherwise ∷ [] }
+
+-- an option `--id` with a number 1..=most for its value; it need not be given
+abbrev pub free_number : Text → ℕ → Rule
+free_number id most = record (new_rule id) {
+  long = Some id;
+  action = Some Set;
+  value_names = 1;
+  parser = Some (Signed (pos 1) (pos most));
+}
+
+-- the same with the number that it has where it is not given
+abbrev pub number : Text → ℕ → Text → Rule
+number id most otherwise = record (free_number id most) { defaults = otherwise ∷ [] }
+
+abbrev pub program : Rule
+program = file (codes "program")
+
+abbrev pub certificate : Rule
+certificate = file (codes "certificate")
+
+abbrev pub script : Rule
+script = file (codes "script")
+
+abbrev pub budget : Rule
+budget = number (codes "budget") 1000000 (codes "1000000")
+
+abbrev pub units : Rule
+units = number (codes "units") 16 (codes "4")
+
+-- the threads of a check, and those of a run
+abbrev pub checkers : Rule
+checkers = number (codes "workers") 16 (codes "1")
+
+abbrev pub workers : Rule
+workers = free_number (codes "workers") 16
+
+abbrev pub subcommand : Text → List Rule → Shape
+subcommand name rules = record (new_shape name) { rules = rules }
+
+abbrev pub seq : Shape
+seq = subcommand (codes "seq") (program ∷ budget ∷ [])
+
+abbrev pub print : Shape
+print = subcommand (codes "print") (program ∷ [])
+
+abbrev pub annotate : Shape
+annotate = subcommand (codes "annotate") (program ∷ word (codes "emit") (codes "text") ∷ [])
+
+abbrev pub check : Shape
+check = subcommand (codes "check") (program ∷ certificate ∷ checkers ∷ [])
+
+abbrev pub replay : Shape
+replay = subcommand (codes "replay") (program ∷ certificate ∷ script ∷ units ∷ [])
+
+abbrev pub run : Shape
+run = subcommand (codes "run") (program ∷ certificate ∷ units ∷ workers ∷ budget
+    ∷ word (codes "predict") (codes "first") ∷ word (codes "emit") (codes "report") ∷ [])
+
+-- the program, of which a subcommand is wanted
+abbrev pub program_name : Shape
+program_name = record (new_shape (codes "multiscalar")) { subcommand_required = true }
+
+abbrev pub command_line : App
+command_line = record {
+  top = record program_name { is_leaf = false };
+  subs = seq ∷ print ∷ annotate ∷ check ∷ replay ∷ run ∷ [];
+}
+
+-- the command is the subcommand s, with no argument for other commands too
+abbrev pub IsSubcommand : Shape → Command → Type 0
+IsSubcommand s c = (app_of c ≡ record { top = s; subs = [] }) × ((fields_of c).has_globals ≡ false)

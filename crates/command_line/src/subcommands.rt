@@ -1,0 +1,202 @@
+//! What `clap` is told of the command line.
+ghost use Rattle.std.specs.Prelude.{◌≡◌, ◌≤◌, IfOk, false};
+ghost use Rattle.clap.specs.Words.{app_of, new_app, rule_of};
+ghost use Rattle.clap.specs.declared.builder.command.Command.TheViews.{out-Command as fields_of};
+ghost use Rattle.command_line.specs.CommandLine.{IsSubcommand, command_line, program_name as program_name_shape, file as file_rule, word as word_rule};
+ghost use Rattle.command_line.specs.CommandLine.{free_number as free_number_rule, number as number_rule};
+ghost use Rattle.command_line.specs.CommandLine.{program as program_rule, certificate as certificate_rule, script as script_rule};
+ghost use Rattle.command_line.specs.CommandLine.{budget as budget_rule, units as units_rule, checkers as checkers_rule, workers as workers_rule};
+ghost use Rattle.command_line.specs.CommandLine.{seq as seq_shape, print as print_shape, annotate as annotate_shape, check as check_shape, replay as replay_shape, run as run_shape};
+
+use crate::help;
+use clap::{Arg, ArgAction, Command, value_parser};
+use jobs::ranges::{MOST_BUDGET, MOST_UNITS};
+use std::alloc::{AllocError, Global};
+
+/// The whole command line. A subcommand is there once it stands here and in `read_job`.
+pub(crate) fn command<'a>(alloc: Global) -> Result<Command<'a>, AllocError>
+    ensures { IfOk result (λ c. app_of c ≡ command_line) }
+{
+    program_name(alloc)
+        .subcommand(seq(alloc)?)?
+        .subcommand(print(alloc)?)?
+        .subcommand(annotate(alloc)?)?
+        .subcommand(check(alloc)?)?
+        .subcommand(replay(alloc)?)?
+        .subcommand(run(alloc)?)
+}
+
+// The program, with no subcommand yet.
+fn program_name<'a>(alloc: Global) -> Command<'a>
+    ensures { IsSubcommand program_name_shape result }
+{
+    subcommand(alloc, "multiscalar", help::PROGRAM, help::PROGRAM_LONG)
+        .after_help(help::STATUS)
+        .subcommand_required(true)
+}
+
+// A file that the command line has to name.
+fn file<'a>(alloc: Global, id: &'a str, name: &'a str, text: &'a str) -> Arg<'a>
+    ensures rule { rule_of result ≡ file_rule id.entry.now }
+    ensures local { result.global ≡ false }
+{
+    Arg::new(alloc, id)
+        .value_name(name)
+        .help(text)
+        .required(true)
+        .action(ArgAction::Set)
+}
+
+// An option with a word for its value, and the word that it has where it is not given.
+fn word<'a>(alloc: Global, id: &'a str, name: &'a str, text: &'a str, otherwise: &'a str) -> Arg<'a>
+    ensures rule { rule_of result ≡ word_rule id.entry.now otherwise.entry.now }
+    ensures local { result.global ≡ false }
+{
+    Arg::new(alloc, id)
+        .long(id)
+        .value_name(name)
+        .help(text)
+        .action(ArgAction::Set)
+        .default_value(otherwise)
+}
+
+// An option with a number for its value, from 1; it need not be given.
+fn free_number<'a>(alloc: Global, id: &'a str, text: &'a str, most: u32) -> Arg<'a>
+    ensures rule { rule_of result ≡ free_number_rule id.entry.now most }
+    ensures local { result.global ≡ false }
+{
+    let range = value_parser!(u32).range(1..=i64::from(most));
+    Arg::new(alloc, id)
+        .long(id)
+        .value_name("N")
+        .help(text)
+        .action(ArgAction::Set)
+        .value_parser(range)
+}
+
+// An option with a number for its value, from 1, and the number that it has where it is not given.
+fn number<'a>(alloc: Global, id: &'a str, text: &'a str, most: u32, otherwise: &'a str) -> Arg<'a>
+    ensures rule { rule_of result ≡ number_rule id.entry.now most otherwise.entry.now }
+    ensures local { result.global ≡ false }
+{
+    free_number(alloc, id, text, most).default_value(otherwise)
+}
+
+fn program<'a>(alloc: Global) -> Arg<'a>
+    ensures rule { rule_of result ≡ program_rule }
+    ensures local { result.global ≡ false }
+{
+    file(alloc, "program", "PROGRAM", "The program text")
+}
+
+fn certificate<'a>(alloc: Global) -> Arg<'a>
+    ensures rule { rule_of result ≡ certificate_rule }
+    ensures local { result.global ≡ false }
+{
+    file(
+        alloc,
+        "certificate",
+        "CERT",
+        "The certificate of the program",
+    )
+}
+
+fn script<'a>(alloc: Global) -> Arg<'a>
+    ensures rule { rule_of result ≡ script_rule }
+    ensures local { result.global ≡ false }
+{
+    file(alloc, "script", "SCRIPT", "The events, one on a line")
+}
+
+fn budget<'a>(alloc: Global, text: &'a str) -> Arg<'a>
+    ensures rule { rule_of result ≡ budget_rule }
+    ensures local { result.global ≡ false }
+{
+    number(alloc, "budget", text, MOST_BUDGET, "1000000")
+}
+
+fn units<'a>(alloc: Global) -> Arg<'a>
+    ensures rule { rule_of result ≡ units_rule }
+    ensures local { result.global ≡ false }
+{
+    let text = "How many units the machine has, 1 to 16";
+    number(alloc, "units", text, MOST_UNITS, "4")
+}
+
+fn checkers<'a>(alloc: Global) -> Arg<'a>
+    ensures rule { rule_of result ≡ checkers_rule }
+    ensures local { result.global ≡ false }
+{
+    let text = "How many threads share the check, 1 to 16";
+    number(alloc, "workers", text, MOST_UNITS, "1")
+}
+
+fn workers<'a>(alloc: Global) -> Arg<'a>
+    ensures rule { rule_of result ≡ workers_rule }
+    ensures local { result.global ≡ false }
+{
+    free_number(alloc, "workers", help::RUN_WORKERS, MOST_UNITS)
+}
+
+// A subcommand with no arguments yet.
+fn subcommand<'a>(alloc: Global, name: &'a str, text: &'a str, long: &'a str) -> Command<'a>
+    ensures app { app_of result ≡ new_app name.entry.now }
+    ensures local { (fields_of result).has_globals ≡ false }
+{
+    Command::new(alloc, name).about(text).long_about(long)
+}
+
+fn seq<'a>(alloc: Global) -> Result<Command<'a>, AllocError>
+    ensures { IfOk result (IsSubcommand seq_shape) }
+{
+    subcommand(alloc, "seq", help::SEQ, help::SEQ_LONG)
+        .arg(program(alloc))?
+        .arg(budget(alloc, "The most instructions, 1 to 1000000"))
+}
+
+fn print<'a>(alloc: Global) -> Result<Command<'a>, AllocError>
+    ensures { IfOk result (IsSubcommand print_shape) }
+{
+    subcommand(alloc, "print", help::PRINT, help::PRINT_LONG).arg(program(alloc))
+}
+
+fn annotate<'a>(alloc: Global) -> Result<Command<'a>, AllocError>
+    ensures { IfOk result (IsSubcommand annotate_shape) }
+{
+    let emit = word(alloc, "emit", "WHAT", help::ANNOTATE_EMIT, "text");
+    subcommand(alloc, "annotate", help::ANNOTATE, help::ANNOTATE_LONG)
+        .arg(program(alloc))?
+        .arg(emit)
+}
+
+fn check<'a>(alloc: Global) -> Result<Command<'a>, AllocError>
+    ensures { IfOk result (IsSubcommand check_shape) }
+{
+    subcommand(alloc, "check", help::CHECK, help::CHECK_LONG)
+        .arg(program(alloc))?
+        .arg(certificate(alloc))?
+        .arg(checkers(alloc))
+}
+
+fn replay<'a>(alloc: Global) -> Result<Command<'a>, AllocError>
+    ensures { IfOk result (IsSubcommand replay_shape) }
+{
+    subcommand(alloc, "replay", help::REPLAY, help::REPLAY_LONG)
+        .arg(program(alloc))?
+        .arg(certificate(alloc))?
+        .arg(script(alloc))?
+        .arg(units(alloc))
+}
+
+fn run<'a>(alloc: Global) -> Result<Command<'a>, AllocError>
+    ensures { IfOk result (IsSubcommand run_shape) }
+{
+    subcommand(alloc, "run", help::RUN, help::RUN_LONG)
+        .arg(program(alloc))?
+        .arg(certificate(alloc))?
+        .arg(units(alloc))?
+        .arg(workers(alloc))?
+        .arg(budget(alloc, help::RUN_BUDGET))?
+        .arg(word(alloc, "predict", "HOW", help::PREDICT, "first"))?
+        .arg(word(alloc, "emit", "WHAT", help::RUN_EMIT, "report"))
+}
