@@ -1,5 +1,7 @@
 //! What the words of the command line ask for.
-ghost use Rattle.std.specs.Prelude.{IfOk};
+ghost use Rattle.std.specs.Prelude.{IfOk, map};
+ghost use Rattle.std.specs.String.{string_bytes};
+ghost use Rattle.command_line.specs.Asked.{AskFor};
 ghost use Rattle.jobs.specs.Files.{HasFilesOf};
 ghost use Rattle.program_edge.specs.Telling.{IsFaultOf};
 
@@ -21,7 +23,8 @@ pub fn asked<R: Env + AllocGlobal>(rt: &R) -> Result<(Job, Paths), Fault>
 
 /// The job that words ask for, or their fault. The first word is the program's own name. (own choice)
 pub fn asked_by(alloc: Global, words: &[String]) -> Result<(Job, Paths), Fault>
-    ensures { IfOk result (λ asked. HasFilesOf asked.0 asked.1) }
+    ensures files { IfOk result (λ asked. HasFilesOf asked.0 asked.1) }
+    ensures job { IfOk result (λ asked. AskFor (map string_bytes words.now) asked.0 asked.1) }
 {
     job_of(alloc, words).map_err(|fault| fault_of(alloc, fault))
 }
