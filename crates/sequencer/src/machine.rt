@@ -7,10 +7,10 @@ use machine_events::event::{Commit, Event, EventRun, Refused, Standing};
 use mark_checker::accept::Accepted;
 use mips_plain::memory::Memory;
 use mips_plain::number::{Place, Reg};
-use mips_plain::outcome::Read;
 use processor_steps::processor::{MOST_EVENTS, Processor};
 use std::alloc::Global;
 use std::marker::Model;
+use unit_core::read_log::ReadLog;
 
 /// The most units of a machine.
 pub const MOST_UNITS: u32 = 16;
@@ -309,8 +309,8 @@ impl<'a> Machine<'a> {
 
     /// What the instructions of the retired tasks read, the first first. They are the reads of the
     /// plain machine's first c instructions.
-    pub fn reads(&self) -> &[Read]
-        ensures value { result.now ≡ (state self.now).reads }
+    pub fn reads(&self) -> &ReadLog
+        ensures value { result.now.reads ≡ (state self.now).reads }
         ensures headline { Claims self.now.accepted.program (state self.now) }
     {
         self.claims();
@@ -344,6 +344,7 @@ impl<'a> Machine<'a> {
         ensures headline { Claims self.now.accepted.program (state self.now) }
     {
         self.claims();
+        self.is_known();
         let retired = self.processor.reads().len() as u64;
         match self.processor.unit(0) {
             Some(head) => (retired, retired + head.reads().len() as u64),
