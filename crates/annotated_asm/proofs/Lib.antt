@@ -1,2 +1,3 @@
 pub mod ItemSteps
 pub mod TableRows
+pub mod Knowns

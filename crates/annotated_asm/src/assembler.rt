@@ -17,11 +17,18 @@ use task_descriptor::program::{BuildFault, Program};
 fn program_of(alloc: Global, items: &[Item], layout: &Layout) -> Result<Program, AsmFault>
     ensures { Answers (λ p. p) result (program_of items.now layout.now) }
 {
-    check_names(&layout.labels, items)?;
     if is_beyond(layout.sizes) {
+        check_names(&layout.labels, items)?;
         return Err(AsmFault::Build(BuildFault::TooMany));
     }
-    let parts = parts_of(alloc, &layout.labels, items)?;
+    let parts = match parts_of(alloc, &layout.labels, items) {
+        Ok(parts) => parts,
+        Err(fault) => {
+            // A name that is not known comes before any other fault.
+            check_names(&layout.labels, items)?;
+            return Err(fault);
+        }
+    };
     match Program::build(parts) {
         Ok(program) => Ok(program),
         Err((_, fault)) => Err(AsmFault::Build(fault)),
