@@ -94,7 +94,11 @@ fn begins(first: Option<u8>) -> bool
 fn all_continue(bytes: &[u8]) -> bool
     ensures { result ≡ list_all continues_name_of bytes.now }
 {
-    bytes.iter().all(|byte| continues_name(*byte))
+    let mut all = true;
+    for byte in bytes {
+        all &= continues_name(*byte);
+    }
+    all
 }
 
 /// Whether a name may begin with this byte.
