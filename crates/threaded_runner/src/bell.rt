@@ -2,10 +2,14 @@
 
 use std::sync::atomic::{AtomicU64, Ordering};
 use std::sync::{Condvar, Mutex, MutexGuard, Wait};
+use std::{hint, thread};
 
-/// How often a worker looks whether its bell has rung before it sleeps: some microseconds, less than it
-/// takes to wake a thread that sleeps.
-const LOOKS: u32 = 200;
+/// How often a worker looks whether its bell has rung before it leaves its core to another thread for a
+/// moment.
+const LOOKS: u32 = 100;
+
+/// How often it does so before it sleeps: some tens of microseconds where no other thread wants the core.
+const ROUNDS: u32 = 200;
 
 /// What a worker with nothing to do waits for.
 #[derive(Drop)]
@@ -36,12 +40,23 @@ impl Bell {
 
     /// Looks for a while, without the lock, whether it has rung more often than so.
     pub(crate) fn listen(&self, heard: u64) {
-        for _ in 0..LOOKS {
-            if self.rings.load(Ordering::SeqCst) != heard {
+        for _ in 0..ROUNDS {
+            if self.rings_soon(heard) {
                 return;
             }
-            std::hint::spin_loop();
+            thread::yield_now();
         }
+    }
+
+    /// Whether it rings more often than so within a few looks.
+    fn rings_soon(&self, heard: u64) -> bool {
+        for _ in 0..LOOKS {
+            if self.rings() != heard {
+                return true;
+            }
+            hint::spin_loop();
+        }
+        false
     }
 
     /// Sleeps until it rings, or for no reason not so long; the lock is free meanwhile.
