@@ -270,7 +270,9 @@ fn expect_reads_of_count(rt: &impl Abort, machine: &Machine<'_>) {
         a: 0,
         b: 0,
     };
-    assert_eq!(rt; machine.reads().first().copied(), Some(first));
+    let (closed, current) = machine.reads().chunks();
+    assert!(rt; closed.is_empty());
+    assert_eq!(rt; current.first().copied(), Some(first));
 }
 
 // The Retire by which h grows brings what the next unit had executed ahead.

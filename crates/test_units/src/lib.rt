@@ -7,4 +7,6 @@ mod ports;
 #[cfg(test)]
 mod programs;
 #[cfg(test)]
+mod read_logs;
+#[cfg(test)]
 mod units;

@@ -1,0 +1,59 @@
+//! A log of reads: short logs are joined in one chunk, a long one is moved.
+
+use mips_plain::outcome::Read;
+use std::alloc::Global;
+use std::process::Abort;
+use unit_core::read_log::ReadLog;
+
+fn read_at(pc: u32) -> Read {
+    Read { pc, a: 0, b: 0 }
+}
+
+/// A log of so many reads, the addresses counting up from 0.
+fn log_of(rt: &impl Abort, alloc: Global, count: u32) -> ReadLog {
+    let mut log = ReadLog::new(alloc);
+    for pc in 0..count {
+        let room = log.reserve_one();
+        room.expect(rt, "room for a read");
+        log.push_reserved(read_at(pc));
+    }
+    log
+}
+
+#[test]
+fn short_logs_are_joined(rt: HostRuntime) {
+    let mut log = log_of(&rt, rt.alloc(), 3);
+    let mut other = log_of(&rt, rt.alloc(), 4);
+    assert!(rt; log.append(&mut other).is_ok());
+    assert_eq!(rt; (log.len(), other.len()), (7, 0));
+    let (closed, current) = log.chunks();
+    assert!(rt; closed.is_empty());
+    assert_eq!(rt; current.get(2).copied(), Some(read_at(2)));
+    assert_eq!(rt; current.get(3).copied(), Some(read_at(0)));
+    assert_eq!(rt; current.last().copied(), Some(read_at(3)));
+}
+
+#[test]
+fn long_log_is_moved(rt: HostRuntime) {
+    let mut log = log_of(&rt, rt.alloc(), 3);
+    let mut other = log_of(&rt, rt.alloc(), 1_200);
+    assert!(rt; log.append(&mut other).is_ok());
+    assert_eq!(rt; (log.len(), other.len()), (1_203, 0));
+    let (closed, current) = log.chunks();
+    assert_eq!(rt; closed.len(), 1);
+    assert_eq!(rt; closed.last().map(|chunk| chunk.len()), Some(3));
+    assert_eq!(rt; current.len(), 1_200);
+    assert_eq!(rt; current.last().copied(), Some(read_at(1_199)));
+}
+
+#[test]
+fn short_log_goes_behind_a_long_one(rt: HostRuntime) {
+    let mut log = log_of(&rt, rt.alloc(), 1_200);
+    let mut other = log_of(&rt, rt.alloc(), 2);
+    assert!(rt; log.append(&mut other).is_ok());
+    assert!(rt; log.append(&mut other).is_ok());
+    let (closed, current) = log.chunks();
+    assert_eq!(rt; closed.len(), 1);
+    assert_eq!(rt; current.len(), 2);
+    assert_eq!(rt; current.last().copied(), Some(read_at(1)));
+}
