@@ -10,7 +10,7 @@ wait for a core is not what is meant to be timed.
   parallel   forty tasks of some 20,000 register-only instructions; each needs
              one register of the one before, which is sent at once
   tiny       100,000 tasks of four instructions: 600,000 events with one
-             worker, some 800,000 with four, which pass registers on
+             worker, up to 900,000 with four, which pass registers on
   long       one task of 9,000, 90,000 and 900,000 instructions
   kernels    those of kernels/, with marks by `annotate`
 """

@@ -1,6 +1,6 @@
 //! Which units a worker serves, and the first of them that has something to do.
 
-ghost use Rattle.std.specs.Prelude.{◌≡◌, ◌<◌, IfSome};
+ghost use Rattle.std.specs.Prelude.{◌≡◌, IfSome, IfNone};
 ghost use Rattle.threaded_runner.specs.Turns.{IsTurn};
 
 use crate::deciding::{turn, turn_at_head};
@@ -21,12 +21,7 @@ pub(crate) struct Share {
 impl Share {
     /// Whether the worker serves a unit.
     fn has(self, unit: u32) -> bool {
-        match self.workers {
-            0 => false,
-            1 => true,
-            workers if workers == self.units => unit == self.worker,
-            workers => unit % workers == self.worker,
-        }
+        self.workers > 0 && unit % self.workers == self.worker
     }
 
     /// Whether one worker serves all units.
@@ -40,13 +35,14 @@ impl Share {
     pub(crate) fn first_turn(self, machine: &Machine<'_>) -> Option<(u32, Turn)>
         ensures { IfSome result (λ found. IsTurn machine.now found.0 found.1) }
     {
-        let head = machine.head_unit();
-        if !self.is_all() {
-            return self.first_turn_from(machine, head);
+        if self.workers == self.units {
+            return ready(self.worker, turn(machine, self.worker));
         }
-        match turn_at_head(machine, head) {
-            Turn::Wait => None,
-            ready => Some((head, ready)),
+        let head = machine.head_unit();
+        if self.is_all() {
+            ready(head, turn_at_head(machine, head))
+        } else {
+            self.first_turn_from(machine, head)
         }
     }
 
@@ -71,5 +67,17 @@ impl Share {
             }
         }
         None
+    }
+}
+
+/// A unit with its turn, unless it waits.
+#[inline]
+fn ready(unit: u32, turn: Turn) -> Option<(u32, Turn)>
+    ensures some { IfSome result (λ found. (found.0 ≡ unit) × (found.1 ≡ turn)) }
+    ensures none { IfNone result (turn ≡ Turn.Wait) }
+{
+    match turn {
+        Turn::Wait => None,
+        _ => Some((unit, turn)),
     }
 }
