@@ -9,7 +9,8 @@ use Rattle.std.proofs.lemmas.List.Quantifiers.{position-Some}
 use Rattle.std.proofs.lemmas.List.Sums.{fails_before_first}
 use Rattle.std.proofs.lemmas.Option.{slice_get_within, slice_get-get_or, get_or_from_slice_get}
 use Rattle.mips_plain.specs.Words.{has}
-use Rattle.mips_plain.specs.Instruction.{dests, released, general}
+use Rattle.mips_plain.specs.Instruction.{dests, released}
+use Rattle.mips_plain.specs.InstructionTable.{general}
 use Rattle.mips_plain.specs.declared.instruction.MoveToKind.TheVariants.{Mthi, Mtlo}
 use Rattle.mips_plain.specs.declared.instruction.Op.{Op}
 use Rattle.mips_plain.specs.declared.instruction.Op.TheVariants.{Three, ShiftBy, ShiftVar, Imm, Logic, Lui, Mult, MoveFrom, MoveTo, Load, Store, BranchTwo, BranchOne, Jump, JumpLink, JumpReg, JumpLinkReg, Out, Release, Halt}

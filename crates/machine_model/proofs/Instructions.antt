@@ -6,10 +6,10 @@ use Rattle.std.specs.Option.{option_map, option_and_then}
 use Rattle.std.proofs.lemmas.Bool.{and_right, cond-false, cond-true, and_from, le-leb, eq-eqb}
 use Rattle.std.proofs.lemmas.Option.{slice_get-map}
 use Rattle.mips_plain.specs.Words.{address, index_of}
-use Rattle.mips_plain.specs.Arithmetic.{two_taken, one_taken}
-use Rattle.mips_plain.specs.Instruction.{dests, general, alu, is_register_only, taken, turn, moved_to}
+use Rattle.mips_plain.specs.InstructionTable.{general, moved_to, load_size, two_taken, one_taken}
+use Rattle.mips_plain.specs.Instruction.{dests, alu, is_register_only, taken, turn}
 use Rattle.mips_plain.specs.Effect.{written, loaded, memory_after, output_after, outcome_after, outcome_of_load, may_run_ahead, is_fixed}
-use Rattle.mips_plain.specs.MemoryMap.{Region, Fixed, Ordinary, Nowhere, region, effective, load_size}
+use Rattle.mips_plain.specs.MemoryMap.{Region, Fixed, Ordinary, Nowhere, region, effective}
 use Rattle.mips_plain.specs.PlainMachine.{fetch}
 use Rattle.mips_plain.specs.declared.instruction.LoadKind.{LoadKind}
 use Rattle.mips_plain.specs.declared.instruction.MoveToKind.{MoveToKind}

@@ -2,7 +2,7 @@
 //! instruction table.
 
 ghost use Rattle.std.specs.Prelude.{◌≡◌, ◌<◌, ◌/◌, ◌%◌, ◌^◌};
-ghost use Rattle.mips_plain.specs.Arithmetic.{three_of, shift_by_of, shift_var_of, imm_of, logic_of, product_of, extended, two_taken, one_taken};
+ghost use Rattle.mips_plain.specs.InstructionTable.{three_of, shift_by_of, shift_var_of, imm_of, logic_of, product_of, extended, two_taken, one_taken};
 
 use crate::instruction::{
     BranchOneKind, BranchTwoKind, ImmKind, LogicKind, MultKind, ShiftByKind, ShiftVarKind,

@@ -3,8 +3,8 @@
 
 ghost use Rattle.std.specs.Prelude.{ℕ, ◌≡◌, ◌+◌, ◌-◌, ◌<◌, ◌≤◌, ◌⊎◌, ◌↔◌, ◌++◌, length, take, drop, replicate, vec_len, Ok, Err, Some, IfOk, IfErr, IfSome, OnErr, IsTrue};
 ghost use Rattle.mips_plain.specs.Words.{byte_of};
-ghost use Rattle.mips_plain.specs.Arithmetic.{extended};
-ghost use Rattle.mips_plain.specs.MemoryMap.{region, effective, number_at, load_size, store_size, put};
+ghost use Rattle.mips_plain.specs.InstructionTable.{load_size, extended, store_size};
+ghost use Rattle.mips_plain.specs.MemoryMap.{region, effective, number_at, put};
 ghost use Rattle.mips_plain.specs.Effect.{loaded, stored, outcome_of_load, outcome_of_store, fixed_load};
 ghost use Rattle.mips_plain.specs.Access.{is_load, is_store, load_at, store_at, outcome_at, spot_of, offset_of, offset_in_fixed, number_in, outcome_of_result};
 ghost use Rattle.mips_plain.specs.declared.instruction.LoadKind.TheVariants.{Lh, Lb};

@@ -3,7 +3,8 @@
 
 ghost use Rattle.std.specs.Prelude.{◌≡◌, ℕ, ◌<◌, ◌%◌, ◌^◌, ◌+◌, ◌/◌, ◌==◌, ◌||◌, if◌then◌else◌};
 ghost use Rattle.mips_plain.specs.Words.{HI, LO, has, address};
-ghost use Rattle.mips_plain.specs.Instruction.{source_a, source_b, is_source, waits, dests, general, alu, taken, turn, moved_from, moved_to};
+ghost use Rattle.mips_plain.specs.InstructionTable.{general, moved_from, moved_to};
+ghost use Rattle.mips_plain.specs.Instruction.{source_a, source_b, is_source, waits, dests, alu, taken, turn};
 
 use crate::arithmetic::{
     high, imm, logic, low, product, shift_by, shift_var, takes_one, takes_two, three,
