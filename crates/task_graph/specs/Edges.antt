@@ -6,9 +6,9 @@
 use Rattle.std.specs.Prelude.{◌≡◌, ℕ, ◌+◌, ◌<◌, Bool, true, false, not, ◌||◌, ◌&&◌, if◌then◌else◌, nat_eq, List, ◌++◌, length, slice_get, Option, Some, None}
 use Rattle.std.specs.Bool.{beq}
 use Rattle.std.specs.Option.{option_to_list}
+use Rattle.mips_plain.specs.InstructionTable.{Next, Following, Branch, ToPlace, ToAddress, Stay, row}
 use Rattle.mips_plain.specs.Instruction.{dests, released}
 use Rattle.mips_plain.specs.declared.instruction.Op.{Op}
-use Rattle.mips_plain.specs.declared.instruction.Op.TheVariants.{BranchTwo, BranchOne, Jump, JumpLink, JumpReg, JumpLinkReg, Halt}
 use Rattle.task_descriptor.specs.Listing.{Listing}
 use Rattle.task_descriptor.specs.declared.descriptor.Marked.{Marked}
 use Rattle.task_descriptor.specs.declared.descriptor.Stop.{Stop}
@@ -17,16 +17,15 @@ use Rattle.task_descriptor.specs.declared.descriptor.Stop.TheVariants as stop
 -- The index that the instruction `op` at `i` leads to, for a conditional branch when it is `taken`, or
 -- when it isn't. Only a conditional branch is ever taken. A jump to a register leads to no index that
 -- is known beforehand, and `halt` leads nowhere.
+abbrev pub edge_by : Next → ℕ → Bool → Option ℕ
+edge_by Following i false = Some (i + 1)
+edge_by (Branch _ place) i false = Some (i + 1)
+edge_by (Branch _ place) i true = Some place
+edge_by (ToPlace place) i false = Some place
+edge_by _ i _ = None
+
 abbrev pub edge : Op → ℕ → Bool → Option ℕ
-edge (BranchTwo _ _ _ place) i true = Some place
-edge (BranchOne _ _ place) i true = Some place
-edge (Jump place) i false = Some place
-edge (JumpLink place) i false = Some place
-edge (JumpReg _) i false = None
-edge (JumpLinkReg _ _) i false = None
-edge Halt i false = None
-edge _ i false = Some (i + 1)
-edge _ i true = None
+edge op i taken = edge_by (row op).next i taken
 
 -- Whether a task ends there: is the stop's condition met?
 abbrev pub leaves : Stop → Bool → Bool
@@ -73,7 +72,9 @@ abbrev pub sends : Marked → ℕ → Bool
 sends m r = (m.forward && dests m.op r) || released m.op r
 
 -- A jump to an address in a register.
+abbrev pub to_address : Next → Bool
+to_address ToAddress = true
+to_address _ = false
+
 abbrev pub is_indirect : Op → Bool
-is_indirect (JumpReg _) = true
-is_indirect (JumpLinkReg _ _) = true
-is_indirect _ = false
+is_indirect op = to_address (row op).next
