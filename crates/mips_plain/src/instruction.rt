@@ -1,7 +1,17 @@
 //! The instructions (MIPS manual, the integer instructions; `out`, `release` and `halt` are this
-//! project's own). Each `Kind` names the mnemonics of one row.
+//! project's own), and the parts of one that need no memory: its operands, its destinations, the word
+//! that it writes and the address that it goes to. Each `Kind` names the mnemonics of one row.
 
-use crate::number::{Amount, Gpr, Place, RegSet};
+ghost use Rattle.std.specs.Prelude.{◌≡◌, ℕ, ◌<◌, ◌%◌, ◌^◌, ◌+◌, ◌/◌, ◌==◌, ◌||◌, if◌then◌else◌};
+ghost use Rattle.mips_plain.specs.Words.{HI, LO, has, address};
+ghost use Rattle.mips_plain.specs.InstructionTable.{general, moved_from, moved_to};
+ghost use Rattle.mips_plain.specs.Instruction.{source_a, source_b, is_source, waits, dests, alu, taken, turn};
+
+use crate::arithmetic::{
+    high, imm, logic, low, product, shift_by, shift_var, takes_one, takes_two, three,
+};
+use crate::number::{Amount, Gpr, Place, Reg, RegSet};
+use crate::places::address_of;
 
 /// Operations on two registers.
 #[derive(Clone, Copy, Debug, PartialEq, Eq)]
@@ -146,4 +156,208 @@ pub enum Op {
     Release(RegSet),
     /// `halt`: ends the run.
     Halt,
+}
+
+/// The register that a move from HI or LO reads.
+#[inline]
+pub(crate) fn moved_register(kind: MoveFromKind) -> Reg
+    ensures { result ≡ moved_from kind }
+{
+    match kind {
+        MoveFromKind::Mfhi => Reg::HI,
+        MoveFromKind::Mflo => Reg::LO,
+    }
+}
+
+/// The register that a move to HI or LO writes.
+#[inline]
+pub(crate) fn target_register(kind: MoveToKind) -> Reg
+    ensures { result ≡ moved_to kind }
+{
+    match kind {
+        MoveToKind::Mthi => Reg::HI,
+        MoveToKind::Mtlo => Reg::LO,
+    }
+}
+
+/// The address of the instruction behind this one.
+#[inline]
+pub(crate) fn following(pc: u32) -> u32
+    ensures { result ≡ (pc + 4) % 2 ^ 32 }
+{
+    pc.wrapping_add(4)
+}
+
+/// A set with a register beside its members, if there is one.
+fn insert_some(set: RegSet, register: Option<Reg>) -> RegSet
+    ensures { (r : ℕ) → has result r ≡ (has set r || is_source register r) }
+{
+    match register {
+        Some(register) => set.insert(register),
+        None => set,
+    }
+}
+
+/// The set of a general register; without a member for register 0, to which nothing is written.
+fn general_set(register: Gpr) -> RegSet
+    ensures { (r : ℕ) → has result r ≡ general register r }
+{
+    if register.get() == 0 {
+        RegSet::empty()
+    } else {
+        RegSet::empty().insert(Reg::from(register))
+    }
+}
+
+/// The word for register r of an instruction that writes it to a general register.
+fn general_word(register: Gpr, r: Reg, word: u32) -> Option<u32>
+    ensures { result ≡ (if general register r then Some word else None) }
+{
+    if register.get() == r.get() && r.get() != 0 {
+        Some(word)
+    } else {
+        None
+    }
+}
+
+impl Op {
+    /// The registers of the operands a and b (MIPS manual); `None` where there is no such operand.
+    pub fn sources(&self) -> (Option<Reg>, Option<Reg>)
+        ensures first { result.0 ≡ source_a self.now }
+        ensures second { result.1 ≡ source_b self.now }
+    {
+        match *self {
+            Op::Three(_, _, rs, rt) => (Some(Reg::from(rs)), Some(Reg::from(rt))),
+            Op::ShiftBy(_, _, rt, _) => (Some(Reg::from(rt)), None),
+            Op::ShiftVar(_, _, rt, rs) => (Some(Reg::from(rt)), Some(Reg::from(rs))),
+            Op::Imm(_, _, rs, _) => (Some(Reg::from(rs)), None),
+            Op::Logic(_, _, rs, _) => (Some(Reg::from(rs)), None),
+            Op::Mult(_, rs, rt) => (Some(Reg::from(rs)), Some(Reg::from(rt))),
+            Op::MoveFrom(kind, _) => (Some(moved_register(kind)), None),
+            Op::MoveTo(_, rs) => (Some(Reg::from(rs)), None),
+            Op::Load(_, _, base, _) => (Some(Reg::from(base)), None),
+            Op::Store(_, rt, base, _) => (Some(Reg::from(base)), Some(Reg::from(rt))),
+            Op::BranchTwo(_, rs, rt, _) => (Some(Reg::from(rs)), Some(Reg::from(rt))),
+            Op::BranchOne(_, rs, _) => (Some(Reg::from(rs)), None),
+            Op::JumpReg(rs) | Op::JumpLinkReg(_, rs) | Op::Out(rs) => (Some(Reg::from(rs)), None),
+            Op::Lui(..) | Op::Jump(_) | Op::JumpLink(_) | Op::Release(_) | Op::Halt => (None, None),
+        }
+    }
+
+    /// The registers that must have a value before the instruction is executed: its operands; for a
+    /// `release` the registers that it names (own choice).
+    pub fn waits(&self) -> RegSet
+        ensures { (r : ℕ) → has result r ≡ waits self.now r }
+    {
+        if let Op::Release(set) = *self {
+            return set;
+        }
+        let (a, b) = self.sources();
+        insert_some(insert_some(RegSet::empty(), a), b)
+    }
+
+    /// The registers that the instruction writes, never register 0.
+    pub fn dests(&self) -> RegSet
+        ensures { (r : ℕ) → has result r ≡ dests self.now r }
+    {
+        match *self {
+            Op::Three(_, rd, _, _) => general_set(rd),
+            Op::ShiftBy(_, rd, _, _) => general_set(rd),
+            Op::ShiftVar(_, rd, _, _) => general_set(rd),
+            Op::Imm(_, rt, _, _) => general_set(rt),
+            Op::Logic(_, rt, _, _) => general_set(rt),
+            Op::Lui(rt, _) => general_set(rt),
+            Op::Mult(..) => RegSet::empty().insert(Reg::HI).insert(Reg::LO),
+            Op::MoveFrom(_, rd) => general_set(rd),
+            Op::MoveTo(kind, _) => RegSet::empty().insert(target_register(kind)),
+            Op::Load(_, rt, _, _) => general_set(rt),
+            Op::JumpLink(_) => RegSet::empty().insert(Reg::LINK),
+            Op::JumpLinkReg(rd, _) => general_set(rd),
+            Op::Store(..)
+            | Op::BranchTwo(..)
+            | Op::BranchOne(..)
+            | Op::Jump(_)
+            | Op::JumpReg(_)
+            | Op::Out(_)
+            | Op::Release(_)
+            | Op::Halt => RegSet::empty(),
+        }
+    }
+
+    /// The word that an instruction which touches registers alone, at the address pc with the operands
+    /// a and b, writes to register r; `None` where r is no destination of it, and for a load, a store,
+    /// `out` and `halt`.
+    pub fn alu(&self, a: u32, b: u32, pc: u32, r: Reg) -> Option<u32>
+        ensures { result ≡ alu self.now a b pc r }
+    {
+        match *self {
+            Op::Three(kind, rd, _, _) => general_word(rd, r, three(kind, a, b)),
+            Op::ShiftBy(kind, rd, _, amount) => general_word(rd, r, shift_by(kind, a, amount)),
+            Op::ShiftVar(kind, rd, _, _) => general_word(rd, r, shift_var(kind, a, b)),
+            Op::Imm(kind, rt, _, n) => general_word(rt, r, imm(kind, a, n)),
+            Op::Logic(kind, rt, _, n) => general_word(rt, r, logic(kind, a, n)),
+            Op::Lui(rt, n) => general_word(rt, r, u32::from(n) << 16),
+            Op::Mult(kind, _, _) => product_word(product(kind, a, b), r),
+            Op::MoveFrom(_, rd) => general_word(rd, r, a),
+            Op::MoveTo(kind, _) => if target_register(kind) == r {
+                Some(a)
+            } else {
+                None
+            },
+            Op::JumpLink(_) => if r == Reg::LINK {
+                Some(following(pc))
+            } else {
+                None
+            },
+            Op::JumpLinkReg(rd, _) => general_word(rd, r, following(pc)),
+            Op::Load(..)
+            | Op::Store(..)
+            | Op::BranchTwo(..)
+            | Op::BranchOne(..)
+            | Op::Jump(_)
+            | Op::JumpReg(_)
+            | Op::Out(_)
+            | Op::Release(_)
+            | Op::Halt => None,
+        }
+    }
+
+    /// The address of the next instruction, with the operands a and b at the address pc; a `halt`
+    /// stays where it is.
+    pub fn turn(&self, a: u32, b: u32, pc: u32) -> u32
+        ensures { result ≡ turn self.now a b pc }
+    {
+        match *self {
+            Op::BranchTwo(kind, _, _, place) if takes_two(kind, a, b) => address_of(place.get()),
+            Op::BranchOne(kind, _, place) if takes_one(kind, a) => address_of(place.get()),
+            Op::Jump(place) | Op::JumpLink(place) => address_of(place.get()),
+            Op::JumpReg(_) | Op::JumpLinkReg(..) => a,
+            Op::Halt => pc,
+            _ => following(pc),
+        }
+    }
+
+    /// Whether a conditional branch with these operands is taken; false for all else.
+    pub fn taken(&self, a: u32, b: u32) -> bool
+        ensures { result ≡ taken self.now a b }
+    {
+        match *self {
+            Op::BranchTwo(kind, _, _, _) => takes_two(kind, a, b),
+            Op::BranchOne(kind, _, _) => takes_one(kind, a),
+            _ => false,
+        }
+    }
+}
+
+/// The word of a product for register r: the high half for HI, the low half for LO.
+fn product_word(product: u64, r: Reg) -> Option<u32>
+    ensures { result ≡ (if r == HI || r == LO then Some (if r == HI then product / 2 ^ 32 else product % 2 ^ 32) else None) }
+{
+    if r == Reg::HI {
+        Some(high(product))
+    } else if r == Reg::LO {
+        Some(low(product))
+    } else {
+        None
+    }
 }

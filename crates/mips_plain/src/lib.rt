@@ -10,7 +10,6 @@ pub mod instruction;
 pub mod memory;
 pub mod number;
 pub mod outcome;
-pub mod parts;
 pub mod places;
 pub mod plain;
 pub(crate) mod processor;

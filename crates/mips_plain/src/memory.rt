@@ -126,6 +126,19 @@ fn half_signed(half: u16) -> u32
     i32::from(half.cast_signed()).cast_unsigned()
 }
 
+/// The word that a load of a kind makes of the word, the half or the byte that it reads.
+macro_rules! loaded {
+    ($kind:expr, $word:expr, $half:expr, $byte:expr) => {
+        match $kind {
+            LoadKind::Lw => $word,
+            LoadKind::Lh => half_signed($half),
+            LoadKind::Lhu => u32::from($half),
+            LoadKind::Lb => byte_signed($byte),
+            LoadKind::Lbu => u32::from($byte),
+        }
+    };
+}
+
 /// Writes some bytes at an offset.
 #[inline(always)]
 fn write_at(bytes: &mut Vec<u8>, at: usize, new: &[u8])
@@ -219,13 +232,7 @@ impl Memory {
         ensures value { IfOk result (λ word. loaded kind (region (load_size kind) at) (byte_of self.now.fixed) (byte_of self.now.bytes) ≡ Some word) }
         ensures trap { IfErr result (λ trap. outcome_of_load (region (load_size kind) at) ≡ Trapped trap) }
     {
-        Ok(match kind {
-            LoadKind::Lw => self.word(at)?,
-            LoadKind::Lh => half_signed(self.half(at)?),
-            LoadKind::Lhu => u32::from(self.half(at)?),
-            LoadKind::Lb => byte_signed(self.byte(at)?),
-            LoadKind::Lbu => u32::from(self.byte(at)?),
-        })
+        Ok(loaded!(kind, self.word(at)?, self.half(at)?, self.byte(at)?))
     }
 
     /// Puts the low bytes of a word at an address of data memory.
@@ -352,12 +359,11 @@ impl Op {
             return None;
         };
         let at = effective_address(a, n);
-        Some(match kind {
-            LoadKind::Lw => fixed_word(fixed, fixed_offset(4, at)?),
-            LoadKind::Lh => half_signed(fixed_half(fixed, fixed_offset(2, at)?)),
-            LoadKind::Lhu => u32::from(fixed_half(fixed, fixed_offset(2, at)?)),
-            LoadKind::Lb => byte_signed(fixed_byte(fixed, fixed_offset(1, at)?)),
-            LoadKind::Lbu => u32::from(fixed_byte(fixed, fixed_offset(1, at)?)),
-        })
+        Some(loaded!(
+            kind,
+            fixed_word(fixed, fixed_offset(4, at)?),
+            fixed_half(fixed, fixed_offset(2, at)?),
+            fixed_byte(fixed, fixed_offset(1, at)?)
+        ))
     }
 }
