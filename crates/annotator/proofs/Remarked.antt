@@ -10,10 +10,9 @@ use Rattle.std.proofs.lemmas.List.Sums.{fails_before_first}
 use Rattle.std.proofs.lemmas.Option.{slice_get_within, slice_get-get_or, get_or_from_slice_get}
 use Rattle.mips_plain.specs.Words.{has}
 use Rattle.mips_plain.specs.Instruction.{dests, released}
-use Rattle.mips_plain.specs.InstructionTable.{general}
-use Rattle.mips_plain.specs.declared.instruction.MoveToKind.TheVariants.{Mthi, Mtlo}
+use Rattle.mips_plain.proofs.RowLemmas.{zero_not_dest}
 use Rattle.mips_plain.specs.declared.instruction.Op.{Op}
-use Rattle.mips_plain.specs.declared.instruction.Op.TheVariants.{Three, ShiftBy, ShiftVar, Imm, Logic, Lui, Mult, MoveFrom, MoveTo, Load, Store, BranchTwo, BranchOne, Jump, JumpLink, JumpReg, JumpLinkReg, Out, Release, Halt}
+use Rattle.mips_plain.specs.declared.instruction.Op.TheVariants.{Release}
 use Rattle.task_descriptor.specs.Listing.{Listing, IsWellFormed, is_too_many, has_no_task, has_bad_entry, collide, has_duplicate, has_bad_mask, is_bad_mark, has_destination, stop_fits, release_fits, starts_at_no_entry, mark_fault, registers, build_fault}
 use Rattle.task_descriptor.specs.WellFormed.{passes}
 use Rattle.task_descriptor.specs.declared.descriptor.Marked.{Marked}
@@ -169,37 +168,7 @@ forward_fits p i m well there forward =
     has_one true false stop release h e = absurd (cc)
     has_one false some stop release h e = absurd (cc)
 
--- register 0 is no destination, and is released by no instruction of a well-formed program
-not_general : (rd : ℕ) → general rd 0 ≡ false
-not_general rd = and_false (nat_eq rd 0)
-  where
-    and_false : (b : Bool) → (b && false) ≡ false
-    and_false true = refl
-    and_false false = refl
-
-not_written : (op : Op) → dests op 0 ≡ false
-not_written (Three kind rd rs rt) = not_general rd
-not_written (ShiftBy kind rd rt amount) = not_general rd
-not_written (ShiftVar kind rd rt rs) = not_general rd
-not_written (Imm kind rt rs n) = not_general rt
-not_written (Logic kind rt rs n) = not_general rt
-not_written (Lui rt n) = not_general rt
-not_written (Mult kind rs rt) = refl
-not_written (MoveFrom kind rd) = not_general rd
-not_written (MoveTo Mthi rs) = refl
-not_written (MoveTo Mtlo rs) = refl
-not_written (Load kind rt base n) = not_general rt
-not_written (Store kind rt base n) = refl
-not_written (BranchTwo kind rs rt place) = refl
-not_written (BranchOne kind rs place) = refl
-not_written (Jump place) = refl
-not_written (JumpLink place) = refl
-not_written (JumpReg rs) = refl
-not_written (JumpLinkReg rd rs) = not_general rd
-not_written (Out rs) = refl
-not_written (Release set) = refl
-not_written Halt = refl
-
+-- register 0 is released by no instruction of a well-formed program
 not_released : (op : Op) → not (release_fits op) ≡ false → released op 0 ≡ false
 not_released (Release set) h = right_false (list_any (has set) registers) (has set 0) h
   where
@@ -207,30 +176,12 @@ not_released (Release set) h = right_false (list_any (has set) registers) (has s
     right_false true true h = absurd (cc)
     right_false true false h = refl
     right_false false b h = absurd (cc)
-not_released (Three kind rd rs rt) h = refl
-not_released (ShiftBy kind rd rt amount) h = refl
-not_released (ShiftVar kind rd rt rs) h = refl
-not_released (Imm kind rt rs n) h = refl
-not_released (Logic kind rt rs n) h = refl
-not_released (Lui rt n) h = refl
-not_released (Mult kind rs rt) h = refl
-not_released (MoveFrom kind rd) h = refl
-not_released (MoveTo kind rs) h = refl
-not_released (Load kind rt base n) h = refl
-not_released (Store kind rt base n) h = refl
-not_released (BranchTwo kind rs rt place) h = refl
-not_released (BranchOne kind rs place) h = refl
-not_released (Jump place) h = refl
-not_released (JumpLink place) h = refl
-not_released (JumpReg rs) h = refl
-not_released (JumpLinkReg rd rs) h = refl
-not_released (Out rs) h = refl
-not_released Halt h = refl
+not_released _ h = refl
 
 -- register 0 is produced by no instruction of a well-formed program
 zero_never : (p : Listing) (d : Descriptor) → IsWellFormed p → Produces p d 0 → ⊥
 zero_never p d well w = elim (or_cases (dests w.at.op 0) (released w.at.op 0) w.produced) [
-  | inl a ↦ both (dests w.at.op 0) (not_written w.at.op) a
+  | inl a ↦ both (dests w.at.op 0) (zero_not_dest w.at.op) a
   | inr b ↦ both (released w.at.op 0) (not_released w.at.op (release_part w.at (fails_at is_bad_mark p.code (passes p well).marks w.place w.at w.is_there))) b
 ]
   where

@@ -6,14 +6,12 @@ use Rattle.std.specs.Option.{option_map, option_and_then}
 use Rattle.std.proofs.lemmas.Bool.{and_right, cond-false, cond-true, and_from, le-leb, eq-eqb}
 use Rattle.std.proofs.lemmas.Option.{slice_get-map}
 use Rattle.mips_plain.specs.Words.{address, index_of}
-use Rattle.mips_plain.specs.InstructionTable.{general, moved_to, load_size, two_taken, one_taken}
+use Rattle.mips_plain.specs.InstructionTable.{load_size, two_taken, one_taken}
 use Rattle.mips_plain.specs.Instruction.{dests, alu, is_register_only, taken, turn}
 use Rattle.mips_plain.specs.Effect.{written, loaded, memory_after, output_after, outcome_after, outcome_of_load, may_run_ahead, is_fixed}
 use Rattle.mips_plain.specs.MemoryMap.{Region, Fixed, Ordinary, Nowhere, region, effective}
 use Rattle.mips_plain.specs.PlainMachine.{fetch}
 use Rattle.mips_plain.specs.declared.instruction.LoadKind.{LoadKind}
-use Rattle.mips_plain.specs.declared.instruction.MoveToKind.{MoveToKind}
-use Rattle.mips_plain.specs.declared.instruction.MoveToKind.TheVariants.{Mthi, Mtlo}
 use Rattle.mips_plain.specs.declared.instruction.Op.{Op}
 use Rattle.mips_plain.specs.declared.instruction.Op.TheVariants.{Three, ShiftBy, ShiftVar, Imm, Logic, Lui, Mult, MoveFrom, MoveTo, Load, Store, BranchTwo, BranchOne, Jump, JumpLink, JumpReg, JumpLinkReg, Out, Halt}
 use Rattle.mips_plain.specs.declared.outcome.Outcome.TheVariants.{Running}
@@ -77,27 +75,6 @@ ended_writes (Load kind rt base n) a b pc fixed memory r never =
 ended_writes (Store kind rt base n) a b pc fixed memory r never = refl
 ended_writes Halt a b pc fixed memory r never = refl
 ended_writes _ a b pc fixed memory r never = absurd (never refl)
-
-general_zero : (rd : ℕ) → general rd 0 ≡ false
-general_zero rd = and_right (nat_eq rd 0) false refl
-
-move_zero : (kind : MoveToKind) → nat_eq (moved_to kind) 0 ≡ false
-move_zero Mthi = refl
-move_zero Mtlo = refl
-
-pub zero_not_dest : (op : Op) → dests op 0 ≡ false
-zero_not_dest (Three kind rd rs rt) = general_zero rd
-zero_not_dest (ShiftBy kind rd rt amount) = general_zero rd
-zero_not_dest (ShiftVar kind rd rt rs) = general_zero rd
-zero_not_dest (Imm kind rt rs n) = general_zero rt
-zero_not_dest (Logic kind rt rs n) = general_zero rt
-zero_not_dest (Lui rt n) = general_zero rt
-zero_not_dest (Mult kind rs rt) = refl
-zero_not_dest (MoveFrom kind rd) = general_zero rd
-zero_not_dest (MoveTo kind rs) = move_zero kind
-zero_not_dest (Load kind rt base n) = general_zero rt
-zero_not_dest (JumpLinkReg rd rs) = general_zero rd
-zero_not_dest _ = refl
 
 -- Addresses
 

@@ -17,7 +17,8 @@ use Rattle.task_graph.specs.Edges.{Edge, Path, stay, onward, MayWrite, leaves, i
 use Rattle.task_graph.specs.Soundness.{Sound, SoundTask}
 use Rattle.machine_model.specs.Machine.{task_at, no_task, creates}
 use Rattle.machine_model.specs.Claims.{plain_of, reads_of}
-use Rattle.machine_model.proofs.Instructions.{written_dest, zero_not_dest, address_back, fetch_marked, Leads, leads_on}
+use Rattle.mips_plain.proofs.RowLemmas.{zero_not_dest}
+use Rattle.machine_model.proofs.Instructions.{written_dest, address_back, fetch_marked, Leads, leads_on}
 
 -- One step
 

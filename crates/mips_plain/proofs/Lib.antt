@@ -6,3 +6,4 @@ pub mod SpareLemmas
 pub mod DecodingLemmas
 pub mod RunLemmas
 pub mod DrivingLemmas
+pub mod RowLemmas
