@@ -61,26 +61,12 @@ pub record IsOperation (tokens : List Token) : Type 0 where
   pub plain : list_all is_plain operands ≡ true
 
 pub op_is : (tasks : List Descriptor) (o : Op) → IsOperation (op_tokens tasks o)
-op_is tasks (Three k rd rs rt) = record { name = _; operands = _; same = refl; plain = refl }
-op_is tasks (ShiftBy k rd rt n) = record { name = _; operands = _; same = refl; plain = refl }
-op_is tasks (ShiftVar k rd rt rs) = record { name = _; operands = _; same = refl; plain = refl }
-op_is tasks (Imm k rt rs n) = record { name = _; operands = _; same = refl; plain = refl }
-op_is tasks (Logic k rt rs n) = record { name = _; operands = _; same = refl; plain = refl }
-op_is tasks (Lui rt n) = record { name = _; operands = _; same = refl; plain = refl }
-op_is tasks (Mult k rs rt) = record { name = _; operands = _; same = refl; plain = refl }
-op_is tasks (MoveFrom k rd) = record { name = _; operands = _; same = refl; plain = refl }
-op_is tasks (MoveTo k rs) = record { name = _; operands = _; same = refl; plain = refl }
-op_is tasks (Load k rt base n) = record { name = _; operands = _; same = refl; plain = refl }
-op_is tasks (Store k rt base n) = record { name = _; operands = _; same = refl; plain = refl }
 op_is tasks (BranchTwo k rs rt place) = record { name = _; operands = _; same = refl; plain = and_from _ true (place_plain (find (λ t. t.entry == place) tasks) place) refl }
 op_is tasks (BranchOne k rs place) = record { name = _; operands = _; same = refl; plain = and_from _ true (place_plain (find (λ t. t.entry == place) tasks) place) refl }
 op_is tasks (Jump place) = record { name = _; operands = _; same = refl; plain = and_from _ true (place_plain (find (λ t. t.entry == place) tasks) place) refl }
 op_is tasks (JumpLink place) = record { name = _; operands = _; same = refl; plain = and_from _ true (place_plain (find (λ t. t.entry == place) tasks) place) refl }
-op_is tasks (JumpReg rs) = record { name = _; operands = _; same = refl; plain = refl }
-op_is tasks (JumpLinkReg rd rs) = record { name = _; operands = _; same = refl; plain = refl }
-op_is tasks (Out rs) = record { name = _; operands = _; same = refl; plain = refl }
 op_is tasks (Release set) = record { name = _; operands = _; same = refl; plain = registers_plain (members set) }
-op_is tasks Halt = record { name = _; operands = _; same = refl; plain = refl }
+op_is tasks _ = record { name = _; operands = _; same = refl; plain = refl }
 
 -- Nothing before it is a label.
 

@@ -75,26 +75,8 @@ laid_tasks tasks n (task ∷ others) c b f labels names started apart new =
 -- The code.
 
 one_word : (tasks : List Descriptor) (o : Op) → instruction_count (written tasks o) ≡ 1
-one_word tasks (Three k rd rs rt) = refl
-one_word tasks (ShiftBy k rd rt n) = refl
-one_word tasks (ShiftVar k rd rt rs) = refl
-one_word tasks (Imm k rt rs n) = refl
-one_word tasks (Logic k rt rs n) = refl
-one_word tasks (Lui rt n) = refl
-one_word tasks (Mult k rs rt) = refl
-one_word tasks (MoveFrom k rd) = refl
-one_word tasks (MoveTo k rs) = refl
-one_word tasks (Load k rt base n) = refl
-one_word tasks (Store k rt base n) = refl
-one_word tasks (BranchTwo k rs rt place) = refl
-one_word tasks (BranchOne k rs place) = refl
-one_word tasks (Jump place) = refl
-one_word tasks (JumpLink place) = refl
-one_word tasks (JumpReg rs) = refl
-one_word tasks (JumpLinkReg rd rs) = refl
-one_word tasks (Out rs) = refl
-one_word tasks (Release set) = refl
 one_word tasks Halt = refl
+one_word tasks _ = refl
 
 one_instruction : (tasks : List Descriptor) (m : Marked) (index : ℕ) → index + 1 ≤ 4096 → counted index (instruction_count (written tasks m.op)) ≡ index + 1
 one_instruction tasks m index small = ap (counted index) (one_word tasks m.op) ∙ omega arith

@@ -78,67 +78,51 @@ written tasks o = instruction.One o
 
 three_found : (k : ThreeKind) → mnemonic_named (three_name k) mnemonics ≡ Some (mnemonic.Three k)
 three_found Addu = refl
-three_found Subu = refl
-three_found And = refl
-three_found Or = refl
-three_found Xor = refl
-three_found Nor = refl
-three_found Slt = refl
-three_found Sltu = refl
+three_found _ = refl
 
 shift_by_found : (k : ShiftByKind) → mnemonic_named (shift_by_name k) mnemonics ≡ Some (mnemonic.ShiftBy k)
 shift_by_found Sll = refl
-shift_by_found Srl = refl
-shift_by_found Sra = refl
+shift_by_found _ = refl
 
 shift_var_found : (k : ShiftVarKind) → mnemonic_named (shift_var_name k) mnemonics ≡ Some (mnemonic.ShiftVar k)
 shift_var_found Sllv = refl
-shift_var_found Srlv = refl
-shift_var_found Srav = refl
+shift_var_found _ = refl
 
 imm_found : (k : ImmKind) → mnemonic_named (imm_name k) mnemonics ≡ Some (mnemonic.Imm k)
 imm_found Addiu = refl
-imm_found Slti = refl
-imm_found Sltiu = refl
+imm_found _ = refl
 
 logic_found : (k : LogicKind) → mnemonic_named (logic_name k) mnemonics ≡ Some (mnemonic.Logic k)
 logic_found Andi = refl
-logic_found Ori = refl
-logic_found Xori = refl
+logic_found _ = refl
 
 mult_found : (k : MultKind) → mnemonic_named (mult_name k) mnemonics ≡ Some (mnemonic.Mult k)
 mult_found mult.Mult = refl
-mult_found mult.Multu = refl
+mult_found _ = refl
 
 move_from_found : (k : MoveFromKind) → mnemonic_named (move_from_name k) mnemonics ≡ Some (mnemonic.MoveFrom k)
 move_from_found Mfhi = refl
-move_from_found Mflo = refl
+move_from_found _ = refl
 
 move_to_found : (k : MoveToKind) → mnemonic_named (move_to_name k) mnemonics ≡ Some (mnemonic.MoveTo k)
 move_to_found Mthi = refl
-move_to_found Mtlo = refl
+move_to_found _ = refl
 
 load_found : (k : LoadKind) → mnemonic_named (load_name k) mnemonics ≡ Some (mnemonic.Load k)
 load_found Lw = refl
-load_found Lh = refl
-load_found Lhu = refl
-load_found Lb = refl
-load_found Lbu = refl
+load_found _ = refl
 
 store_found : (k : StoreKind) → mnemonic_named (store_name k) mnemonics ≡ Some (mnemonic.Store k)
 store_found Sw = refl
-store_found Sh = refl
-store_found Sb = refl
+store_found _ = refl
 
 branch_two_found : (k : BranchTwoKind) → mnemonic_named (branch_two_name k) mnemonics ≡ Some (mnemonic.BranchTwo k)
 branch_two_found Beq = refl
-branch_two_found Bne = refl
+branch_two_found _ = refl
 
 branch_one_found : (k : BranchOneKind) → mnemonic_named (branch_one_name k) mnemonics ≡ Some (mnemonic.BranchOne k)
 branch_one_found Blez = refl
-branch_one_found Bgtz = refl
-branch_one_found Bltz = refl
-branch_one_found Bgez = refl
+branch_one_found _ = refl
 
 -- an instruction's name gives its row
 from_row : (name : List ℕ) (m : Mnemonic) (operands : List Token) (i : Instruction) → mnemonic_named name mnemonics ≡ Some m

@@ -124,67 +124,51 @@ members_below set = filter_keeps (λ r. r < 34) (has set) registers (recursion_f
 
 pub three_named : (k : ThreeKind) → is_name (three_name k) ≡ true
 three_named Addu = refl
-three_named Subu = refl
-three_named And = refl
-three_named Or = refl
-three_named Xor = refl
-three_named Nor = refl
-three_named Slt = refl
-three_named Sltu = refl
+three_named _ = refl
 
 pub shift_by_named : (k : ShiftByKind) → is_name (shift_by_name k) ≡ true
 shift_by_named Sll = refl
-shift_by_named Srl = refl
-shift_by_named Sra = refl
+shift_by_named _ = refl
 
 pub shift_var_named : (k : ShiftVarKind) → is_name (shift_var_name k) ≡ true
 shift_var_named Sllv = refl
-shift_var_named Srlv = refl
-shift_var_named Srav = refl
+shift_var_named _ = refl
 
 pub imm_named : (k : ImmKind) → is_name (imm_name k) ≡ true
 imm_named Addiu = refl
-imm_named Slti = refl
-imm_named Sltiu = refl
+imm_named _ = refl
 
 pub logic_named : (k : LogicKind) → is_name (logic_name k) ≡ true
 logic_named Andi = refl
-logic_named Ori = refl
-logic_named Xori = refl
+logic_named _ = refl
 
 pub mult_named : (k : MultKind) → is_name (mult_name k) ≡ true
 mult_named mult.Mult = refl
-mult_named mult.Multu = refl
+mult_named _ = refl
 
 pub move_from_named : (k : MoveFromKind) → is_name (move_from_name k) ≡ true
 move_from_named Mfhi = refl
-move_from_named Mflo = refl
+move_from_named _ = refl
 
 pub move_to_named : (k : MoveToKind) → is_name (move_to_name k) ≡ true
 move_to_named Mthi = refl
-move_to_named Mtlo = refl
+move_to_named _ = refl
 
 pub load_named : (k : LoadKind) → is_name (load_name k) ≡ true
 load_named Lw = refl
-load_named Lh = refl
-load_named Lhu = refl
-load_named Lb = refl
-load_named Lbu = refl
+load_named _ = refl
 
 pub store_named : (k : StoreKind) → is_name (store_name k) ≡ true
 store_named Sw = refl
-store_named Sh = refl
-store_named Sb = refl
+store_named _ = refl
 
 pub branch_two_named : (k : BranchTwoKind) → is_name (branch_two_name k) ≡ true
 branch_two_named Beq = refl
-branch_two_named Bne = refl
+branch_two_named _ = refl
 
 pub branch_one_named : (k : BranchOneKind) → is_name (branch_one_name k) ≡ true
 branch_one_named Blez = refl
-branch_one_named Bgtz = refl
-branch_one_named Bltz = refl
-branch_one_named Bgez = refl
+branch_one_named _ = refl
 
 -- Instructions.
 

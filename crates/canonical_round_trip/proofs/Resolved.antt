@@ -74,26 +74,11 @@ tasks_known labels tasks n (t ∷ ts) h others =
     (and_from _ _ (ap is_some others.0.0) (places_known labels tasks t.targets h)) (tasks_known labels tasks (n + 1) ts h others.1)
 
 instruction_known : (labels : Names) (tasks : List Descriptor) (o : Op) → AreLabelled labels tasks → is_known_instruction labels (written tasks o) ≡ true
-instruction_known labels tasks (Three k rd rs rt) h = refl
-instruction_known labels tasks (ShiftBy k rd rt n) h = refl
-instruction_known labels tasks (ShiftVar k rd rt rs) h = refl
-instruction_known labels tasks (Imm k rt rs n) h = refl
-instruction_known labels tasks (Logic k rt rs n) h = refl
-instruction_known labels tasks (Lui rt n) h = refl
-instruction_known labels tasks (Mult k rs rt) h = refl
-instruction_known labels tasks (MoveFrom k rd) h = refl
-instruction_known labels tasks (MoveTo k rs) h = refl
-instruction_known labels tasks (Load k rt base n) h = refl
-instruction_known labels tasks (Store k rt base n) h = refl
 instruction_known labels tasks (BranchTwo k rs rt place) h = place_known labels tasks place h
 instruction_known labels tasks (BranchOne k rs place) h = place_known labels tasks place h
 instruction_known labels tasks (Jump place) h = place_known labels tasks place h
 instruction_known labels tasks (JumpLink place) h = place_known labels tasks place h
-instruction_known labels tasks (JumpReg rs) h = refl
-instruction_known labels tasks (JumpLinkReg rd rs) h = refl
-instruction_known labels tasks (Out rs) h = refl
-instruction_known labels tasks (Release set) h = refl
-instruction_known labels tasks Halt h = refl
+instruction_known labels tasks _ h = refl
 
 line_known : (labels : Names) (tasks : List Descriptor) (n : ℕ) (at : Option Descriptor) (m : Marked) (rest : List Item) → AreLabelled labels tasks → known labels rest ≡ Ok tt
     → known labels ((label_items n at ++ (item (behind_one n at) section.Text (code_statement tasks m) ∷ [])) ++ rest) ≡ Ok tt
@@ -163,26 +148,11 @@ places_back labels tasks n (place ∷ places) h =
     ∙ ap (λ read. read >>= λ others. Ok (place ∷ others)) (places_back labels tasks n places h)
 
 code_back : (labels : Names) (tasks : List Descriptor) (n : ℕ) (o : Op) → AreLabelled labels tasks → spelled labels n (written tasks o) ≡ Ok (o ∷ [])
-code_back labels tasks n (Three k rd rs rt) h = refl
-code_back labels tasks n (ShiftBy k rd rt i) h = refl
-code_back labels tasks n (ShiftVar k rd rt rs) h = refl
-code_back labels tasks n (Imm k rt rs i) h = refl
-code_back labels tasks n (Logic k rt rs i) h = refl
-code_back labels tasks n (Lui rt i) h = refl
-code_back labels tasks n (Mult k rs rt) h = refl
-code_back labels tasks n (MoveFrom k rd) h = refl
-code_back labels tasks n (MoveTo k rs) h = refl
-code_back labels tasks n (Load k rt base i) h = refl
-code_back labels tasks n (Store k rt base i) h = refl
 code_back labels tasks n (BranchTwo k rs rt place) h = ap (λ read. read >>= λ place. Ok (BranchTwo k rs rt place ∷ [])) (place_back labels tasks n place h)
 code_back labels tasks n (BranchOne k rs place) h = ap (λ read. read >>= λ place. Ok (BranchOne k rs place ∷ [])) (place_back labels tasks n place h)
 code_back labels tasks n (Jump place) h = ap (λ read. read >>= λ place. Ok (Jump place ∷ [])) (place_back labels tasks n place h)
 code_back labels tasks n (JumpLink place) h = ap (λ read. read >>= λ place. Ok (JumpLink place ∷ [])) (place_back labels tasks n place h)
-code_back labels tasks n (JumpReg rs) h = refl
-code_back labels tasks n (JumpLinkReg rd rs) h = refl
-code_back labels tasks n (Out rs) h = refl
-code_back labels tasks n (Release set) h = refl
-code_back labels tasks n Halt h = refl
+code_back labels tasks n _ h = refl
 
 -- The parts.
 
