@@ -7,29 +7,29 @@ use Rattle.std.proofs.lemmas.List.Sums.{AllPass-from_list_all}
 use Rattle.std.proofs.lemmas.List.Elements.{recursion_from_All}
 use Rattle.mips_plain.specs.Words.{has}
 use Rattle.mips_plain.specs.declared.instruction.ThreeKind.{ThreeKind}
-use Rattle.mips_plain.specs.declared.instruction.ThreeKind.TheVariants.{Addu, Subu, And, Or, Xor, Nor, Slt, Sltu}
+use Rattle.mips_plain.specs.declared.instruction.ThreeKind.TheVariants.{Addu}
 use Rattle.mips_plain.specs.declared.instruction.ShiftByKind.{ShiftByKind}
-use Rattle.mips_plain.specs.declared.instruction.ShiftByKind.TheVariants.{Sll, Srl, Sra}
+use Rattle.mips_plain.specs.declared.instruction.ShiftByKind.TheVariants.{Sll}
 use Rattle.mips_plain.specs.declared.instruction.ShiftVarKind.{ShiftVarKind}
-use Rattle.mips_plain.specs.declared.instruction.ShiftVarKind.TheVariants.{Sllv, Srlv, Srav}
+use Rattle.mips_plain.specs.declared.instruction.ShiftVarKind.TheVariants.{Sllv}
 use Rattle.mips_plain.specs.declared.instruction.ImmKind.{ImmKind}
-use Rattle.mips_plain.specs.declared.instruction.ImmKind.TheVariants.{Addiu, Slti, Sltiu}
+use Rattle.mips_plain.specs.declared.instruction.ImmKind.TheVariants.{Addiu}
 use Rattle.mips_plain.specs.declared.instruction.LogicKind.{LogicKind}
-use Rattle.mips_plain.specs.declared.instruction.LogicKind.TheVariants.{Andi, Ori, Xori}
+use Rattle.mips_plain.specs.declared.instruction.LogicKind.TheVariants.{Andi}
 use Rattle.mips_plain.specs.declared.instruction.MultKind.{MultKind}
 use Rattle.mips_plain.specs.declared.instruction.MultKind.TheVariants as mult
 use Rattle.mips_plain.specs.declared.instruction.MoveFromKind.{MoveFromKind}
-use Rattle.mips_plain.specs.declared.instruction.MoveFromKind.TheVariants.{Mfhi, Mflo}
+use Rattle.mips_plain.specs.declared.instruction.MoveFromKind.TheVariants.{Mfhi}
 use Rattle.mips_plain.specs.declared.instruction.MoveToKind.{MoveToKind}
-use Rattle.mips_plain.specs.declared.instruction.MoveToKind.TheVariants.{Mthi, Mtlo}
+use Rattle.mips_plain.specs.declared.instruction.MoveToKind.TheVariants.{Mthi}
 use Rattle.mips_plain.specs.declared.instruction.LoadKind.{LoadKind}
-use Rattle.mips_plain.specs.declared.instruction.LoadKind.TheVariants.{Lw, Lh, Lhu, Lb, Lbu}
+use Rattle.mips_plain.specs.declared.instruction.LoadKind.TheVariants.{Lw}
 use Rattle.mips_plain.specs.declared.instruction.StoreKind.{StoreKind}
-use Rattle.mips_plain.specs.declared.instruction.StoreKind.TheVariants.{Sw, Sh, Sb}
+use Rattle.mips_plain.specs.declared.instruction.StoreKind.TheVariants.{Sw}
 use Rattle.mips_plain.specs.declared.instruction.BranchTwoKind.{BranchTwoKind}
-use Rattle.mips_plain.specs.declared.instruction.BranchTwoKind.TheVariants.{Beq, Bne}
+use Rattle.mips_plain.specs.declared.instruction.BranchTwoKind.TheVariants.{Beq}
 use Rattle.mips_plain.specs.declared.instruction.BranchOneKind.{BranchOneKind}
-use Rattle.mips_plain.specs.declared.instruction.BranchOneKind.TheVariants.{Blez, Bgtz, Bltz, Bgez}
+use Rattle.mips_plain.specs.declared.instruction.BranchOneKind.TheVariants.{Blez}
 use Rattle.mips_plain.specs.declared.instruction.Op.{Op}
 use Rattle.mips_plain.specs.declared.instruction.Op.TheVariants.{Three, ShiftBy, ShiftVar, Imm, Logic, Lui, Mult, MoveFrom, MoveTo, Load, Store, BranchTwo, BranchOne, Jump, JumpLink, JumpReg, JumpLinkReg, Out, Release, Halt}
 use Rattle.task_descriptor.specs.Names.{is_name}
