@@ -32,4 +32,6 @@ mod scripts;
 #[cfg(test)]
 mod seq;
 #[cfg(test)]
+mod shared_check;
+#[cfg(test)]
 mod words;
