@@ -1,13 +1,16 @@
 //! Why a check by several workers is refused.
 
 use std::alloc::AllocError;
+use thiserror::Error;
 
 /// Why a check by several workers is refused.
-#[derive(Clone, Copy, Debug, PartialEq, Eq)]
+#[derive(Clone, Copy, Debug, PartialEq, Eq, Error)]
 pub enum ShareFault {
     /// 1: the number of workers is not 1 to 16.
+    #[error("1 Workers")]
     Workers,
     /// 2: there was no memory.
+    #[error("2 OutOfMemory")]
     OutOfMemory,
 }
 
