@@ -14,11 +14,13 @@ use mips_plain::number::RegSet;
 use std::alloc::{AllocError, Global};
 use task_descriptor::descriptor::{Descriptor, Marked};
 use task_descriptor::program::Program;
+use thiserror::Error;
 
 /// Why no marks are proposed (own numbering).
-#[derive(Clone, Copy, Debug, PartialEq, Eq)]
+#[derive(Clone, Copy, Debug, PartialEq, Eq, Error)]
 pub enum AnnotateFault {
     /// 1: memory was refused.
+    #[error("1 OutOfMemory")]
     OutOfMemory,
 }
 
