@@ -2,17 +2,20 @@
 
 use mips_plain::number::RegSet;
 use std::marker::Model;
+use thiserror::Error;
 
 /// How many indices of instructions there are: those of an entry lie below.
 pub const CODE_INDICES: u32 = 4096;
 
 /// What keeps lists from being a certificate: the first place where something is wrong.
-#[derive(Clone, Copy, Debug, PartialEq, Eq)]
+#[derive(Clone, Copy, Debug, PartialEq, Eq, Error)]
 pub enum ListFault {
     /// In the list of this task (from 0), the entry at this place (from 0) has an index that is not
     /// above the index before it.
+    #[error("list {0}, entry {1}: its index is not above the one before it")]
     NotRising(u32, usize),
     /// In the list of this task, the entry at this place has an index of 4,096 or more.
+    #[error("list {0}, entry {1}: its index is 4096 or more")]
     OutOfCode(u32, usize),
 }
 
