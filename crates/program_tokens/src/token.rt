@@ -6,6 +6,7 @@ ghost use Rattle.program_tokens.specs.declared.token.TokenFault.TheVariants.{Out
 use mips_plain::number::Reg;
 use std::alloc::AllocFailed;
 use task_descriptor::name::Name;
+use thiserror::Error;
 
 /// A token.
 #[derive(Clone, Copy, Debug, PartialEq, Eq)]
@@ -91,22 +92,27 @@ pub enum Mark {
 }
 
 /// What is wrong with a line.
-#[derive(Clone, Copy, Debug, PartialEq, Eq)]
+#[derive(Clone, Copy, Debug, PartialEq, Eq, Error)]
 pub enum LineFault {
     /// 2: a byte is neither printable ASCII nor a tab, nor the one CR at the line's end.
+    #[error("2 NotAscii")]
     NotAscii,
     /// 3: some bytes are no token.
+    #[error("3 Token")]
     Token,
 }
 
 /// Why a line's tokens were not read.
-#[derive(Clone, Copy, Debug, PartialEq, Eq)]
+#[derive(Clone, Copy, Debug, PartialEq, Eq, Error)]
 pub enum TokenFault {
     /// 2: a byte is neither printable ASCII nor a tab, nor the one CR at the line's end.
+    #[error("2 NotAscii")]
     NotAscii,
     /// 3: some bytes are no token.
+    #[error("3 Token")]
     Token,
     /// There was no memory for the tokens.
+    #[error("out of memory")]
     OutOfMemory,
 }
 
