@@ -4,27 +4,34 @@ ghost use Rattle.std.specs.Prelude.{◌≡◌};
 ghost use Rattle.program_statements.specs.declared.fault.StatementError.TheVariants.{OutOfMemory};
 
 use std::alloc::{AllocError, AllocFailed};
+use thiserror::Error;
 
 /// What is wrong with the statement of a line, judged by itself and its section. The numbers are those of
 /// the faults of a program text; a byte that no text has (2) and bytes that are no token (3) come before.
-#[derive(Clone, Copy, Debug, PartialEq, Eq)]
+#[derive(Clone, Copy, Debug, PartialEq, Eq, Error)]
 pub enum StatementFault {
     /// 4: the statement is none that the section has.
+    #[error("4 Mnemonic")]
     Mnemonic,
     /// 5: the operands are not of the statement's number and kinds.
+    #[error("5 Operand")]
     Operand,
     /// 6: a number is out of its range.
+    #[error("6 Number")]
     Number,
     /// 7: a mark is unknown, repeated, or on a directive.
+    #[error("7 Mark")]
     Mark,
 }
 
 /// Why there is no statement.
-#[derive(Debug, Drop)]
+#[derive(Debug, Drop, Error)]
 pub enum StatementError {
     /// It is wrong.
+    #[error(transparent)]
     Fault(StatementFault),
     /// There was no memory for it.
+    #[error("out of memory")]
     OutOfMemory,
 }
 
