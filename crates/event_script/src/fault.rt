@@ -1,6 +1,7 @@
 //! Why the text of an event script is refused.
 
 use std::alloc::{AllocError, AllocFailed};
+use thiserror::Error;
 
 /// Why the text of an event script is refused. Lines are counted from 1; the first line that spells no
 /// event is named.
@@ -15,11 +16,13 @@ pub enum ScriptFault {
 }
 
 /// Why a line spells no event.
-#[derive(Clone, Copy, Debug, PartialEq, Eq)]
+#[derive(Clone, Copy, Debug, PartialEq, Eq, Error)]
 pub enum LineFault {
     /// It has no form that a line may have.
+    #[error("the line has no form that a line may have")]
     NoForm,
     /// It assigns a task, and no task has that name.
+    #[error("no task has the name that the line assigns")]
     NoTask,
 }
 
