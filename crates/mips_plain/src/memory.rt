@@ -14,6 +14,7 @@ use crate::instruction::{LoadKind, Op, StoreKind};
 use crate::outcome::Trap;
 use std::alloc::{AllocError, Global};
 use std::marker::Model;
+use thiserror::Error;
 
 /// How many bytes each region has.
 pub const REGION_BYTES: usize = 65_536;
@@ -25,11 +26,13 @@ pub const FIXED_START: u32 = 0x1000_0000;
 pub const DATA_START: u32 = 0x1001_0000;
 
 /// Why a memory isn't made.
-#[derive(Clone, Copy, Debug, PartialEq, Eq)]
+#[derive(Clone, Copy, Debug, PartialEq, Eq, Error)]
 pub enum MemoryFault {
     /// 1: more than 65,536 bytes for data memory or for read-only data.
+    #[error("1 TooMuch")]
     TooMuch,
     /// 2: want of memory.
+    #[error("2 OutOfMemory")]
     OutOfMemory,
 }
 
