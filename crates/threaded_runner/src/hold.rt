@@ -9,7 +9,7 @@ use crate::desk::Desk;
 use crate::pace::Pace;
 use crate::share::Share;
 use crate::turn::Turn;
-use machine_events::event::{Event, Refused};
+use machine_events::event::{Event, Refused, Spot};
 use sequencer::machine::Machine;
 use sequencer::predict::Predict;
 use unit_core::burst::{Burst, MOST_STEPS};
@@ -210,7 +210,10 @@ impl Worker {
         let mut steps: u32 = 0;
         let mut left = next.most;
         for _ in 0..next.most {
-            let run = desk.run_head(left);
+            let run = match desk.machine().spot(0) {
+                Some(Spot::Inside(_)) => desk.run_head(left),
+                _ => 0,
+            };
             steps = steps.saturating_add(run);
             left -= run;
             if left == 0 || !self.apply_at_head(desk) {
