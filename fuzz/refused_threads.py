@@ -1,0 +1,113 @@
+#!/usr/bin/env python3
+"""Refuses each thread in turn, and looks at what the program answers.
+
+    refused_threads.py PROGRAM [--folder EXAMPLES] [--times N]
+
+For each run a library that is loaded before the C library refuses the thread
+number K, or all from number K on. `run` must then print nothing, say
+`OutOfMemory` on standard error and end with status 2, for each K up to the
+number of its workers; for a greater K it must end as ever. `check --workers N`
+does the work of a thread that cannot be made itself, so its bytes never change.
+Anything else (a crash, a run that does not end, half an answer) is told, and the
+script ends with status 1. Needs python3, cc and a program that is linked with the
+C library of the system at run time; it is no part of the tests.
+"""
+import argparse
+import os
+import pathlib
+import subprocess
+import sys
+import tempfile
+
+TOP = pathlib.Path(__file__).resolve().parent.parent
+sys.path.insert(0, str(TOP / "bench"))
+
+# Refuses the call number REFUSE of pthread_create, counted from 1, or with ONWARDS each from it on.
+SHIM = r"""
+#define _GNU_SOURCE
+#include <dlfcn.h>
+#include <errno.h>
+#include <pthread.h>
+#include <stdlib.h>
+static unsigned long calls;
+int pthread_create(pthread_t *t, const pthread_attr_t *a, void *(*f)(void *), void *x) {
+    unsigned long call = __atomic_add_fetch(&calls, 1, __ATOMIC_SEQ_CST);
+    unsigned long refuse = strtoul(getenv("REFUSE"), NULL, 10);
+    if (call == refuse || (getenv("ONWARDS") && call > refuse)) return EAGAIN;
+    int (*real)(pthread_t *, const pthread_attr_t *, void *(*)(void *), void *) = dlsym(RTLD_NEXT, "pthread_create");
+    return real(t, a, f, x);
+}
+"""
+
+
+def run(program, words, shim, number, onwards):
+    env = dict(os.environ, LD_PRELOAD=str(shim), REFUSE=str(number))
+    if onwards:
+        env["ONWARDS"] = "1"
+    try:
+        done = subprocess.run([program, *words], capture_output=True, env=env, timeout=60)
+    except subprocess.TimeoutExpired:
+        return None, b"", b"did not end"
+    return done.returncode, done.stdout, done.stderr
+
+
+def is_right(answer, usual, must_refuse):
+    status, out, told = answer
+    if must_refuse:
+        return (status, out) == (2, b"") and b"OutOfMemory" in told
+    return (status, out) == usual[:2]
+
+
+def cases(examples, large):
+    """The words of each run, and how many of its threads it cannot do without."""
+    for folder in sorted(p for p in examples.iterdir() if (p / "certificate.cert2").exists()):
+        files = [str(folder / "program.s"), str(folder / "certificate.cert2")]
+        if folder.name == "spin":
+            continue  # it runs until its budget, and prints what depends on the threads
+        for units, workers in ((1, 1), (2, 2), (4, 4), (16, 3), (16, 16)):
+            yield ["run", *files, "--units", str(units), "--workers", str(workers)], workers
+    for workers in ("2", "4", "16"):
+        yield ["check", "--workers", workers, *large], 0
+
+
+def large_files(folder):
+    """The program and the certificate at every limit, which `check` shares out."""
+    import bench
+
+    program, certificate = folder / "largest.s", folder / "largest.cert2"
+    program.write_text(bench.maximal_program())
+    with open(certificate, "w") as file:
+        file.writelines(bench.maximal_certificate())
+    return [str(program), str(certificate)]
+
+
+def main():
+    parser = argparse.ArgumentParser(description=__doc__.splitlines()[0])
+    parser.add_argument("program")
+    parser.add_argument("--folder", default=TOP / "examples", type=pathlib.Path)
+    parser.add_argument("--times", default=5, type=int, help="how often each thread is refused")
+    args = parser.parse_args()
+    tried = wrong = 0
+    with tempfile.TemporaryDirectory() as folder:
+        folder = pathlib.Path(folder)
+        source, shim = folder / "refuse.c", folder / "refuse.so"
+        source.write_text(SHIM)
+        subprocess.run(["cc", "-O1", "-shared", "-fPIC", "-o", shim, source, "-ldl"], check=True)
+        for words, needed in cases(args.folder, large_files(folder)):
+            usual = run(args.program, words, shim, 0, False)
+            if words[0] == "run" and usual[0] == 1:
+                continue  # the checker does not accept the marks, so no thread is made
+            for number in range(1, max(needed, 4) + 2):
+                for onwards in (False, True):
+                    for _ in range(args.times if words[0] == "run" else 1):
+                        answer = run(args.program, words, shim, number, onwards)
+                        tried += 1
+                        if not is_right(answer, usual, number <= needed):
+                            wrong += 1
+                            print("wrong:", *words, "thread", number, onwards, answer[0], answer[1][:60], answer[2][:60])
+    print(tried, "runs", "wrong", wrong)
+    return 1 if wrong else 0
+
+
+if __name__ == "__main__":
+    sys.exit(main())
