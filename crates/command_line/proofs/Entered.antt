@@ -39,13 +39,14 @@ entered m name rows is_name are_rows =
     (λ b. rows_of (found_of (out-SubCommand (box_value b)).matches)) name rows is_name are_rows
 
 fault_there : (words : List Text) (name : Text) (rows : List Row) (fault : UsageFault) →
-    subcommand_of command_line words ≡ Some (name, rows) → Refuses name rows fault → IsFaultOf words fault
-fault_there words name rows (Words error) e h = inr h
-fault_there words name rows OutOfMemory e h = tt
-fault_there words name rows Predict e h =
-    subst (λ (o : Option (Text × List Row)). IsSomeAnd o (λ p. Refuses p.0 p.1 Predict)) (sym e) h
-fault_there words name rows Emit e h =
-    subst (λ (o : Option (Text × List Row)). IsSomeAnd o (λ p. Refuses p.0 p.1 Emit)) (sym e) h
+    fault_of command_line words ≡ [] → subcommand_of command_line words ≡ Some (name, rows) → Refuses name rows fault →
+    IsFaultOf words fault
+fault_there words name rows (Words error) right e h = inr (right, h)
+fault_there words name rows OutOfMemory right e h = tt
+fault_there words name rows Predict right e h =
+    (right, subst (λ (o : Option (Text × List Row)). IsSomeAnd o (λ p. Refuses p.0 p.1 Predict)) (sym e) h)
+fault_there words name rows Emit right e h =
+    (right, subst (λ (o : Option (Text × List Row)). IsSomeAnd o (λ p. Refuses p.0 p.1 Emit)) (sym e) h)
 
 -- what is read of the subcommand that the words name
 pub job_there : (words : List Text) (name : Text) (rows : List Row) (r : Result (Job × Paths) UsageFault) →
@@ -56,9 +57,10 @@ job_there words name rows (Ok asked) right e h =
 job_there words name rows (Err fault) right e h = tt
 
 pub no_job_there : (words : List Text) (name : Text) (rows : List Row) (r : Result (Job × Paths) UsageFault) →
-    subcommand_of command_line words ≡ Some (name, rows) → Reads name rows r → IfErr r (IsFaultOf words)
-no_job_there words name rows (Ok asked) e h = tt
-no_job_there words name rows (Err fault) e h = fault_there words name rows fault e h
+    fault_of command_line words ≡ [] → subcommand_of command_line words ≡ Some (name, rows) → Reads name rows r →
+    IfErr r (IsFaultOf words)
+no_job_there words name rows (Ok asked) right e h = tt
+no_job_there words name rows (Err fault) right e h = fault_there words name rows fault right e h
 
 -- a fault of `clap`'s
 pub refused : (words : List Text) (error : Error) (fault : UsageFault) →

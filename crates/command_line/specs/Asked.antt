@@ -76,7 +76,7 @@ abbrev pub AskFor : List Text → Job → Paths → Type 0
 AskFor words job paths = (fault_of command_line words ≡ [])
     × IsSomeAnd (subcommand_of command_line words) (λ p. IsAsked p.0 p.1 job paths)
 
--- the fault of a job that is not there, which `clap` leaves to no words
+-- the fault where the matches give no job; no words are known for which `clap` makes such matches
 abbrev pub IsNoJob : UsageFault → Type 0
 IsNoJob (Words error) = kind_of error ≡ kind.MissingSubcommand
 IsNoJob fault = fault ≡ OutOfMemory
@@ -97,11 +97,11 @@ abbrev pub IsFrom : Error → UsageFault → Type 0
 IsFrom error (Words same) = (same ≡ error) × (kind_of error ≢ kind.OutOfMemory)
 IsFrom error fault = (fault ≡ OutOfMemory) × (kind_of error ≡ kind.OutOfMemory)
 
--- why the words ask for no job: `clap`'s fault has one of the kinds that it has for them, or the
--- subcommand that it makes of them gives no job
+-- why the words ask for no job: `clap`'s fault has one of the kinds that it has for them; or it has none,
+-- and the subcommand that it makes of them gives no job
 abbrev pub IsFaultOf : List Text → UsageFault → Type 0
-IsFaultOf words (Words error) =
-    IsAmong (kind_of error) (fault_of command_line words) ⊎ (kind_of error ≡ kind.MissingSubcommand)
+IsFaultOf words (Words error) = IsAmong (kind_of error) (fault_of command_line words)
+    ⊎ ((fault_of command_line words ≡ []) × (kind_of error ≡ kind.MissingSubcommand))
 IsFaultOf words OutOfMemory = ⊤
-IsFaultOf words fault =
-    IsSomeAnd (subcommand_of command_line words) (λ p. Refuses p.0 p.1 fault)
+IsFaultOf words fault = (fault_of command_line words ≡ [])
+    × IsSomeAnd (subcommand_of command_line words) (λ p. Refuses p.0 p.1 fault)

@@ -83,6 +83,6 @@ command_line = record {
   subs = seq ∷ print ∷ annotate ∷ check ∷ replay ∷ run ∷ [];
 }
 
--- the command is the subcommand s, with no argument for other commands too
+-- the command is the subcommand s, without an argument that is global
 abbrev pub IsSubcommand : Shape → Command → Type 0
 IsSubcommand s c = (app_of c ≡ record { top = s; subs = [] }) × ((fields_of c).has_globals ≡ false)

@@ -41,4 +41,6 @@ returns-in-Some-clause-fault c =
     let matched = subst (λ (a : App). HasMatchesOf a words m) c.in_ok-command.ensures c.in_ok-matches.ensures.matches in
     let is : subcommand_of command_line words ≡ Some (name, rows) =
     sym (matched simple).1 ∙ entered m name rows c.in-Some.ensures.name c.in-Some.ensures.rows in
-    no_job_there words name rows c.read_job.result is c.read_job.ensures
+    let right = subst (λ (a : App). is_simple_and_free a ≡ true → fault_of a words ≡ []) c.in_ok-command.ensures
+    c.in_ok-matches.ensures.kinds simple_and_free in
+    no_job_there words name rows c.read_job.result right is c.read_job.ensures
