@@ -8,7 +8,7 @@ use std::{hint, thread};
 /// moment.
 const LOOKS: u32 = 100;
 
-/// How often it does so before it sleeps: some tens of microseconds where no other thread wants the core.
+/// How often it does so before it sleeps.
 const ROUNDS: u32 = 200;
 
 /// What a worker with nothing to do waits for.

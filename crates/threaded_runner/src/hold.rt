@@ -14,7 +14,7 @@ use sequencer::machine::Machine;
 use sequencer::predict::Predict;
 use unit_core::burst::{Burst, MOST_STEPS};
 
-/// The most events of one hold of the lock, but for the check-in of a burst.
+/// The most turns of one hold of the lock, and the most instructions that one of them executes.
 const EVENTS_OF_A_HOLD: u32 = 64;
 
 /// The most events by which a worker that serves all units goes on with the head where it is.
@@ -68,7 +68,7 @@ impl Worker {
         self.share
     }
 
-    /// Applies events of the worker's units, at most 64.
+    /// Takes turns of the worker's units, at most 64.
     pub(crate) fn hold<P: Predict>(&mut self, desk: &mut Desk<'_, P>) -> Then {
         for _ in 0..EVENTS_OF_A_HOLD {
             if desk.is_done(self.budget) {
@@ -264,7 +264,7 @@ impl Worker {
         }
     }
 
-    /// Hands in a burst that was made of a next.
+    /// Hands in the burst that was made as `next` says.
     pub(crate) fn check_in<P: Predict>(
         &mut self,
         desk: &mut Desk<'_, P>,

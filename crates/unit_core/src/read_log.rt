@@ -14,7 +14,7 @@ const SHORT: usize = 1_000;
 /// The most reads that closed chunks may have, which is more than any memory holds.
 const MOST: usize = 1 << 62;
 
-/// What instructions read, the first first: some closed chunks, which stay as they are, and behind them
+/// What instructions read, oldest first: some closed chunks, which stay as they are, and behind them
 /// the current one, to which a read is pushed.
 #[derive(Debug, Drop)]
 pub struct ReadLog {
