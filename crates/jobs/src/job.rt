@@ -1,6 +1,7 @@
 //! What the program is to do, and with which files.
 
 use crate::ranges::{Answers, Budget, Units, Workers};
+use text_pieces::text::Text;
 
 /// What `annotate` writes.
 #[derive(Clone, Copy, Debug, PartialEq, Eq)]
@@ -79,6 +80,14 @@ impl Job {
         )
     }
 
+    /// How many threads fetch the certificate: those of `check`, and else one.
+    pub fn fetchers(&self) -> u32 {
+        match self {
+            Job::Check { workers } => workers.get(),
+            _ => 1,
+        }
+    }
+
     /// Whether the job has an event script.
     pub fn has_script(&self) -> bool
         ensures { result ≡ has_script self.now }
@@ -104,7 +113,7 @@ pub struct Texts {
     /// The program text.
     pub program: Vec<u8>,
     /// The certificate: of `check`, `replay` and `run`.
-    pub certificate: Vec<u8>,
+    pub certificate: Text,
     /// The event script: of `replay`.
     pub script: Vec<u8>,
 }

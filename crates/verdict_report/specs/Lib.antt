@@ -12,3 +12,4 @@ pub mod Judging
 pub mod Playing
 pub mod Runs
 pub mod Examples
+pub mod Parts
