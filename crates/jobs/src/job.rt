@@ -1,7 +1,6 @@
 //! What the program is to do, and with which files.
 
 use crate::ranges::{Answers, Budget, Units, Workers};
-use text_pieces::text::Text;
 
 /// What `annotate` writes.
 #[derive(Clone, Copy, Debug, PartialEq, Eq)]
@@ -80,14 +79,6 @@ impl Job {
         )
     }
 
-    /// How many threads fetch the certificate: those of `check`, and else one.
-    pub fn fetchers(&self) -> u32 {
-        match self {
-            Job::Check { workers } => workers.get(),
-            _ => 1,
-        }
-    }
-
     /// Whether the job has an event script.
     pub fn has_script(&self) -> bool
         ensures { result ≡ has_script self.now }
@@ -113,7 +104,7 @@ pub struct Texts {
     /// The program text.
     pub program: Vec<u8>,
     /// The certificate: of `check`, `replay` and `run`.
-    pub certificate: Text,
+    pub certificate: Vec<u8>,
     /// The event script: of `replay`.
     pub script: Vec<u8>,
 }

@@ -2,7 +2,6 @@ pub mod Rising
 pub mod Digits
 pub mod Indices
 pub mod LineLemmas
-pub mod JoinedLines
 pub mod ListsLoop
 pub mod NameLemmas
 pub mod WriteLemmas

@@ -1,28 +1,23 @@
 -- A block of a certificate's text: the entries from a place on, read before it is known whose list they are.
-use Rattle.std.specs.Prelude.{◌≡◌, ℕ, ◌+◌, ◌-◌, ◌^◌, ◌<◌, ◌≤◌, Bool, true, List, [], length, drop, slice_index_or, is_none}
+use Rattle.std.specs.Prelude.{◌≡◌, ℕ, ◌+◌, ◌-◌, ◌^◌, ◌<◌, ◌≤◌, Bool, true, List, length, drop, is_none}
 use Rattle.std.specs.List.{All}
 use Rattle.mask_certificate.specs.declared.fault.Spelling.{Spelling}
 use Rattle.mask_certificate.specs.Lists.{fault_in, first_fault}
 use Rattle.mask_certificate.specs.CertificateReading.{lines_in, entries_in}
 
--- where a block begins: a place in one of the pieces of a text
+-- where a block begins
 pub record Place : Type 0 where
   pub spelling : Spelling
-  pub pieces : List (List ℕ)
-  pub piece : ℕ
+  pub text : List ℕ
   pub start : ℕ
-
--- the piece in which a block lies
-abbrev pub text_of : Place → List ℕ
-text_of place = slice_index_or place.pieces place.piece []
 
 -- what a text ends with
 abbrev pub IsEnd : (text end : List ℕ) → Type 0
 IsEnd text end = (length end ≤ length text) × (end ≡ drop (length text - length end) text)
 
--- blocks of the text in these pieces, in this spelling
-abbrev pub AreOf : Spelling → List (List ℕ) → List Place → Type 0
-AreOf spelling pieces blocks = All (λ block. (block.spelling ≡ spelling) × (block.pieces ≡ pieces)) blocks
+-- blocks of this text in this spelling
+abbrev pub AreOf : Spelling → List ℕ → List Place → Type 0
+AreOf spelling text blocks = All (λ block. (block.spelling ≡ spelling) × (block.text ≡ text)) blocks
 
 -- This tells whether the list of a task is right: nothing is wrong in it, whichever task it is, and its
 -- masks are sets of registers.

@@ -4,4 +4,3 @@ pub mod CertificateReading
 pub mod Blocks
 pub mod FaultText
 pub mod Examples
-pub mod Left

@@ -10,13 +10,11 @@ use std::marker::Model;
 /// The entries of the lines from a place of a text on, in front of the first line that is none: what
 /// reading needs of one task's list, and what it can find out before it knows whose list it is: whether
 /// the list rises, too, so that who takes the block over need not look at each entry again. A contract
-/// sees a block as its spelling, the pieces of the text, and the place in one of them; they determine the
-/// rest. A list that goes on in the next piece has a block up to the end of its piece.
+/// sees a block as its spelling, text and place; they determine the rest.
 #[derive(Drop)]
 pub struct Block<'a> {
     spelling: Spelling,
-    pieces: &'a [&'a [u8]],
-    piece: usize,
+    text: &'a [u8],
     start: usize,
     list: Vec<(u32, RegSet)>,
     end: usize,
@@ -24,23 +22,21 @@ pub struct Block<'a> {
 }
 
 impl<'a> Model for Block<'a> {
-    ghost use Rattle.std.specs.Prelude.{◌<◌, [], length, map, slice_index_or};
     ghost use Rattle.mask_certificate.specs.Blocks.{Place, IsBlock};
 
     ghost Value = { Place };
 
-    ghost view = { λ b. record { spelling = b.spelling; pieces = map (λ piece. piece.now) b.pieces.now; piece = b.piece; start = b.start } };
+    ghost view = { λ b. record { spelling = b.spelling; text = b.text.now; start = b.start } };
 
-    ghost invariant = { λ b. (b.piece < length b.pieces.now)
-        × IsBlock b.spelling (slice_index_or (map (λ piece. piece.now) b.pieces.now) b.piece []) b.start b.list.items b.end b.right };
+    ghost invariant = { λ b. IsBlock b.spelling b.text.now b.start b.list.items b.end b.right };
 }
 
 impl<'a> Block<'a> {
-    ghost use Rattle.std.specs.Prelude.{◌≡◌, ◌<◌, ◌≤◌, ◌+◌, ◌-◌, [], length, drop, map, slice_index_or, IfOk};
+    ghost use Rattle.std.specs.Prelude.{◌≡◌, ◌≤◌, ◌+◌, ◌-◌, length, drop, IfOk};
     ghost use Rattle.mask_certificate.specs.CertificateReading.{lines_in, entries_in};
-    ghost use Rattle.mask_certificate.specs.Blocks.{IsEnd, TellsOf, text_of};
+    ghost use Rattle.mask_certificate.specs.Blocks.{IsEnd, TellsOf};
 
-    /// Reads the block from a place of a piece on.
+    /// Reads the block from a place of a text on.
     ///
     /// # Errors
     ///
@@ -48,21 +44,17 @@ impl<'a> Block<'a> {
     pub fn read(
         alloc: Global,
         spelling: Spelling,
-        pieces: &'a [&'a [u8]],
-        piece: usize,
+        text: &'a [u8],
         start: usize,
     ) -> Result<Block<'a>, AllocError>
-        requires piece { piece < length pieces.now }
-        requires start { start ≤ length (slice_index_or (map (λ piece. piece.now) pieces.now) piece []) }
-        ensures { IfOk result (λ block. block ≡ record { spelling = spelling; pieces = map (λ piece. piece.now) pieces.now; piece = piece; start = start }) }
+        requires { start ≤ length text.now }
+        ensures { IfOk result (λ block. block ≡ record { spelling = spelling; text = text.now; start = start }) }
     {
-        let text = pieces[piece];
         let (list, rest) = list_of(alloc, spelling, &text[start..])?;
         let right = is_right(&list);
         Ok(Block {
             spelling,
-            pieces,
-            piece,
+            text,
             start,
             list,
             end: text.len() - rest.len(),
@@ -70,47 +62,38 @@ impl<'a> Block<'a> {
         })
     }
 
-    /// The piece in which it lies.
-    pub fn piece(&self) -> usize
-        ensures { result ≡ self.now.piece }
-    {
-        self.piece
-    }
-
-    /// The place in the piece at which it begins.
+    /// The place at which it begins.
     pub fn start(&self) -> usize
         ensures { result ≡ self.now.start }
     {
         self.start
     }
 
-    /// The place in the piece behind its last entry: where the first line begins that is none, or the
-    /// piece's end.
+    /// The place behind its last entry: where the first line begins that is none, or the text's end.
     pub fn end(&self) -> usize
-        ensures within { result ≤ length (text_of self.now) }
-        ensures lines { lines_in self.now.spelling (drop result (text_of self.now))
-            ≡ drop (length (entries_in (lines_in self.now.spelling (drop self.now.start (text_of self.now))))) (lines_in self.now.spelling (drop self.now.start (text_of self.now))) }
+        ensures within { result ≤ length self.now.text }
+        ensures lines { lines_in self.now.spelling (drop result self.now.text)
+            ≡ drop (length (entries_in (lines_in self.now.spelling (drop self.now.start self.now.text)))) (lines_in self.now.spelling (drop self.now.start self.now.text)) }
     {
         self.end
     }
 
-    /// The entries, whether they are right as a list of a certificate, and what is left of the piece.
+    /// The entries, whether they are right as a list of a certificate, and the text behind them.
     pub(crate) fn into_parts(self) -> (Vec<(u32, RegSet)>, bool, &'a [u8])
-        ensures entries { result.0.items ≡ entries_in (lines_in self.entry.spelling (drop self.entry.start (text_of self.entry))) }
+        ensures entries { result.0.items ≡ entries_in (lines_in self.entry.spelling (drop self.entry.start self.entry.text)) }
         ensures told { TellsOf result.0.items result.1 }
-        ensures rest { lines_in self.entry.spelling result.2.now ≡ drop (length result.0.items) (lines_in self.entry.spelling (drop self.entry.start (text_of self.entry))) }
-        ensures shorter { length result.0.items + length result.2.now ≤ length (text_of self.entry) - self.entry.start }
-        ensures end { IsEnd (drop self.entry.start (text_of self.entry)) result.2.now }
+        ensures rest { lines_in self.entry.spelling result.2.now ≡ drop (length result.0.items) (lines_in self.entry.spelling (drop self.entry.start self.entry.text)) }
+        ensures shorter { length result.0.items + length result.2.now ≤ length self.entry.text - self.entry.start }
+        ensures end { IsEnd self.entry.text result.2.now }
     {
         let Block {
             spelling: _,
-            pieces,
-            piece,
+            text,
             start: _,
             list,
             end,
             right,
         } = self;
-        (list, right, &pieces[piece][end..])
+        (list, right, &text[end..])
     }
 }

@@ -8,7 +8,6 @@ pub mod certificate;
 pub mod fault;
 mod fault_text;
 pub mod laws;
-mod left;
 pub mod masks;
 pub mod reading;
 pub mod writing;

@@ -9,13 +9,10 @@ ghost use Rattle.mask_certificate.specs.Lists.{entries_of};
 ghost use Rattle.mask_certificate.specs.CertificateText.{Spells};
 ghost use Rattle.mask_certificate.specs.CertificateReading.{is_space, index_in, mask_in, name_in, lines_in, entries_in, behind_task_line, at_end, lists_at, spelling_of, mask_digit, is_mask_digit, Gives, cert_parse, names_of, names_in, is_newline, entry_line};
 ghost use Rattle.mask_certificate.specs.Blocks.{IsEnd, AreOf, TellsOf, TellsOfAll};
-ghost use Rattle.mask_certificate.specs.Left.{left_of, in_piece};
-ghost use Rattle.text_pieces.specs.Pieces.{joined, AreCut};
 
 use crate::block::Block;
 use crate::certificate::{Cert, is_right};
 use crate::fault::{CertFault, Spelling};
-use crate::left::Left;
 use mips_plain::number::RegSet;
 use std::alloc::{AllocError, Global};
 use task_descriptor::descriptor::Descriptor;
@@ -213,15 +210,14 @@ pub(crate) fn list_of(
     Ok((list, rest))
 }
 
-/// What is left behind the `task` line of this name, which has to be the first line, line `line`.
-fn behind<'a>(left: Left<'a>, line: usize, name: &Name) -> Result<Left<'a>, CertFault>
+/// The text behind the `task` line of this name, which has to be the first line, line `line`.
+fn behind<'a>(text: &'a [u8], line: usize, name: &Name) -> Result<&'a [u8], CertFault>
     ensures lines { (spelling : Spelling) → MatchResult result
-        (λ rest. behind_task_line line name.now (lines_in spelling (left_of left)) ≡ Ok (lines_in spelling (left_of rest)))
-        (λ fault. behind_task_line line name.now (lines_in spelling (left_of left)) ≡ Err fault) }
-    ensures shorter { IfOk result (λ rest. length (left_of rest) < length (left_of left)) }
-    ensures pieces { IfOk result (λ rest. rest.pieces ≡ left.pieces) }
+        (λ rest. behind_task_line line name.now (lines_in spelling text.now) ≡ Ok (lines_in spelling rest.now))
+        (λ fault. behind_task_line line name.now (lines_in spelling text.now) ≡ Err fault) }
+    ensures shorter { IfOk result (λ rest. length rest.now < length text.now) }
+    ensures end { IfOk result (λ rest. IsEnd text.now rest.now) }
 {
-    let text = left.rest();
     if text.is_empty() {
         return Err(CertFault::MissingTask);
     }
@@ -234,16 +230,15 @@ fn behind<'a>(left: Left<'a>, line: usize, name: &Name) -> Result<Left<'a>, Cert
     if found != name.bytes() {
         return Err(CertFault::TaskName(line));
     }
-    Ok(left.with_rest(rest))
+    Ok(rest)
 }
 
 /// Whether nothing is left from this line on.
-fn check_end(left: Left<'_>, line: usize) -> Result<(), CertFault>
+fn check_end(text: &[u8], line: usize) -> Result<(), CertFault>
     ensures { (spelling : Spelling) → MatchResult result
-        (λ _. at_end line (lines_in spelling (left_of left)) ≡ Ok [])
-        (λ fault. at_end line (lines_in spelling (left_of left)) ≡ Err fault) }
+        (λ _. at_end line (lines_in spelling text.now) ≡ Ok [])
+        (λ fault. at_end line (lines_in spelling text.now) ≡ Err fault) }
 {
-    let text = left.rest();
     if text.is_empty() {
         return Ok(());
     }
@@ -256,84 +251,55 @@ fn check_end(left: Left<'_>, line: usize) -> Result<(), CertFault>
     }
 }
 
-/// The list at the front of what is left of a piece, whether it is right, and what is left of the piece
-/// behind it: from the last of these blocks, if it begins there, and else read. A block that begins
-/// elsewhere is let go.
-fn list_in_piece<'a>(
+/// The list at the front of what is left of a text, whether it is right, and the text behind it: from the
+/// last of these blocks, if it begins there, and else read. A block that begins elsewhere is let go.
+fn list_at<'a>(
     alloc: Global,
     spelling: Spelling,
-    left: &Left<'a>,
+    text: &'a [u8],
+    left: &'a [u8],
     blocks: &mut Vec<Block<'a>>,
 ) -> Result<(Vec<(u32, RegSet)>, bool, &'a [u8]), AllocError>
-    requires blocks { AreOf spelling left.now.pieces blocks.old.items }
-    ensures entries { IfOk result (λ found. found.0.items ≡ entries_in (lines_in spelling (in_piece left.now))) }
+    requires left { IsEnd text.now left.now }
+    requires blocks { AreOf spelling text.now blocks.old.items }
+    ensures entries { IfOk result (λ found. found.0.items ≡ entries_in (lines_in spelling left.now)) }
     ensures told { IfOk result (λ found. TellsOf found.0.items found.1) }
-    ensures rest { IfOk result (λ found. lines_in spelling found.2.now ≡ drop (length found.0.items) (lines_in spelling (in_piece left.now))) }
-    ensures shorter { IfOk result (λ found. length found.0.items + length found.2.now ≤ length (in_piece left.now)) }
-    ensures end { IfOk result (λ found. IsEnd (in_piece left.now) found.2.now) }
-    ensures blocks { AreOf spelling left.now.pieces blocks.new.items }
+    ensures rest { IfOk result (λ found. lines_in spelling found.2.now ≡ drop (length found.0.items) (lines_in spelling left.now)) }
+    ensures shorter { IfOk result (λ found. length found.0.items + length found.2.now ≤ length left.now) }
+    ensures end { IfOk result (λ found. IsEnd text.now found.2.now) }
+    ensures blocks { AreOf spelling text.now blocks.new.items }
 {
     match blocks.pop() {
-        Some(block) if block.piece() == left.piece() && block.start() == left.place() => {
-            Ok(block.into_parts())
-        }
+        Some(block) if block.start() == text.len() - left.len() => Ok(block.into_parts()),
         _ => {
-            let (list, rest) = list_of(alloc, spelling, left.rest())?;
+            let (list, rest) = list_of(alloc, spelling, left)?;
             let right = is_right(&list);
             Ok((list, right, rest))
         }
     }
 }
 
-/// The list at the front of what is left of a text, whether it is right, and what is left behind it.
-fn list_at<'a>(
-    alloc: Global,
-    spelling: Spelling,
-    left: Left<'a>,
-    blocks: &mut Vec<Block<'a>>,
-) -> Result<(Vec<(u32, RegSet)>, bool, Left<'a>), AllocError>
-    requires blocks { AreOf spelling left.pieces blocks.old.items }
-    ensures entries { IfOk result (λ found. found.0.items ≡ entries_in (lines_in spelling (left_of left))) }
-    ensures told { IfOk result (λ found. TellsOf found.0.items found.1) }
-    ensures rest { IfOk result (λ found. lines_in spelling (left_of found.2) ≡ drop (length found.0.items) (lines_in spelling (left_of left))) }
-    ensures shorter { IfOk result (λ found. length found.0.items + length (left_of found.2) ≤ length (left_of left)) }
-    ensures pieces { IfOk result (λ found. found.2.pieces ≡ left.pieces) }
-    ensures blocks { AreOf spelling left.pieces blocks.new.items }
-{
-    let (mut list, mut right, mut rest) = list_in_piece(alloc, spelling, &left, blocks)?;
-    let mut left = left.with_rest(rest);
-    // Only a list that reaches to the end of its piece goes on in the next.
-    while rest.is_empty() && !left.rest().is_empty() {
-        let (mut more, after) = list_of(alloc, spelling, left.rest())?;
-        list.append(&mut more)?;
-        right = is_right(&list);
-        rest = after;
-        left = left.with_rest(rest);
-    }
-    Ok((list, right, left))
-}
-
 /// The lists that the lines from line 2 on spell for these tasks, and whether they are right.
 fn lists_of<'a>(
     alloc: Global,
     spelling: Spelling,
-    body: Left<'a>,
+    text: &'a [u8],
     tasks: &[Descriptor],
     mut blocks: Vec<Block<'a>>,
 ) -> Result<(Vec<Vec<(u32, RegSet)>>, bool), CertFault>
-    requires short { length (left_of body) + 2 < 2 ^ 64 }
-    requires blocks { AreOf spelling body.pieces blocks.items }
-    ensures lists { Gives (λ found. entries_of found.0.items) result (lists_at 2 (names_in tasks.now) (lines_in spelling (left_of body))) }
+    requires long { 7 ≤ length text.now }
+    requires blocks { AreOf spelling text.now blocks.items }
+    ensures lists { Gives (λ found. entries_of found.0.items) result (lists_at 2 (names_in tasks.now) (lines_in spelling (drop 7 text.now))) }
     ensures told { IfOk result (λ found. TellsOfAll (entries_of found.0.items) found.1) }
     ensures count { IfOk result (λ found. vec_len found.0 ≡ length tasks.now) }
 {
     let mut lists = Vec::with_capacity(alloc, tasks.len())?;
     let mut right = true;
-    let mut rest = body;
+    let mut rest = &text[FIRST_LINE..];
     let mut line = 2;
     for task in tasks {
         let left = behind(rest, line, &task.name)?;
-        let (list, is_right, after) = list_at(alloc, spelling, left, &mut blocks)?;
+        let (list, is_right, after) = list_at(alloc, spelling, text, left, &mut blocks)?;
         line += 1 + list.len();
         right &= is_right;
         rest = after;
@@ -357,39 +323,21 @@ pub fn spelling_in(text: &[u8]) -> Option<Spelling>
     }
 }
 
-/// The spelling that the first line of a text in pieces names; `None` where it names none.
-pub fn spelling_of_pieces(pieces: &[&[u8]]) -> Option<Spelling>
-    requires some { 0 < length pieces.now }
-    requires cut { AreCut (map (λ piece. piece.now) pieces.now) }
-    ensures { result ≡ spelling_of (joined (map (λ piece. piece.now) pieces.now)) }
-{
-    spelling_in(Left::all(pieces).rest())
-}
-
-/// The certificate that a text in pieces spells for these tasks, or its first fault.
+/// The certificate that a text spells for these tasks, or its first fault.
 fn certificate_of<'a>(
     alloc: Global,
-    pieces: &'a [&'a [u8]],
+    text: &'a [u8],
     tasks: &[Descriptor],
     blocks: Vec<Block<'a>>,
 ) -> Result<Cert, CertFault>
     requires few { length tasks.now ≤ 1024 }
-    requires some { 0 < length pieces.now }
-    requires cut { AreCut (map (λ piece. piece.now) pieces.now) }
-    requires short { length (joined (map (λ piece. piece.now) pieces.now)) < 2 ^ 64 }
-    requires blocks { (spelling : Spelling) → spelling_of (joined (map (λ piece. piece.now) pieces.now)) ≡ Some spelling
-        → AreOf spelling (map (λ piece. piece.now) pieces.now) blocks.items }
-    ensures { (result ≡ Err CertFault.OutOfMemory)
-        ⊎ (result ≡ cert_parse (joined (map (λ piece. piece.now) pieces.now)) (names_in tasks.now)) }
+    requires blocks { (spelling : Spelling) → spelling_of text.now ≡ Some spelling → AreOf spelling text.now blocks.items }
+    ensures { (result ≡ Err CertFault.OutOfMemory) ⊎ (result ≡ cert_parse text.now (names_in tasks.now)) }
 {
-    // The first line lies in one piece, as each line does.
-    let left = Left::all(pieces);
-    let first = left.rest();
-    let Some(spelling) = spelling_in(first) else {
+    let Some(spelling) = spelling_in(text) else {
         return Err(CertFault::Header);
     };
-    let body = left.with_rest(&first[FIRST_LINE..]);
-    let (lists, right) = lists_of(alloc, spelling, body, tasks, blocks)?;
+    let (lists, right) = lists_of(alloc, spelling, text, tasks, blocks)?;
     match Cert::of_told(lists, right) {
         Some(cert) => Ok(cert),
         None => Err(CertFault::Shape),
@@ -405,29 +353,22 @@ pub fn read(alloc: Global, text: &[u8], program: &Program) -> Result<Cert, CertF
     ensures spelled { result ≢ Err CertFault.OutOfMemory
         → (cert : List (List (ℕ × ℕ))) → (result ≡ Ok cert) ↔ Spells text.now (names_of program.now) cert }
 {
-    read_ahead(alloc, &[text], program, Vec::new(alloc))
+    read_ahead(alloc, text, program, Vec::new(alloc))
 }
 
-/// What `read` answers of a text that lies in pieces, cut behind LFs, with blocks of the text that were
-/// read before, the block of the first task last: a block that stands where its task's turn comes is
-/// taken over and not read again. Nothing rests on the blocks but speed: where one is missing or stands
-/// elsewhere, that list is read here.
+/// What `read` answers, with blocks of the text that were read before, the block of the first task last:
+/// a block that stands where its task's turn comes is taken over and not read again. Nothing rests on the
+/// blocks but speed: where one is missing or stands elsewhere, that list is read here.
 pub fn read_ahead<'a>(
     alloc: Global,
-    pieces: &'a [&'a [u8]],
+    text: &'a [u8],
     program: &Program,
     blocks: Vec<Block<'a>>,
 ) -> Result<Cert, CertFault>
-    requires some { 0 < length pieces.now }
-    requires cut { AreCut (map (λ piece. piece.now) pieces.now) }
-    requires short { length (joined (map (λ piece. piece.now) pieces.now)) < 2 ^ 64 }
-    requires blocks { (spelling : Spelling) → spelling_of (joined (map (λ piece. piece.now) pieces.now)) ≡ Some spelling
-        → AreOf spelling (map (λ piece. piece.now) pieces.now) blocks.items }
-    ensures parsed { (result ≡ Err CertFault.OutOfMemory)
-        ⊎ (result ≡ cert_parse (joined (map (λ piece. piece.now) pieces.now)) (names_of program.now)) }
+    requires { (spelling : Spelling) → spelling_of text.now ≡ Some spelling → AreOf spelling text.now blocks.items }
+    ensures parsed { (result ≡ Err CertFault.OutOfMemory) ⊎ (result ≡ cert_parse text.now (names_of program.now)) }
     ensures spelled { result ≢ Err CertFault.OutOfMemory
-        → (cert : List (List (ℕ × ℕ)))
-        → (result ≡ Ok cert) ↔ Spells (joined (map (λ piece. piece.now) pieces.now)) (names_of program.now) cert }
+        → (cert : List (List (ℕ × ℕ))) → (result ≡ Ok cert) ↔ Spells text.now (names_of program.now) cert }
 {
-    certificate_of(alloc, pieces, program.tasks(), blocks)
+    certificate_of(alloc, text, program.tasks(), blocks)
 }

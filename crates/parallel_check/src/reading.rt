@@ -1,22 +1,21 @@
 //! Reading a certificate's text by several workers.
 //!
-//! The text lies in pieces, and each is cut into shares. A worker draws shares and reads the lists of the
-//! tasks whose lines begin there, as blocks, without knowing which tasks these are or whether all is right in front of them. Then
+//! The text is cut into pieces. A worker draws pieces and reads the lists of the tasks whose lines begin
+//! there, as blocks, without knowing which tasks these are or whether all is right in front of them. Then
 //! the whole is read in order, as one reader does, but that a list which a block has is not read again.
 
-ghost use Rattle.std.specs.Prelude.{◌≡◌, ◌≢◌, ◌↔◌, ◌⊎◌, ◌<◌, ◌≤◌, true, ℕ, List, length, Ok, Err, IfOk, IfSome, [], map, slice_index_or};
+ghost use Rattle.std.specs.Prelude.{◌≡◌, ◌≢◌, ◌↔◌, ◌⊎◌, ◌<◌, ◌≤◌, true, ℕ, List, length, Ok, Err, IfOk, IfSome};
 ghost use Rattle.std.specs.List.{All};
 ghost use Rattle.mask_certificate.specs.CertificateText.{Spells};
 ghost use Rattle.mask_certificate.specs.CertificateReading.{cert_parse, names_of};
 ghost use Rattle.mask_certificate.specs.Blocks.{AreOf};
-ghost use Rattle.text_pieces.specs.Pieces.{AreCut};
 ghost use Rattle.parallel_check.specs.Shares.{AreAhead};
 
 use crate::checking::MOST_WORKERS;
 use mask_certificate::block::Block;
 use mask_certificate::certificate::Cert;
 use mask_certificate::fault::{CertFault, Spelling};
-use mask_certificate::reading::{read_ahead, spelling_of_pieces};
+use mask_certificate::reading::{read_ahead, spelling_in};
 use std::alloc::{AllocError, Global};
 use std::cmp::Reverse;
 use std::marker::Model;
@@ -24,22 +23,20 @@ use std::sync::atomic::{AtomicUsize, Ordering};
 use std::thread;
 use std::thread::Threads;
 use task_descriptor::program::{MOST_TASKS, Program};
-use text_pieces::text::Text;
 
 /// From how many bytes on a text is shared out. A shorter one is read in less time than threads are made.
 const LEAST_SHARED: usize = 65_536;
 
-/// How many shares of the text there are for each worker: several, so that none waits long for the others
+/// How many pieces of the text there are for each worker: several, so that none waits long for the others
 /// at the end.
-const SHARES_EACH: usize = 8;
+const PIECES_EACH: usize = 8;
 
-/// What `mask_certificate::reading::read` answers, faults included, by several workers, of a text that lies
-/// in pieces, cut behind LFs. Any number of workers will do: 0 counts as 1, and more than 16 count as 16. A
-/// short text is read by one.
+/// What `mask_certificate::reading::read` answers, faults included, by several workers. Any number of
+/// workers will do: 0 counts as 1, and more than 16 count as 16. A short text is read by one.
 pub fn read_shared<R: Threads + Sync>(
     rt: &R,
     alloc: Global,
-    text: &Text,
+    text: &[u8],
     program: &Program,
     workers: u32,
 ) -> Result<Cert, CertFault>
@@ -47,42 +44,38 @@ pub fn read_shared<R: Threads + Sync>(
     ensures spelled { result ≢ Err CertFault.OutOfMemory
         → (cert : List (List (ℕ × ℕ))) → (result ≡ Ok cert) ↔ Spells text.now (names_of program.now) cert }
 {
-    let pieces = text.pieces(alloc)?;
-    ReadAhead::new(rt, alloc, &pieces, workers)?.read(alloc, program)
+    ReadAhead::new(rt, alloc, text, workers)?.read(alloc, program)
 }
 
-/// Whether a text of this length is shared out among so many workers.
-pub fn is_shared_out(length: usize, workers: u32) -> bool
-    ensures { (result ≡ true) ↔ ((1 < workers) × (65536 ≤ length)) }
+/// Whether a text is shared out among so many workers.
+pub fn is_shared_out(text: &[u8], workers: u32) -> bool
+    ensures { (result ≡ true) ↔ ((1 < workers) × (65536 ≤ length text.now)) }
 {
-    workers > 1 && length >= LEAST_SHARED
+    workers > 1 && text.len() >= LEAST_SHARED
 }
 
 /// What several workers have read of the text of a certificate, before it is known whose certificate it
 /// is: so the program can be read at the same time. A contract sees it as the text.
 #[derive(Drop)]
 pub struct ReadAhead<'a> {
-    pieces: &'a [&'a [u8]],
+    text: &'a [u8],
     blocks: Vec<Block<'a>>,
 }
 
 impl<'a> Model for ReadAhead<'a> {
-    ghost use Rattle.std.specs.Prelude.{ℕ, List, ◌<◌, length, map};
+    ghost use Rattle.std.specs.Prelude.{ℕ, List};
 
     ghost Value = { List ℕ };
 
-    ghost use Rattle.text_pieces.specs.Pieces.{joined, AreCut};
     ghost use Rattle.parallel_check.specs.Shares.{AreAhead};
 
-    ghost view = { λ r. joined (map (λ piece. piece.now) r.pieces.now) };
+    ghost view = { λ r. r.text.now };
 
-    ghost invariant = { λ r. (0 < length r.pieces.now) × AreCut (map (λ piece. piece.now) r.pieces.now)
-        × AreAhead (map (λ piece. piece.now) r.pieces.now) r.blocks.items };
+    ghost invariant = { λ r. AreAhead r.text.now r.blocks.items };
 }
 
 impl<'a> ReadAhead<'a> {
-    ghost use Rattle.std.specs.Prelude.{◌≡◌, ◌≢◌, ◌↔◌, ◌⊎◌, ◌<◌, ℕ, List, Ok, Err, IfOk, length, map};
-    ghost use Rattle.text_pieces.specs.Pieces.{joined, AreCut};
+    ghost use Rattle.std.specs.Prelude.{◌≡◌, ◌≢◌, ◌↔◌, ◌⊎◌, ℕ, List, Ok, Err, IfOk};
     ghost use Rattle.mask_certificate.specs.CertificateText.{Spells};
     ghost use Rattle.mask_certificate.specs.CertificateReading.{cert_parse, names_of};
 
@@ -95,15 +88,13 @@ impl<'a> ReadAhead<'a> {
     pub fn new<R: Threads + Sync>(
         rt: &R,
         alloc: Global,
-        pieces: &'a [&'a [u8]],
+        text: &'a [u8],
         workers: u32,
     ) -> Result<ReadAhead<'a>, AllocError>
-        requires some { 0 < length pieces.now }
-        requires cut { AreCut (map (λ piece. piece.now) pieces.now) }
-        ensures { IfOk result (λ ahead. ahead ≡ joined (map (λ piece. piece.now) pieces.now)) }
+        ensures { IfOk result (λ ahead. ahead ≡ text.now) }
     {
-        let blocks = blocks_of(rt, alloc, pieces, workers)?;
-        Ok(ReadAhead { pieces, blocks })
+        let blocks = blocks_of(rt, alloc, text, workers)?;
+        Ok(ReadAhead { text, blocks })
     }
 
     /// What `mask_certificate::reading::read` answers for the text, faults included.
@@ -112,8 +103,8 @@ impl<'a> ReadAhead<'a> {
         ensures spelled { result ≢ Err CertFault.OutOfMemory
             → (cert : List (List (ℕ × ℕ))) → (result ≡ Ok cert) ↔ Spells self.entry (names_of program.now) cert }
     {
-        let ReadAhead { pieces, blocks } = self;
-        read_ahead(alloc, pieces, program, blocks)
+        let ReadAhead { text, blocks } = self;
+        read_ahead(alloc, text, program, blocks)
     }
 }
 
@@ -121,20 +112,18 @@ impl<'a> ReadAhead<'a> {
 fn blocks_of<'a, R: Threads + Sync>(
     rt: &R,
     alloc: Global,
-    pieces: &'a [&'a [u8]],
+    text: &'a [u8],
     workers: u32,
 ) -> Result<Vec<Block<'a>>, AllocError>
-    requires some { 0 < length pieces.now }
-    requires cut { AreCut (map (λ piece. piece.now) pieces.now) }
-    ensures { IfOk result (λ blocks. AreAhead (map (λ piece. piece.now) pieces.now) blocks.items) }
+    ensures { IfOk result (λ blocks. AreAhead text.now blocks.items) }
 {
-    match spelling_of_pieces(pieces) {
-        Some(spelling) if is_shared_out(length_of(pieces), workers) => {
+    match spelling_in(text) {
+        Some(spelling) if is_shared_out(text, workers) => {
             read_blocks(
                 rt,
                 alloc,
                 spelling,
-                pieces,
+                text,
                 workers.min(MOST_WORKERS) as usize,
             )
         }
@@ -142,32 +131,27 @@ fn blocks_of<'a, R: Threads + Sync>(
     }
 }
 
-/// How many bytes these pieces have.
-pub fn length_of(pieces: &[&[u8]]) -> usize {
-    pieces.iter().map(|piece| piece.len()).sum()
-}
-
 /// The blocks that these workers read, the first of the text last.
 fn read_blocks<'a, R: Threads + Sync>(
     rt: &R,
     alloc: Global,
     spelling: Spelling,
-    pieces: &'a [&'a [u8]],
+    text: &'a [u8],
     workers: usize,
 ) -> Result<Vec<Block<'a>>, AllocError>
     requires { workers ≤ 16 }
-    ensures { IfOk result (λ blocks. AreOf spelling (map (λ piece. piece.now) pieces.now) blocks.items) }
+    ensures { IfOk result (λ blocks. AreOf spelling text.now blocks.items) }
 {
     let next = AtomicUsize::new(0);
-    let shares = (workers * SHARES_EACH).div_ceil(pieces.len().max(1));
+    let pieces = workers * PIECES_EACH;
     let lists = thread::map_indices(
         rt,
         alloc,
         workers,
-        &|_| { draw(alloc, spelling, pieces, shares, &next) },
+        &|_| { draw(alloc, spelling, text, pieces, &next) },
     )?;
-    let mut blocks = together(alloc, spelling, pieces, lists)?;
-    blocks.sort_unstable_by_key(|block| Reverse((block.piece(), block.start())));
+    let mut blocks = together(alloc, spelling, text, lists)?;
+    blocks.sort_unstable_by_key(|block| Reverse(block.start()));
     Ok(blocks)
 }
 
@@ -175,11 +159,11 @@ fn read_blocks<'a, R: Threads + Sync>(
 fn together<'a>(
     alloc: Global,
     spelling: Spelling,
-    pieces: &'a [&'a [u8]],
+    text: &'a [u8],
     lists: Vec<Vec<Block<'a>>>,
 ) -> Result<Vec<Block<'a>>, AllocError>
-    requires { All (λ list. AreOf spelling (map (λ piece. piece.now) pieces.now) list.items) lists.items }
-    ensures { IfOk result (λ blocks. AreOf spelling (map (λ piece. piece.now) pieces.now) blocks.items) }
+    requires { All (λ list. AreOf spelling text.now list.items) lists.items }
+    ensures { IfOk result (λ blocks. AreOf spelling text.now blocks.items) }
 {
     let mut blocks = Vec::new(alloc);
     for mut list in lists {
@@ -188,62 +172,51 @@ fn together<'a>(
     Ok(blocks)
 }
 
-/// The blocks that one worker reads: it draws the number of the next share, until none is left. Each piece
-/// has as many shares. Where memory is refused it stops, and what is missing is read later.
+/// The blocks that one worker reads: it draws the number of the next piece, until none is left. Where
+/// memory is refused it stops, and what is missing is read later.
 fn draw<'a>(
     alloc: Global,
     spelling: Spelling,
-    pieces: &'a [&'a [u8]],
-    shares: usize,
+    text: &'a [u8],
+    pieces: usize,
     next: &AtomicUsize,
 ) -> Vec<Block<'a>>
-    ensures { AreOf spelling (map (λ piece. piece.now) pieces.now) result.items }
+    ensures { AreOf spelling text.now result.items }
 {
-    let shares = shares.max(1);
+    let size = text.len() / pieces.max(1) + 1;
     let mut blocks = Vec::new(alloc);
-    for _ in 0..=shares.saturating_mul(pieces.len()) {
-        let number = next.fetch_add(1, Ordering::SeqCst);
-        let piece = number / shares;
-        if piece >= pieces.len() {
+    for _ in 0..=pieces {
+        let piece = next.fetch_add(1, Ordering::SeqCst);
+        if piece >= pieces {
             break;
         }
-        let within = share_of(pieces[piece].len(), shares, number % shares);
-        if read_share(alloc, spelling, pieces, piece, within, &mut blocks).is_err() {
+        let from = piece.saturating_mul(size).min(text.len());
+        let to = from.saturating_add(size).min(text.len());
+        if read_piece(alloc, spelling, text, (from, to), &mut blocks).is_err() {
             break;
         }
     }
     blocks
 }
 
-/// Where a share of a piece begins and ends.
-fn share_of(length: usize, shares: usize, number: usize) -> (usize, usize)
-    ensures { result.1 ≤ length }
-{
-    let size = length / shares.max(1) + 1;
-    let from = number.saturating_mul(size).min(length);
-    (from, from.saturating_add(size).min(length))
-}
-
-/// Reads the lists of the tasks whose lines begin in a share of a piece, as many as a program has tasks.
-fn read_share<'a>(
+/// Reads the lists of the tasks whose lines begin in a piece of the text, as many as a program has tasks.
+fn read_piece<'a>(
     alloc: Global,
     spelling: Spelling,
-    pieces: &'a [&'a [u8]],
-    piece: usize,
-    share: (usize, usize),
+    text: &'a [u8],
+    piece: (usize, usize),
     blocks: &mut Vec<Block<'a>>,
 ) -> Result<(), AllocError>
-    requires piece { piece < length pieces.now }
-    requires within { share.1 ≤ length (slice_index_or (map (λ piece. piece.now) pieces.now) piece []) }
-    requires before { AreOf spelling (map (λ piece. piece.now) pieces.now) blocks.old.items }
-    ensures { AreOf spelling (map (λ piece. piece.now) pieces.now) blocks.new.items }
+    requires within { piece.1 ≤ length text.now }
+    requires before { AreOf spelling text.now blocks.old.items }
+    ensures { AreOf spelling text.now blocks.new.items }
 {
-    let (mut place, to) = share;
+    let (mut place, to) = piece;
     for _ in 0..MOST_TASKS {
-        let Some(start) = list_from(pieces[piece], place, to) else {
+        let Some(start) = list_from(text, place, to) else {
             break;
         };
-        let block = Block::read(alloc, spelling, pieces, piece, start)?;
+        let block = Block::read(alloc, spelling, text, start)?;
         place = block.end();
         blocks.push(block)?;
     }

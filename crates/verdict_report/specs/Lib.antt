@@ -12,4 +12,3 @@ pub mod Judging
 pub mod Playing
 pub mod Runs
 pub mod Examples
-pub mod Parts

@@ -1,6 +1,5 @@
 //! The job `check`.
-ghost use Rattle.std.specs.Prelude.{◌≡◌, ◌<◌, length, map, IfOk};
-ghost use Rattle.text_pieces.specs.Pieces.{joined, AreCut};
+ghost use Rattle.std.specs.Prelude.{◌≡◌, IfOk};
 ghost use Rattle.annotated_asm.specs.Steps.{Answers};
 ghost use Rattle.annotated_asm.specs.ProgramText.{parse};
 ghost use Rattle.mask_certificate.specs.CertificateReading.{cert_parse, names_of};
@@ -18,12 +17,11 @@ use mask_certificate::certificate::Cert;
 use mask_certificate::fault::CertFault;
 use parallel_check::checking::verdict_shared;
 use parallel_check::gate::Open;
-use parallel_check::reading::{ReadAhead, is_shared_out, length_of};
+use parallel_check::reading::{ReadAhead, is_shared_out};
 use std::alloc::{AllocError, Global};
 use std::thread;
 use std::thread::Threads;
 use task_descriptor::program::Program;
-use text_pieces::text::Text;
 
 /// What `check` writes of a program text and the text of its certificate. This many threads share the
 /// work, and it is the same for any number of them.
@@ -32,12 +30,11 @@ pub fn check<R: Threads + Sync>(
     alloc: Global,
     workers: Workers,
     program: &[u8],
-    certificate: &Text,
+    certificate: &[u8],
 ) -> Result<Report, AllocError>
     ensures { IfOk result (λ report. report ≡ check_text program.now certificate.now) }
 {
-    let pieces = certificate.pieces(alloc)?;
-    let (assembled, ahead) = read_texts(rt, alloc, workers, program, &pieces);
+    let (assembled, ahead) = read_texts(rt, alloc, workers, program, certificate);
     match assembled {
         Ok(program) => check_certificate(rt, alloc, workers, &program, ahead?),
         Err(AsmFault::OutOfMemory) => Err(AllocError),
@@ -52,15 +49,13 @@ fn read_texts<'a, R: Threads + Sync>(
     alloc: Global,
     workers: Workers,
     program: &[u8],
-    certificate: &'a [&'a [u8]],
+    certificate: &'a [u8],
 ) -> (Result<Program, AsmFault>, Result<ReadAhead<'a>, AllocError>)
-    requires some { 0 < length certificate.now }
-    requires cut { AreCut (map (λ piece. piece.now) certificate.now) }
     ensures program { Answers (λ p. p) result.0 (parse program.now) }
-    ensures certificate { IfOk result.1 (λ ahead. ahead ≡ joined (map (λ piece. piece.now) certificate.now)) }
+    ensures certificate { IfOk result.1 (λ ahead. ahead ≡ certificate.now) }
 {
     let workers = workers.get();
-    if is_shared_out(length_of(certificate), workers) {
+    if is_shared_out(certificate, workers) {
         return thread::join(
             rt,
             || assemble(alloc, program),

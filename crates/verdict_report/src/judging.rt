@@ -14,10 +14,9 @@ use mark_checker::accept;
 use mark_checker::check::verdict;
 use mask_certificate::certificate::Cert;
 use mask_certificate::fault::CertFault;
-use mask_certificate::reading::read_ahead;
+use mask_certificate::reading::read;
 use std::alloc::{AllocError, Global};
 use task_descriptor::program::Program;
-use text_pieces::text::Text;
 
 /// What a job with a certificate goes on with.
 #[derive(Debug, Drop)]
@@ -29,7 +28,7 @@ pub enum Judged {
 }
 
 /// Judges a program text, then the text of its certificate, and then the one by the other.
-pub fn judge(alloc: Global, program: &[u8], certificate: &Text) -> Result<Judged, AllocError>
+pub fn judge(alloc: Global, program: &[u8], certificate: &[u8]) -> Result<Judged, AllocError>
     ensures { IfOk result (λ judged. as_judgement judged ≡ judgement program.now certificate.now) }
 {
     match assemble(alloc, program) {
@@ -40,12 +39,11 @@ pub fn judge(alloc: Global, program: &[u8], certificate: &Text) -> Result<Judged
 }
 
 // Judges the text of a program's certificate.
-fn judge_program(alloc: Global, program: Program, certificate: &Text) -> Result<Judged, AllocError>
+fn judge_program(alloc: Global, program: Program, certificate: &[u8]) -> Result<Judged, AllocError>
     ensures { IfOk result (λ judged.
         as_judgement judged ≡ certificate_judged program (cert_parse certificate.now (names_of program))) }
 {
-    let pieces = certificate.pieces(alloc)?;
-    match read_ahead(alloc, &pieces, &program, Vec::new(alloc)) {
+    match read(alloc, certificate, &program) {
         Ok(cert) => judge_marks(alloc, program, cert),
         Err(CertFault::OutOfMemory) => Err(AllocError),
         Err(fault) => Ok(Judged::Refused(refused_certificate(alloc, fault)?)),

@@ -21,7 +21,6 @@ use threaded_runner::gate::Open;
 use threaded_runner::report;
 use threaded_runner::report::{How, RunFault};
 use threaded_runner::runner::run_workers;
-use text_pieces::text::Text;
 
 /// How a program is run.
 #[derive(Clone, Copy, Debug, PartialEq, Eq)]
@@ -46,7 +45,7 @@ pub fn run<R: Threads + Wait + Sync>(
     predict: &Prediction,
     emit: RunEmit,
     program: &[u8],
-    certificate: &Text,
+    certificate: &[u8],
 ) -> Result<Report, ServeFault>
     ensures report { IfOk result (λ report. IsRunText extent.units extent.budget emit program.now certificate.now report) }
     ensures fault { result ≢ Err ServeFault.Write }

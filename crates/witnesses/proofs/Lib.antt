@@ -1,2 +1,0 @@
-mod Trails
-mod Searches
