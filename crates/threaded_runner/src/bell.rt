@@ -6,10 +6,10 @@ use std::{hint, thread};
 
 /// How often a worker looks whether its bell has rung before it leaves its core to another thread for a
 /// moment.
-const LOOKS: u32 = 100;
+const LOOKS: u32 = 30;
 
 /// How often it does so before it sleeps.
-const ROUNDS: u32 = 200;
+const ROUNDS: u32 = 2_000;
 
 /// What a worker with nothing to do waits for.
 #[derive(Drop)]

@@ -6,7 +6,14 @@ use crate::gate::RunGate;
 use crate::hold::{NextBurst, Then, Worker};
 use sequencer::predict::Predict;
 use std::sync::{Mutex, MutexGuard, Wait};
+use std::{hint, thread};
 use unit_core::burst::{Burst, Lease};
+
+/// How often a worker tries for the lock before it leaves its core to another thread for a moment.
+const TRIES: u32 = 5;
+
+/// How often it does so before it waits asleep.
+const ROUNDS: u32 = 100;
 
 /// Serves a worker's units until the run is over. A hold of the lock that changed the machine rings for the
 /// workers that wait and now have something to do, once the lock is free; the end rings for all.
@@ -21,7 +28,7 @@ pub(crate) fn serve<P: Predict, G: RunGate, R: Wait>(
     let Some(bell) = bells.get(share.worker as usize) else {
         return;
     };
-    let mut desk = shared.lock(rt);
+    let mut desk = take_lock(rt, shared);
     for _ in rt.forever() {
         let then = worker.hold(&mut *desk);
         let called = desk.call(share);
@@ -46,7 +53,7 @@ pub(crate) fn serve<P: Predict, G: RunGate, R: Wait>(
             Then::GoOn => {
                 drop(desk);
                 called.ring(bells);
-                desk = shared.lock(rt);
+                desk = take_lock(rt, shared);
             }
             Then::End => {
                 desk.wake_all();
@@ -69,12 +76,12 @@ fn burst_on<'l, 'a, P: Predict, G: RunGate, R: Wait>(
 ) -> MutexGuard<'l, Desk<'a, P>> {
     let number = worker.share().worker;
     let Some(lease) = lease else {
-        return shared.lock(rt);
+        return take_lock(rt, shared);
     };
     gate.before(number);
     let burst = Burst::run(lease, next.most);
     gate.after(number, burst.steps());
-    let mut desk = shared.lock(rt);
+    let mut desk = take_lock(rt, shared);
     worker.check_in(&mut *desk, next, burst);
     desk
 }
@@ -90,9 +97,9 @@ fn burst_in_place<'l, 'a, P: Predict, G: RunGate, R: Wait>(
 ) -> MutexGuard<'l, Desk<'a, P>> {
     let number = worker.share().worker;
     gate.before(number);
-    let steps = worker.run_in_place(&mut *shared.lock(rt), next);
+    let steps = worker.run_in_place(&mut *take_lock(rt, shared), next);
     gate.after(number, steps);
-    shared.lock(rt)
+    take_lock(rt, shared)
 }
 
 /// Waits until a worker's bell has rung more often than so, and takes the lock.
@@ -104,12 +111,34 @@ fn wait_for<'l, 'a, P: Predict, R: Wait>(
     number: u32,
 ) -> MutexGuard<'l, Desk<'a, P>> {
     bell.listen(heard);
-    let mut desk = shared.lock(rt);
+    let mut desk = take_lock(rt, shared);
     if desk.is_asleep(number) {
         desk = bell.sleep(rt, desk);
         desk.awake(number);
     }
     desk
+}
+
+/// Takes the lock. A hold is short, and whoever sleeps has to be woken, so a worker tries for a while first.
+fn take_lock<'l, T, R: Wait>(rt: &R, shared: &'l Mutex<T>) -> MutexGuard<'l, T> {
+    for _ in 0..ROUNDS {
+        if let Some(guard) = try_lock_soon(shared) {
+            return guard;
+        }
+        thread::yield_now();
+    }
+    shared.lock(rt)
+}
+
+/// The lock, if it is free within a few looks.
+fn try_lock_soon<T>(shared: &Mutex<T>) -> Option<MutexGuard<'_, T>> {
+    for _ in 0..TRIES {
+        if let Some(guard) = shared.try_lock() {
+            return Some(guard);
+        }
+        hint::spin_loop();
+    }
+    None
 }
 
 /// Rings for all workers.
