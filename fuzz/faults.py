@@ -1,0 +1,210 @@
+"""Runs the program with calls of the C library that fail, as a module of the scripts beside it.
+
+A library that is loaded before the C library counts the program's calls of five kinds, and changes
+those that a fault names: it refuses them, cuts them short, or sends the process a signal in the middle
+of them. Needs cc and a program that is linked with the C library of the system at run time.
+"""
+import collections
+import os
+import pathlib
+import subprocess
+import tempfile
+
+TOP = pathlib.Path(__file__).resolve().parent.parent
+
+# The kinds of calls: memory, files that are opened, reads, writes to standard output and to standard error.
+GROW, OPEN, READ, WRITE, TELL = range(5)
+EVERY = 10 ** 12
+
+SOURCE = r"""
+#define _GNU_SOURCE
+#include <dlfcn.h>
+#include <errno.h>
+#include <fcntl.h>
+#include <signal.h>
+#include <stdarg.h>
+#include <stdio.h>
+#include <stdlib.h>
+#include <string.h>
+#include <sys/syscall.h>
+#include <unistd.h>
+enum { GROW, OPEN, READ, WRITE, TELL, KINDS };
+// Calls of a kind from one number to another, and of these one in some, by a seed: what becomes of them.
+struct fault { int kind; unsigned long from, to, one_in, seed; char how; long value; };
+static struct fault faults[8];
+static int count, ready;
+static unsigned long calls[KINDS], for_writing;
+static unsigned char opened[1024], read_of[1 << 16];
+
+__attribute__((constructor)) static void start(void) {
+    const char *text = getenv("FAULTS");
+    int used;
+    struct fault f;
+    while (text && count < 8 && sscanf(text, " %d %lu %lu %lu %lu %c %ld;%n", &f.kind, &f.from, &f.to, &f.one_in, &f.seed, &f.how, &f.value, &used) == 7) {
+        faults[count++] = f;
+        text += used;
+    }
+    ready = 1;
+}
+static unsigned long number(int kind) { return ready ? __atomic_add_fetch(&calls[kind], 1, __ATOMIC_SEQ_CST) : 0; }
+static int drawn(const struct fault *f, unsigned long call) {
+    unsigned long x = (f->seed + 1) * 0x9E3779B97F4A7C15ul + call * 0xBF58476D1CE4E5B9ul;
+    x ^= x >> 31; x *= 0x94D049BB133111EBul; x ^= x >> 29;
+    return f->one_in == 0 || x % f->one_in == 0;
+}
+static const struct fault *fault_at(int kind, unsigned long call, int is_short) {
+    for (int i = 0; i < count; i++) {
+        const struct fault *f = &faults[i];
+        if (f->kind == kind && f->from <= call && call <= f->to && (f->how == 's') == is_short && drawn(f, call)) return f;
+    }
+    return NULL;
+}
+// Whether the call is to answer `*result`, with `errno` set; changes of a file and signals happen here.
+static int fails(int kind, unsigned long call, long *result) {
+    const struct fault *f = call ? fault_at(kind, call, 0) : NULL;
+    if (!f) return 0;
+    *result = f->how == 'z' ? 0 : -1;
+    if (f->how == 'e') errno = (int)f->value;
+    if (f->how == 'k') kill(getpid(), (int)f->value);
+    if (f->how == 't' && truncate(getenv("TARGET"), f->value)) { }
+    if (f->how == 'a') {
+        const char *more = getenv("MORE");
+        long file = syscall(SYS_openat, AT_FDCWD, getenv("TARGET"), O_WRONLY | O_APPEND, 0);
+        for (long i = 0; i < f->value; i++) if (syscall(SYS_write, file, more, strlen(more)) < 0) break;
+        syscall(SYS_close, file);
+    }
+    return f->how == 'e' || f->how == 'z';
+}
+static size_t room(int kind, unsigned long call, size_t n) {
+    const struct fault *f = fault_at(kind, call, 1);
+    return f && (size_t)f->value < n ? (size_t)f->value : n;
+}
+static int refused(void) { long result; int was = errno, is = fails(GROW, number(GROW), &result); if (!is) errno = was; return is; }
+static void *next(const char *name) { return dlsym(RTLD_NEXT, name); }
+void *malloc(size_t n) {
+    static void *(*real)(size_t); if (!real) real = next("malloc");
+    return refused() ? NULL : real(n);
+}
+void *realloc(void *p, size_t n) {
+    static void *(*real)(void *, size_t); if (!real) real = next("realloc");
+    return refused() ? NULL : real(p, n);
+}
+void *aligned_alloc(size_t a, size_t n) {
+    static void *(*real)(size_t, size_t); if (!real) real = next("aligned_alloc");
+    return refused() ? NULL : real(a, n);
+}
+int posix_memalign(void **p, size_t a, size_t n) {
+    static int (*real)(void **, size_t, size_t); if (!real) real = next("posix_memalign");
+    return refused() ? ENOMEM : real(p, a, n);
+}
+int open(const char *path, int flags, ...) {
+    va_list more; va_start(more, flags); int mode = va_arg(more, int); va_end(more);
+    unsigned long call = number(OPEN);
+    long result;
+    if ((flags & O_ACCMODE) != O_RDONLY || flags & (O_CREAT | O_TRUNC)) for_writing++;
+    if (fails(OPEN, call, &result)) return -1;
+    int fd = (int)syscall(SYS_openat, AT_FDCWD, path, flags, mode);
+    if (fd >= 0 && fd < 1024) opened[fd] = (unsigned char)call;
+    return fd;
+}
+ssize_t read(int fd, void *p, size_t n) {
+    unsigned long call = number(READ);
+    long result;
+    if (call < sizeof read_of && fd >= 0 && fd < 1024) read_of[call] = opened[fd];
+    return fails(READ, call, &result) ? result : syscall(SYS_read, fd, p, room(READ, call, n));
+}
+ssize_t write(int fd, const void *p, size_t n) {
+    int kind = fd == 2 ? TELL : WRITE;
+    unsigned long call = number(kind);
+    long result;
+    return fails(kind, call, &result) ? result : syscall(SYS_write, fd, p, room(kind, call, n));
+}
+static void finish(void) {
+    const char *path = getenv("COUNTS");
+    if (!path) return;
+    static char text[3 * sizeof read_of];
+    int size = snprintf(text, sizeof text, "%lu %lu %lu %lu %lu %lu\n", calls[GROW], calls[OPEN], calls[READ], calls[WRITE], calls[TELL], for_writing);
+    for (unsigned long i = 1; i <= calls[READ] && i < sizeof read_of; i++) size += snprintf(text + size, sizeof text - size, "%d ", read_of[i]);
+    long file = syscall(SYS_openat, AT_FDCWD, path, O_WRONLY | O_CREAT | O_TRUNC, 0666);
+    if (syscall(SYS_write, file, text, size) < 0) { }
+}
+// The program ends so: no destructor runs.
+void _exit(int status) {
+    finish();
+    for (;;) syscall(SYS_exit_group, status);
+}
+"""
+
+# How a run ended. `counts` has the number of calls of each kind and of opens for writing, and `read_of` the
+# number of the file, from 1, that each read was of; both are None where the process ended by a signal.
+Ended = collections.namedtuple("Ended", "status out told counts read_of")
+
+
+def fault(kind, first, last, how, value=0, one_in=0, seed=0):
+    """The calls `first` to `last` of a kind, or of these one in `one_in`, by a seed: `e` answers the error
+    `value`, `z` answers 0, `s` takes at most `value` bytes, `k` sends the signal `value`, `t` first cuts the
+    file TARGET to `value` bytes, `a` first appends MORE to it `value` times."""
+    return f"{kind} {first} {last} {one_in} {seed} {how} {value};"
+
+
+class Bench:
+    """The program with the library before it, and a folder for what is made."""
+
+    def __init__(self, program):
+        self.program = str(pathlib.Path(program).resolve())
+        self.made = tempfile.TemporaryDirectory(prefix="multiscalar-faults-")
+        self.folder = pathlib.Path(self.made.name)
+        self.folder.chmod(0o755)
+        source, self.library, self.counts = (self.folder / name for name in ("faults.c", "faults.so", "counts"))
+        source.write_text(SOURCE)
+        subprocess.run(["cc", "-O1", "-shared", "-fPIC", "-o", self.library, source, "-ldl"], check=True)
+
+    def __enter__(self):
+        return self
+
+    def __exit__(self, *_):
+        self.made.cleanup()
+
+    def environment(self, *faults, **more):
+        return dict(os.environ, LD_PRELOAD=str(self.library), COUNTS=str(self.counts), FAULTS="".join(faults), **more)
+
+    def run(self, words, *faults, seconds=120, **more):
+        """A run with these faults; `more` goes to its environment. A run that does not end has status None."""
+        self.counts.unlink(missing_ok=True)
+        try:
+            done = subprocess.run([self.program, *words], stdin=subprocess.DEVNULL, stdout=subprocess.PIPE, stderr=subprocess.PIPE,
+                                  env=self.environment(*faults, **more), timeout=seconds, close_fds=False)
+        except subprocess.TimeoutExpired:
+            return Ended(None, b"", b"did not end", None, None)
+        return Ended(done.returncode, done.stdout, done.stderr, *self.counted())
+
+    def counted(self):
+        if not self.counts.exists():
+            return None, None
+        first, second = (self.counts.read_text() + "\n").split("\n")[:2]
+        return [int(n) for n in first.split()], [int(n) for n in second.split()]
+
+    def plain(self, words, **more):
+        """A run without the library."""
+        try:
+            done = subprocess.run([self.program, *words], stdin=subprocess.DEVNULL, stdout=subprocess.PIPE, stderr=subprocess.PIPE,
+                                  timeout=120, **more)
+        except subprocess.TimeoutExpired:
+            return Ended(None, b"", b"did not end", None, None)
+        return Ended(done.returncode, done.stdout, done.stderr, None, None)
+
+
+class Row:
+    """What was seen of one part: a line of the table."""
+
+    def __init__(self, part):
+        self.part, self.cases, self.answers, self.differences = part, 0, collections.Counter(), []
+
+    def seen(self, answer, words, what, is_wrong=False):
+        self.cases += 1
+        self.answers[answer] += 1
+        if is_wrong:
+            self.differences.append(f"{answer}: {' '.join(map(str, words))}: {what}")
+
+    def line(self):
+        return self.part, self.cases, dict(self.answers), self.differences
