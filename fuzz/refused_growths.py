@@ -1,200 +1,240 @@
 #!/usr/bin/env python3
-"""Refuses each growth of memory in turn, and looks at what the program answers.
+"""Refuses growths of memory, and looks at what the program answers.
 
-    refused_growths.py PROGRAM [--folder EXAMPLES] [--most N]
+    refused_growths.py PROGRAM [--minutes M] [--seed N] [--only SUBCOMMAND]
 
-For each case a run is made in which the first call that asks the system's
-allocator for memory is refused, then one in which the second is, and so on, until
-a run asks for less. Each run must either print the case's own bytes with its own
-status, or print nothing, say `OutOfMemory` on standard error (or name the file,
-where the growth was one of reading it) and end with status 2. Anything else (a
-crash, a run that does not end, half an answer, another status) is told, and the
-script ends with status 1.
+Each call that asks the system's allocator for memory is refused in turn, over
+every subcommand and every example; then several calls in a row, or all, from each
+on; then one call in 10 or in 100, by a seed, from a drawn one on. For texts at the limits,
+where there are too many calls, those that are refused are drawn. Last, the address
+space of the process is limited. Each run must either print the case's own bytes
+with its own status, or print nothing, end with status 2 and say one line on standard error:
+`OutOfMemory`, or the file, where the growth was one of reading it. Anything else
+(a crash, a run that does not end, half an answer, another status) is told, and
+the script ends with status 1. If the minutes do not suffice, the runs are drawn.
 
 `run` makes threads, and no two runs need ask for memory in the same order: so each
-number is refused some times over. Of `run --emit script` no bytes are known
+number is refused three times. Of `run --emit script` no bytes are known
 beforehand: what it prints is replayed, and the replay must end as `run` does.
 
 Needs python3, cc and a program that is linked with the C library of the system at
 run time; it is no part of the tests.
 """
 import argparse
-import os
-import pathlib
+import itertools
+import random
+import resource
 import subprocess
 import sys
-import tempfile
+import time
 
-TOP = pathlib.Path(__file__).resolve().parent.parent
+import faults
+from faults import EVERY, GROW, TOP, Row, fault
 
-# Refuses the call number REFUSE, counted from 1 over all calls that can grow memory, and writes
-# into the file COUNT how many there were.
-SHIM = r"""
-#define _GNU_SOURCE
-#include <dlfcn.h>
-#include <fcntl.h>
-#include <stdio.h>
-#include <stdlib.h>
-#include <unistd.h>
-static unsigned long calls, refuse;
-static int ready;
-static void start(void) {
-    if (ready) return;
-    ready = 1;
-    const char *text = getenv("REFUSE");
-    refuse = text ? strtoul(text, NULL, 10) : 0;
+ENOMEM = 12
+EXAMPLES = TOP / "examples"
+REFUSED = {
+    "program.s": "A: addu $1,$2\n",
+    "no-task.s": "halt\n",
+    "no.cert2": "cert 3\n",
+    "no.events": "assign A\nexec x\n",
 }
-static int refused(void) { start(); return __atomic_add_fetch(&calls, 1, __ATOMIC_SEQ_CST) == refuse; }
-static void *next(const char *name) { return dlsym(RTLD_NEXT, name); }
-void *malloc(size_t n) {
-    static void *(*real)(size_t); if (!real) real = next("malloc");
-    return refused() ? NULL : real(n);
-}
-void *realloc(void *p, size_t n) {
-    static void *(*real)(void *, size_t); if (!real) real = next("realloc");
-    return refused() ? NULL : real(p, n);
-}
-void *aligned_alloc(size_t a, size_t n) {
-    static void *(*real)(size_t, size_t); if (!real) real = next("aligned_alloc");
-    return refused() ? NULL : real(a, n);
-}
-int posix_memalign(void **p, size_t a, size_t n) {
-    static int (*real)(void **, size_t, size_t); if (!real) real = next("posix_memalign");
-    return refused() ? 12 : real(p, a, n);
-}
-__attribute__((destructor)) static void finish(void) {
-    const char *path = getenv("COUNT");
-    if (!path) return;
-    int file = open(path, O_WRONLY | O_CREAT | O_TRUNC, 0600);
-    if (file < 0) return;
-    char text[32];
-    int size = snprintf(text, sizeof text, "%lu\n", calls);
-    if (write(file, text, (size_t)size) < 0) { }
-    close(file);
-}
-// A program that ends so runs no destructor.
-void _exit(int status) {
-    finish();
-    ((void (*)(int))next("_exit"))(status);
-    __builtin_unreachable();
-}
-"""
 
 
-def cases(examples):
-    """The words of each run, by example folder."""
-    for folder in sorted(p for p in examples.iterdir() if (p / "program.s").exists()):
-        program = str(folder / "program.s")
-        certificate = str(folder / "certificate.cert2")
+def example_cases():
+    """The words of each run over the examples."""
+    for folder in sorted(p for p in EXAMPLES.iterdir() if (p / "program.s").exists()):
+        program, certificate = str(folder / "program.s"), str(folder / "certificate.cert2")
         yield ["seq", program]
         yield ["print", program]
-        yield ["annotate", program]
-        if pathlib.Path(certificate).exists():
-            yield ["check", program, certificate]
-            for script in sorted(folder.glob("*.events")):
-                yield ["replay", program, certificate, str(script)]
-            for units, workers in ((1, 1), (4, 4), (16, 3)):
-                words = ["run", program, certificate, "--units", str(units), "--workers", str(workers)]
-                if folder.name == "spin":
-                    words += ["--budget", "2000"]
-                yield words
-                yield [*words, "--emit", "script"]
+        for emit in ("text", "cert", "keep"):
+            yield ["annotate", program, "--emit", emit]
+        if not (folder / "certificate.cert2").exists():
+            continue
+        for workers in ("1", "4"):
+            yield ["check", program, certificate, "--workers", workers]
+        for script in sorted(folder.glob("*.events")):
+            yield ["replay", program, certificate, str(script)]
+        for units, workers in ((1, 1), (4, 4), (16, 3)):
+            words = ["run", program, certificate, "--units", str(units), "--workers", str(workers)]
+            if folder.name == "spin":
+                words += ["--budget", "2000"]
+            yield words
+            yield [*words, "--emit", "script"]
+
+
+def refused_cases(folder):
+    """Words and texts that are refused, and help."""
+    for name, text in REFUSED.items():
+        (folder / name).write_text(text)
+    count = EXAMPLES / "count"
+    program, certificate = str(count / "program.s"), str(count / "certificate.cert2")
+    yield ["--help"]
+    yield ["run", "--help"]
+    yield ["seq", "--budget", "0", program]
+    yield ["run", program, certificate, "--predict", "1,,0"]
+    yield ["seq", str(folder / "program.s")]
+    yield ["print", str(folder / "no-task.s")]
+    yield ["check", program, str(folder / "no.cert2")]
+    yield ["replay", program, certificate, str(folder / "no.events")]
+    yield ["seq", str(folder / "missing.s")]
+
+
+def limit_cases(folder):
+    """The words of runs over texts at the limits, which are written into the folder."""
+    subprocess.run([sys.executable, str(TOP / "bench" / "bench.py"), "--write", str(folder), "--certificate"], check=True)
+
+    def of(*names):
+        return [str(folder / name) for name in names]
+
+    for name in ("maximal.s", "labels.s", "statements.s", "late_fault.s"):
+        yield ["print", *of(name)]
+    yield ["seq", *of("maximal.s")]
+    for name in ("maximal.s", "nest.s", "zigzag.s"):
+        yield ["annotate", *of(name), "--emit", "keep"]
+    yield ["annotate", *of("maximal.s")]
+    for workers in ("1", "4"):
+        yield ["check", *of("maximal.s", "maximal.cert2"), "--workers", workers]
+    yield ["replay", *of("steady.s", "steady.cert2", "steady4.events")]
+    yield ["run", *of("steady.s", "steady.cert2"), "--units", "2", "--budget", "100000"]
+    yield ["run", *of("steady.s", "steady.cert2"), "--units", "2", "--budget", "100000", "--emit", "script"]
+    yield ["run", *of("long300000.s", "long.cert2"), "--units", "1"]
 
 
 class Case:
-    """The words of a case, how its runs begin, and what is right."""
+    """The words of a case, its growths, and what is right."""
 
-    def __init__(self, program, words, folder):
-        self.program, self.words = program, words
-        self.shim, self.count, self.events = folder / "refuse.so", folder / "count", folder / "events"
+    def __init__(self, bench, words):
+        self.bench, self.words = bench, words
         self.is_run = words[0] == "run"
+        self.shares = self.is_run or words[-2:] == ["--workers", "4"]
         self.emits_script = words[-1] == "script"
-        self.units = words[words.index("--units") + 1] if self.is_run else None
+        self.files = [word for word in words if "/" in word]
+        runs = [bench.run(words) for _ in range(5 if self.shares else 1)]
+        self.growths = max(ended.counts[GROW] for ended in runs)
+        self.told = runs[0].told
+        self.right = self.shown(runs[0])
 
-    def run(self, refuse):
-        env = dict(os.environ, LD_PRELOAD=str(self.shim), REFUSE=str(refuse), COUNT=str(self.count))
-        try:
-            done = subprocess.run([self.program, *self.words], capture_output=True, env=env, timeout=60)
-        except subprocess.TimeoutExpired:
-            return None, b"", b"did not end"
-        return done.returncode, done.stdout, done.stderr
-
-    def growths(self):
-        """How many there are, at most, where nothing is refused."""
-        most = 0
-        for _ in range(5 if self.is_run else 1):
-            self.run(0)
-            most = max(most, int(self.count.read_text()))
-        return most
-
-    def shown(self, answer):
+    def shown(self, ended):
         """Status and bytes; of a script, those of its replay."""
-        status, out, _ = answer
-        if not self.emits_script or status not in (0, 1, 3) or b" refused" in out or b"refused " in out:
-            return status, out
-        self.events.write_bytes(out)
-        words = ["replay", *self.words[1:3], str(self.events), "--units", self.units]
-        done = subprocess.run([self.program, *words], capture_output=True, timeout=60)
-        said = done.stdout.splitlines(keepends=True)
-        answers = [line for line in said if line.endswith(b" ok\n") or b" refused " in line]
-        if len(answers) != len(out.splitlines()) or not all(line.endswith(b" ok\n") for line in answers):
-            return status, b"events refused"
-        rest = said[len(answers):]
-        if status == 3:
+        if not self.emits_script or ended.status not in (0, 1, 3) or b"refused " in ended.out:
+            return ended.status, ended.out
+        events = self.bench.folder / "replayed.events"
+        events.write_bytes(ended.out)
+        units = self.words[self.words.index("--units") + 1]
+        replayed = self.bench.plain(["replay", *self.words[1:3], str(events), "--units", units])
+        said = replayed.out.splitlines(keepends=True)
+        count = len(ended.out.splitlines())
+        answers, closing = said[:count], said[count:]
+        if len(answers) != count or not all(line.endswith(b" ok\n") for line in answers):
+            return ended.status, b"events refused"
+        if ended.status == 3:
             # out of budget: how many instructions were executed by then depends on the threads
-            return status, b"%d events" % len(answers)
-        return status, b"".join(rest)
+            budget = int(self.words[self.words.index("--budget") + 1])
+            return ended.status, b"the budget is used" if count >= budget else b"the budget is left"
+        return ended.status, b"".join(closing)
+
+    def judge(self, row, ended, what):
+        """Puts what a run answered into the row."""
+        lines = [b"multiscalar: 1 OutOfMemory\n", b"multiscalar: 4 OutOfMemory\n"]
+        if self.shown(ended) == self.right and ended.told == self.told:
+            row.seen("as with ample memory", self.words, what)
+        elif (ended.status, ended.out) == (2, b"") and ended.told in lines:
+            row.seen("want of memory", self.words, what)
+        elif (ended.status, ended.out) == (2, b"") and ended.told in [f"multiscalar: file {path}\n".encode() for path in self.files]:
+            row.seen("want of memory, file named", self.words, what)
+        elif ended.status is None:
+            row.seen("did not end", self.words, what, True)
+        else:
+            row.seen(f"status {ended.status}", self.words, f"{what}: {ended.out[:60]} {ended.told[:60]}", True)
 
 
-def is_refusal(told):
-    return b"OutOfMemory" in told or told.startswith(b"multiscalar: file ")
+def refusal(first, last, one_in=0, seed=0):
+    return fault(GROW, first, last, "e", ENOMEM, one_in, seed)
 
 
-def try_case(case, most):
-    """The runs of a case: how many growths there are, how many runs ended as without a refusal, how many
-    in want of memory, and how many otherwise."""
-    right = case.shown(case.run(0))
-    growths = case.growths()
-    if growths == 0:
-        sys.exit("the program asks the C library for no memory: nothing can be refused")
-    ended = refused = wrong = 0
-    for number in range(1, min(growths, most) + 1):
-        for _ in range(3 if case.is_run else 1):
-            answer = case.run(number)
-            if case.shown(answer) == right:
-                ended += 1
-            elif answer[:2] == (2, b"") and is_refusal(answer[2]):
-                refused += 1
-            else:
-                wrong += 1
-                print("wrong:", *case.words, "growth", number, "status", answer[0], answer[1][:60], answer[2][:60])
-    return growths, ended, refused, wrong
+def alone(cases, _):
+    """Each growth of each case, refused alone."""
+    return [(case, refusal(n, n)) for case in cases for n in range(1, case.growths + 1) for _ in range(3 if case.shares else 1)]
+
+
+def in_a_row(cases, draw):
+    """From each growth on some are refused, and all."""
+    return [(case, refusal(n, last)) for case in cases for n in range(1, case.growths + 1)
+            for last in (n + draw.choice((1, 2, 4, 9, 30, 99)), EVERY)]
+
+
+def at_random(cases, draw):
+    """One growth in ten or a hundred, from a drawn one on."""
+    return [(case, refusal(draw.randint(1, case.growths), EVERY, draw.choice((10, 100)), draw.randrange(1 << 30)))
+            for case in cases for _ in range(200)]
+
+
+def at_limits(cases, draw):
+    """Growths of the large texts: drawn evenly, near the beginning, and near the end."""
+    jobs = []
+    for case, _ in itertools.product(cases, range(200)):
+        size = int(case.growths ** draw.random())
+        first = draw.choice((draw.randint(1, case.growths), size, case.growths + 1 - size))
+        last = draw.choice((first, first, first + 9, EVERY))
+        jobs.append((case, refusal(first, last)))
+    return jobs
+
+
+def perform(name, jobs, draw, end):
+    """The runs of a part in a drawn order until the time is up, as a row."""
+    draw.shuffle(jobs)
+    row = Row(name)
+    for case, faults_of in jobs:
+        if time.monotonic() > end:
+            row.part += f" (drawn, of {len(jobs)})"
+            break
+        case.judge(row, case.bench.run(case.words, faults_of), f"faults {faults_of}")
+    return row.line()
+
+
+def limited(cases, draw, end):
+    """Runs in a limited address space: a limit may be too low for the process to begin at all."""
+    row = Row("address space limited to 3 to 600 MB")
+    while time.monotonic() < end:
+        case, size = draw.choice(cases), int(3e6 * 200 ** draw.random())
+        ended = case.bench.plain(case.words, preexec_fn=lambda: resource.setrlimit(resource.RLIMIT_AS, (size, size)))
+        if ended.status == 127 or (ended.status == -11 and size < 4.5e6):
+            row.seen("not begun", case.words, "")
+        else:
+            case.judge(row, ended, f"address space {size}")
+    return row.line()
+
+
+def run(program, minutes, seed, only=""):
+    """The rows of all parts, in about so many minutes."""
+    begin, draw = time.monotonic(), random.Random(seed)
+    with faults.Bench(program) as bench:
+        words = [w for w in itertools.chain(example_cases(), refused_cases(bench.folder)) if only in ("", w[0])]
+        small = [Case(bench, w) for w in words]
+        rows = []
+        for name, jobs, until in (("each growth refused alone", alone, 0.45), ("several growths in a row, or all, refused from each on", in_a_row, 0.65),
+                                  ("one growth in 10 or 100 refused", at_random, 0.72)):
+            rows.append(perform(name, jobs(small, draw), draw, begin + 60 * minutes * until))
+        large = [Case(bench, w) for w in limit_cases(bench.folder) if only in ("", w[0])]
+        rows.append(perform("growths refused, texts at the limits", at_limits(large, draw), draw, begin + 60 * minutes * 0.92))
+        rows.append(limited(small + large, draw, begin + 60 * minutes))
+    return rows
 
 
 def main():
     parser = argparse.ArgumentParser(description=__doc__.splitlines()[0])
     parser.add_argument("program")
-    parser.add_argument("--folder", default=TOP / "examples", type=pathlib.Path)
-    parser.add_argument("--most", default=5000, type=int, help="the greatest number of a growth that is refused")
+    parser.add_argument("--minutes", default=10, type=float)
+    parser.add_argument("--seed", default=1, type=int)
     parser.add_argument("--only", default="", help="only the cases of this subcommand")
     args = parser.parse_args()
     wrong = 0
-    with tempfile.TemporaryDirectory() as folder:
-        folder = pathlib.Path(folder)
-        source, shim = folder / "refuse.c", folder / "refuse.so"
-        source.write_text(SHIM)
-        subprocess.run(["cc", "-O1", "-shared", "-fPIC", "-o", shim, source, "-ldl"], check=True)
-        for words in cases(args.folder):
-            case = Case(args.program, words, folder)
-            if args.only not in ("", words[0]):
-                continue
-            status, _, told = case.run(0)
-            if b"OutOfMemory" in told or (status == 2 and b"Usage" in told):
-                continue
-            growths, ended, refused, others = try_case(case, args.most)
-            wrong += others
-            name = pathlib.Path(words[1]).parent.name
-            print(words[0], name, *words[3:], growths, "growths,", ended, "runs ended right,", refused, "in want of memory", flush=True)
+    for part, cases, answers, differences in run(args.program, args.minutes, args.seed, args.only):
+        print(f"{part}: {cases} runs", *(f"{count} {answer}" for answer, count in answers.items()), sep=", ")
+        for difference in differences:
+            print("wrong:", difference)
+        wrong += len(differences)
     print("wrong", wrong)
     return 1 if wrong else 0
 
