@@ -1,0 +1,421 @@
+#!/usr/bin/env python3
+"""Makes opens, reads and writes fail, and reads from and writes to odd files.
+
+    failed_calls.py PROGRAM [--minutes M] [--seed N] [--only WORD] [--list]
+
+The table EXPECTED says, before anything is run, what the answer must be (docs/FORMATS.md). In each run
+of the first group calls of the C library fail, in turn or by a seed (faults.py); those of the second are given files,
+pipes and devices of the system. No run may open a file for writing. What differs is told, and the script ends
+with status 1. If the minutes do not suffice, the runs are drawn. Needs python3 and cc, and root for the
+runs as another user; it is no part of the tests.
+"""
+import argparse
+import errno
+import os
+import random
+import resource
+import subprocess
+import sys
+import threading
+import time
+
+import faults
+from faults import EVERY, OPEN, READ, TELL, TOP, WRITE, Row, fault
+
+EXPECTED = {
+    "reads of 1, 7 or 4,096 bytes": "the answer of whole reads",
+    "a read interrupted": "the answer as ever, for one interruption at any read and for one read in some",
+    "reads of a file interrupted 1,000 times": "the answer as ever",
+    "reads of a file interrupted 1,001 times": "status 2, nothing on standard output, `multiscalar: file PATH` of that file",
+    "a read fails": "status 2, nothing on standard output, `multiscalar: file PATH` of the file that was read",
+    "a read finds the end too early": "the answer for the bytes that were read",
+    "a file is cut while it is read": "the answer for the bytes that were read",
+    "a file grows while it is read": "the answer for the longer file",
+    "an open fails": "status 2, nothing on standard output, `multiscalar: file PATH` of that file",
+    "an open is interrupted, once or 1,000 times": "the answer as ever",
+    "writes of 1, 7 or 100 bytes": "the answer as ever",
+    "a write interrupted, once, 1,000 times, or one in two": "the answer as ever",
+    "a write fails": "status 2, the bytes that were written before, `multiscalar: 2 Write`; for help status 2 alone",
+    "a write on standard error fails": "status 2 and nothing on standard output",
+    "standard output full, closed, or a pipe that is closed": "status 2, `multiscalar: 2 Write`; for help status 2 alone",
+    "standard input or standard error closed": "the status and the bytes of standard output as ever",
+    "a slow reader of a pipe, and a FIFO as each input": "the answer as ever",
+    "/dev/zero as each input": "program: `1 TooLong`, status 1; other files: status 2, the file named; in memory at most 16 MB above the limit",
+    "/dev/null and an empty FIFO as each input": "the answer for an empty file",
+    "a file that is missing, a folder, unreadable, or has no such name": "status 2, nothing on standard output, `multiscalar: file PATH`",
+    "a file of another user, as nobody": "status 2, nothing on standard output, `multiscalar: file PATH`",
+    "files at the limit, and one byte above": "program: judged, and `1 TooLong`; other files: judged, and status 2 with the file named",
+    "words that are not UTF-8": "status 2, nothing on standard output, `multiscalar: 1 Words`",
+}
+READ_ERRORS = [errno.EIO, errno.EAGAIN, errno.EISDIR, errno.EBADF, errno.ENOMEM, errno.ESTALE, errno.EINVAL, errno.EPERM]
+OPEN_ERRORS = [errno.EACCES, errno.ENOENT, errno.EMFILE, errno.ENFILE, errno.ENOMEM, errno.ELOOP, errno.EIO, errno.EPERM, errno.ENXIO]
+WRITE_ERRORS = [errno.EIO, errno.ENOSPC, errno.EPIPE, errno.EBADF, errno.EAGAIN, errno.EFBIG, errno.EDQUOT, 0]
+INTERRUPTED = errno.EINTR
+PROGRAM_LIMIT, FILE_LIMIT = 4194304, 134217728
+WRITE_FAILED = b"multiscalar: 2 Write\n"
+
+
+class Case:
+    """The words of a run, the places of its files among them, and its answer."""
+
+    def __init__(self, bench, words):
+        self.bench, self.words = bench, words
+        self.right = bench.run(words)
+        self.places = [i for i, word in enumerate(words) if "/" in word]
+        self.files = [words[i] for i in self.places]
+
+    def with_file(self, which, path):
+        """The words with another file in the place of the one of this number, from 0."""
+        words = list(self.words)
+        words[self.places[which]] = str(path)
+        return words
+
+
+def named(path):
+    return 2, b"", f"multiscalar: file {path}\n".encode()
+
+
+def cases(bench):
+    """Each subcommand over the examples; what `run` prints must be known."""
+    for folder in sorted(p for p in (TOP / "examples").iterdir() if (p / "program.s").exists()):
+        program, certificate = str(folder / "program.s"), str(folder / "certificate.cert2")
+        words = [["seq", program], ["print", program], ["annotate", "--emit", "cert", program]]
+        if (folder / "certificate.cert2").exists():
+            words += [["check", program, certificate], ["check", "--workers", "4", program, certificate]]
+            words += [["replay", program, certificate, str(script)] for script in sorted(folder.glob("*.events"))]
+            words += [["run", program, certificate, *(["--budget", "2000"] if folder.name == "spin" else [])]]
+        yield from (Case(bench, w) for w in words)
+
+
+class Part:
+    """One line of EXPECTED: its runs until the time is up."""
+
+    def __init__(self, name, bench, end):
+        self.row, self.bench, self.end = Row(name), bench, end
+
+    def over(self):
+        return time.monotonic() > self.end
+
+    def each(self, jobs, draw):
+        """The jobs in a drawn order, until the time is up."""
+        draw.shuffle(jobs)
+        for job in jobs:
+            if self.over():
+                self.row.part += f" (drawn, of {len(jobs)})"
+                return
+            yield job
+
+    def expect(self, words, what, ended, wanted):
+        """`wanted` is status, output and what is told; None in its place is anything."""
+        given = (ended.status, ended.out, ended.told)
+        is_right = all(w is None or w == g for w, g in zip(wanted, given))
+        if ended.counts and ended.counts[5]:
+            is_right, what = False, f"{what}, {ended.counts[5]} files opened for writing"
+        answer = "did not end" if ended.status is None else f"status {ended.status}"
+        text = f"{what}: {ended.out[:60]} {ended.told[:60]}, wanted {[w if w is None or isinstance(w, int) else w[:60] for w in wanted]}"
+        self.row.seen(answer, words, text, not is_right)
+
+    def run(self, case, what, wanted, *faults_of, **more):
+        self.expect(case.words, f"{what} {''.join(faults_of)}", self.bench.run(case.words, *faults_of, **more), wanted)
+
+
+def short_reads(part, every, draw):
+    for case, size in part.each([(case, size) for case in every for size in (1, 7, 4096)], draw):
+        part.run(case, "", case.right[:3], fault(READ, 1, EVERY, "s", size))
+
+
+def interrupted_read(part, every, draw):
+    jobs = [(case, n) for case in every for n in range(1, 20)] + [(case, n) for case in every for n in (-3, -10)]
+    for case, n in part.each(jobs, draw):
+        which = fault(READ, n, n, "e", INTERRUPTED) if n > 0 else fault(READ, 1, EVERY, "e", INTERRUPTED, -n, draw.randrange(9999))
+        part.run(case, "", case.right[:3], fault(READ, 1, EVERY, "s", 64), which)
+
+
+def interrupted_reads(count):
+    def runs(part, every, draw):
+        for case, which in part.each([(case, which) for case in every for which in range(len(case.files))], draw):
+            first = case.right.read_of.index(which + 1) + 1
+            wanted = case.right[:3] if count == 1000 else named(case.files[which])
+            part.run(case, "", wanted, fault(READ, first, first + count - 1, "e", INTERRUPTED))
+    return runs
+
+
+def reads_of(case, size):
+    """The file of each read, where each takes at most `size` bytes."""
+    return case.bench.run(case.words, fault(READ, 1, EVERY, "s", size)).read_of
+
+
+def failing_read(part, every, draw):
+    jobs = [(case, n, error, file) for case in every for n, file in enumerate(reads_of(case, 200), 1) for error in READ_ERRORS]
+    for case, n, error, file in part.each(jobs, draw):
+        part.run(case, "", named(case.files[file - 1]), fault(READ, 1, EVERY, "s", 200), fault(READ, n, n, "e", error))
+
+
+def prefix_answer(case, which, size, more=b""):
+    """The answer where the file of this number has only its first bytes, and then others."""
+    path = case.bench.folder / "prefix"
+    with open(case.files[which], "rb") as file:
+        path.write_bytes(file.read()[:size] + more)
+    return case.bench.run(case.with_file(which, path))[:2] + (None,)
+
+
+def early_end(part, every, draw):
+    jobs = []
+    for case in every:
+        files = reads_of(case, 20)
+        jobs += [(case, n, file, 20 * files[:n - 1].count(file)) for n, file in enumerate(files, 1)]
+    for case, n, file, size in part.each(jobs, draw):
+        part.run(case, "", prefix_answer(case, file - 1, size), fault(READ, 1, EVERY, "s", 20), fault(READ, n, n, "z"))
+
+
+def changed_while_read(how, more):
+    """A copy of an input is cut, or made longer, before a read of it."""
+    def runs(part, every, draw):
+        copy = part.bench.folder / "changing"
+        jobs = [(case, n, file) for case in every for n, file in enumerate(reads_of(case, 100), 1)]
+        for case, n, file in part.each(jobs, draw):
+            with open(case.files[file - 1], "rb") as source:
+                text = source.read()
+            copy.write_bytes(text)
+            had = 100 * reads_of(case, 100)[:n - 1].count(file)
+            value = draw.randint(0, len(text)) if how == "t" else draw.choice((1, 500))
+            wanted = prefix_answer(case, file - 1, max(had, value) if how == "t" else len(text), more.encode() * value if how == "a" else b"")
+            ended = part.bench.run(case.with_file(file - 1, copy), fault(READ, 1, EVERY, "s", 100), fault(READ, n, n, how, value), TARGET=str(copy), MORE=more)
+            part.expect(case.words, f"file {file} before read {n}, {how} {value}", ended, wanted)
+    return runs
+
+
+def failing_open(part, every, draw):
+    jobs = [(case, which, error) for case in every for which in range(len(case.files)) for error in OPEN_ERRORS]
+    for case, which, error in part.each(jobs, draw):
+        part.run(case, "", named(case.files[which]), fault(OPEN, which + 1, which + 1, "e", error))
+
+
+def interrupted_open(part, every, draw):
+    jobs = [(case, which, count) for case in every for which in range(len(case.files)) for count in (1, 1000)]
+    for case, which, count in part.each(jobs, draw):
+        part.run(case, "", case.right[:3], fault(OPEN, which + 1, which + count, "e", INTERRUPTED))
+
+
+def short_writes(part, every, draw):
+    for case, size in part.each([(case, size) for case in every + helps(part.bench) for size in (1, 7, 100)], draw):
+        part.run(case, "", case.right[:3], fault(WRITE, 1, EVERY, "s", size))
+
+
+def interrupted_write(part, every, draw):
+    jobs = [(case, how) for case in every + helps(part.bench) for how in range(12)]
+    for case, how in part.each(jobs, draw):
+        which = (fault(WRITE, 3, 1002, "e", INTERRUPTED) if how == 0 else
+                 fault(WRITE, 1, EVERY, "e", INTERRUPTED, 2, draw.randrange(9999)) if how == 1 else fault(WRITE, how, how, "e", INTERRUPTED))
+        part.run(case, "", case.right[:3], fault(WRITE, 1, EVERY, "s", 3), which)
+
+
+def helps(bench):
+    return [Case(bench, ["--help"]), Case(bench, ["run", "--help"])]
+
+
+def failing_write(part, every, draw):
+    """Writes of ten bytes, one of which fails or takes none."""
+    jobs = [(case, n, error) for case in every + helps(part.bench) for n in range(1, min(len(case.right.out) // 10, 300) + 2) for error in WRITE_ERRORS
+            if 10 * (n - 1) < len(case.right.out)]
+    for case, n, error in part.each(jobs, draw):
+        wanted = 2, case.right.out[:10 * (n - 1)], WRITE_FAILED if case.files else b""
+        part.run(case, "", wanted, fault(WRITE, 1, EVERY, "s", 10), fault(WRITE, n, n, "e" if error else "z", error))
+
+
+def failing_telling(part, every, draw):
+    for case, error in part.each([(case, error) for case in every for error in WRITE_ERRORS], draw):
+        part.run(case, "", (2, b"", b""), fault(OPEN, 1, 1, "e", errno.EIO), fault(TELL, 1, EVERY, "e" if error else "z", error))
+
+
+def bad_outputs(part, every, draw):
+    """/dev/full, no standard output, one that is open for reading only, and a pipe without a reader."""
+    reader, closed = os.pipe()
+    os.close(reader)
+    with open("/dev/full", "wb") as full, open("/dev/null", "rb") as unwritable:
+        outputs = {"/dev/full": full, "closed pipe": closed, "open for reading": unwritable, "closed": None}
+        for case, name in part.each([(case, name) for case in every + helps(part.bench) for name in outputs], draw):
+            closing = {"preexec_fn": lambda: os.close(1)} if name == "closed" else {}
+            done = subprocess.run([part.bench.program, *case.words], stdin=subprocess.DEVNULL, stdout=outputs[name], stderr=subprocess.PIPE, timeout=60, **closing)
+            part.expect(case.words, name, faults.Ended(done.returncode, b"", done.stderr, None, None), (2, b"", WRITE_FAILED if case.files else b""))
+    os.close(closed)
+
+
+def bad_streams(part, every, draw):
+    jobs = [(case, streams, is_missing) for case in every for streams in ((0,), (2,), (0, 2)) for is_missing in (False, True)]
+    for case, streams, is_missing in part.each(jobs, draw):
+        words = case.with_file(0, part.bench.folder / "missing") if is_missing else case.words
+        done = subprocess.run([part.bench.program, *words], stdout=subprocess.PIPE, stderr=subprocess.DEVNULL, timeout=60,
+                              preexec_fn=lambda: [os.close(stream) for stream in streams])
+        part.expect(words, f"closed {streams}", faults.Ended(done.returncode, done.stdout, b"", None, None), (2, b"", b"") if is_missing else case.right[:2] + (None,))
+
+
+def feed(path, text, size):
+    """Writes a text into a FIFO, in pieces."""
+    try:
+        with open(path, "wb", buffering=0) as file:
+            for at in range(0, len(text), size):
+                file.write(text[at:at + size])
+    except BrokenPipeError:
+        pass
+
+
+def from_fifo(part, case, which, text, size):
+    """The answer where an input comes through a FIFO."""
+    path = part.bench.folder / "fifo"
+    path.unlink(missing_ok=True)
+    os.mkfifo(path)
+    writer = threading.Thread(target=feed, args=(path, text, size), daemon=True)
+    writer.start()
+    ended = part.bench.run(case.with_file(which, path))
+    writer.join(10)
+    return ended
+
+
+def pipes(part, every, draw):
+    jobs = [(case, which, size) for case in every for which in [*range(len(case.files)), -1] for size in (1, 1000)]
+    for case, which, size in part.each(jobs, draw):
+        if which >= 0:
+            with open(case.files[which], "rb") as file:
+                part.expect(case.words, f"FIFO for file {which}", from_fifo(part, case, which, file.read(), size), case.right[:3])
+            continue
+        child = subprocess.Popen([part.bench.program, *case.words], stdin=subprocess.DEVNULL, stdout=subprocess.PIPE, stderr=subprocess.PIPE)
+        out = bytearray()
+        while piece := os.read(child.stdout.fileno(), size):
+            out += piece
+        part.expect(case.words, "slow reader", faults.Ended(child.wait(60), bytes(out), child.stderr.read(), None, None), case.right[:3])
+        child.stdout.close()
+        child.stderr.close()
+
+
+def measured(part, words):
+    """How a run ends, and the most memory that it had, in bytes. A script that stays small starts it: what a
+    child has touched counts from where its parent stood when it began."""
+    text = ("import resource, subprocess, sys\nstatus = subprocess.run(sys.argv[1:]).returncode\n"
+            "print(status, resource.getrusage(resource.RUSAGE_CHILDREN).ru_maxrss, file=sys.stderr)\n")
+    done = subprocess.run([sys.executable, "-c", text, part.bench.program, *words], capture_output=True, timeout=120)
+    *told, last = done.stderr.splitlines(keepends=True)
+    status, kilobytes = map(int, last.split())
+    return faults.Ended(status, done.stdout, b"".join(told), None, None), kilobytes * 1024
+
+
+def endless(part, every, draw):
+    chosen = [case for case in every if len(case.files) == 3][:1] + [case for case in every if case.words[0] != "replay"][:8]
+    most = 0
+    for case, which, path in part.each([(case, which, path) for case in chosen for which in range(len(case.files)) for path in ("/dev/zero", "/dev/full")], draw):
+        ended, memory = measured(part, case.with_file(which, path))
+        part.expect(case.words, f"{path} for file {which}", ended, named(path) if which else (1, b"program refused: 1 TooLong\n", b""))
+        limit = FILE_LIMIT if which else PROGRAM_LIMIT
+        most = max(most, memory - limit)
+        if memory > limit + 16e6:
+            part.row.differences.append(f"memory {memory}: {' '.join(case.words)}: {path} for file {which}")
+    part.row.answers[f"most memory above the limit {most / 1e6:.0f} MB"] = part.row.cases
+
+
+def empty(part, every, draw):
+    for case, which, is_fifo in part.each([(case, which, is_fifo) for case in every for which in range(len(case.files)) for is_fifo in (False, True)], draw):
+        wanted = prefix_answer(case, which, 0)
+        ended = from_fifo(part, case, which, b"", 1) if is_fifo else part.bench.run(case.with_file(which, "/dev/null"))
+        part.expect(case.words, f"empty file {which}", ended, wanted)
+
+
+def no_files(bench):
+    """Paths of which none can be read."""
+    folder = bench.folder
+    loop = folder / "loop"
+    if not loop.is_symlink():
+        loop.symlink_to(loop)
+    return [folder / "missing", folder, loop, folder / "counts" / "below", "", folder / ("n" * 300), "/" + "d/" * 3000, "/proc/self/mem"]
+
+
+def unreadable(part, every, draw):
+    for case, which, path in part.each([(case, which, path) for case in every for which in range(len(case.files)) for path in no_files(part.bench)], draw):
+        part.expect(case.words, f"{str(path)[:80]} for file {which}", part.bench.run(case.with_file(which, path)), named(path))
+
+
+def forbidden(part, every, draw):
+    """As another user, who may not read the file (a file whose mode forbids it, where this is not root)."""
+    path = part.bench.folder / "secret"
+    path.write_bytes(b"halt\n")
+    path.chmod(0)
+    folder = part.bench.folder / "for-nobody"
+    folder.mkdir(exist_ok=True)
+    folder.chmod(0o755)
+    program = folder / "multiscalar"
+    program.write_bytes(open(part.bench.program, "rb").read())
+    program.chmod(0o755)
+    as_nobody = {"user": "nobody"} if os.geteuid() == 0 else {}
+    for case, which in part.each([(case, which) for case in every for which in range(len(case.files))], draw):
+        words = case.with_file(which, path)
+        for place, number in zip(case.places, range(which)):
+            copy = folder / f"file-{number}"
+            copy.write_bytes(open(case.words[place], "rb").read())
+            copy.chmod(0o644)
+            words[place] = str(copy)
+        done = subprocess.run([program, *words], stdin=subprocess.DEVNULL, capture_output=True, timeout=60, cwd="/", **as_nobody)
+        part.expect(case.words, f"forbidden file {which}", faults.Ended(done.returncode, done.stdout, done.stderr, None, None), named(path))
+
+
+def limits(part, every, draw):
+    """Files of zeros without blocks, at the limit and one byte above."""
+    path = part.bench.folder / "zeros"
+    three = next(case for case in every if len(case.files) == 3)
+    judged = {0: b"program refused: 2 NotAscii line 1\n", 1: b"certificate refused: 1 Header\n", 2: b"script refused: 1 Line 1\n"}
+    for which, above in part.each([(which, above) for which in range(3) for above in (0, 1)], draw):
+        with open(path, "wb") as file:
+            file.truncate((FILE_LIMIT if which else PROGRAM_LIMIT) + above)
+        wanted = named(path) if which and above else (1, b"program refused: 1 TooLong\n" if above else judged[which], b"")
+        part.expect(three.words, f"zeros for file {which}, {above} above", part.bench.run(three.with_file(which, path)), wanted)
+
+
+def not_text(part, every, draw):
+    for case, place in part.each([(case, place) for case in every for place in range(len(case.words) + 1)], draw):
+        words = [os.fsencode(word) for word in case.words]
+        words.insert(place, draw.choice((b"\xff", b"a\xc3", b"\xed\xa0\x80", b"--\x80")))
+        part.expect(case.words, f"{words[place]} as word {place}", part.bench.run(words), (2, b"", b"multiscalar: 1 Words\n"))
+
+
+RUNS = [short_reads, interrupted_read, interrupted_reads(1000), interrupted_reads(1001), failing_read, early_end,
+        changed_while_read("t", ""), changed_while_read("a", "# more\n"), failing_open, interrupted_open, short_writes, interrupted_write,
+        failing_write, failing_telling, bad_outputs, bad_streams, pipes, endless, empty, unreadable, forbidden, limits, not_text]
+
+
+def run(program, minutes, seed, only=""):
+    """The rows of all parts, in about so many minutes; time that a part leaves goes to those after it."""
+    end, draw, rows = time.monotonic() + 60 * minutes, random.Random(seed), []
+    resource.setrlimit(resource.RLIMIT_CORE, (0, resource.getrlimit(resource.RLIMIT_CORE)[1]))
+    chosen = [(name, runs) for name, runs in zip(EXPECTED, RUNS) if only in name]
+    with faults.Bench(program) as bench:
+        every = list(cases(bench))
+        for left, (name, runs) in zip(range(len(chosen), 0, -1), chosen):
+            now = time.monotonic()
+            part = Part(name, bench, now + max(end - now, 0) / left)
+            runs(part, every, draw)
+            rows.append(part.row.line())
+    return rows
+
+
+def main():
+    parser = argparse.ArgumentParser(description=__doc__.splitlines()[0])
+    parser.add_argument("program")
+    parser.add_argument("--minutes", default=10, type=float)
+    parser.add_argument("--seed", default=1, type=int)
+    parser.add_argument("--only", default="", help="only the parts whose name has this")
+    parser.add_argument("--list", action="store_true", help="print what is expected, and run nothing")
+    args = parser.parse_args()
+    if args.list:
+        for name, expected in EXPECTED.items():
+            print(f"{name}: {expected}")
+        return 0
+    wrong = 0
+    for part, count, answers, differences in run(args.program, args.minutes, args.seed, args.only):
+        print(f"{part}: {count} runs", *(f"{number} {answer}" for answer, number in answers.items()), sep=", ")
+        for difference in differences:
+            print("wrong:", difference)
+        wrong += len(differences)
+    print("wrong", wrong)
+    return 1 if wrong else 0
+
+
+if __name__ == "__main__":
+    sys.exit(main())
