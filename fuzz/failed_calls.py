@@ -52,7 +52,7 @@ OPEN_ERRORS = [errno.EACCES, errno.ENOENT, errno.EMFILE, errno.ENFILE, errno.ENO
 WRITE_ERRORS = [errno.EIO, errno.ENOSPC, errno.EPIPE, errno.EBADF, errno.EAGAIN, errno.EFBIG, errno.EDQUOT, 0]
 INTERRUPTED = errno.EINTR
 PROGRAM_LIMIT, FILE_LIMIT = 4194304, 134217728
-WRITE_FAILED = b"multiscalar: 2 Write\n"
+WRITE_FAILED, NO_TEXT = b"multiscalar: 2 Write\n", b"multiscalar: 1 Words\n"
 
 
 class Case:
@@ -87,6 +87,16 @@ def cases(bench):
         yield from (Case(bench, w) for w in words)
 
 
+def name_of(wanted):
+    """What is said in the table of an answer that was wanted."""
+    status, _, told = wanted
+    if told in (WRITE_FAILED, NO_TEXT):
+        return told.decode().split(": ")[1].strip()
+    if told and told.startswith(b"multiscalar: file"):
+        return "file named"
+    return "status 2 alone" if status == 2 and told == b"" else "as it must be"
+
+
 class Part:
     """One line of EXPECTED: its runs until the time is up."""
 
@@ -111,7 +121,7 @@ class Part:
         is_right = all(w is None or w == g for w, g in zip(wanted, given))
         if ended.counts and ended.counts[5]:
             is_right, what = False, f"{what}, {ended.counts[5]} files opened for writing"
-        answer = "did not end" if ended.status is None else f"status {ended.status}"
+        answer = name_of(wanted) if is_right else "did not end" if ended.status is None else f"status {ended.status}"
         text = f"{what}: {ended.out[:60]} {ended.told[:60]}, wanted {[w if w is None or isinstance(w, int) else w[:60] for w in wanted]}"
         self.row.seen(answer, words, text, not is_right)
 
@@ -172,12 +182,13 @@ def changed_while_read(how, more):
     """A copy of an input is cut, or made longer, before a read of it."""
     def runs(part, every, draw):
         copy = part.bench.folder / "changing"
-        jobs = [(case, n, file) for case in every for n, file in enumerate(reads_of(case, 100), 1)]
-        for case, n, file in part.each(jobs, draw):
+        jobs = [(case, n, files[n - 1], files[:n - 1].count(files[n - 1])) for case in every
+                for files in [reads_of(case, 100)] for n in range(1, len(files) + 1)]
+        for case, n, file, earlier in part.each(jobs, draw):
             with open(case.files[file - 1], "rb") as source:
                 text = source.read()
             copy.write_bytes(text)
-            had = 100 * reads_of(case, 100)[:n - 1].count(file)
+            had = 100 * earlier
             value = draw.randint(0, len(text)) if how == "t" else draw.choice((1, 500))
             wanted = prefix_answer(case, file - 1, max(had, value) if how == "t" else len(text), more.encode() * value if how == "a" else b"")
             ended = part.bench.run(case.with_file(file - 1, copy), fault(READ, 1, EVERY, "s", 100), fault(READ, n, n, how, value), TARGET=str(copy), MORE=more)
@@ -372,7 +383,7 @@ def not_text(part, every, draw):
     for case, place in part.each([(case, place) for case in every for place in range(len(case.words) + 1)], draw):
         words = [os.fsencode(word) for word in case.words]
         words.insert(place, draw.choice((b"\xff", b"a\xc3", b"\xed\xa0\x80", b"--\x80")))
-        part.expect(case.words, f"{words[place]} as word {place}", part.bench.run(words), (2, b"", b"multiscalar: 1 Words\n"))
+        part.expect(case.words, f"{words[place]} as word {place}", part.bench.run(words), (2, b"", NO_TEXT))
 
 
 RUNS = [short_reads, interrupted_read, interrupted_reads(1000), interrupted_reads(1001), failing_read, early_end,
