@@ -36,8 +36,14 @@ static int count, ready;
 static unsigned long calls[KINDS], for_writing;
 static unsigned char opened[1024], read_of[1 << 16];
 
+// Has the stack grow at once, so that a limit on the address space meets the heap alone.
+static void grow_stack(size_t size) {
+    volatile char room[size];
+    for (size_t at = size; at > 4096; at -= 4096) room[at - 1] = 0;
+}
 __attribute__((constructor)) static void start(void) {
     const char *text = getenv("FAULTS");
+    grow_stack(getenv("STACK") ? strtoul(getenv("STACK"), NULL, 10) : 1);
     int used;
     struct fault f;
     while (text && count < 8 && sscanf(text, " %d %lu %lu %lu %lu %c %ld;%n", &f.kind, &f.from, &f.to, &f.one_in, &f.seed, &f.how, &f.value, &used) == 7) {
@@ -168,12 +174,13 @@ class Bench:
     def environment(self, *faults, **more):
         return dict(os.environ, LD_PRELOAD=str(self.library), COUNTS=str(self.counts), FAULTS="".join(faults), **more)
 
-    def run(self, words, *faults, seconds=120, **more):
-        """A run with these faults; `more` goes to its environment. A run that does not end has status None."""
+    def run(self, words, *faults, limit=None, **more):
+        """A run with these faults; `more` goes to its environment, and `limit` is called before it begins. A run
+        that does not end has status None."""
         self.counts.unlink(missing_ok=True)
         try:
             done = subprocess.run([self.program, *words], stdin=subprocess.DEVNULL, stdout=subprocess.PIPE, stderr=subprocess.PIPE,
-                                  env=self.environment(*faults, **more), timeout=seconds, close_fds=False)
+                                  env=self.environment(*faults, **more), timeout=120, close_fds=False, preexec_fn=limit)
         except subprocess.TimeoutExpired:
             return Ended(None, b"", b"did not end", None, None)
         return Ended(done.returncode, done.stdout, done.stderr, *self.counted())
