@@ -45,6 +45,10 @@ def example_cases():
     """The words of each run over the examples."""
     for folder in sorted(p for p in EXAMPLES.iterdir() if (p / "program.s").exists()):
         program, certificate = str(folder / "program.s"), str(folder / "certificate.cert2")
+        for line in (folder / "expected" / "commands").read_text().splitlines() if (folder / "expected").exists() else []:
+            words = [str(folder / word) if (folder / word).is_file() else word for word in line.split()[2:]]
+            if words[0] in ("check", "replay") or words[:2] == ["seq", "--budget"]:
+                yield words
         yield ["seq", program]
         yield ["print", program]
         for emit in ("text", "cert", "keep"):
@@ -53,8 +57,6 @@ def example_cases():
             continue
         for workers in ("1", "4"):
             yield ["check", program, certificate, "--workers", workers]
-        for script in sorted(folder.glob("*.events")):
-            yield ["replay", program, certificate, str(script)]
         for units, workers in ((1, 1), (4, 4), (16, 3)):
             words = ["run", program, certificate, "--units", str(units), "--workers", str(workers)]
             if folder.name == "spin":
@@ -107,7 +109,7 @@ class Case:
     def __init__(self, bench, words):
         self.bench, self.words = bench, words
         self.is_run = words[0] == "run"
-        self.shares = self.is_run or words[-2:] == ["--workers", "4"]
+        self.shares = self.is_run or "--workers" in words and "1" not in words
         self.emits_script = words[-1] == "script"
         self.files = [word for word in words if "/" in word]
         runs = [bench.run(words) for _ in range(5 if self.shares else 1)]

@@ -57,13 +57,21 @@ def figure(number):
     return f"{number:,}"
 
 
+def seen(cases, answers):
+    """The answers, the most frequent first; of many kinds only some."""
+    kinds = sorted(answers.items(), key=lambda one: -one[1])
+    shown = [answer if len(kinds) > 1 and count == cases else f"{answer}: {figure(count)}" for answer, count in kinds[:8]]
+    if len(kinds) > 8:
+        shown.append(f"{len(kinds) - 8} other answers: {figure(sum(count for _, count in kinds[8:]))}")
+    return ", ".join(shown).replace("|", "\\|")
+
+
 def table(rows):
     """The rows in the form of the document."""
     yield "| Part | Runs | Seen | Differences |"
     yield "|---|---|---|---|"
     for part, cases, answers, differences in rows:
-        seen = ", ".join(answer if count == cases and len(answers) > 1 else f"{answer}: {figure(count)}" for answer, count in answers.items())
-        yield f"| {part} | {figure(cases)} | {seen} | {len(differences)} |"
+        yield f"| {part} | {figure(cases)} | {seen(cases, answers)} | {len(differences)} |"
     yield f"| all | {figure(sum(row[1] for row in rows))} | | {sum(len(row[3]) for row in rows)} |"
 
 
