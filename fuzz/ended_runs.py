@@ -133,14 +133,16 @@ def stopped(row, bench, draw, end, chosen):
             child.stderr.close()
             out.seek(0)
             put_out = out.read()
-        row.seen("as ever" if (status, put_out) == right[:2] else f"status {status}", words, f"{len(put_out)} bytes {told[:60]}", (status, put_out, told) != right[:3])
+        is_right = (status, put_out, told) == right[:3]
+        row.seen("as ever" if is_right else f"status {status}", words, f"{len(put_out)} bytes {told[:60]}", not is_right)
 
 
 def run(program, minutes, seed):
     """The rows of all parts, in about so many minutes."""
     begin, draw = time.monotonic(), random.Random(seed)
     resource.setrlimit(resource.RLIMIT_CORE, (0, resource.getrlimit(resource.RLIMIT_CORE)[1]))
-    rows = [Row(name) for name in ("signal in the middle of a call", "signal at a drawn time", "signal while output waits for a reader", "stopped and continued")]
+    rows = [Row(name) for name in ("signal in the middle of a call", "signal at a drawn time",
+                                   "signal while output waits for a reader", "stopped and continued")]
     with faults.Bench(program) as bench, tempfile.TemporaryDirectory(prefix="multiscalar-signals-") as folder:
         in_a_call(rows[0], bench, draw, begin + 60 * minutes * 0.3)
         folder = type(TOP)(folder)

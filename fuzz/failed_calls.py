@@ -47,6 +47,7 @@ EXPECTED = {
     "files at the limit, and one byte above": "program: judged, and `1 TooLong`; other files: judged, and status 2 with the file named",
     "words that are not UTF-8": "status 2, nothing on standard output, `multiscalar: 1 Words`",
 }
+MANY_RUNS = ["a read fails", "a read finds the end too early", "a file is cut while it is read", "a file grows while it is read", "a write fails"]
 READ_ERRORS = [errno.EIO, errno.EAGAIN, errno.EISDIR, errno.EBADF, errno.ENOMEM, errno.ESTALE, errno.EINVAL, errno.EPERM]
 OPEN_ERRORS = [errno.EACCES, errno.ENOENT, errno.EMFILE, errno.ENFILE, errno.ENOMEM, errno.ELOOP, errno.EIO, errno.EPERM, errno.ENXIO]
 WRITE_ERRORS = [errno.EIO, errno.ENOSPC, errno.EPIPE, errno.EBADF, errno.EAGAIN, errno.EFBIG, errno.EDQUOT, 0]
@@ -97,6 +98,11 @@ def name_of(wanted):
     return "status 2 alone" if status == 2 and told == b"" else "as it must be"
 
 
+def inputs(every):
+    """Each case with the number, from 0, of each of its files."""
+    return [(case, which) for case in every for which in range(len(case.files))]
+
+
 class Part:
     """One line of EXPECTED: its runs until the time is up."""
 
@@ -143,7 +149,7 @@ def interrupted_read(part, every, draw):
 
 def interrupted_reads(count):
     def runs(part, every, draw):
-        for case, which in part.each([(case, which) for case in every for which in range(len(case.files))], draw):
+        for case, which in part.each(inputs(every), draw):
             first = case.right.read_of.index(which + 1) + 1
             wanted = case.right[:3] if count == 1000 else named(case.files[which])
             part.run(case, "", wanted, fault(READ, first, first + count - 1, "e", INTERRUPTED))
@@ -191,19 +197,20 @@ def changed_while_read(how, more):
             had = 100 * earlier
             value = draw.randint(0, len(text)) if how == "t" else draw.choice((1, 500))
             wanted = prefix_answer(case, file - 1, max(had, value) if how == "t" else len(text), more.encode() * value if how == "a" else b"")
-            ended = part.bench.run(case.with_file(file - 1, copy), fault(READ, 1, EVERY, "s", 100), fault(READ, n, n, how, value), TARGET=str(copy), MORE=more)
+            changed = fault(READ, 1, EVERY, "s", 100), fault(READ, n, n, how, value)
+            ended = part.bench.run(case.with_file(file - 1, copy), *changed, TARGET=str(copy), MORE=more)
             part.expect(case.words, f"file {file} before read {n}, {how} {value}", ended, wanted)
     return runs
 
 
 def failing_open(part, every, draw):
-    jobs = [(case, which, error) for case in every for which in range(len(case.files)) for error in OPEN_ERRORS]
+    jobs = [(case, which, error) for case, which in inputs(every) for error in OPEN_ERRORS]
     for case, which, error in part.each(jobs, draw):
         part.run(case, "", named(case.files[which]), fault(OPEN, which + 1, which + 1, "e", error))
 
 
 def interrupted_open(part, every, draw):
-    jobs = [(case, which, count) for case in every for which in range(len(case.files)) for count in (1, 1000)]
+    jobs = [(case, which, count) for case, which in inputs(every) for count in (1, 1000)]
     for case, which, count in part.each(jobs, draw):
         part.run(case, "", case.right[:3], fault(OPEN, which + 1, which + count, "e", INTERRUPTED))
 
@@ -227,8 +234,8 @@ def helps(bench):
 
 def failing_write(part, every, draw):
     """Writes of ten bytes, one of which fails or takes none."""
-    jobs = [(case, n, error) for case in every + helps(part.bench) for n in range(1, min(len(case.right.out) // 10, 300) + 2) for error in WRITE_ERRORS
-            if 10 * (n - 1) < len(case.right.out)]
+    jobs = [(case, n, error) for case in every + helps(part.bench) for error in WRITE_ERRORS
+            for n in range(1, min(len(case.right.out) // 10, 300) + 2) if 10 * (n - 1) < len(case.right.out)]
     for case, n, error in part.each(jobs, draw):
         wanted = 2, case.right.out[:10 * (n - 1)], WRITE_FAILED if case.files else b""
         part.run(case, "", wanted, fault(WRITE, 1, EVERY, "s", 10), fault(WRITE, n, n, "e" if error else "z", error))
@@ -247,8 +254,10 @@ def bad_outputs(part, every, draw):
         outputs = {"/dev/full": full, "closed pipe": closed, "open for reading": unwritable, "closed": None}
         for case, name in part.each([(case, name) for case in every + helps(part.bench) for name in outputs], draw):
             closing = {"preexec_fn": lambda: os.close(1)} if name == "closed" else {}
-            done = subprocess.run([part.bench.program, *case.words], stdin=subprocess.DEVNULL, stdout=outputs[name], stderr=subprocess.PIPE, timeout=60, **closing)
-            part.expect(case.words, name, faults.Ended(done.returncode, b"", done.stderr, None, None), (2, b"", WRITE_FAILED if case.files else b""))
+            done = subprocess.run([part.bench.program, *case.words], stdin=subprocess.DEVNULL, stdout=outputs[name],
+                                  stderr=subprocess.PIPE, timeout=60, **closing)
+            ended = faults.Ended(done.returncode, b"", done.stderr, None, None)
+            part.expect(case.words, name, ended, (2, b"", WRITE_FAILED if case.files else b""))
     os.close(closed)
 
 
@@ -258,7 +267,8 @@ def bad_streams(part, every, draw):
         words = case.with_file(0, part.bench.folder / "missing") if is_missing else case.words
         done = subprocess.run([part.bench.program, *words], stdout=subprocess.PIPE, stderr=subprocess.DEVNULL, timeout=60,
                               preexec_fn=lambda: [os.close(stream) for stream in streams])
-        part.expect(words, f"closed {streams}", faults.Ended(done.returncode, done.stdout, b"", None, None), (2, b"", b"") if is_missing else case.right[:2] + (None,))
+        ended = faults.Ended(done.returncode, done.stdout, b"", None, None)
+        part.expect(words, f"closed {streams}", ended, (2, b"", b"") if is_missing else case.right[:2] + (None,))
 
 
 def feed(path, text, size):
@@ -313,7 +323,7 @@ def measured(part, words):
 def endless(part, every, draw):
     chosen = [case for case in every if len(case.files) == 3][:1] + [case for case in every if case.words[0] != "replay"][:8]
     most = 0
-    for case, which, path in part.each([(case, which, path) for case in chosen for which in range(len(case.files)) for path in ("/dev/zero", "/dev/full")], draw):
+    for (case, which), path in part.each([(one, path) for one in inputs(chosen) for path in ("/dev/zero", "/dev/full")], draw):
         ended, memory = measured(part, case.with_file(which, path))
         part.expect(case.words, f"{path} for file {which}", ended, named(path) if which else (1, b"program refused: 1 TooLong\n", b""))
         limit = FILE_LIMIT if which else PROGRAM_LIMIT
@@ -324,7 +334,7 @@ def endless(part, every, draw):
 
 
 def empty(part, every, draw):
-    for case, which, is_fifo in part.each([(case, which, is_fifo) for case in every for which in range(len(case.files)) for is_fifo in (False, True)], draw):
+    for (case, which), is_fifo in part.each([(one, is_fifo) for one in inputs(every) for is_fifo in (False, True)], draw):
         wanted = prefix_answer(case, which, 0)
         ended = from_fifo(part, case, which, b"", 1) if is_fifo else part.bench.run(case.with_file(which, "/dev/null"))
         part.expect(case.words, f"empty file {which}", ended, wanted)
@@ -340,7 +350,7 @@ def no_files(bench):
 
 
 def unreadable(part, every, draw):
-    for case, which, path in part.each([(case, which, path) for case in every for which in range(len(case.files)) for path in no_files(part.bench)], draw):
+    for (case, which), path in part.each([(one, path) for one in inputs(every) for path in no_files(part.bench)], draw):
         part.expect(case.words, f"{str(path)[:80]} for file {which}", part.bench.run(case.with_file(which, path)), named(path))
 
 
@@ -356,7 +366,7 @@ def forbidden(part, every, draw):
     program.write_bytes(open(part.bench.program, "rb").read())
     program.chmod(0o755)
     as_nobody = {"user": "nobody"} if os.geteuid() == 0 else {}
-    for case, which in part.each([(case, which) for case in every for which in range(len(case.files))], draw):
+    for case, which in part.each(inputs(every), draw):
         words = case.with_file(which, path)
         for place, number in zip(case.places, range(which)):
             copy = folder / f"file-{number}"
@@ -392,18 +402,19 @@ RUNS = [short_reads, interrupted_read, interrupted_reads(1000), interrupted_read
 
 
 def run(program, minutes, seed, only=""):
-    """The rows of all parts, in about so many minutes; time that a part leaves goes to those after it."""
-    end, draw, rows = time.monotonic() + 60 * minutes, random.Random(seed), []
+    """The rows of all parts, in about so many minutes; time that a part leaves goes to those after it, so the
+    parts with the most runs come last."""
+    end, draw, rows = time.monotonic() + 60 * minutes, random.Random(seed), {}
     resource.setrlimit(resource.RLIMIT_CORE, (0, resource.getrlimit(resource.RLIMIT_CORE)[1]))
-    chosen = [(name, runs) for name, runs in zip(EXPECTED, RUNS) if only in name]
+    chosen = sorted(((name, runs) for name, runs in zip(EXPECTED, RUNS) if only in name), key=lambda one: one[0] in MANY_RUNS)
     with faults.Bench(program) as bench:
         every = list(cases(bench))
         for left, (name, runs) in zip(range(len(chosen), 0, -1), chosen):
             now = time.monotonic()
             part = Part(name, bench, now + max(end - now, 0) / left)
             runs(part, every, draw)
-            rows.append(part.row.line())
-    return rows
+            rows[name] = part.row.line()
+    return [rows[name] for name in EXPECTED if name in rows]
 
 
 def main():

@@ -46,7 +46,8 @@ __attribute__((constructor)) static void start(void) {
     grow_stack(getenv("STACK") ? strtoul(getenv("STACK"), NULL, 10) : 1);
     int used;
     struct fault f;
-    while (text && count < 8 && sscanf(text, " %d %lu %lu %lu %lu %c %ld;%n", &f.kind, &f.from, &f.to, &f.one_in, &f.seed, &f.how, &f.value, &used) == 7) {
+    while (text && count < 8 && sscanf(text, " %d %lu %lu %lu %lu %c %ld;%n",
+                                       &f.kind, &f.from, &f.to, &f.one_in, &f.seed, &f.how, &f.value, &used) == 7) {
         faults[count++] = f;
         text += used;
     }
@@ -129,8 +130,10 @@ static void finish(void) {
     const char *path = getenv("COUNTS");
     if (!path) return;
     static char text[3 * sizeof read_of];
-    int size = snprintf(text, sizeof text, "%lu %lu %lu %lu %lu %lu\n", calls[GROW], calls[OPEN], calls[READ], calls[WRITE], calls[TELL], for_writing);
-    for (unsigned long i = 1; i <= calls[READ] && i < sizeof read_of; i++) size += snprintf(text + size, sizeof text - size, "%d ", read_of[i]);
+    int size = snprintf(text, sizeof text, "%lu %lu %lu %lu %lu %lu\n",
+                        calls[GROW], calls[OPEN], calls[READ], calls[WRITE], calls[TELL], for_writing);
+    for (unsigned long i = 1; i <= calls[READ] && i < sizeof read_of; i++)
+        size += snprintf(text + size, sizeof text - size, "%d ", read_of[i]);
     long file = syscall(SYS_openat, AT_FDCWD, path, O_WRONLY | O_CREAT | O_TRUNC, 0666);
     if (syscall(SYS_write, file, text, size) < 0) { }
 }

@@ -212,14 +212,16 @@ def run(program, minutes, seed, only=""):
         words = [w for w in itertools.chain(example_cases(), refused_cases(bench.folder)) if only in ("", w[0])]
         small = [Case(bench, w) for w in words]
         rows = []
-        for name, jobs, until in (("each growth refused alone", alone, 0.45), ("several growths in a row, or all, refused from each on", in_a_row, 0.65),
+        for name, jobs, until in (("each growth refused alone", alone, 0.45),
+                                  ("several growths in a row, or all, refused from each on", in_a_row, 0.65),
                                   ("one growth in 10 or 100 refused", at_random, 0.72)):
             rows.append(perform(name, jobs(small, draw), draw, begin + 60 * minutes * until))
         large = [Case(bench, w) for w in limit_cases(bench.folder) if only in ("", w[0])]
         rows.append(perform("growths refused, texts at the limits", at_limits(large, draw), draw, begin + 60 * minutes * 0.9))
         # the stack has grown before the limit on the address space can stop it: docs/RELIABILITY.md
-        rows.append(limited("address space of 9 to 600 MB", resource.RLIMIT_AS, 9e6, 6e8, small + large, draw, begin + 60 * minutes * 0.97, STACK="1500000"))
-        rows.append(limited("stack of 1.1 to 8 MB", resource.RLIMIT_STACK, 1.1 * 2 ** 20, 2 ** 23, small + large, draw, begin + 60 * minutes))
+        every, end = small + large, begin + 60 * minutes
+        rows.append(limited("address space of 9 to 600 MB", resource.RLIMIT_AS, 9e6, 6e8, every, draw, end - 2 * minutes, STACK="1500000"))
+        rows.append(limited("stack of 1.1 to 8 MB", resource.RLIMIT_STACK, 1.1 * 2 ** 20, 2 ** 23, every, draw, end))
     return rows
 
 
