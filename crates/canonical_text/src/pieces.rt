@@ -1,6 +1,6 @@
 //! Pieces of a line: registers, places, numbers, with commas between them.
 
-ghost use Rattle.std.specs.Prelude.{◌≡◌, ℕ, ◌++◌, ◌∷◌, ◌<◌, [], false, not, OnOk, IfOk, string_bytes, map};
+ghost use Rattle.std.specs.Prelude.{◌≡◌, ℕ, ◌++◌, ◌∷◌, ◌<◌, [], false, not, OnOk, IfOk, string_bytes, map, ◌%◌};
 ghost use Rattle.mips_plain.specs.Words.{has};
 ghost use Rattle.std.specs.Fmt.{digit_glyph};
 ghost use Rattle.canonical_text.specs.CanonicalText.{comma_unless as comma_text, no_pieces, commas, listed, members, register_text, place_named, place_text, hexadecimal};
@@ -83,31 +83,47 @@ fn write_next_place(
     write_place(text, labels, place)
 }
 
-/// A hexadecimal digit.
-fn glyph(digit: u8) -> char
-    requires { digit < 16 }
-    ensures value { result ≡ digit_glyph false digit }
-    ensures ascii { result < 128 }
+/// The last hexadecimal digit of a number.
+fn last_digit(number: u32) -> u8
+    ensures { result ≡ digit_glyph false (number % 16) }
 {
-    char::from(if digit < 10 {
-        b'0' + digit
+    let value = (number % 16) as u8;
+    if value < 10 {
+        b'0' + value
     } else {
-        b'a' + (digit - 10)
-    })
+        b'a' + (value - 10)
+    }
 }
 
-/// So many hexadecimal digits of a number, the last ones.
+/// The two hexadecimal digits of a byte.
 #[tactic(auto, unfolding(crate::specs::CanonicalText::hexadecimal))]
-pub(crate) fn write_hexadecimal(
-    text: &mut String,
-    count: u32,
-    number: u32,
-) -> Result<(), AllocError>
-    ensures { OnOk result (string_bytes text.new ≡ string_bytes text.old ++ hexadecimal count number) }
+pub(crate) fn byte_digits(byte: u8) -> [u8; 2]
+    ensures { result ≡ hexadecimal 2 byte }
 {
-    if count == 0 {
-        return Ok(());
-    }
-    write_hexadecimal(text, count - 1, number / 16)?;
-    text.push(glyph((number % 16) as u8))
+    let number = u32::from(byte);
+    [last_digit(number / 16), last_digit(number)]
+}
+
+/// The eight hexadecimal digits of a word.
+#[tactic(auto, unfolding(crate::specs::CanonicalText::hexadecimal))]
+pub(crate) fn word_digits(word: u32) -> [u8; 8]
+    ensures { result ≡ hexadecimal 8 word }
+{
+    let g = word / 16;
+    let f = g / 16;
+    let e = f / 16;
+    let d = e / 16;
+    let c = d / 16;
+    let b = c / 16;
+    let a = b / 16;
+    [
+        last_digit(a),
+        last_digit(b),
+        last_digit(c),
+        last_digit(d),
+        last_digit(e),
+        last_digit(f),
+        last_digit(g),
+        last_digit(word),
+    ]
 }

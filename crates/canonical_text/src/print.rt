@@ -6,7 +6,7 @@ ghost use Rattle.canonical_text.specs.CanonicalText.{line, listed, members, regi
 
 use crate::instructions::write_marked;
 use crate::labels::Labels;
-use crate::pieces::{write_hexadecimal, write_places, write_registers};
+use crate::pieces::{byte_digits, word_digits, write_places, write_registers};
 use mips_plain::number::{Place, RegSet};
 use std::alloc::{AllocError, Global};
 use task_descriptor::descriptor::{Descriptor, Marked};
@@ -87,20 +87,22 @@ fn write_code(text: &mut String, labels: &Labels, code: &[Marked]) -> Result<(),
     Ok(())
 }
 
-fn write_word(text: &mut String, word: u32) -> Result<(), AllocError>
-    ensures { OnOk result (string_bytes text.new ≡ string_bytes text.old ++ word_line word) }
+fn write_word(text: &mut Vec<u8>, word: u32) -> Result<(), AllocError>
+    ensures { OnOk result (text.new.items ≡ text.old.items ++ word_line word) }
 {
-    text.push_str(".word 0x")?;
-    write_hexadecimal(text, 8, word)?;
-    text.push('\n')
+    let [a, b, c, d, e, f, g, h] = word_digits(word);
+    let line = [
+        b'.', b'w', b'o', b'r', b'd', b' ', b'0', b'x', a, b, c, d, e, f, g, h, b'\n',
+    ];
+    text.extend_from_slice(&line)
 }
 
-fn write_byte(text: &mut String, byte: u8) -> Result<(), AllocError>
-    ensures { OnOk result (string_bytes text.new ≡ string_bytes text.old ++ byte_line byte) }
+fn write_byte(text: &mut Vec<u8>, byte: u8) -> Result<(), AllocError>
+    ensures { OnOk result (text.new.items ≡ text.old.items ++ byte_line byte) }
 {
-    text.push_str(".byte 0x")?;
-    write_hexadecimal(text, 2, u32::from(byte))?;
-    text.push('\n')
+    let [a, b] = byte_digits(byte);
+    let line = [b'.', b'b', b'y', b't', b'e', b' ', b'0', b'x', a, b, b'\n'];
+    text.extend_from_slice(&line)
 }
 
 /// The four bytes of a slice as a word, the lowest first.
@@ -111,8 +113,8 @@ fn word_at(bytes: &[u8], at: usize) -> u32
     u32::from_le_bytes([bytes[at], bytes[at + 1], bytes[at + 2], bytes[at + 3]])
 }
 
-fn write_bytes(text: &mut String, bytes: &[u8]) -> Result<(), AllocError>
-    ensures { OnOk result (string_bytes text.new ≡ string_bytes text.old ++ flat_map byte_line bytes.now) }
+fn write_bytes(text: &mut Vec<u8>, bytes: &[u8]) -> Result<(), AllocError>
+    ensures { OnOk result (text.new.items ≡ text.old.items ++ flat_map byte_line bytes.now) }
 {
     for byte in bytes {
         write_byte(text, *byte)?;
@@ -120,8 +122,8 @@ fn write_bytes(text: &mut String, bytes: &[u8]) -> Result<(), AllocError>
     Ok(())
 }
 
-fn write_data(text: &mut String, bytes: &[u8]) -> Result<(), AllocError>
-    ensures { OnOk result (string_bytes text.new ≡ string_bytes text.old ++ data_lines bytes.now) }
+fn write_data(text: &mut Vec<u8>, bytes: &[u8]) -> Result<(), AllocError>
+    ensures { OnOk result (text.new.items ≡ text.old.items ++ data_lines bytes.now) }
 {
     let mut at = 0;
     while bytes.len() - at >= 4 {
@@ -133,13 +135,14 @@ fn write_data(text: &mut String, bytes: &[u8]) -> Result<(), AllocError>
     Ok(())
 }
 
-fn write_section(text: &mut String, name: &str, bytes: &[u8]) -> Result<(), AllocError>
-    ensures { OnOk result (string_bytes text.new ≡ string_bytes text.old ++ section name.now bytes.now) }
+fn write_section(text: &mut Vec<u8>, name: &[u8], bytes: &[u8]) -> Result<(), AllocError>
+    ensures { OnOk result (text.new.items ≡ text.old.items ++ section name.now bytes.now) }
 {
     if bytes.is_empty() {
         return Ok(());
     }
-    writeln!(text, "{name}")?;
+    text.extend_from_slice(name)?;
+    text.push(b'\n')?;
     write_data(text, bytes)
 }
 
@@ -160,19 +163,13 @@ fn write_start(text: &mut String, task: Option<&Descriptor>) -> Result<(), Alloc
 pub fn print(alloc: Global, program: &Program) -> Result<Vec<u8>, AllocError>
     ensures { IfOk result (λ text. text.items ≡ canonical_text program.now) }
 {
-    let mut text = String::new(alloc);
-    write_program(&mut text, program)?;
-    Ok(text.into_bytes())
-}
-
-fn write_program(text: &mut String, program: &Program) -> Result<(), AllocError>
-    ensures { OnOk result (string_bytes text.new ≡ string_bytes text.old ++ canonical_text program.now) }
-{
     let labels = Labels::new(program.tasks());
-    write_start(text, labels.task_at(program.start().get()))?;
-    write_tasks(text, &labels)?;
-    write_code(text, &labels, program.code())?;
-    write_section(text, ".data", program.bytes())?;
-    write_section(text, ".rodata", program.fixed())?;
-    Ok(())
+    let mut text = String::new(alloc);
+    write_start(&mut text, labels.task_at(program.start().get()))?;
+    write_tasks(&mut text, &labels)?;
+    write_code(&mut text, &labels, program.code())?;
+    let mut text = text.into_bytes();
+    write_section(&mut text, b".data", program.bytes())?;
+    write_section(&mut text, b".rodata", program.fixed())?;
+    Ok(text)
 }

@@ -1,9 +1,9 @@
 -- The bytes so far are written, each on a line of its own.
-use Rattle.std.proofs.Common.{◌≡◌, ◌++◌, take, string_bytes}
+use Rattle.std.proofs.Common.{◌≡◌, ◌++◌, take}
 use Rattle.std.specs.List.{flat_map}
 use Rattle.canonical_text.specs.CanonicalText.{byte_line}
 use Rattle.canonical_text.proofs.print.write_bytes.Given as goal
 
 abbrev pub invariant-loop-byte : goal.invariant-loop-byte
 invariant-loop-byte l =
-    string_bytes l.text ≡ string_bytes l.initial.text ++ flat_map byte_line (take l.byte-index l.bytes)
+    l.text.items ≡ l.initial.text.items ++ flat_map byte_line (take l.byte-index l.bytes)

@@ -1,11 +1,11 @@
 -- What is written, with the lines of the bytes that are left, is the whole.
-use Rattle.std.proofs.Common.{◌≡◌, ◌≤◌, ◌-◌, ◌++◌, drop, length, string_bytes}
+use Rattle.std.proofs.Common.{◌≡◌, ◌≤◌, ◌-◌, ◌++◌, drop, length}
 use Rattle.canonical_text.specs.CanonicalText.{data_lines}
 use Rattle.canonical_text.proofs.print.write_data.Given as goal
 
 abbrev pub invariant-loop-at : goal.invariant-loop-at
 invariant-loop-at l = (l.at ≤ length l.bytes)
-    × (string_bytes l.text ++ data_lines (drop l.at l.bytes) ≡ string_bytes l.initial.text ++ data_lines l.bytes)
+    × (l.text.items ++ data_lines (drop l.at l.bytes) ≡ l.initial.text.items ++ data_lines l.bytes)
 
 abbrev pub decreases-loop-at : goal.decreases-loop-at
 decreases-loop-at l = length l.bytes - l.at
