@@ -18,7 +18,8 @@ pub struct Symbol {
 /// Names, each with where it stands, in the order of the text.
 #[derive(Drop)]
 pub struct Table {
-    rows: IndexMap<Vec<u8>, Symbol>,
+    // A text is hashed some bytes at a time, a vector byte by byte.
+    rows: IndexMap<String, Symbol>,
 }
 
 impl Model for Table {
@@ -27,7 +28,9 @@ impl Model for Table {
 
     ghost Value = { List (List ℕ × Symbol) };
 
-    ghost view = { λ t. map (λ e. (e.0.items, e.1)) t.rows.entries };
+    ghost use Rattle.std.specs.Prelude.{string_bytes};
+
+    ghost view = { λ t. map (λ e. (string_bytes e.0, e.1)) t.rows.entries };
 }
 
 impl Table {
@@ -47,7 +50,7 @@ impl Table {
     pub fn get(&self, name: &Name) -> Option<Symbol>
         ensures { result ≡ lookup self.now name.now }
     {
-        self.rows.get(name.bytes()).copied()
+        self.rows.get(name.as_str()).copied()
     }
 
     /// Adds a name that is not there.
@@ -55,7 +58,7 @@ impl Table {
         requires { lookup self.old name.now ≡ None }
         ensures { OnOk result (self.new ≡ self.old ++ (name.now, symbol) ∷ []) }
     {
-        let key = Vec::from_slice(alloc, name.bytes())?;
+        let key = String::from_str(alloc, name.as_str())?;
         self.rows.insert(key, symbol)?;
         Ok(())
     }
