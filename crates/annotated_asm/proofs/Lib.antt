@@ -1,3 +1,4 @@
 pub mod ItemSteps
+pub mod Runs
 pub mod TableRows
 pub mod Knowns

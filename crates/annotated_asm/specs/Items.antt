@@ -46,6 +46,9 @@ tokens_on_line n (Err token_fault.Token) = Err (fault.Token n)
 abbrev pub label_item : ℕ → Section → List ℕ → Item
 label_item n here name = record { line = n; section = here; statement = statement.Label name }
 
+abbrev pub blob : ℕ → Section → List ℕ → Item
+blob n here bytes = record { line = n; section = here; statement = statement.Bytes bytes }
+
 -- a line that says nothing has no item for a statement
 abbrev pub statement_items : ℕ → Section → Statement → List Item
 statement_items n here statement.Empty = []

@@ -3,6 +3,7 @@ pub mod Items
 pub mod Tables
 pub mod Layout
 pub mod Resolve
+pub mod Alike
 pub mod Expansions
 pub mod ProgramText
 pub mod FaultText

@@ -1,15 +1,16 @@
 //! The items of a text: its labels and statements in order.
 
-ghost use Rattle.std.specs.Prelude.{◌≡◌, ◌≤◌, ◌++◌, List, map, length, Ok, OnOk, IfOk};
+ghost use Rattle.std.specs.Prelude.{◌≡◌, ◌≤◌, ◌++◌, List, map, length, Ok, OnOk, IfOk, IfErr, ◌∷◌, []};
 ghost use Rattle.program_tokens.specs.Grammar.{line_tokens};
 ghost use Rattle.program_tokens.specs.Lines.{lines};
-ghost use Rattle.annotated_asm.specs.Steps.{Answers};
-ghost use Rattle.annotated_asm.specs.Items.{labels_of, after_labels, at_line, label_item, statement_items, section_after, tokens_on_line, line_items, items_from, with_items};
+ghost use Rattle.annotated_asm.specs.Steps.{Answers, FailsText};
+ghost use Rattle.annotated_asm.specs.Alike.{AreAlike};
+ghost use Rattle.annotated_asm.specs.Items.{blob, labels_of, after_labels, at_line, label_item, statement_items, section_after, tokens_on_line, line_items, items_from, with_items};
 
 use crate::fault::AsmFault;
 use program_statements::fault::{StatementError, StatementFault};
 use program_statements::line::statement_of;
-use program_statements::statement::{Section, Statement};
+use program_statements::statement::{Blob, Section, Statement};
 use program_tokens::line::{first_line, read_tokens};
 use program_tokens::token::{Token, TokenFault};
 use std::alloc::{AllocError, Global};
@@ -130,11 +131,85 @@ fn add_line(
     Ok(next)
 }
 
-/// The items of a text.
-#[tactic(auto, using(program_statements::proofs::Fronts::no_front, crate::proofs::ItemSteps::goes_on, crate::proofs::ItemSteps::ends), unfolding(crate::specs::Items::items_from))]
+/// Adds bytes behind the other items: in the last one where that has bytes of the same section.
+fn add_bytes(
+    items: &mut Vec<Item>,
+    line: u32,
+    section: Section,
+    more: Blob,
+) -> Result<(), AllocError>
+    ensures { OnOk result (AreAlike items.new.items (items.old.items ++ blob line section more ∷ [])) }
+{
+    let Some(last) = items.pop() else {
+        items.push(bytes_item(line, section, more))?;
+        return Ok(());
+    };
+    let Item {
+        line: first,
+        section: here,
+        statement,
+    } = last;
+    match statement {
+        Statement::Bytes(front) if here == section => {
+            let mut run = front;
+            run.append(more.as_slice())?;
+            items.push(bytes_item(first, section, run))?;
+        }
+        statement => {
+            items.push(Item {
+                line: first,
+                section: here,
+                statement,
+            })?;
+            items.push(bytes_item(line, section, more))?;
+        }
+    }
+    Ok(())
+}
+
+/// The item of a line's bytes.
+fn bytes_item(line: u32, section: Section, bytes: Blob) -> Item
+    ensures { result ≡ blob line section bytes }
+{
+    Item {
+        line,
+        section,
+        statement: Statement::Bytes(bytes),
+    }
+}
+
+/// Puts the bytes of the last item into the one before it, where that has bytes of the same section, so
+/// that a run of data takes one item and not one a line.
+fn join_last(items: &mut Vec<Item>) -> Result<(), AllocError>
+    ensures { OnOk result (AreAlike items.new.items items.old.items) }
+{
+    let Some(last) = items.pop() else {
+        return Ok(());
+    };
+    let Item {
+        line,
+        section,
+        statement,
+    } = last;
+    match statement {
+        Statement::Bytes(more) => add_bytes(items, line, section, more),
+        statement => {
+            items.push(Item {
+                line,
+                section,
+                statement,
+            })?;
+            Ok(())
+        }
+    }
+}
+
+/// The items of a text, or others that mean the same.
+#[tactic(auto, using(crate::proofs::ItemSteps::told_none, crate::proofs::ItemSteps::told_more))]
 pub fn items_of(alloc: Global, text: &[u8]) -> Result<Vec<Item>, AsmFault>
     requires { length text.now ≤ 4194304 }
-    ensures { Answers (λ items. items.items) result (items_from 1 Section.Text (lines text.now)) }
+    ensures ok { IfOk result (λ items. (all : List Item) × (items_from 1 Section.Text (lines text.now) ≡ Ok all) × AreAlike items.items all) }
+    ensures err { IfErr result (λ fault. FailsText fault (items_from 1 Section.Text (lines text.now))) }
 {
     let mut items = Vec::new(alloc);
     let mut tokens = Vec::new(alloc);
@@ -144,6 +219,7 @@ pub fn items_of(alloc: Global, text: &[u8]) -> Result<Vec<Item>, AsmFault>
     'lines: loop {
         let (first, behind) = first_line(rest);
         section = add_line(alloc, &mut tokens, &mut items, line, section, first)?;
+        join_last(&mut items)?;
         match behind {
             Some(more) => {
                 rest = more;

@@ -3,6 +3,7 @@
 use mips_plain::instruction::{BranchOneKind, BranchTwoKind, Op};
 use mips_plain::number::{Gpr, Place, RegSet};
 use smallvec::SmallVec;
+use std::alloc::AllocError;
 use std::marker::Model;
 use task_descriptor::descriptor::Stop;
 use task_descriptor::name::Name;
@@ -112,7 +113,7 @@ impl Model for Blob {
 }
 
 impl Blob {
-    ghost use Rattle.std.specs.Prelude.{◌≡◌};
+    ghost use Rattle.std.specs.Prelude.{◌≡◌, ◌++◌, OnOk, OnErr};
 
     /// These bytes.
     pub(crate) fn new(bytes: SmallVec<u8, 8>) -> Blob
@@ -126,6 +127,14 @@ impl Blob {
         ensures { result.now ≡ self.now }
     {
         self.bytes.as_slice()
+    }
+
+    /// Adds bytes behind those that are there. An `Err` changes nothing.
+    pub fn append(&mut self, more: &[u8]) -> Result<(), AllocError>
+        ensures ok { OnOk result (self.new ≡ self.old ++ more.now) }
+        ensures err { OnErr result (self.new ≡ self.old) }
+    {
+        self.bytes.extend_from_slice(more)
     }
 }
 
