@@ -1,6 +1,7 @@
 pub mod Steps
 pub mod Items
 pub mod Tables
+pub mod NameKeys
 pub mod Layout
 pub mod Resolve
 pub mod Alike

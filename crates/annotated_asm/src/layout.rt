@@ -6,6 +6,7 @@ ghost use Rattle.annotated_asm.specs.Layout.{instruction_count, grown, symbol_at
 
 use crate::fault::AsmFault;
 use crate::item::Item;
+use crate::name_key::NameKey;
 use crate::table::{Symbol, Table};
 use program_statements::statement::{Instruction, Section, Statement};
 use std::alloc::Global;
@@ -120,14 +121,15 @@ fn with_item(alloc: Global, layout: &mut Layout, item: &Item) -> Result<(), AsmF
 pub fn laid_out(alloc: Global, items: &[Item]) -> Result<Layout, AsmFault>
     ensures { Answers (λ layout. layout) result (laid no_layout items.now) }
 {
+    let key = NameKey::of(items);
     let mut layout = Layout {
         sizes: Sizes {
             code: 0,
             bytes: 0,
             fixed: 0,
         },
-        labels: Table::new(alloc),
-        tasks: Table::new(alloc),
+        labels: Table::new(alloc, key),
+        tasks: Table::new(alloc, key),
         started: false,
     };
     for item in items {

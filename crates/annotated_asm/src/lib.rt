@@ -7,5 +7,6 @@ pub mod fault;
 mod fault_text;
 mod item;
 mod layout;
+mod name_key;
 mod resolve;
 mod table;

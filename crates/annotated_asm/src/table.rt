@@ -1,5 +1,6 @@
 //! Names and where they stand.
 
+use crate::name_key::NameKey;
 use indexmap::IndexMap;
 use program_statements::statement::Section;
 use std::alloc::{AllocError, Global};
@@ -19,7 +20,7 @@ pub struct Symbol {
 #[derive(Drop)]
 pub struct Table {
     // A text is hashed some bytes at a time, a vector byte by byte.
-    rows: IndexMap<String, Symbol>,
+    rows: IndexMap<String, Symbol, NameKey>,
 }
 
 impl Model for Table {
@@ -37,12 +38,12 @@ impl Table {
     ghost use Rattle.std.specs.Prelude.{◌≡◌, ◌++◌, [], ◌∷◌, None, OnOk};
     ghost use Rattle.annotated_asm.specs.Tables.{lookup};
 
-    /// No names.
-    pub fn new(alloc: Global) -> Table
+    /// No names. Those to come are hashed by the key.
+    pub fn new(alloc: Global, key: NameKey) -> Table
         ensures { result ≡ [] }
     {
         Table {
-            rows: IndexMap::new(alloc),
+            rows: IndexMap::with_hasher(alloc, key),
         }
     }
 
