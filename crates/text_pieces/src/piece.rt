@@ -1,0 +1,83 @@
+//! One piece of a text.
+
+use std::alloc::{AllocError, Global};
+use std::marker::Model;
+
+/// The bytes of a piece. Some at the front of its memory may be another piece's: they were given away
+/// when the pieces were cut at lines, and taking them out would move all behind them.
+#[derive(Debug, Drop)]
+pub struct Piece {
+    memory: Vec<u8>,
+    from: usize,
+}
+
+impl Model for Piece {
+    ghost use Rattle.std.specs.Prelude.{ℕ, List, ◌≤◌, drop, vec_len};
+
+    ghost Value = { List ℕ };
+
+    ghost view = { λ p. drop p.from p.memory.items };
+
+    ghost invariant = { λ p. p.from ≤ vec_len p.memory };
+}
+
+impl Piece {
+    ghost use Rattle.std.specs.Prelude.{◌≡◌, ◌≤◌, ◌<◌, ◌++◌, length, take, drop, vec_len, IfOk};
+    ghost use Rattle.text_pieces.specs.Pieces.{IsLines};
+
+    /// The bytes from a place on.
+    pub fn new(memory: Vec<u8>, from: usize) -> Piece
+        requires { from ≤ vec_len memory }
+        ensures { result ≡ drop from memory.items }
+    {
+        Piece { memory, from }
+    }
+
+    /// The bytes.
+    pub fn as_slice(&self) -> &[u8]
+        ensures { result.now ≡ self.now }
+    {
+        &self.memory[self.from..]
+    }
+
+    /// Adds what its last line lacks, from what follows it in the text, and answers how many bytes that
+    /// was: none where it ends with LF, all of them where no line ends there.
+    ///
+    /// # Errors
+    ///
+    /// `AllocError` where memory was refused.
+    pub fn complete(&mut self, more: &[u8]) -> Result<usize, AllocError>
+        ensures within { IfOk result (λ count. count ≤ length more.now) }
+        ensures bytes { IfOk result (λ count. self.new ≡ self.old ++ take count more.now) }
+        ensures lines { IfOk result (λ count. count < length more.now → IsLines self.new) }
+    {
+        let count = if is_lines(self.as_slice()) {
+            0
+        } else {
+            first_line_length(more)
+        };
+        self.memory.extend_from_slice(&more[..count])?;
+        Ok(count)
+    }
+}
+
+ghost use Rattle.std.specs.Prelude.{◌≡◌, ◌≤◌, ◌<◌, ◌-◌, ◌↔◌, true, length, slice_index};
+ghost use Rattle.text_pieces.specs.Pieces.{IsLines};
+
+/// Whether nothing stands behind the last LF.
+fn is_lines(bytes: &[u8]) -> bool
+    ensures { (result ≡ true) ↔ IsLines bytes.now }
+{
+    bytes.is_empty() || bytes[bytes.len() - 1] == b'\n'
+}
+
+/// How long the first line is with its LF; as long as all where there is no LF.
+fn first_line_length(bytes: &[u8]) -> usize
+    ensures within { result ≤ length bytes.now }
+    ensures line { result < length bytes.now → (0 < result) × (slice_index bytes.now (result - 1) ≡ 10) }
+{
+    match bytes.iter().position(|byte| *byte == b'\n') {
+        Some(place) => place + 1,
+        None => bytes.len(),
+    }
+}

@@ -1,0 +1,74 @@
+//! A text in pieces.
+
+use crate::piece::Piece;
+use std::alloc::{AllocError, Global};
+use std::marker::Model;
+use std::mem;
+
+/// A text, cut behind LFs into pieces. A contract sees its bytes, one after another.
+#[derive(Debug, Drop)]
+pub struct Text {
+    lines: Vec<Piece>,
+    last: Piece,
+}
+
+impl Model for Text {
+    ghost use Rattle.std.specs.Prelude.{ℕ, List, ◌++◌};
+
+    ghost Value = { List ℕ };
+
+    ghost use Rattle.std.specs.List.{All};
+    ghost use Rattle.text_pieces.specs.Pieces.{joined, IsLines};
+
+    ghost view = { λ t. joined t.lines.items ++ t.last };
+
+    ghost invariant = { λ t. All (λ piece. IsLines piece) t.lines.items };
+}
+
+impl Text {
+    ghost use Rattle.std.specs.Prelude.{◌≡◌, ◌++◌, ◌↔◌, [], length, map, true, OnOk, IfOk};
+    ghost use Rattle.text_pieces.specs.Pieces.{joined, AreCut};
+
+    /// The text of these bytes, in one piece.
+    pub fn new(alloc: Global, bytes: Vec<u8>) -> Text
+        ensures { result ≡ bytes.items }
+    {
+        Text {
+            lines: Vec::new(alloc),
+            last: Piece::new(bytes, 0),
+        }
+    }
+
+    /// Adds bytes at the end, in a piece of their own but for those that end the last line.
+    ///
+    /// # Errors
+    ///
+    /// `AllocError` where memory was refused; what the text is then is not known.
+    pub fn append(&mut self, bytes: Vec<u8>) -> Result<(), AllocError>
+        ensures { OnOk result (self.new ≡ self.old ++ bytes.items) }
+    {
+        let count = self.last.complete(&bytes)?;
+        if count < bytes.len() {
+            let last = mem::replace(&mut self.last, Piece::new(bytes, count));
+            self.lines.push(last)?;
+        }
+        Ok(())
+    }
+
+    /// The pieces in order, cut behind LFs.
+    ///
+    /// # Errors
+    ///
+    /// `AllocError` where memory was refused.
+    pub fn pieces(&self, alloc: Global) -> Result<Vec<&[u8]>, AllocError>
+        ensures joined { IfOk result (λ pieces. joined (map (λ piece. piece.now) pieces.items) ≡ self.now) }
+        ensures cut { IfOk result (λ pieces. AreCut (map (λ piece. piece.now) pieces.items)) }
+    {
+        let mut pieces = Vec::with_capacity(alloc, self.lines.len() + 1)?;
+        for piece in &self.lines {
+            pieces.push(piece.as_slice())?;
+        }
+        pieces.push(self.last.as_slice())?;
+        Ok(pieces)
+    }
+}
