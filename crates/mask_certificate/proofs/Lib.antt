@@ -2,6 +2,7 @@ pub mod Rising
 pub mod Digits
 pub mod Indices
 pub mod LineLemmas
+pub mod JoinedLines
 pub mod ListsLoop
 pub mod NameLemmas
 pub mod WriteLemmas

@@ -62,7 +62,7 @@ module _ (p : ℕ → Bool) where
 
 -- ---- lines
 
-lines_cons : (spelling : Spelling) (line : List ℕ) (parts : List (List ℕ)) (first : List ℕ) (rest : List (List ℕ)) → parts ≡ first ∷ rest
+pub lines_cons : (spelling : Spelling) (line : List ℕ) (parts : List (List ℕ)) (first : List ℕ) (rest : List (List ℕ)) → parts ≡ first ∷ rest
     → lines_of spelling (line ∷ parts) ≡ judged spelling line ∷ lines_of spelling parts
 lines_cons spelling line parts first rest e =
     subst (λ (q : List (List ℕ)). lines_of spelling (line ∷ q) ≡ judged spelling line ∷ lines_of spelling q) (sym e) refl

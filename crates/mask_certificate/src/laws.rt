@@ -1,8 +1,10 @@
 //! Laws: each function does nothing, and its contract is a theorem about the definitions alone.
 
-ghost use Rattle.std.specs.Prelude.{◌≡◌, ◌↔◌, ℕ, List, Ok};
+ghost use Rattle.std.specs.Prelude.{◌≡◌, ◌↔◌, ◌++◌, ℕ, List, Ok};
 ghost use Rattle.mask_certificate.specs.CertificateText.{Spells};
-ghost use Rattle.mask_certificate.specs.CertificateReading.{cert_parse, AreNames};
+ghost use Rattle.mask_certificate.specs.CertificateReading.{cert_parse, lines_in, AreNames};
+ghost use Rattle.mask_certificate.specs.declared.fault.Spelling.{Spelling};
+ghost use Rattle.text_pieces.specs.Pieces.{IsLines};
 
 /// What is read is the certificate, with one list for each task, whose text it is in one of the two
 /// spellings. So no text is read as a certificate that does not spell it, and each spelling of a
@@ -10,4 +12,11 @@ ghost use Rattle.mask_certificate.specs.CertificateReading.{cert_parse, AreNames
 pub fn read_is_spelled()
     ensures { (text : List ℕ) (names : List (List ℕ)) (cert : List (List (ℕ × ℕ))) → AreNames names
         → (cert_parse text names ≡ Ok cert) ↔ Spells text names cert }
+{}
+
+/// The lines of a text that is cut behind an LF are those of the front and then those of the rest. So a
+/// text that lies in pieces is read one piece after another.
+pub fn lines_are_joined()
+    ensures { (spelling : Spelling) (front rest : List ℕ) → IsLines front
+        → lines_in spelling (front ++ rest) ≡ lines_in spelling front ++ lines_in spelling rest }
 {}
