@@ -12,3 +12,4 @@ pub mod ReadLemmas
 pub mod NextEntry
 pub mod EndLemmas
 pub mod Telling
+pub mod LeftLemmas

@@ -15,9 +15,9 @@ pub record Place : Type 0 where
 abbrev pub IsEnd : (text end : List ℕ) → Type 0
 IsEnd text end = (length end ≤ length text) × (end ≡ drop (length text - length end) text)
 
--- blocks of this text in this spelling
-abbrev pub AreOf : Spelling → List ℕ → List Place → Type 0
-AreOf spelling text blocks = All (λ block. (block.spelling ≡ spelling) × (block.text ≡ text)) blocks
+-- blocks of this text
+abbrev pub AreOf : List ℕ → List Place → Type 0
+AreOf text blocks = All (λ block. block.text ≡ text) blocks
 
 -- This tells whether the list of a task is right: nothing is wrong in it, whichever task it is, and its
 -- masks are sets of registers.

@@ -4,3 +4,4 @@ pub mod CertificateReading
 pub mod Blocks
 pub mod FaultText
 pub mod Examples
+pub mod Left

@@ -62,6 +62,13 @@ impl<'a> Block<'a> {
         })
     }
 
+    /// The spelling in which it was read.
+    pub fn spelling(&self) -> Spelling
+        ensures { result ≡ self.now.spelling }
+    {
+        self.spelling
+    }
+
     /// The place at which it begins.
     pub fn start(&self) -> usize
         ensures { result ≡ self.now.start }

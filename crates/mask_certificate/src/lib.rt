@@ -8,6 +8,8 @@ pub mod certificate;
 pub mod fault;
 mod fault_text;
 pub mod laws;
+mod left;
 pub mod masks;
+pub mod part;
 pub mod reading;
 pub mod writing;

@@ -9,10 +9,14 @@ ghost use Rattle.mask_certificate.specs.Lists.{entries_of};
 ghost use Rattle.mask_certificate.specs.CertificateText.{Spells};
 ghost use Rattle.mask_certificate.specs.CertificateReading.{is_space, index_in, mask_in, name_in, lines_in, entries_in, behind_task_line, at_end, lists_at, spelling_of, mask_digit, is_mask_digit, Gives, cert_parse, names_of, names_in, is_newline, entry_line};
 ghost use Rattle.mask_certificate.specs.Blocks.{IsEnd, AreOf, TellsOf, TellsOfAll};
+ghost use Rattle.mask_certificate.specs.Left.{left_of};
+ghost use Rattle.text_pieces.specs.Pieces.{joined, AreCut};
 
 use crate::block::Block;
 use crate::certificate::{Cert, is_right};
 use crate::fault::{CertFault, Spelling};
+use crate::left::Left;
+use crate::part::Part;
 use mips_plain::number::RegSet;
 use std::alloc::{AllocError, Global};
 use task_descriptor::descriptor::Descriptor;
@@ -251,9 +255,21 @@ fn check_end(text: &[u8], line: usize) -> Result<(), CertFault>
     }
 }
 
+/// The last of these blocks, taken from them, unless it begins behind this place: then it waits for its
+/// turn.
+fn next_block<'a>(blocks: &mut Vec<Block<'a>>, place: usize) -> Option<Block<'a>>
+    ensures { (text : List ℕ) → AreOf text blocks.old.items
+        → AreOf text blocks.new.items × IfSome result (λ block. block.text ≡ text) }
+{
+    match blocks.last() {
+        Some(block) if block.start() <= place => blocks.pop(),
+        _ => None,
+    }
+}
+
 /// The list at the front of what is left of a text, whether it is right, and the text behind it: from the
-/// last of these blocks, if it begins there, and else read. A block that begins elsewhere is let go.
-fn list_at<'a>(
+/// last of these blocks, if it begins there, and else read.
+pub(crate) fn list_at<'a>(
     alloc: Global,
     spelling: Spelling,
     text: &'a [u8],
@@ -261,16 +277,18 @@ fn list_at<'a>(
     blocks: &mut Vec<Block<'a>>,
 ) -> Result<(Vec<(u32, RegSet)>, bool, &'a [u8]), AllocError>
     requires left { IsEnd text.now left.now }
-    requires blocks { AreOf spelling text.now blocks.old.items }
+    requires blocks { AreOf text.now blocks.old.items }
     ensures entries { IfOk result (λ found. found.0.items ≡ entries_in (lines_in spelling left.now)) }
     ensures told { IfOk result (λ found. TellsOf found.0.items found.1) }
     ensures rest { IfOk result (λ found. lines_in spelling found.2.now ≡ drop (length found.0.items) (lines_in spelling left.now)) }
-    ensures shorter { IfOk result (λ found. length found.0.items + length found.2.now ≤ length left.now) }
     ensures end { IfOk result (λ found. IsEnd text.now found.2.now) }
-    ensures blocks { AreOf spelling text.now blocks.new.items }
+    ensures blocks { AreOf text.now blocks.new.items }
 {
-    match blocks.pop() {
-        Some(block) if block.start() == text.len() - left.len() => Ok(block.into_parts()),
+    let place = text.len() - left.len();
+    match next_block(blocks, place) {
+        Some(block) if block.start() == place && block.spelling() == spelling => {
+            Ok(block.into_parts())
+        }
         _ => {
             let (list, rest) = list_of(alloc, spelling, left)?;
             let right = is_right(&list);
@@ -279,33 +297,88 @@ fn list_at<'a>(
     }
 }
 
-/// The lists that the lines from line 2 on spell for these tasks, and whether they are right.
-fn lists_of<'a>(
+/// What is left of a text behind the `task` line of this name, which has to be its first line, line `line`.
+fn behind_task<'a>(left: Left<'a>, line: usize, name: &Name) -> Result<Left<'a>, CertFault>
+    ensures { (spelling : Spelling) → MatchResult result
+        (λ rest. behind_task_line line name.now (lines_in spelling (left_of left.entry)) ≡ Ok (lines_in spelling (left_of rest)))
+        (λ fault. behind_task_line line name.now (lines_in spelling (left_of left.entry)) ≡ Err fault) }
+{
+    match behind(left.rest(), line, name) {
+        Ok(rest) => Ok(left.with_rest(rest)),
+        Err(fault) => Err(fault),
+    }
+}
+
+/// Whether nothing is left of a text from this line on.
+fn check_left(left: &Left<'_>, line: usize) -> Result<(), CertFault>
+    ensures { (spelling : Spelling) → MatchResult result
+        (λ _. at_end line (lines_in spelling (left_of left.now)) ≡ Ok [])
+        (λ fault. at_end line (lines_in spelling (left_of left.now)) ≡ Err fault) }
+{
+    check_end(left.rest(), line)
+}
+
+/// The list at the front of what is left of a text, whether it is right, and what is left behind it. A
+/// list that reaches to the end of its part goes on in the next.
+fn whole_list<'a>(
     alloc: Global,
     spelling: Spelling,
-    text: &'a [u8],
+    left: Left<'a>,
+) -> Result<(Vec<(u32, RegSet)>, bool, Left<'a>), AllocError>
+    ensures entries { IfOk result (λ found. found.0.items ≡ entries_in (lines_in spelling (left_of left.entry))) }
+    ensures rest { IfOk result (λ found. lines_in spelling (left_of found.2) ≡ drop (length found.0.items) (lines_in spelling (left_of left.entry))) }
+    ensures told { IfOk result (λ found. TellsOf found.0.items found.1) }
+{
+    let (mut list, mut right, mut goes_on, mut left) = left.list(alloc, spelling)?;
+    while goes_on && !left.rest().is_empty() {
+        let (mut more, _, reaches_end, after) = left.list(alloc, spelling)?;
+        list.append(&mut more)?;
+        right = is_right(&list);
+        goes_on = reaches_end;
+        left = after;
+    }
+    Ok((list, right, left))
+}
+
+/// The number of the line behind a `task` line and a list of so many entries. No memory holds so many
+/// lines that it is not a `usize`.
+fn line_behind(line: usize, entries: usize) -> Result<usize, AllocError>
+    ensures { IfOk result (λ next. next ≡ line + (1 + entries)) }
+{
+    let Some(last) = line.checked_add(entries) else {
+        return Err(AllocError);
+    };
+    match last.checked_add(1) {
+        Some(next) => Ok(next),
+        None => Err(AllocError),
+    }
+}
+
+/// The lists that what is left of a text spells for these tasks from line 2 on, and whether they are
+/// right.
+fn lists_of(
+    alloc: Global,
+    spelling: Spelling,
+    body: Left<'_>,
     tasks: &[Descriptor],
-    mut blocks: Vec<Block<'a>>,
 ) -> Result<(Vec<Vec<(u32, RegSet)>>, bool), CertFault>
-    requires long { 7 ≤ length text.now }
-    requires blocks { AreOf spelling text.now blocks.items }
-    ensures lists { Gives (λ found. entries_of found.0.items) result (lists_at 2 (names_in tasks.now) (lines_in spelling (drop 7 text.now))) }
+    ensures lists { Gives (λ found. entries_of found.0.items) result (lists_at 2 (names_in tasks.now) (lines_in spelling (left_of body.entry))) }
     ensures told { IfOk result (λ found. TellsOfAll (entries_of found.0.items) found.1) }
     ensures count { IfOk result (λ found. vec_len found.0 ≡ length tasks.now) }
 {
     let mut lists = Vec::with_capacity(alloc, tasks.len())?;
     let mut right = true;
-    let mut rest = &text[FIRST_LINE..];
+    let mut rest = body;
     let mut line = 2;
     for task in tasks {
-        let left = behind(rest, line, &task.name)?;
-        let (list, is_right, after) = list_at(alloc, spelling, text, left, &mut blocks)?;
-        line += 1 + list.len();
+        let left = behind_task(rest, line, &task.name)?;
+        let (list, is_right, after) = whole_list(alloc, spelling, left)?;
+        line = line_behind(line, list.len())?;
         right &= is_right;
         rest = after;
         lists.push(list)?;
     }
-    check_end(rest, line)?;
+    check_left(&rest, line)?;
     Ok((lists, right))
 }
 
@@ -323,21 +396,39 @@ pub fn spelling_in(text: &[u8]) -> Option<Spelling>
     }
 }
 
-/// The certificate that a text spells for these tasks, or its first fault.
-fn certificate_of<'a>(
+/// The spelling that the first line of what is left names; `None` where it names none. It lies in one
+/// part, as each line does.
+fn spelling_of_left(left: &Left<'_>) -> Option<Spelling>
+    ensures value { result ≡ spelling_of (left_of left.now) }
+    ensures long { OnSome result (7 ≤ length left.now.rest) }
+{
+    spelling_in(left.rest())
+}
+
+/// What is left behind the first line.
+fn behind_first_line(left: Left<'_>) -> Left<'_>
+    requires { 7 ≤ length left.rest }
+    ensures { left_of result ≡ drop 7 (left_of left.entry) }
+{
+    let first = left.rest();
+    left.with_rest(&first[FIRST_LINE..])
+}
+
+/// The certificate that a text in parts spells for these tasks, or its first fault.
+fn certificate_of(
     alloc: Global,
-    text: &'a [u8],
+    parts: Vec<Part<'_>>,
     tasks: &[Descriptor],
-    blocks: Vec<Block<'a>>,
 ) -> Result<Cert, CertFault>
     requires few { length tasks.now ≤ 1024 }
-    requires blocks { (spelling : Spelling) → spelling_of text.now ≡ Some spelling → AreOf spelling text.now blocks.items }
-    ensures { (result ≡ Err CertFault.OutOfMemory) ⊎ (result ≡ cert_parse text.now (names_in tasks.now)) }
+    requires cut { AreCut parts.items }
+    ensures { (result ≡ Err CertFault.OutOfMemory) ⊎ (result ≡ cert_parse (joined parts.entry.items) (names_in tasks.now)) }
 {
-    let Some(spelling) = spelling_in(text) else {
+    let left = Left::all(alloc, parts);
+    let Some(spelling) = spelling_of_left(&left) else {
         return Err(CertFault::Header);
     };
-    let (lists, right) = lists_of(alloc, spelling, text, tasks, blocks)?;
+    let (lists, right) = lists_of(alloc, spelling, behind_first_line(left), tasks)?;
     match Cert::of_told(lists, right) {
         Some(cert) => Ok(cert),
         None => Err(CertFault::Shape),
@@ -353,22 +444,20 @@ pub fn read(alloc: Global, text: &[u8], program: &Program) -> Result<Cert, CertF
     ensures spelled { result ≢ Err CertFault.OutOfMemory
         → (cert : List (List (ℕ × ℕ))) → (result ≡ Ok cert) ↔ Spells text.now (names_of program.now) cert }
 {
-    read_ahead(alloc, text, program, Vec::new(alloc))
+    let mut parts = Vec::new(alloc);
+    parts.push(Part::new(alloc, text))?;
+    read_parts(alloc, parts, program)
 }
 
-/// What `read` answers, with blocks of the text that were read before, the block of the first task last:
-/// a block that stands where its task's turn comes is taken over and not read again. Nothing rests on the
-/// blocks but speed: where one is missing or stands elsewhere, that list is read here.
-pub fn read_ahead<'a>(
-    alloc: Global,
-    text: &'a [u8],
-    program: &Program,
-    blocks: Vec<Block<'a>>,
-) -> Result<Cert, CertFault>
-    requires { (spelling : Spelling) → spelling_of text.now ≡ Some spelling → AreOf spelling text.now blocks.items }
-    ensures parsed { (result ≡ Err CertFault.OutOfMemory) ⊎ (result ≡ cert_parse text.now (names_of program.now)) }
+/// What `read` answers of a text that lies in parts, cut behind LFs. Of each part there may be blocks
+/// that were read before: one that stands where its task's turn comes is taken over and not read again.
+/// Nothing rests on the blocks but speed: where one is missing or stands elsewhere, that list is read
+/// here.
+pub fn read_parts(alloc: Global, parts: Vec<Part<'_>>, program: &Program) -> Result<Cert, CertFault>
+    requires { AreCut parts.items }
+    ensures parsed { (result ≡ Err CertFault.OutOfMemory) ⊎ (result ≡ cert_parse (joined parts.entry.items) (names_of program.now)) }
     ensures spelled { result ≢ Err CertFault.OutOfMemory
-        → (cert : List (List (ℕ × ℕ))) → (result ≡ Ok cert) ↔ Spells text.now (names_of program.now) cert }
+        → (cert : List (List (ℕ × ℕ))) → (result ≡ Ok cert) ↔ Spells (joined parts.entry.items) (names_of program.now) cert }
 {
-    certificate_of(alloc, text, program.tasks(), blocks)
+    certificate_of(alloc, parts, program.tasks())
 }

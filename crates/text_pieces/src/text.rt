@@ -26,7 +26,7 @@ impl Model for Text {
 }
 
 impl Text {
-    ghost use Rattle.std.specs.Prelude.{◌≡◌, ◌++◌, ◌↔◌, [], length, map, true, OnOk, IfOk};
+    ghost use Rattle.std.specs.Prelude.{◌≡◌, ◌≤◌, ◌++◌, ◌↔◌, length, map, true, OnOk, IfOk};
     ghost use Rattle.text_pieces.specs.Pieces.{joined, AreCut};
 
     /// The text of these bytes, in one piece.
@@ -53,6 +53,21 @@ impl Text {
             self.lines.push(last)?;
         }
         Ok(())
+    }
+
+    /// Whether it has at most so many bytes.
+    pub fn is_within(&self, most: usize) -> bool
+        ensures { (result ≡ true) ↔ (length self.now ≤ most) }
+    {
+        let mut left = most;
+        for piece in &self.lines {
+            let count = piece.as_slice().len();
+            if left < count {
+                return false;
+            }
+            left -= count;
+        }
+        self.last.as_slice().len() <= left
     }
 
     /// The pieces in order, cut behind LFs.

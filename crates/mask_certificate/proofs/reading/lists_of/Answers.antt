@@ -4,6 +4,7 @@ use Rattle.std.proofs.lemmas.List.{at_drop_more, map_push}
 use Rattle.mask_certificate.specs.Lists.{entries_of}
 use Rattle.mask_certificate.specs.CertificateReading.{lines_in, lists_at, names_in}
 use Rattle.mask_certificate.specs.Blocks.{TellsOfAll}
+use Rattle.mask_certificate.specs.Left.{left_of}
 use Rattle.mask_certificate.proofs.ListsLoop.{with_front, goes_on}
 use Rattle.mask_certificate.proofs.Telling.{tells_push}
 use Rattle.mask_certificate.proofs.reading.lists_of.Goals as goal
@@ -15,11 +16,11 @@ loop-task-preserved c =
     let task = c.task-item.result in
     let list = c.in_ok-list.list in
     let front = c.loop-task.lists.items in
-    let lines = lines_in c.args.spelling c.loop-task.rest.now in
-    let body = lines_in c.args.spelling c.in_ok-left.left.now in
-    let after = lines_in c.args.spelling c.in_ok-list.after.now in
-    let next = c.loop-task.line + (1 + c.len.result) in
-    let whole = lists_at 2 (names_in tasks) (lines_in c.args.spelling (drop 7 c.args.text.now)) in
+    let lines = lines_in c.args.spelling (left_of c.loop-task.rest) in
+    let body = lines_in c.args.spelling (left_of c.in_ok-left.left) in
+    let after = lines_in c.args.spelling (left_of c.in_ok-list.after) in
+    let next = c.in_ok-line.line in
+    let whole = lists_at 2 (names_in tasks) (lines_in c.args.spelling (left_of c.args.body)) in
     let names : names_in (drop i tasks) ≡ task.name ∷ names_in (drop (i + 1) tasks) =
     at_drop_more names_in tasks i task c.loop-task-test.true ∙ ap (λ t. names_in (t ∷ drop (i + 1) tasks)) (sym c.task-item.is) in
     let so_far : with_front (entries_of front) (lists_at c.loop-task.line (task.name ∷ names_in (drop (i + 1) tasks)) lines) ≡ whole =
@@ -30,13 +31,10 @@ loop-task-preserved c =
           ap (λ items. with_front (entries_of items) (lists_at next (names_in (drop (i + 1) tasks)) after)) c.in_ok-push.ensures.items
           ∙ ap (λ (lists : List (List (ℕ × ℕ))). with_front lists (lists_at next (names_in (drop (i + 1) tasks)) after)) (map_push _ front list)
           ∙ goes_on (entries_of front) c.loop-task.line task.name (names_in (drop (i + 1) tasks)) lines whole so_far
-          body after list.items next (c.in_ok-left.ensures.lines c.args.spelling) c.in_ok-list.ensures.entries c.in_ok-list.ensures.rest (omega (arith, long));
+          body after list.items next (c.in_ok-left.ensures c.args.spelling) c.in_ok-list.ensures.entries c.in_ok-list.ensures.rest (omega (arith, long));
       told =
           subst (λ (lists : List (List (ℕ × ℕ))). TellsOfAll lists (c.loop-task.right && c.in_ok-list.is_right))
           (sym (ap entries_of c.in_ok-push.ensures.items ∙ map_push _ front list))
           (tells_push (entries_of front) list.items c.loop-task.right c.in_ok-list.is_right c.loop-task.invariant.told c.in_ok-list.ensures.told);
-      numbered = omega (arith, long, c.in_ok-list.ensures.shorter, c.in_ok-left.ensures.shorter);
       counted = omega (arith, c.in_ok-push.ensures.len);
-      end = c.in_ok-list.ensures.end;
-      blocks = c.list_at.ensures.blocks;
     }

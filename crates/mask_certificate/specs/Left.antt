@@ -1,0 +1,21 @@
+-- How far a text that lies in parts is read.
+use Rattle.std.specs.Prelude.{◌≡◌, ℕ, List, [], ◌∷◌, ◌++◌, length}
+use Rattle.text_pieces.specs.Pieces.{joined, AreCut}
+use Rattle.mask_certificate.specs.Blocks.{Place, IsEnd, AreOf}
+
+-- the end of a part, and the parts behind it
+pub record Left : Type 0 where
+  pub rest : List ℕ
+  pub behind : List (List ℕ)
+
+-- what is left of the text
+abbrev pub left_of : Left → List ℕ
+left_of left = left.rest ++ joined left.behind
+
+-- This is left of a text, the first of it in the part text, of which there are these blocks: that part is
+-- at its end only where nothing is left behind it.
+pub record IsLeft (text : List ℕ) (blocks : List Place) (rest : List ℕ) (behind : List (List ℕ)) : Type 0 where
+  pub end : IsEnd text rest
+  pub blocks_of : AreOf text blocks
+  pub cut : AreCut (text ∷ behind)
+  pub at_end : length rest ≡ 0 → behind ≡ []

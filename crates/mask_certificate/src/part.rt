@@ -1,0 +1,56 @@
+//! A text that lies in parts, and what was read of each before.
+
+use crate::block::Block;
+use std::alloc::Global;
+use std::marker::Model;
+
+/// A part of a certificate's text, and blocks of it that were read before, the block that stands first
+/// last. A contract sees it as its bytes: nothing rests on the blocks but speed.
+#[derive(Drop)]
+pub struct Part<'a> {
+    text: &'a [u8],
+    blocks: Vec<Block<'a>>,
+}
+
+impl<'a> Model for Part<'a> {
+    ghost use Rattle.std.specs.Prelude.{ℕ, List};
+    ghost use Rattle.mask_certificate.specs.Blocks.{AreOf};
+
+    ghost Value = { List ℕ };
+
+    ghost view = { λ p. p.text.now };
+
+    ghost invariant = { λ p. AreOf p.text.now p.blocks.items };
+}
+
+impl<'a> Part<'a> {
+    ghost use Rattle.std.specs.Prelude.{◌≡◌};
+    ghost use Rattle.mask_certificate.specs.Blocks.{AreOf};
+
+    /// A part of which nothing was read.
+    pub fn new(alloc: Global, text: &'a [u8]) -> Part<'a>
+        ensures { result ≡ text.now }
+    {
+        Part {
+            text,
+            blocks: Vec::new(alloc),
+        }
+    }
+
+    /// A part of which these blocks were read.
+    pub fn with_blocks(text: &'a [u8], blocks: Vec<Block<'a>>) -> Part<'a>
+        requires { AreOf text.now blocks.items }
+        ensures { result ≡ text.now }
+    {
+        Part { text, blocks }
+    }
+
+    /// The bytes and the blocks.
+    pub(crate) fn into_parts(self) -> (&'a [u8], Vec<Block<'a>>)
+        ensures text { result.0.now ≡ self.entry }
+        ensures blocks { AreOf self.entry result.1.items }
+    {
+        let Part { text, blocks } = self;
+        (text, blocks)
+    }
+}
