@@ -7,5 +7,5 @@ use Rattle.parallel_check.proofs.reading.ReadAhead.read.Goals as goal
 
 pub returns-clause-spelled : goal.returns-clause-spelled
 returns-clause-spelled c =
-    subst (λ (text : List ℕ). c.read_ahead.result ≢ Err OutOfMemory → (cert : List (List (ℕ × ℕ))) → (c.read_ahead.result ≡ Ok cert) ↔ Spells text (names_of c.args.program.now) cert)
-    c.self.view_is c.read_ahead.ensures.spelled
+    subst (λ (text : List ℕ). c.read_parts.result ≢ Err OutOfMemory → (cert : List (List (ℕ × ℕ))) → (c.read_parts.result ≡ Ok cert) ↔ Spells text (names_of c.args.program.now) cert)
+    c.self.view_is c.read_parts.ensures.spelled
