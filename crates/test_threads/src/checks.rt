@@ -11,7 +11,7 @@ use parallel_check::checking::{accepts_shared, verdict_shared};
 use parallel_check::fault::ShareFault;
 use parallel_check::gate::{CheckGate, Open};
 use parallel_check::reading::read_shared;
-use std::alloc::Global;
+use std::alloc::{AllocError, Global};
 use std::fmt::Write;
 use std::process::Abort;
 use std::sync::atomic::{AtomicBool, AtomicU32, Ordering};
@@ -21,6 +21,7 @@ use std::time::Duration;
 use task_descriptor::program::Program;
 use test_programs::certificates::{COUNT_CERTIFICATE, FIVE_FINDINGS_CERTIFICATE};
 use test_programs::programs::{COUNT, FIVE_FINDINGS};
+use text_pieces::text::Text;
 
 /// A program with its certificate.
 fn parts(rt: &impl Abort, alloc: Global, program: &str, cert: &str) -> (Program, Cert) {
@@ -149,17 +150,32 @@ fn long_text(alloc: Global) -> Result<String, std::fmt::Error> {
     Ok(text)
 }
 
-/// What several workers answer, where all numbers of workers give the same.
+/// A text that came in so many parts, each of about as many bytes.
+fn in_pieces(alloc: Global, text: &str, parts: usize) -> Result<Text, AllocError> {
+    let bytes = text.as_bytes();
+    let size = bytes.len() / parts.max(1) + 1;
+    let mut text = Text::new(alloc, Vec::new(alloc));
+    for part in bytes.chunks(size) {
+        text.append(part.to_vec(alloc)?)?;
+    }
+    Ok(text)
+}
+
+/// What several workers answer, where all numbers of workers and of pieces give the same.
 fn answer<R: Threads + Abort + Sync>(
     rt: &R,
     alloc: Global,
     text: &str,
     program: &Program,
 ) -> Option<CertFault> {
-    let first = read_shared(rt, alloc, text.as_bytes(), program, 1).err();
-    for workers in [2, 3, 16] {
-        let again = read_shared(rt, alloc, text.as_bytes(), program, workers).err();
-        assert_eq!(rt; again, first, "{workers} workers");
+    let first = read(alloc, text.as_bytes(), program).err();
+    for parts in [1, 2, 7] {
+        let text = in_pieces(alloc, text, parts).ok();
+        let text = text.expect(rt, "room for pieces");
+        for workers in [1, 2, 3, 16] {
+            let again = read_shared(rt, alloc, &text, program, workers).err();
+            assert_eq!(rt; again, first, "{workers} workers, {parts} pieces");
+        }
     }
     first
 }
@@ -168,11 +184,16 @@ fn answer<R: Threads + Abort + Sync>(
 fn several_workers_read_what_one_reads(rt: HostRuntime) {
     let (program, _) = parts(&rt, rt.alloc(), COUNT, COUNT_CERTIFICATE);
     let text = long_text(rt.alloc()).ok().expect(&rt, "room for a text");
-    for workers in [1, 2, 3, 16] {
-        let cert = read_shared(&rt, rt.alloc(), text.as_bytes(), &program, workers).ok();
+    let whole = read(rt.alloc(), text.as_bytes(), &program).ok();
+    let whole = whole.expect(&rt, "a certificate");
+    for (parts, workers) in [(1, 1), (1, 3), (2, 2), (3, 16), (7, 3), (1000, 2)] {
+        let pieces = in_pieces(rt.alloc(), text.as_str(), parts).ok();
+        let pieces = pieces.expect(&rt, "room for pieces");
+        let cert = read_shared(&rt, rt.alloc(), &pieces, &program, workers).ok();
         let cert = cert.expect(&rt, "a certificate");
         for task in [0, 1] {
             assert_eq!(rt; cert.list(task).len(), 4096, "{workers} workers");
+            assert_eq!(rt; cert.list(task), whole.list(task), "{parts} pieces");
         }
     }
 }
