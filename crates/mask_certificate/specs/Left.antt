@@ -1,4 +1,5 @@
--- How far a text that lies in parts is read.
+-- Helper vocabulary: how far a text that lies in parts is read. No contract of a public function cites a
+-- word of this file.
 use Rattle.std.specs.Prelude.{◌≡◌, ℕ, List, [], ◌∷◌, ◌++◌, length}
 use Rattle.text_pieces.specs.Pieces.{joined, AreCut}
 use Rattle.mask_certificate.specs.Blocks.{Place, IsEnd, AreOf}

@@ -219,7 +219,6 @@ fn behind<'a>(text: &'a [u8], line: usize, name: &Name) -> Result<&'a [u8], Cert
     ensures lines { (spelling : Spelling) → MatchResult result
         (λ rest. behind_task_line line name.now (lines_in spelling text.now) ≡ Ok (lines_in spelling rest.now))
         (λ fault. behind_task_line line name.now (lines_in spelling text.now) ≡ Err fault) }
-    ensures shorter { IfOk result (λ rest. length rest.now < length text.now) }
     ensures end { IfOk result (λ rest. IsEnd text.now rest.now) }
 {
     if text.is_empty() {
