@@ -7,7 +7,7 @@ ghost use Rattle.program_edge.specs.FileTexts.{IsFound, AreTextsOf, text_of, mos
 use crate::named_files::NamedFiles;
 use jobs::job::{Job, Paths, Texts};
 use std::alloc::Global;
-use verdict_report::files::fetch;
+use shared_fetch::serial::fetch;
 
 /// The most bytes of a program text.
 pub const MOST_PROGRAM: u64 = 4_194_304;

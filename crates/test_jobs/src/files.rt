@@ -7,7 +7,7 @@ use std::io;
 use std::io::{ErrorKind, Read, Write};
 use std::process::Abort;
 use verdict_report::fault::ServeFault;
-use verdict_report::files::{FetchFault, fetch};
+use shared_fetch::serial::{FetchFault, fetch};
 use verdict_report::serve::serve;
 
 // Gives one byte a read, is interrupted first, and fails at its last read.

@@ -9,7 +9,6 @@ pub mod annotating;
 pub mod checking;
 pub mod event_text;
 pub mod fault;
-pub mod files;
 pub mod judging;
 pub mod machine_text;
 pub mod plain_text;

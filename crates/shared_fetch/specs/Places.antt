@@ -1,0 +1,19 @@
+-- Bytes of a file from a place on.
+use Rattle.std.specs.Prelude.{◌≡◌, ℕ, ◌*◌, ◌<◌, ◌≤◌, List, length, take, drop, Option, IfSome, slice_index_or}
+use Rattle.std.specs.declared.alloc.Global.{Global}
+use Rattle.std.specs.declared.vec.Vec.{Vec}
+
+-- a read of `count` bytes into a buffer gave those that stand at a place, and none only at the end
+pub record ReadsAt (place : ℕ) (count : ℕ) (buffer bytes : List ℕ) : Type 0 where
+  pub same : take count buffer ≡ take count (drop place bytes)
+  pub end : count ≡ 0 → 0 < length buffer → length bytes ≤ place
+
+-- each part that was fetched is the `size` bytes that stand where its turn comes
+abbrev pub AreParts : (size : ℕ) (bytes : List ℕ) → List (Option (Vec ℕ Global)) → Type 0
+AreParts size bytes parts = (i : ℕ) (none : Option (Vec ℕ Global)) → i < length parts
+    → IfSome (slice_index_or parts i none) (λ part. part.items ≡ take size (drop (size * i) bytes))
+
+-- each part that was fetched has so many bytes
+abbrev pub AreFull : (size : ℕ) → List (Option (Vec ℕ Global)) → Type 0
+AreFull size parts = (i : ℕ) (none : Option (Vec ℕ Global)) → i < length parts
+    → IfSome (slice_index_or parts i none) (λ part. length part.items ≡ size)

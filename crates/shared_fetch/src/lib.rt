@@ -1,0 +1,7 @@
+//! Reading a file whole, up to a limit: by one thread, or a part by each of several.
+#![tactic(auto)]
+
+pub mod parts;
+pub mod placed;
+pub mod serial;
+pub mod shared;
