@@ -1,6 +1,7 @@
 //! What the program is to do, and with which files.
 
 use crate::ranges::{Answers, Budget, Units, Workers};
+use text_pieces::text::Text;
 
 /// What `annotate` writes.
 #[derive(Clone, Copy, Debug, PartialEq, Eq)]
@@ -104,7 +105,7 @@ pub struct Texts {
     /// The program text.
     pub program: Vec<u8>,
     /// The certificate: of `check`, `replay` and `run`.
-    pub certificate: Vec<u8>,
+    pub certificate: Text,
     /// The event script: of `replay`.
     pub script: Vec<u8>,
 }

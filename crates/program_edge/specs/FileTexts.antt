@@ -51,7 +51,7 @@ text_of true (Some found) = if nat_le (length found) most_file then Some found e
 abbrev pub Gives : Job → Paths → (program certificate script : Option (List ℕ)) → Result Texts (String Global) → Type 0
 Gives job paths program certificate script (Ok texts) =
     (program ≡ Some texts.program.items)
-    × (certificate ≡ Some texts.certificate.items)
+    × (certificate ≡ Some texts.certificate)
     × (script ≡ Some texts.script.items)
 Gives job paths None certificate script (Err path) = path ≡ paths.program
 Gives job paths (Some program) None script (Err path) = path ≡ paths.certificate

@@ -48,7 +48,7 @@ fn answer_job<F: NamedFiles, O: Write, E: Write, R: Threads + Wait + Sync>(
         record { output = O.contents output.old; errors = E.contents errors.old }
         record { output = O.contents output.new; errors = E.contents errors.new } }
 {
-    match read_texts(alloc, files, job, paths) {
+    match read_texts(rt, alloc, files, job, paths) {
         Ok(texts) => answer_texts(rt, alloc, job, &texts, output, errors),
         Err(path) => tell(&Fault::File(path), output, errors),
     }

@@ -5,6 +5,7 @@ use crate::answer::answer;
 use crate::asked::asked;
 use crate::named_files::SystemFiles;
 use std::io::Write;
+use std::os::unix::fs::FileExt;
 use std::rt::{Env, Files};
 use std::sync::Wait;
 use std::thread::Threads;
@@ -15,6 +16,8 @@ pub fn run<R: Env + Files + AllocGlobal + Threads + Wait + Sync, O: Write, E: Wr
     output: &mut O,
     errors: &mut E,
 ) -> u8
+where
+    R::File: FileExt + Sync,
     ensures { IsRunOf result
         record { output = O.contents output.old; errors = E.contents errors.old }
         record { output = O.contents output.new; errors = E.contents errors.new } }

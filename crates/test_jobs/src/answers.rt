@@ -6,6 +6,7 @@ use std::alloc::Global;
 use std::process::Abort;
 use std::sync::Wait;
 use std::thread::Threads;
+use text_pieces::text::Text;
 use verdict_report::serve::serve;
 
 /// What a test's runtime may do: stop, wait, and make threads.
@@ -84,7 +85,7 @@ pub fn texts_of(
 ) -> Texts {
     Texts {
         program: copy(rt, alloc, program),
-        certificate: copy(rt, alloc, certificate),
+        certificate: Text::new(alloc, copy(rt, alloc, certificate)),
         script: copy(rt, alloc, script),
     }
 }

@@ -1,13 +1,16 @@
-//! Readers and writers that fail.
+//! Files that several threads fetch, and readers and writers that fail.
 
 use crate::answers::{Bench, texts_of};
 use jobs::job::Job;
+use shared_fetch::placed::PlacedFile;
+use shared_fetch::serial::{FetchFault, fetch};
+use shared_fetch::shared::fetch_shared;
 use std::alloc::Global;
 use std::io;
 use std::io::{ErrorKind, Read, Write};
 use std::process::Abort;
+use text_pieces::text::Text;
 use verdict_report::fault::ServeFault;
-use shared_fetch::serial::{FetchFault, fetch};
 use verdict_report::serve::serve;
 
 // Gives one byte a read, is interrupted first, and fails at its last read.
@@ -87,6 +90,124 @@ fn expect_fetched(rt: &impl Abort, alloc: Global, most: u64, expected: &[u8]) {
     let fetched = fetch(alloc, &mut text, most).ok();
     let fetched = fetched.expect(rt, "room for a text");
     assert!(rt; fetched.as_slice() == expected, "at most {most}");
+}
+
+// A file that is held in memory. It may say another size than it has, and reading it by places fails from
+// a place on.
+#[derive(Drop)]
+struct Held {
+    bytes: Vec<u8>,
+    place: usize,
+    told: Option<u64>,
+    fails_from: u64,
+    is_worn: bool,
+}
+
+impl Read for Held {
+    fn read(&mut self, buf: &mut [u8]) -> io::Result<usize> {
+        if self.is_worn {
+            return Err(io::Error::from(ErrorKind::Other));
+        }
+        let count = copy_from(&self.bytes, self.place, buf);
+        self.place = self.place.saturating_add(count);
+        Ok(count)
+    }
+}
+
+impl PlacedFile for Held {
+    ghost use Rattle.std.specs.Prelude.{None};
+
+    ghost bytes = { λ _. None };
+
+    fn size_hint(&self) -> Option<u64> {
+        self.told
+    }
+
+    fn read_at(&self, buffer: &mut [u8], place: u64) -> io::Result<usize> {
+        if place >= self.fails_from {
+            return Err(io::Error::from(ErrorKind::Interrupted));
+        }
+        Ok(copy_from(&self.bytes, place as usize, buffer))
+    }
+}
+
+// Copies what stands from a place on, as far as there is room; how many bytes that was.
+fn copy_from(bytes: &[u8], place: usize, buffer: &mut [u8]) -> usize
+    ensures { (result ≤ length buffer.new) × (result ≡ length (take result buffer.new)) }
+{
+    let from = place.min(bytes.len());
+    let count = buffer.len().min(bytes.len() - from);
+    buffer[..count].copy_from_slice(&bytes[from..from + count]);
+    count
+}
+
+// How many bytes a file has that is long enough to be shared out.
+const LONG: usize = 300_000;
+
+// A file of as many bytes, in which lines of 70 bytes differ from those beside them.
+fn long_file(rt: &impl Abort, alloc: Global) -> Held {
+    let mut bytes = Vec::new(alloc);
+    for place in 0..LONG {
+        let byte = if place % 70 == 69 {
+            10
+        } else {
+            (place / 70 % 251) as u8
+        };
+        assert!(rt; bytes.push(byte).is_ok());
+    }
+    Held {
+        bytes,
+        place: 0,
+        told: Some(LONG as u64),
+        fails_from: u64::MAX,
+        is_worn: false,
+    }
+}
+
+// Asserts that a file of this size, of which reading by places fails from a place on, is fetched the same by
+// each number of workers.
+fn expect_shared<R: Bench>(rt: &R, alloc: Global, file: &mut Held, fails_from: u64, most: u64) {
+    assert!(rt; most <= 134_217_728);
+    file.fails_from = fails_from;
+    for &workers in &[0, 1, 4, 17] {
+        file.place = 0;
+        let text = fetch_shared(rt, alloc, file, most, workers).ok();
+        let text = text.expect(rt, "room for a text");
+        let wanted = file.bytes.len().min(most as usize + 1);
+        expect_pieces(rt, alloc, &text, &file.bytes[..wanted]);
+    }
+}
+
+// Asserts what the pieces of a text hold, one after another.
+fn expect_pieces(rt: &impl Abort, alloc: Global, text: &Text, wanted: &[u8]) {
+    let pieces = text.pieces(alloc).ok().expect(rt, "room for pieces");
+    let mut left = wanted;
+    for piece in &pieces {
+        assert!(rt; left.starts_with(piece));
+        left = left.get(piece.len()..).expect(rt, "a piece of the text");
+    }
+    assert!(rt; left.is_empty());
+}
+
+#[test]
+fn fetches_by_several_threads(rt: HostRuntime) {
+    let long = LONG as u64;
+    let mut file = long_file(&rt, rt.alloc());
+    for &told in &[None, Some(long), Some(long - 1), Some(long + 1)] {
+        file.told = told;
+        expect_shared(&rt, rt.alloc(), &mut file, u64::MAX, 134_217_728);
+        expect_shared(&rt, rt.alloc(), &mut file, 200_000, 134_217_728);
+        expect_shared(&rt, rt.alloc(), &mut file, u64::MAX, long - 1);
+    }
+}
+
+#[test]
+fn fails_as_one_thread_does(rt: HostRuntime) {
+    let mut file = long_file(&rt, rt.alloc());
+    file.fails_from = 0;
+    file.is_worn = true;
+    let answer = fetch_shared(&rt, rt.alloc(), &mut file, 134_217_728, 4).err();
+    assert!(&rt; answer == Some(FetchFault::Read));
 }
 
 // Takes one byte a write, and fails at the write of this number.

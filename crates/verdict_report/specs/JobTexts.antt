@@ -33,9 +33,9 @@ abbrev pub IsReportOf : Job → Texts → Report → Type 0
 IsReportOf (Seq budget) texts report = report ≡ seq_text budget texts.program.items
 IsReportOf Print texts report = report ≡ print_text texts.program.items
 IsReportOf (Annotate emit) texts report = IsAnnotateReport emit texts.program.items report
-IsReportOf (Check workers) texts report = report ≡ check_text texts.program.items texts.certificate.items
-IsReportOf (Replay units) texts report = report ≡ replay_text units texts.program.items texts.certificate.items texts.script.items
-IsReportOf (Run units workers budget predict emit) texts report = IsRunText units budget emit texts.program.items texts.certificate.items report
+IsReportOf (Check workers) texts report = report ≡ check_text texts.program.items texts.certificate
+IsReportOf (Replay units) texts report = report ≡ replay_text units texts.program.items texts.certificate texts.script.items
+IsReportOf (Run units workers budget predict emit) texts report = IsRunText units budget emit texts.program.items texts.certificate report
 
 -- a job is done: a report of it was added to what the writer holds, and the status is its
 pub record IsDone (job : Job) (texts : Texts) (status : ℕ) (old new : Option (List ℕ)) : Type 0 where

@@ -1,5 +1,6 @@
 //! The job `check`.
-ghost use Rattle.std.specs.Prelude.{◌≡◌, IfOk};
+ghost use Rattle.std.specs.Prelude.{◌≡◌, map, IfOk};
+ghost use Rattle.text_pieces.specs.Pieces.{joined, AreCut};
 ghost use Rattle.annotated_asm.specs.Steps.{Answers};
 ghost use Rattle.annotated_asm.specs.ProgramText.{parse};
 ghost use Rattle.mask_certificate.specs.CertificateReading.{cert_parse, names_of};
@@ -22,6 +23,7 @@ use std::alloc::{AllocError, Global};
 use std::thread;
 use std::thread::Threads;
 use task_descriptor::program::Program;
+use text_pieces::text::Text;
 
 /// What `check` writes of a program text and the text of its certificate. This many threads share the
 /// work, and it is the same for any number of them.
@@ -30,11 +32,12 @@ pub fn check<R: Threads + Sync>(
     alloc: Global,
     workers: Workers,
     program: &[u8],
-    certificate: &[u8],
+    certificate: &Text,
 ) -> Result<Report, AllocError>
     ensures { IfOk result (λ report. report ≡ check_text program.now certificate.now) }
 {
-    let (assembled, ahead) = read_texts(rt, alloc, workers, program, certificate);
+    let pieces = certificate.pieces(alloc)?;
+    let (assembled, ahead) = read_texts(rt, alloc, workers, program, &pieces);
     match assembled {
         Ok(program) => check_certificate(rt, alloc, workers, &program, ahead?),
         Err(AsmFault::OutOfMemory) => Err(AllocError),
@@ -49,17 +52,20 @@ fn read_texts<'a, R: Threads + Sync>(
     alloc: Global,
     workers: Workers,
     program: &[u8],
-    certificate: &'a [u8],
+    certificate: &[&'a [u8]],
 ) -> (Result<Program, AsmFault>, Result<ReadAhead<'a>, AllocError>)
+    requires { AreCut (map (λ piece. piece.now) certificate.now) }
     ensures program { Answers (λ p. p) result.0 (parse program.now) }
-    ensures certificate { IfOk result.1 (λ ahead. ahead ≡ certificate.now) }
+    ensures certificate { IfOk result.1 (λ ahead. ahead ≡ joined (map (λ piece. piece.now) certificate.now)) }
 {
     let workers = workers.get();
     if is_shared_out(certificate, workers) {
         return thread::join(
             rt,
             || assemble(alloc, program),
-            || ReadAhead::new(rt, alloc, certificate, workers),
+            ||
+                requires { AreCut (map (λ piece. piece.now) certificate.now) }
+            { ReadAhead::new(rt, alloc, certificate, workers) },
         );
     }
     (

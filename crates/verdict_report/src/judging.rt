@@ -1,5 +1,5 @@
 //! What `replay` and `run` do first.
-ghost use Rattle.std.specs.Prelude.{◌≡◌, ◌≢◌, [], IfOk};
+ghost use Rattle.std.specs.Prelude.{◌≡◌, ◌≢◌, ◌⊎◌, [], map, Err, IfOk};
 ghost use Rattle.mask_certificate.specs.CertificateReading.{cert_parse, names_of};
 ghost use Rattle.mark_checker.specs.Rules.{all_rules};
 ghost use Rattle.verdict_report.specs.VerdictTexts.{program_found};
@@ -14,9 +14,11 @@ use mark_checker::accept;
 use mark_checker::check::verdict;
 use mask_certificate::certificate::Cert;
 use mask_certificate::fault::CertFault;
-use mask_certificate::reading::read;
+use mask_certificate::part::Part;
+use mask_certificate::reading::read_parts;
 use std::alloc::{AllocError, Global};
 use task_descriptor::program::Program;
+use text_pieces::text::Text;
 
 /// What a job with a certificate goes on with.
 #[derive(Debug, Drop)]
@@ -28,7 +30,7 @@ pub enum Judged {
 }
 
 /// Judges a program text, then the text of its certificate, and then the one by the other.
-pub fn judge(alloc: Global, program: &[u8], certificate: &[u8]) -> Result<Judged, AllocError>
+pub fn judge(alloc: Global, program: &[u8], certificate: &Text) -> Result<Judged, AllocError>
     ensures { IfOk result (λ judged. as_judgement judged ≡ judgement program.now certificate.now) }
 {
     match assemble(alloc, program) {
@@ -39,7 +41,7 @@ pub fn judge(alloc: Global, program: &[u8], certificate: &[u8]) -> Result<Judged
 }
 
 // Judges the text of a program's certificate.
-fn judge_program(alloc: Global, program: Program, certificate: &[u8]) -> Result<Judged, AllocError>
+fn judge_program(alloc: Global, program: Program, certificate: &Text) -> Result<Judged, AllocError>
     ensures { IfOk result (λ judged.
         as_judgement judged ≡ certificate_judged program (cert_parse certificate.now (names_of program))) }
 {
@@ -48,6 +50,26 @@ fn judge_program(alloc: Global, program: Program, certificate: &[u8]) -> Result<
         Err(CertFault::OutOfMemory) => Err(AllocError),
         Err(fault) => Ok(Judged::Refused(refused_certificate(alloc, fault)?)),
     }
+}
+
+// What the text of a certificate says of a program.
+fn read(alloc: Global, certificate: &Text, program: &Program) -> Result<Cert, CertFault>
+    ensures { (result ≡ Err CertFault.OutOfMemory) ⊎ (result ≡ cert_parse certificate.now (names_of program.now)) }
+{
+    let pieces = certificate.pieces(alloc)?;
+    let parts = parts_of(alloc, &pieces)?;
+    read_parts(alloc, parts, program)
+}
+
+// The pieces, of which nothing was read ahead.
+fn parts_of<'a>(alloc: Global, pieces: &[&'a [u8]]) -> Result<Vec<Part<'a>>, AllocError>
+    ensures { IfOk result (λ parts. parts.items ≡ map (λ piece. piece.now) pieces.now) }
+{
+    let mut parts = Vec::with_capacity(alloc, pieces.len())?;
+    for piece in pieces {
+        parts.push(Part::new(alloc, piece))?;
+    }
+    Ok(parts)
 }
 
 // Judges a program by its certificate.

@@ -19,6 +19,7 @@ use machine_model::laws::next_is_after;
 use mark_checker::accept::Accepted;
 use sequencer::machine::Machine;
 use std::alloc::{AllocError, Global};
+use text_pieces::text::Text;
 
 /// What `replay` writes of a program text, the text of its certificate and the text of a script, on a
 /// machine of so many units.
@@ -26,7 +27,7 @@ pub fn replay(
     alloc: Global,
     units: Units,
     program: &[u8],
-    certificate: &[u8],
+    certificate: &Text,
     script: &[u8],
 ) -> Result<Report, AllocError>
     ensures { IfOk result (λ report. report ≡ replay_text units program.now certificate.now script.now) }

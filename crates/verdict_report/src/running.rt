@@ -17,6 +17,7 @@ use sequencer::predict::{First, Last, Predict, Script};
 use std::alloc::{AllocError, Global};
 use std::sync::Wait;
 use std::thread::Threads;
+use text_pieces::text::Text;
 use threaded_runner::gate::Open;
 use threaded_runner::report;
 use threaded_runner::report::{How, RunFault};
@@ -45,7 +46,7 @@ pub fn run<R: Threads + Wait + Sync>(
     predict: &Prediction,
     emit: RunEmit,
     program: &[u8],
-    certificate: &[u8],
+    certificate: &Text,
 ) -> Result<Report, ServeFault>
     ensures report { IfOk result (λ report. IsRunText extent.units extent.budget emit program.now certificate.now report) }
     ensures fault { result ≢ Err ServeFault.Write }

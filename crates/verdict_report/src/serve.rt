@@ -50,7 +50,7 @@ fn report_of<R: Threads + Wait + Sync>(
     ensures own { is_run job.now ≡ false → result ≢ Err ServeFault.Foreign }
 {
     let program = texts.program.as_slice();
-    let certificate = texts.certificate.as_slice();
+    let certificate = &texts.certificate;
     match job {
         Job::Seq { budget } => Ok(seq(alloc, *budget, program)?),
         Job::Print => Ok(print(alloc, program)?),
