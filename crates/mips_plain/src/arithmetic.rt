@@ -11,8 +11,8 @@ use crate::instruction::{
 use crate::number::Amount;
 
 /// The word of an operation on two registers.
-#[inline]
-pub(crate) fn three(kind: ThreeKind, a: u32, b: u32) -> u32
+#[inline(always)]
+pub fn three(kind: ThreeKind, a: u32, b: u32) -> u32
     ensures { result ≡ three_of kind a b }
 {
     match kind {
@@ -28,8 +28,8 @@ pub(crate) fn three(kind: ThreeKind, a: u32, b: u32) -> u32
 }
 
 /// The word of a shift by a fixed amount.
-#[inline]
-pub(crate) fn shift_by(kind: ShiftByKind, a: u32, amount: Amount) -> u32
+#[inline(always)]
+pub fn shift_by(kind: ShiftByKind, a: u32, amount: Amount) -> u32
     ensures { result ≡ shift_by_of kind a amount }
 {
     match kind {
@@ -40,8 +40,8 @@ pub(crate) fn shift_by(kind: ShiftByKind, a: u32, amount: Amount) -> u32
 }
 
 /// The word of a shift by the low 5 bits of a register.
-#[inline]
-pub(crate) fn shift_var(kind: ShiftVarKind, a: u32, b: u32) -> u32
+#[inline(always)]
+pub fn shift_var(kind: ShiftVarKind, a: u32, b: u32) -> u32
     ensures { result ≡ shift_var_of kind a b }
 {
     match kind {
@@ -52,8 +52,8 @@ pub(crate) fn shift_var(kind: ShiftVarKind, a: u32, b: u32) -> u32
 }
 
 /// The word of an operation with a signed immediate.
-#[inline]
-pub(crate) fn imm(kind: ImmKind, a: u32, n: i16) -> u32
+#[inline(always)]
+pub fn imm(kind: ImmKind, a: u32, n: i16) -> u32
     ensures { result ≡ imm_of kind a n }
 {
     match kind {
@@ -64,8 +64,8 @@ pub(crate) fn imm(kind: ImmKind, a: u32, n: i16) -> u32
 }
 
 /// The word of an operation with an immediate that is not signed.
-#[inline]
-pub(crate) fn logic(kind: LogicKind, a: u32, n: u16) -> u32
+#[inline(always)]
+pub fn logic(kind: LogicKind, a: u32, n: u16) -> u32
     ensures { result ≡ logic_of kind a n }
 {
     match kind {

@@ -338,6 +338,7 @@ impl Op {
     }
 
     /// Whether a conditional branch with these operands is taken; false for all else.
+    #[inline]
     pub fn taken(&self, a: u32, b: u32) -> bool
         ensures { result ≡ taken self.now a b }
     {

@@ -313,6 +313,9 @@ fn fixed_word(fixed: &[u8], at: usize) -> u32
     requires { at < 65536 }
     ensures { result ≡ number_at 4 (byte_of fixed.now) at }
 {
+    if at + 4 <= fixed.len() {
+        return word_at(fixed, at);
+    }
     u32::from_le_bytes([
         fixed_byte(fixed, at),
         fixed_byte(fixed, at + 1),
