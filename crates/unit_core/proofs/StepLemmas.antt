@@ -1,14 +1,16 @@
 -- The loops over the members of a set, and what they leave when no member is left.
-use Rattle.std.specs.Prelude.{◌≡◌, ℕ, ◌+◌, ◌<◌, ◌≤◌, Bool, true, false, ◌&&◌, nat_eq, cond, Option, Some, None}
+use Rattle.std.specs.Prelude.{◌≡◌, ℕ, ◌+◌, ◌<◌, ◌≤◌, Bool, true, false, not, ◌&&◌, ◌||◌, nat_eq, cond, Option, Some, None}
 use Rattle.std.specs.Option.{option_or}
 use Rattle.std.proofs.Common.{refl, sym, ap, ◌∙◌, arith, inl, inr}
 use Rattle.std.proofs.Math.Path.{fun_ext}
-use Rattle.std.proofs.lemmas.Bool.{cond-true, cond-false, eq-eqb, ne_eqb, eqb-true, cases_lt, cases_eq}
+use Rattle.std.proofs.lemmas.Bool.{cond-true, cond-false, eq-eqb, ne_eqb, eqb-true, cases_lt, cases_eq, false≢true}
 use Rattle.mips_plain.specs.Instruction.{alu, dests, is_register_only, computed}
+use Rattle.mips_plain.specs.InstructionTable.{general}
 use Rattle.mips_plain.specs.declared.instruction.Op.{Op}
 use Rattle.machine_model.specs.Machine.{Words}
+use Rattle.machine_model.specs.Step.{put}
 use Rattle.register_ring.specs.Held.{put_first}
-use Rattle.unit_core.specs.Parts.{writes, with_own, sent_with, replaced}
+use Rattle.unit_core.specs.Parts.{in_general, writes, with_own, sent_with, replaced}
 
 -- the registers below are as they shall be, the others as they were
 pub record SoFar (old target words : Words) (from : ℕ) : Type 0 where
@@ -74,3 +76,43 @@ first_or false word word' w same = or_none word
 pub first_replaced : (r w : ℕ) (words : Words) → put_first r w words ≡ replaced r (option_or (words r) (Some w)) words
 first_replaced r w words =
     fun_ext (λ (s : ℕ). first_or (nat_eq s r) (words s) (words r) w (λ here. ap words (eqb-true s r here)))
+
+-- A general register gets a word, unless it is register 0, and is sent with it
+
+pub or_false : (x : Bool) → (x || false) ≡ x
+or_false true = refl
+or_false false = refl
+
+pub and_false_or : (f x : Bool) → ((f && false) || x) ≡ x
+and_false_or true x = refl
+and_false_or false x = refl
+
+no_and : (x : Bool) → (x && false) ≡ true → ⊥
+no_and true e = false≢true e
+no_and false e = false≢true e
+
+general_at : (g : ℕ) → (g ≡ 0 → ⊥) → general g g ≡ true
+general_at g other = λ j. eq-eqb g g refl j && not (ne_eqb g 0 other j)
+
+general_on : (g r : ℕ) → (g ≡ 0 → ⊥) → r ≡ g → general g r ≡ true
+general_on g r other same = ap (λ (n : ℕ). general g n) same ∙ general_at g other
+
+general_off : (g r : ℕ) → (r ≡ g → ⊥) → general g r ≡ false
+general_off g r other = λ j. ne_eqb g r (λ e. other (sym e)) j && not (nat_eq r 0)
+
+pub general_above : (g r : ℕ) → general g r ≡ true → nat_eq 0 r ≡ false
+general_above g r e = ne_eqb 0 r (λ (zeroth : 0 ≡ r). no_and (nat_eq g 0) (ap (λ (n : ℕ). general g n) zeroth ∙ e))
+
+pub own_general : (g w : ℕ) (own : Words) → (g ≡ 0 → ⊥) → put g w own ≡ with_own (in_general g w) own
+own_general g w own other =
+    fun_ext (λ (r : ℕ). elim (cases_eq r g) [
+      | inl same ↦ cond-true _ _ _ (eq-eqb r g same) ∙ sym (ap (λ (b : Bool). option_or (cond b (Some w) None) (own r)) (general_on g r other same))
+      | inr off ↦ cond-false _ _ _ (ne_eqb r g off) ∙ sym (ap (λ (b : Bool). option_or (cond b (Some w) None) (own r)) (general_off g r off))
+    ])
+
+pub sent_general : (g w : ℕ) (sent : Words) → (g ≡ 0 → ⊥) → put_first g w sent ≡ sent_with (λ r. true && general g r) (in_general g w) sent
+sent_general g w sent other =
+    fun_ext (λ (r : ℕ). ap (λ (o : Option ℕ). option_or (sent r) o) (elim (cases_eq r g) [
+      | inl same ↦ cond-true _ _ _ (eq-eqb r g same) ∙ sym (ap (λ (b : Bool). cond b (cond b (Some w) None) None) (general_on g r other same))
+      | inr off ↦ cond-false _ _ _ (ne_eqb r g off) ∙ sym (ap (λ (b : Bool). cond b (cond b (Some w) None) None) (general_off g r off))
+    ]))

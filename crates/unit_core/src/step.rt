@@ -1,6 +1,6 @@
 //! The parts of one step of a unit: what it needs of an instruction and where it goes.
 
-ghost use Rattle.std.specs.Prelude.{◌≡◌, ℕ, ◌<◌, true, false, None, IfOk, IfErr};
+ghost use Rattle.std.specs.Prelude.{◌≡◌, ℕ, ◌+◌, ◌%◌, ◌^◌, ◌<◌, ◌&&◌, true, false, None, Some, IfOk, IfErr};
 ghost use Rattle.std.specs.Option.{option_or};
 ghost use Rattle.mips_plain.specs.Words.{has, address, byte_of};
 ghost use Rattle.mips_plain.specs.Instruction.{dests as dests_of, released, taken, turn};
@@ -12,18 +12,19 @@ ghost use Rattle.machine_model.specs.Burst.{no_memory};
 ghost use Rattle.register_ring.specs.Held.{pairs};
 ghost use Rattle.machine_model.specs.Machine.{value};
 ghost use Rattle.register_ring.specs.Ports.{arrived_of, sent_of};
-ghost use Rattle.unit_core.specs.Parts.{loads, writes, with_own, value_in, sent_with, replaced};
+ghost use Rattle.mips_plain.specs.InstructionTable.{general};
+ghost use Rattle.unit_core.specs.Parts.{in_general, loads, writes, with_own, value_in, sent_with, replaced};
 ghost use Rattle.unit_core.specs.declared.wait.Wait.TheVariants as wait;
 
 use crate::wait::Wait;
 use machine_events::event::Spot;
 use mips_plain::instruction::Op;
-use mips_plain::number::{Reg, RegSet};
+use mips_plain::number::{Gpr, Reg, RegSet};
 use mips_plain::outcome::Read;
 use register_ring::held::RegisterWords;
 use register_ring::members::next_member;
 use register_ring::port::Port;
-use task_descriptor::descriptor::Marked;
+use task_descriptor::descriptor::{Marked, Stop};
 use task_graph::edges::{ends_task, leads_to};
 
 /// The instruction that a unit executes next: its index and address, and its operands.
@@ -126,6 +127,55 @@ fn spot_where(next: &Next<'_>, taken: bool) -> Spot
         }
     }
     Spot::Stopped(op.turn(next.a, next.b, next.pc))
+}
+
+/// Where a unit stands after an instruction that goes on at the following one, wherever the run is.
+#[inline(always)]
+pub(crate) fn spot_behind(next: &Next<'_>) -> Spot
+    requires { next.now.index < 4096 }
+    ensures { result ≡ place_after (leaves next.now.marked.now.stop false) (Some (next.now.index + 1)) ((next.now.pc + 4) % 2 ^ 32) }
+{
+    match next.marked.stop {
+        Stop::None => Spot::Inside(next.index + 1),
+        stop => spot_at_stop(stop, next.index, next.pc),
+    }
+}
+
+/// The same for an instruction with stop bits, which are rare.
+#[inline(never)]
+fn spot_at_stop(stop: Stop, index: u32, pc: u32) -> Spot
+    requires { index < 4096 }
+    ensures { result ≡ place_after (leaves stop false) (Some (index + 1)) ((pc + 4) % 2 ^ 32) }
+{
+    if ends_task(stop, false) {
+        Spot::Stopped(pc.wrapping_add(4))
+    } else {
+        Spot::Inside(index + 1)
+    }
+}
+
+/// Writes a word to a general register, unless that is register 0, and sends it where the instruction
+/// forwards what it writes; what was sent stays as it was.
+#[inline(always)]
+pub(crate) fn write_word(
+    local: &mut RegisterWords,
+    port: &mut Port,
+    register: Gpr,
+    word: u32,
+    forward: bool,
+)
+    ensures own { pairs local.new ≡ with_own (in_general register word) (pairs local.old) }
+    ensures sent { sent_of port.new ≡ sent_with (λ r. forward && general register r) (in_general register word) (sent_of port.old) }
+    ensures arrived { arrived_of port.new ≡ arrived_of port.old }
+{
+    if register.get() == 0 {
+        return;
+    }
+    let register = Reg::from(register);
+    local.put(register, word);
+    if forward {
+        port.send(register, word);
+    }
 }
 
 /// Gives a register a word, if there is one.
