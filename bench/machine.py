@@ -21,7 +21,37 @@ LINE = f"{NAME}: annotated_asm annotator mark_checker machine_events unit_core s
 
 # Two tasks, the first of which never ends and waits for no register.
 SMALL = ".task A create=- targets=A,B\n.task B create=- targets=-\nA: sll $0,$0,0\nj A\nB: halt\n"
-# The same with loads, of as many bytes of read-only data as there may be.
+# A loop that computes and branches, whose registers are all its own.
+REGISTERS = """.task A create=$8,$9,$10,$11 targets=A,B
+.task B create=- targets=-
+A:      lui $8,1
+        lui $10,0
+L:      addu $10,$10,$8
+        sll $11,$10,3
+        xor $10,$10,$11
+        addiu $9,$10,7
+        bne $8,$0,L
+        j B !s
+B:      halt
+"""
+# A loop that loads and sends, too. What is sent once is not sent again.
+LOOP = """.task A create=$2,$8,$9,$10,$11 targets=A,B
+.task B create=- targets=-
+A:      lui $8,4096
+        lui $2,1
+        lui $10,0
+L:      lw $9,4($8)
+        addu $10,$10,$9
+        sll $11,$10,3
+        release $2
+        xor $10,$10,$11
+        bne $8,$0,L
+        j B !s
+B:      halt
+.rodata
+        .word 1,2,3,4
+"""
+# Two instructions with loads, of as many bytes of read-only data as there may be.
 LOADS = (
     ".task A create=$8,$9 targets=A,B\n.task B create=- targets=-\nA: lui $8,4096\nlw $9,0($8)\nj A\nB: halt\n.rodata\n"
     + ".word 1,2,3,4,5,6,7,8\n" * 2048

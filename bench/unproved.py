@@ -126,15 +126,22 @@ def printing(rounds, builds, proved, folder):
           f"{ours / theirs:.2f} times, {builds} builds, {rounds} rounds")
 
 
-def events(rounds, proved, plain):
-    for units in (1, 4, 16):
-        base, full, plain_base, plain_full = least(
-            rounds,
-            [proved, "events", units, 0], [proved, "events", units, EVENTS],
-            [plain, units, 0], [plain, units, EVENTS],
-        )
-        ours, theirs = (full - base) / EVENTS, (plain_full - plain_base) / EVENTS
-        print(f"{units:2} units: {ours * 1e9:5.1f} ns an event, without proofs {theirs * 1e9:5.1f} ns: {ours / theirs:.2f} times")
+def events(rounds, proved, plain, folder):
+    """Events round the ring; 64 Exec events of a unit behind the head; a lease, a burst of 64 and its check-in."""
+    bursts = EVENTS // 64
+    for name, text in (("small", machine.SMALL), ("registers", machine.REGISTERS), ("loop", machine.LOOP)):
+        file = pathlib.Path(folder) / name
+        file.write_text(text)
+        cases = [(f"{units:2} units", ["events", units, 0], ["events", units, EVENTS], None) for units in (1, 4, 16)]
+        cases += [(f"{what} of 64", [what, 0, 0, 1], [what, 0, 0, bursts], 0) for what in ("single", "bursts")]
+        for said, none, many, short in cases:
+            # The program without proofs takes no log and no history to begin with.
+            shorter = [words if short is None else [words[0], words[3]] for words in (none, many)]
+            base, full, plain_base, plain_full = least(
+                rounds, [proved, file, *none], [proved, file, *many], [plain, name, *shorter[0]], [plain, name, *shorter[1]]
+            )
+            ours, theirs = (full - base) / EVENTS, (plain_full - plain_base) / EVENTS
+            print(f"{name}, {said}: {ours * 1e9:5.1f} ns an event, without proofs {theirs * 1e9:5.1f} ns: {ours / theirs:.2f} times")
 
 
 def certificate(rounds, proved, plain, folder):
@@ -161,7 +168,7 @@ def main():
         if given.only in "certificate":
             certificate(rounds, bench.built(), compiled("checker", folder), folder)
         if given.only in "events":
-            events(rounds, machine.built(folder), compiled("machine", folder))
+            events(rounds, machine.built(pathlib.Path(folder)), compiled("machine", folder), folder)
 
 
 if __name__ == "__main__":
