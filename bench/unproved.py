@@ -14,13 +14,11 @@ first time; of the kernels and the printer the median.
 
 How a compiler lays out a loop moves its time by a third, so the plain machine
 and the printer are built several times, with the functions at other alignments.
-Where `spim`, `qemu-mipsel` and `mipsel-linux-gnu-as` are installed, SPIM and
-QEMU run the same kernels in turn with both.
+emulators.py runs the same kernels in SPIM and QEMU.
 """
 import argparse
 import pathlib
 import resource
-import shutil
 import statistics
 import subprocess
 import tempfile
@@ -61,58 +59,22 @@ def medians(rounds, *commands):
     return [statistics.median(column) for column in zip(*times)]
 
 
-def for_others(kernel, folder):
-    """The kernel as other assemblers read it: no tasks or marks, `out` as a move that nothing reads, and
-    `halt` as a call of the system. Answers SPIM's command and QEMU's, where these are installed."""
-    lines = []
-    for line in kernel.read_text().splitlines():
-        line = line.split("#")[0].split("!")[0]
-        words = line.split()
-        if words[:1] == ["out"]:
-            line = f"move $3, {words[1]}"
-        elif words[:1] == ["halt"]:
-            line = "HALT"
-        elif words[:1] == [".task"]:
-            continue
-        lines.append(line.replace("MAIN:", "main:\n__start:"))
-    text = ".globl main\n.globl __start\n.text\n" + "\n".join(lines) + "\n"
-    spim, linux = folder / f"{kernel.stem}.spim.s", folder / f"{kernel.stem}.linux.s"
-    spim.write_text(text.replace("__start:\n", "").replace(".globl __start\n", "").replace("HALT", "li $2, 10\nsyscall"))
-    linux.write_text(text.replace("HALT", "li $2, 4001\nli $4, 0\nsyscall"))
-    commands = {}
-    if shutil.which("spim"):
-        commands["SPIM"] = ["spim", "-nomapped_io", "-f", spim]
-    if shutil.which("qemu-mipsel") and shutil.which("mipsel-linux-gnu-as"):
-        made, program = folder / f"{kernel.stem}.o", folder / f"{kernel.stem}.elf"
-        subprocess.run(["mipsel-linux-gnu-as", "-mips32", "-o", made, linux], check=True)
-        subprocess.run(["mipsel-linux-gnu-ld", "-e", "__start", "-o", program, made], check=True)
-        commands["QEMU"] = ["qemu-mipsel", program]
-    return commands
-
-
 def kernels(rounds, builds, proved, folder):
     """The plain machine: nanoseconds an instruction, the same process with a program of 18 taken off."""
     folder = pathlib.Path(folder)
     small = HERE.parent / "examples" / "count" / "program.s"
     plain = [compiled("plain", folder, build) for build in range(builds)]
-    nothing = folder / "nothing.s"
-    nothing.write_text("MAIN:\n        halt\n")
-    empty, ratios = for_others(nothing, folder), []
+    ratios = []
     for kernel in sorted((HERE / "kernels").glob("*.s")):
         first = subprocess.run([proved, "seq", kernel], capture_output=True, check=True, text=True).stdout.split()
         count = int(first[first.index("instructions") - 1])
-        others = for_others(kernel, folder)
         commands = [[proved, "seq", small], [proved, "seq", kernel]]
         commands += [[program, text] for program in plain for text in (small, kernel)]
-        commands += [words for name in others for words in (empty[name], others[name])]
         times = medians(rounds, *commands)
         each = [(full - base) / count * 1e9 for base, full in zip(times[::2], times[1::2])]
-        ours, theirs = each[0], statistics.median(each[1:1 + builds])
+        ours, theirs = each[0], statistics.median(each[1:])
         ratios.append(ours / theirs)
-        line = f"{kernel.stem}: {ours:.2f} ns an instruction, without proofs {theirs:.2f} ns: {ours / theirs:.2f} times"
-        for name, other in zip(others, each[1 + builds:]):
-            line += f"; {name} {other:.2f} ns"
-        print(line)
+        print(f"{kernel.stem}: {ours:.2f} ns an instruction, without proofs {theirs:.2f} ns: {ours / theirs:.2f} times")
     print(f"all kernels: {statistics.geometric_mean(ratios):.2f} times, {builds} builds, {rounds} rounds each")
 
 
