@@ -1,0 +1,374 @@
+/* The whole program as one function of bytes, for a fuzzer that runs in one process.
+ *
+ * The program's own `main` and the calls of C that it makes are renamed (build.sh): its words, files,
+ * output and heap are those below. A case is two bytes of choices and then a program text, a
+ * certificate and a script, parted by lines that are `%%`. The first byte picks the job, the second its
+ * options. After each call the answer's form is tested; job 7 tests answers against one another.
+ */
+#define _GNU_SOURCE
+#include <errno.h>
+#include <pthread.h>
+#include <setjmp.h>
+#include <stddef.h>
+#include <stdint.h>
+#include <stdio.h>
+#include <stdlib.h>
+#include <string.h>
+#include <sys/mman.h>
+#include <time.h>
+#include <unistd.h>
+
+int product_main(int, char **);
+
+typedef struct { const char *at; size_t size; } Text;
+typedef struct { int status; char *out, *err; size_t out_size, err_size; } Answer;
+
+static Text files[3];          /* program, certificate, script: the names p, c and s */
+static size_t places[3];
+static int reads, cut_reads, threads_inline;
+static const char *words[80];
+static size_t word_count;
+static Answer *answer;
+static jmp_buf leave;
+static pthread_t main_thread;
+enum { ROOM = 48 << 20 };
+
+static void tell(void);
+static void fail(const char *why) {
+    tell();
+    fprintf(stderr, "HOSTILE: %s; words:", why);
+    for (size_t k = 0; k < word_count; k++) fprintf(stderr, " %s", words[k]);
+    if (answer) fprintf(stderr, "\nstatus %d\n%.2000s%.2000s\n", answer->status, answer->out, answer->err);
+    abort();
+}
+
+/* The words. */
+size_t rattle_arg_count(void) { return word_count; }
+int64_t rattle_arg(size_t index, char *into, size_t room) {
+    if (index >= word_count) return -1;
+    size_t size = strlen(words[index]);
+    if (size > room) return -2;
+    memcpy(into, words[index], size);
+    return size;
+}
+
+/* The files and the streams. */
+int h_open(const char *path, int flags, ...) {
+    for (int k = 0; k < 3; k++)
+        if (path[0] == "pcs"[k] && !path[1]) { places[k] = 0; return 100 + k; }
+    errno = flags & 3 ? EACCES : ENOENT;
+    return -1;
+}
+ssize_t h_read(int file, void *into, size_t size) {
+    if (file < 100 || file > 102) { errno = EBADF; return -1; }
+    if (cut_reads && ++reads % 3 == 0) { errno = EINTR; return -1; }
+    Text *text = &files[file - 100];
+    size_t left = text->size - places[file - 100];
+    if (size > left) size = left;
+    if (cut_reads && size > 1) size = 1 + size * (reads % 7) / 8;
+    memcpy(into, text->at + places[file - 100], size);
+    places[file - 100] += size;
+    return size;
+}
+ssize_t h_write(int file, const void *from, size_t size) {
+    char *at = file == 1 ? answer->out : answer->err;
+    size_t *used = file == 1 ? &answer->out_size : &answer->err_size;
+    if (file != 1 && file != 2) fail("a write to another file");
+    if (cut_reads && size > 1) size = 1 + size / 2;
+    if (*used + size > ROOM) fail("an output that is too long");
+    memcpy(at + *used, from, size);
+    *used += size;
+    return size;
+}
+int h_close(int file) { return file < 100 || file > 102 ? (errno = EBADF, -1) : 0; }
+void h_exit(int status) {
+    if (!pthread_equal(pthread_self(), main_thread)) fail("an exit in a thread");
+    longjmp(leave, status + 1);
+}
+void h_abort(void) { fail("abort"); }
+
+/* The heap: what is live, its peak, and how many blocks were not given back. */
+static size_t live, peak, blocks;
+static void count(ptrdiff_t more, ptrdiff_t block) {
+    size_t now = __atomic_add_fetch(&live, more, __ATOMIC_RELAXED);
+    __atomic_add_fetch(&blocks, block, __ATOMIC_RELAXED);
+    size_t most = __atomic_load_n(&peak, __ATOMIC_RELAXED);
+    while (now > most && !__atomic_compare_exchange_n(&peak, &most, now, 1, __ATOMIC_RELAXED, __ATOMIC_RELAXED)) {}
+}
+void *h_malloc(size_t size) {
+    size_t *at = malloc(size + 16);
+    if (!at) return 0;
+    *at = size;
+    count(size, 1);
+    return at + 2;
+}
+void h_free(void *from) {
+    if (!from) return;
+    size_t *at = (size_t *)from - 2;
+    count(-*at, -1);
+    free(at);
+}
+void *h_realloc(void *from, size_t size) {
+    if (!from) return h_malloc(size);
+    size_t old = ((size_t *)from)[-2];
+    size_t *at = realloc((size_t *)from - 2, size + 16);
+    if (!at) return 0;
+    *at = size;
+    count(size - old, 0);
+    return at + 2;
+}
+
+/* One worker runs inside the call that makes it: no thread is made, and the run is the same each time. */
+typedef struct { void *gives; int live; } Inline;
+static Inline done[64];
+typedef struct { void *(*body)(void *); void *of; } Started;
+static int running;
+static void *thread_body(void *given) {
+    Started it = *(Started *)given;
+    free(given);
+    void *gives = it.body(it.of);
+    __atomic_sub_fetch(&running, 1, __ATOMIC_SEQ_CST);
+    return gives;
+}
+int h_pthread_create(pthread_t *thread, const pthread_attr_t *how, void *(*body)(void *), void *of) {
+    if (!threads_inline) {
+        Started *it = malloc(sizeof *it);
+        *it = (Started){body, of};
+        __atomic_add_fetch(&running, 1, __ATOMIC_SEQ_CST);
+        int wrong = pthread_create(thread, how, thread_body, it);
+        if (wrong) { __atomic_sub_fetch(&running, 1, __ATOMIC_SEQ_CST); free(it); }
+        return wrong;
+    }
+    for (size_t k = 0; k < 64; k++)
+        if (!done[k].live) {
+            done[k].live = 1;
+            *thread = (pthread_t)(k + 1);
+            done[k].gives = body(of);
+            return 0;
+        }
+    return EAGAIN;
+}
+int h_pthread_join(pthread_t thread, void **gives) {
+    if (thread - 1 >= 64) return pthread_join(thread, gives);
+    if (gives) *gives = done[thread - 1].gives;
+    done[thread - 1].live = 0;
+    return 0;
+}
+int h_pthread_detach(pthread_t thread) {
+    if (thread - 1 >= 64) return pthread_detach(thread);
+    done[thread - 1].live = 0;
+    return 0;
+}
+
+/* What the fuzzer counts beside the edges: one place for each form of an answer. */
+#ifdef FUZZER
+__attribute__((section("__libfuzzer_extra_counters"))) static uint8_t forms[1 << 15];
+#else
+static uint8_t forms[1 << 15];
+#endif
+static void note(uint32_t form) { forms[form * 2654435761u >> 17] = 1; }
+static void note_answer(int job) {
+    uint32_t first = job * 8 + answer->status + 1, line = 0;
+    for (size_t k = 0, lines = 0; k < answer->out_size && lines < 400; k++) {
+        char c = answer->out[k];
+        if (c == '\n') { note(first * 31 + line); line = 0; lines++; }
+        else if (c >= '0' && c <= '9') line = line * 31 + (job == 3 || !lines ? c : '0');
+        else line = line * 31 + c;
+    }
+    if (answer->status == 2) for (size_t k = 0; k < answer->err_size && answer->err[k] != '\n' && k < 40; k++) note(first = first * 31 + answer->err[k]);
+}
+
+static double worst_seconds;
+static size_t worst_peak;
+static unsigned long cases, calls[8][4];
+static double now(clockid_t which) { struct timespec t; clock_gettime(which, &t); return t.tv_sec + t.tv_nsec * 1e-9; }
+
+/* Tells the file HOSTILE_STATUS what was done: the calls of each job with each status, and the worst. */
+static void tell(void) {
+    const char *name = getenv("HOSTILE_STATUS");
+    FILE *file = name ? fopen(name, "w") : 0;
+    if (!file) return;
+    unsigned long all = 0;
+    for (int job = 0; job < 8; job++) for (int k = 0; k < 4; k++) all += calls[job][k];
+    fprintf(file, "cases %lu\ncalls %lu\nworst_seconds %.3f\nworst_peak %zu\n", cases, all, worst_seconds, worst_peak);
+    static const char *const names[] = {"seq", "print", "annotate", "check", "replay", "run", "words", ""};
+    for (int job = 0; job < 7; job++)
+        for (int k = 0; k < 4; k++) if (calls[job][k]) fprintf(file, "%s:%d %lu\n", names[job], k, calls[job][k]);
+    fclose(file);
+}
+
+static void call(Answer *into, int job) {
+    answer = into;
+    into->out_size = into->err_size = 0;
+    reads = 0;
+    live = peak = blocks = 0;
+    double begin = now(CLOCK_PROCESS_CPUTIME_ID);
+    int left = setjmp(leave);
+    into->status = left ? left - 1 : product_main(word_count, (char **)words);
+    for (int waits = 0; __atomic_load_n(&running, __ATOMIC_SEQ_CST); waits++) {
+        if (waits > 20000) fail("a thread that does not end");
+        usleep(waits < 100 ? 20 : 1000);
+    }
+    double took = now(CLOCK_PROCESS_CPUTIME_ID) - begin;
+    if (into->status >= 0 && into->status < 4) calls[job][into->status]++;
+    if (took > worst_seconds) {
+        worst_seconds = took;
+        if (took > 0.05) fprintf(stderr, "SLOWEST %.3f s, job %d\n", took, job);
+        if (took > 1.0) fail("more than a second");
+    }
+    if (peak > worst_peak) {
+        if (peak > worst_peak + worst_peak / 8) fprintf(stderr, "PEAK %zu bytes, job %d\n", peak, job);
+        worst_peak = peak;
+        if (peak > (size_t)96 << 20) fail("more than 96 MiB");
+    }
+    into->out[into->out_size] = into->err[into->err_size] = 0;
+    if (into->status < 0 || into->status > 3) fail("another status");
+    if (into->status == 2 ? into->out_size || !into->err_size : into->err_size || !into->out_size) fail("the wrong stream");
+    if (into->status != 2 && into->out[into->out_size - 1] != '\n') fail("half a line");
+    if (job != 6 && into->status == 2) fail("status 2");
+    if (!left && blocks) fail("blocks that were not given back");
+    note_answer(job);
+}
+
+static char numbers[8][16];
+static const char *number(int place, unsigned value) { snprintf(numbers[place], 16, "%u", value); return numbers[place]; }
+#define WORDS(...) do { const char *w[] = {"multiscalar", __VA_ARGS__}; word_count = sizeof w / sizeof *w; memcpy(words, w, sizeof w); } while (0)
+static const char *const EMITS[] = {"text", "cert", "keep"};
+static const char *const PREDICTS[] = {"first", "last", "1,0", "3,1,2,0,15"};
+static const unsigned UNITS[] = {1, 2, 3, 4, 16}, BUDGETS[] = {1, 7, 60, 400, 3000};
+
+static int same(const Answer *a, const Answer *b) {
+    return a->status == b->status && a->out_size == b->out_size && !memcmp(a->out, b->out, a->out_size);
+}
+static int ends_with(const Answer *a, const char *end) {
+    size_t size = strlen(end);
+    return a->out_size >= size && !memcmp(a->out + a->out_size - size, end, size);
+}
+/* The last `lines` lines of an answer. */
+static const char *last_lines(const Answer *a, int lines) {
+    const char *at = a->out + a->out_size;
+    while (at > a->out && (at[-1] != '\n' || lines-- > 0)) at--;
+    return at;
+}
+
+static Answer a, b, c, d;
+
+/* Answers that must agree: of the canonical text, of the checkers, of a run, its script and `seq`. */
+static void agree(unsigned options) {
+    unsigned units = UNITS[options % 5];
+    const char *many = number(0, units), *guess = PREDICTS[options / 5 % 4];
+    Text given = files[0];
+    WORDS("print", "p");
+    call(&a, 1);
+    if (a.status) return;
+    WORDS("seq", "--budget", "1500", "p");
+    call(&c, 0);
+    files[0] = (Text){a.out, a.out_size};
+    call(&d, 0);
+    if (!same(&c, &d)) fail("seq of the canonical text differs");
+    WORDS("print", "p");
+    call(&b, 1);
+    if (!same(&a, &b)) fail("print is not a fixed point");
+    files[0] = given;
+    WORDS("annotate", "--emit", "keep", "p");
+    call(&a, 2);
+    if (a.status) fail("annotate --emit keep refuses what print takes");
+    files[1] = (Text){a.out, a.out_size};
+    WORDS("check", "p", "c");
+    call(&b, 3);
+    WORDS("check", "--workers", "3", "p", "c");
+    call(&d, 3);
+    if (!same(&b, &d)) fail("workers differ");
+    WORDS("run", "--units", many, "--workers", "1", "--budget", "3000", "--predict", guess, "p", "c");
+    call(&d, 5);
+    if (b.status) {
+        if (!same(&b, &d)) fail("run takes what check refuses");
+        return;
+    }
+    if (d.status == 3) {
+        size_t words_size = d.out_size - strlen("out of budget\n");
+        if (c.status != 3 && (c.out_size < words_size || memcmp(c.out, d.out, words_size))) fail("other words before the budget");
+    } else if (ends_with(&d, "\n") && c.status != 3 && !strstr(last_lines(&d, 1), "unlisted")) {
+        const char *run_end = last_lines(&d, 2), *seq_end = last_lines(&c, 1);
+        size_t words_size = run_end - d.out;
+        if (words_size != (size_t)(seq_end - c.out) || memcmp(d.out, c.out, words_size)) fail("run and seq put out other words");
+        const char *how = last_lines(&d, 1);
+        if (strncmp(how, seq_end, strlen(how) - 1)) fail("run and seq end otherwise");
+        const char *h = strstr(run_end, " h "), *after = strstr(seq_end, " after ");
+        if (!h || !after || atol(h + 3) != atol(after + 7)) fail("run and seq count otherwise");
+    }
+    WORDS("run", "--units", many, "--workers", "1", "--budget", "3000", "--predict", guess, "--emit", "script", "p", "c");
+    call(&b, 5);
+    files[2] = (Text){b.out, b.out_size};
+    if (b.out_size == 0) return;
+    WORDS("replay", "--units", many, "p", "c", "s");
+    call(&c, 4);
+    if (strstr(c.out, " refused ")) fail("an event of a run is refused");
+    if (d.status != 3) {
+        const char *replay_end = c.out;
+        for (size_t k = 0; k < b.out_size; k++) if (b.out[k] == '\n') replay_end = strchr(replay_end, '\n') + 1;
+        if (strcmp(replay_end, d.out)) fail("a run and its replay end otherwise");
+    }
+}
+
+static void one_job(unsigned job, unsigned options) {
+    unsigned units = UNITS[options % 5];
+    const char *many = number(0, units), *budget = number(1, BUDGETS[options / 5 % 5]);
+    switch (job) {
+    case 0: WORDS("seq", "--budget", budget, "p"); break;
+    case 1: WORDS("print", "p"); break;
+    case 2: WORDS("annotate", "--emit", EMITS[options % 3], "p"); break;
+    case 3: WORDS("check", "--workers", number(2, options % 16 + 1), "p", "c"); break;
+    case 4: WORDS("replay", "--units", many, "p", "c", "s"); break;
+    case 5:
+        threads_inline = options / 32 % 8 != 7;
+        WORDS("run", "--units", many, "--workers", threads_inline ? "1" : many, "--budget", budget, "--predict", PREDICTS[options % 4], "--emit", options & 16 ? "script" : "report", "p", "c");
+    }
+    call(&a, job);
+}
+
+int LLVMFuzzerInitialize(int *count_of, char ***given) {
+    Answer *all[] = {&a, &b, &c, &d};
+    for (int k = 0; k < 4; k++) {
+        all[k]->out = mmap(0, ROOM + 4096, PROT_READ | PROT_WRITE, MAP_PRIVATE | MAP_ANONYMOUS | MAP_NORESERVE, -1, 0);
+        all[k]->err = mmap(0, ROOM + 4096, PROT_READ | PROT_WRITE, MAP_PRIVATE | MAP_ANONYMOUS | MAP_NORESERVE, -1, 0);
+    }
+    main_thread = pthread_self();
+    atexit(tell);
+    return 0;
+}
+
+int LLVMFuzzerTestOneInput(const uint8_t *data, size_t size) {
+    if (cases++ % 1024 == 1023) tell();
+    if (size < 2) return 0;
+    unsigned job = data[0] % 8, options = data[1];
+    cut_reads = data[0] >> 7;
+    threads_inline = 1;
+    Text parts[4] = {{0}};
+    const char *at = (const char *)data + 2, *end = (const char *)data + size;
+    for (int k = 0; k < 4; k++) {
+        const char *cut = k < 3 && at < end ? memmem(at, end - at, "%%\n", 3) : 0;
+        while (cut && cut > at && cut[-1] != '\n') cut = memmem(cut + 1, end - cut - 1, "%%\n", 3);
+        parts[k] = (Text){at, (cut ? cut : end) - at};
+        at = cut ? cut + 3 : end;
+    }
+    memcpy(files, parts, sizeof files);
+    if (job == 7) agree(options);
+    else if (job == 6) {
+        static char copy[4096];
+        size_t used = parts[0].size < 4095 ? parts[0].size : 4095;
+        memcpy(copy, parts[0].at, used);
+        copy[used] = 0;
+        memcpy(files, parts + 1, sizeof files);
+        words[0] = "multiscalar";
+        word_count = 1;
+        for (char *word = copy, *line; word_count < 72 && *word; word = line) {
+            line = word + strcspn(word, "\n");
+            if (*line) *line++ = 0;
+            words[word_count++] = word;
+        }
+        threads_inline = 0;
+        call(&a, 6);
+    } else one_job(job, options);
+    return 0;
+}
