@@ -358,7 +358,7 @@ def texts_of(runner, n, text, certificate, script, found):
 TIMES = []  # what was measured last, for who calls this script by itself
 
 
-def timed(program, minutes, only=""):
+def timed(program, minutes, seed, only=""):
     """Inputs that are worst for time: the time at n, 2n and 4n, the least of three."""
     end = time.monotonic() + 60 * minutes
     tried, answers, differences = 0, collections.Counter(), []
@@ -366,7 +366,7 @@ def timed(program, minutes, only=""):
         folder = pathlib.Path(name)
         runner = Runner(program, folder)
         begins = min((runner(["print", "p"], [HEAD.encode()]), runner.seconds)[1] for _ in range(5))
-        for title, job, size, text, certificate, script in WORST:
+        for title, job, size, text, certificate, script in random.Random(seed).sample(WORST, len(WORST)):
             if time.monotonic() > end or only not in title:
                 continue
             found = colliding(folder, 4 * size) if text is None else None
@@ -400,7 +400,7 @@ def run(program, minutes, seed, only="", kept=None, fuzzer=None):
     kept, fuzzer = kept or os.environ.get("HOSTILE_KEPT"), fuzzer or os.environ.get("HOSTILE_FUZZER")
     rows = []
     if only in "time":
-        rows.append(timed(program, minutes / 4 if not only else minutes))
+        rows.append(timed(program, minutes / 4 if not only else minutes, seed))
     if only in "fuzzed" and fuzzer:
         rows.append(fuzzed(fuzzer, kept, minutes / 2 if not only else minutes, seed))
     if only in "model":
