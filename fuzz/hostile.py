@@ -404,7 +404,7 @@ def run(program, minutes, seed, only="", kept=None, fuzzer=None):
     if only in "fuzzed" and fuzzer:
         rows.append(fuzzed(fuzzer, kept, minutes / 2 if not only else minutes, seed))
     if only in "model":
-        rows.append(compared(program, kept, minutes / 4 if not only else minutes, seed))
+        rows.append(compared(program, kept, minutes * (1 if only else 1 / 4 if fuzzer else 3 / 4), seed))
     return rows
 
 
