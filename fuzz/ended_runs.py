@@ -47,6 +47,12 @@ def large(folder):
     yield ["run", *of("long300000.s", "long.cert2"), "--units", "1"]
 
 
+def heed_signals():
+    """No signal is ignored, as SIGINT is in what a shell starts in the background."""
+    for number in set(ENDING) - {signal.SIGKILL}:
+        signal.signal(number, signal.SIG_DFL)
+
+
 def state(folder):
     """The files below a folder, with sizes and times of change."""
     return sorted((str(path), path.stat().st_size, path.stat().st_mtime_ns) for path in folder.rglob("*") if path.is_file())
@@ -60,7 +66,7 @@ def in_a_call(row, bench, draw, end):
         # memory as often as it is asked for; files as often as there are; some reads and writes of ten bytes
         most = {GROW: case.right.counts[GROW], OPEN: len(case.files), READ: 5, WRITE: max(1, len(case.right.out) // 10)}[kind]
         call = draw.randint(1, most)
-        ended = bench.run(case.words, fault(READ, 1, EVERY, "s", 10), fault(WRITE, 1, EVERY, "s", 10), fault(kind, call, call, "k", number))
+        ended = bench.run(case.words, fault(READ, 1, EVERY, "s", 10), fault(WRITE, 1, EVERY, "s", 10), fault(kind, call, call, "k", number), limit=heed_signals)
         before = case.right.out[:10 * (call - 1)] if kind == WRITE else b""
         # where there are threads, another one may take the signal, a moment later
         has_threads = case.words[0] == "run" or "--workers" in case.words
@@ -71,7 +77,17 @@ def in_a_call(row, bench, draw, end):
 
 
 def start(bench, words, out, folder):
-    return subprocess.Popen([bench.program, *words], stdin=subprocess.DEVNULL, stdout=out, stderr=subprocess.PIPE, cwd=folder)
+    return subprocess.Popen([bench.program, *words], stdin=subprocess.DEVNULL, stdout=out, stderr=subprocess.PIPE, cwd=folder, preexec_fn=heed_signals)
+
+
+def status_of(child):
+    """The status of a run, or None where it does not end."""
+    try:
+        return child.wait(120)
+    except subprocess.TimeoutExpired:
+        child.kill()
+        child.wait()
+        return None
 
 
 def at_a_time(row, bench, draw, end, chosen):
@@ -84,7 +100,7 @@ def at_a_time(row, bench, draw, end, chosen):
             time.sleep(seconds * draw.random())
             sent = time.monotonic()
             child.send_signal(number)
-            status = child.wait(60)
+            status = status_of(child)
             took = time.monotonic() - sent
             told, left = child.stderr.read(), os.listdir(folder)
             child.stderr.close()
@@ -106,7 +122,7 @@ def while_writing(row, bench, draw, end, chosen):
         got = os.read(child.stdout.fileno(), draw.choice((1, 1000, 60000)))
         child.send_signal(number)
         sent = time.monotonic()
-        status = child.wait(60)
+        status = status_of(child)
         took = time.monotonic() - sent
         got += child.stdout.read()
         child.stdout.close()
@@ -128,7 +144,7 @@ def stopped(row, bench, draw, end, chosen):
                 child.send_signal(signal.SIGURG)
                 time.sleep(0.01)
                 child.send_signal(signal.SIGCONT)
-            status = child.wait(120)
+            status = status_of(child)
             told = child.stderr.read()
             child.stderr.close()
             out.seek(0)
