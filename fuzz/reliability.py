@@ -60,7 +60,7 @@ def figure(number):
 def seen(cases, answers):
     """The answers, the most frequent first; of many kinds only some."""
     kinds = sorted(answers.items(), key=lambda one: -one[1])
-    shown = [answer if len(kinds) > 1 and count == cases else f"{answer}: {figure(count)}" for answer, count in kinds[:8]]
+    shown = [answer if count == cases else f"{answer}: {figure(count)}" for answer, count in kinds[:8]]
     if len(kinds) > 8:
         shown.append(f"{len(kinds) - 8} other answers: {figure(sum(count for _, count in kinds[8:]))}")
     return ", ".join(shown).replace("|", "\\|")
