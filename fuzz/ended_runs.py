@@ -72,7 +72,7 @@ def in_a_call(row, bench, draw, end):
         has_threads = case.words[0] == "run" or "--workers" in case.words
         is_right = (ended.status, ended.told) == (-number, b"") and (ended.out == before or has_threads and case.right.out.startswith(ended.out))
         is_late = has_threads and kind != OPEN and ended[:3] == case.right[:3]
-        row.seen("ended before it came" if is_late else f"{signal.Signals(number).name}", case.words,
+        row.seen("ended before it came" if is_late else "ended by it" if is_right else f"status {ended.status}", case.words,
                  f"call {call} of kind {kind}, signal {number}: status {ended.status} {ended.out[:60]} {ended.told[:60]}", not (is_right or is_late))
 
 
@@ -108,7 +108,7 @@ def at_a_time(row, bench, draw, end, chosen):
             put_out = out.read()
         is_late = (status, put_out, told) == right[:3]
         is_right = is_late or (status, told) == (-number, b"") and right.out.startswith(put_out)
-        row.seen("ended before it came" if is_late else signal.Signals(number).name, words,
+        row.seen("ended before it came" if is_late else "ended by it" if is_right else f"status {status}", words,
                  f"signal {number}: status {status}, {len(put_out)} bytes, {told[:60]}, {took:.3f} s, {left}", not is_right or took > AT_ONCE or left)
 
 
@@ -128,7 +128,7 @@ def while_writing(row, bench, draw, end, chosen):
         child.stdout.close()
         child.stderr.close()
         is_right = status == -number and right.out.startswith(got) and took < AT_ONCE
-        row.seen(signal.Signals(number).name, words, f"signal {number}: status {status}, {len(got)} bytes, {took:.3f} s", not is_right)
+        row.seen("ended by it" if is_right else f"status {status}", words, f"signal {number}: status {status}, {len(got)} bytes, {took:.3f} s", not is_right)
 
 
 def stopped(row, bench, draw, end, chosen):
