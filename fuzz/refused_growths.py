@@ -213,7 +213,7 @@ def run(program, minutes, seed, only=""):
         small = [Case(bench, w) for w in words]
         rows = []
         for name, jobs, until in (("each growth refused alone", alone, 0.45),
-                                  ("several growths in a row, or all, refused from each on", in_a_row, 0.65),
+                                  ("several in a row, or all, from each on", in_a_row, 0.65),
                                   ("one growth in 10 or 100 refused", at_random, 0.72)):
             rows.append(perform(name, jobs(small, draw), draw, begin + 60 * minutes * until))
         large = [Case(bench, w) for w in limit_cases(bench.folder) if only in ("", w[0])]
