@@ -338,7 +338,7 @@ WORST = [
 
 
 def colliding(folder, count):
-    """Labels that the label table puts into one group (entry/collide.c), or None without a compiler."""
+    """Labels that a table without a key puts into one group (entry/collide.c), or None without a compiler."""
     made = folder / "collide"
     if not made.exists() and subprocess.run(["cc", "-O2", "-o", str(made), str(HERE / "entry" / "collide.c")], capture_output=True).returncode:
         return None

@@ -1,5 +1,6 @@
-/* Labels of 7 letters that the label table puts into one group: collide COUNT BITS. The table's hash takes
- * one byte after another, from a seed that is the same in each run, so they can be sought. */
+/* Labels of 7 letters that a table hashed by the standard library's FoldHasher, from the seed that is the same
+ * in each run, would put into one group: collide COUNT BITS. The tables of names are hashed from a key that
+ * depends on all names of the text, so these labels are as quick to look up as others. */
 #include <stdint.h>
 #include <stdio.h>
 #include <stdlib.h>
@@ -9,20 +10,21 @@ static const char L[] = "abcdefghijklmnopqrstuvwxyzABCDEFGHIJKLMNOPQRSTUVWXYZ_01
 int main(int n, char **w) {
     long want = atol(w[1]), found = 0;
     uint32_t mask = (1u << atoi(w[2])) - 1;
-    uint64_t s[8];
     int i[7] = {0};
-    s[0] = fold(0x243f6a8885a308d3ull ^ 7, M ^ 16);
-    for (int k = 0;;) {
-        for (; k < 6; k++) s[k + 1] = fold(s[k] ^ L[i[k]] * 0x010101ull, M ^ 2);
-        for (int j = 0; j < 63; j++) {
-            uint64_t h = fold(s[6] ^ L[j] * 0x010101ull, M ^ 2);
-            if (((h ^ h >> 32) & mask) == 0) {
-                for (int q = 0; q < 6; q++) putchar(L[i[q]]);
-                putchar(L[j]); putchar('\n');
-                if (++found == want) return 0;
-            }
+    for (;;) {
+        uint32_t lo, hi;
+        uint8_t b[7];
+        for (int k = 0; k < 7; k++) b[k] = L[i[k]];
+        lo = b[0] | b[1] << 8 | b[2] << 16 | (uint32_t)b[3] << 24;
+        hi = b[3] | b[4] << 8 | b[5] << 16 | (uint32_t)b[6] << 24;
+        uint64_t x = lo | (uint64_t)hi << 32;
+        uint64_t h = fold(fold(0x243f6a8885a308d3ull ^ x, M ^ 14) ^ 0xffffffull, M ^ 2);
+        if (((h ^ h >> 32) & mask) == 0) {
+            fwrite(b, 1, 7, stdout); putchar('\n');
+            if (++found == want) return 0;
         }
-        for (k = 5; k >= 0 && ++i[k] == (k ? 63 : 53); k--) i[k] = 0;
+        int k;
+        for (k = 6; k >= 0 && ++i[k] == (k ? 63 : 53); k--) i[k] = 0;
         if (k < 0) return 1;
     }
 }
