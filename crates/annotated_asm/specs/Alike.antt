@@ -1,4 +1,5 @@
--- Lists of items that no later stage tells apart.
+-- Helper vocabulary: lists of items that no later stage tells apart. No contract of a public function
+-- cites a word of this file.
 use Rattle.std.specs.Prelude.{◌≡◌, List}
 use Rattle.task_descriptor.specs.Listing.{Listing}
 use Rattle.annotated_asm.specs.declared.item.Item.{Item}

@@ -1,5 +1,5 @@
--- The key of the tables of names: the hash of all names that the items define (SipHash, Aumasson, Bernstein
--- 2012, in its form 1-3).
+-- Helper vocabulary: the key of the tables of names, on which only time rests: the hash of all names that
+-- the items define (SipHash, Aumasson, Bernstein 2012, in its form 1-3).
 use Rattle.std.specs.Prelude.{List, [], ◌∷◌}
 use Rattle.std.specs.List.{fold}
 use Rattle.std.specs.Hash.{u64}

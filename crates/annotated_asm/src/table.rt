@@ -19,7 +19,7 @@ pub struct Symbol {
 /// Names, each with where it stands, in the order of the text.
 #[derive(Drop)]
 pub struct Table {
-    // A text is hashed some bytes at a time, a vector byte by byte.
+    // Texts, not vectors: a text is hashed up to 16 bytes at a time, a vector byte by byte.
     rows: IndexMap<String, Symbol, NameKey>,
 }
 

@@ -87,6 +87,7 @@ fn write_code(text: &mut String, labels: &Labels, code: &[Marked]) -> Result<(),
     Ok(())
 }
 
+// Writes the line of a word, as a whole line of bytes: a formatter would go digit by digit.
 fn write_word(text: &mut Vec<u8>, word: u32) -> Result<(), AllocError>
     ensures { OnOk result (text.new.items ≡ text.old.items ++ word_line word) }
 {
@@ -97,6 +98,7 @@ fn write_word(text: &mut Vec<u8>, word: u32) -> Result<(), AllocError>
     text.extend_from_slice(&line)
 }
 
+// Writes the line of a byte.
 fn write_byte(text: &mut Vec<u8>, byte: u8) -> Result<(), AllocError>
     ensures { OnOk result (text.new.items ≡ text.old.items ++ byte_line byte) }
 {

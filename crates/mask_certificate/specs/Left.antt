@@ -13,8 +13,9 @@ pub record Left : Type 0 where
 abbrev pub left_of : Left → List ℕ
 left_of left = left.rest ++ joined left.behind
 
--- This is left of a text, the first of it in the part text, of which there are these blocks: that part is
--- at its end only where nothing is left behind it.
+-- How far a text in parts is read: text is the part that is being read, with blocks of it; rest is what is
+-- left of that part, and behind are the parts behind it. Nothing is left of a part only if no part is
+-- behind it.
 pub record IsLeft (text : List ℕ) (blocks : List Place) (rest : List ℕ) (behind : List (List ℕ)) : Type 0 where
   pub end : IsEnd text rest
   pub blocks_of : AreOf text blocks

@@ -54,7 +54,7 @@ impl<'a> Left<'a> {
         self.rest
     }
 
-    /// What is left where this is left of the part.
+    /// This text, read on so far that `rest` is what is left of the part.
     pub(crate) fn with_rest(self, rest: &'a [u8]) -> Left<'a>
         requires { IsEnd self.rest rest.now }
         ensures { left_of result ≡ rest.now ++ joined self.entry.behind }
@@ -104,7 +104,7 @@ ghost use Rattle.text_pieces.specs.Pieces.{joined, AreCut};
 ghost use Rattle.mask_certificate.specs.Blocks.{IsEnd, AreOf};
 ghost use Rattle.mask_certificate.specs.Left.{left_of};
 
-/// What is left where this is the rest of a part, which may be nothing.
+/// What is left if `rest` is left of the part; if that is empty, the next part that is not empty begins.
 fn from<'a>(
     mut text: &'a [u8],
     mut rest: &'a [u8],

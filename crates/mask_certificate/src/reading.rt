@@ -339,8 +339,8 @@ fn whole_list<'a>(
     Ok((list, right, left))
 }
 
-/// The number of the line behind a `task` line and a list of so many entries. No memory holds so many
-/// lines that it is not a `usize`.
+/// The number of the line behind a `task` line and a list of so many entries. A number that is no `usize`
+/// is answered as want of memory; no text in memory of its own has so many lines.
 fn line_behind(line: usize, entries: usize) -> Result<usize, AllocError>
     ensures { IfOk result (λ next. next ≡ line + (1 + entries)) }
 {

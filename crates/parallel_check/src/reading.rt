@@ -2,8 +2,8 @@
 //!
 //! The text lies in pieces, and each is cut into shares. A worker draws shares and reads the lists of the
 //! tasks whose lines begin there, as blocks, without knowing which tasks these are or whether all is right
-//! in front of them. Then the whole is read in order, as one reader does, but that a list which a block
-//! has is not read again.
+//! in front of them. Then the whole is read in order, as by one reader, except that a list for which
+//! there is a block is not read again.
 
 ghost use Rattle.std.specs.Prelude.{◌≡◌, ◌≢◌, ◌↔◌, ◌⊎◌, ◌<◌, ◌≤◌, true, ℕ, List, [], length, map, slice_index_or, Ok, Err, IfOk, IfSome};
 ghost use Rattle.std.specs.List.{All};
@@ -99,7 +99,7 @@ impl<'a> ReadAhead<'a> {
     ghost use Rattle.mask_certificate.specs.CertificateText.{Spells};
     ghost use Rattle.mask_certificate.specs.CertificateReading.{cert_parse, names_of};
 
-    /// Has the workers read a text in pieces, cut behind LFs. Any number of them will do: 0 counts as 1,
+    /// Lets the workers read a text in pieces, cut behind LFs. Any number of them will do: 0 counts as 1,
     /// and more than 16 count as 16. A text that is not shared out (`is_shared_out`) is left to `read`.
     ///
     /// # Errors
@@ -140,7 +140,8 @@ fn blocks_of<'a, R: Threads + Sync>(
 ) -> Result<Vec<(usize, Block<'a>)>, AllocError>
     ensures { IfOk result (λ found. AreFound (map (λ piece. piece.now) pieces.now) found.items) }
 {
-    // The first piece names it; those in front of it have no byte.
+    // The first piece with bytes names it. A later piece that begins so too costs only time: `read` compares
+    // the spelling of each block.
     match pieces.iter().find_map(|piece| spelling_in(piece)) {
         Some(spelling) if is_shared_out(pieces, workers) => {
             read_blocks(

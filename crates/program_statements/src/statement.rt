@@ -129,7 +129,11 @@ impl Blob {
         self.bytes.as_slice()
     }
 
-    /// Adds bytes behind those that are there. An `Err` changes nothing.
+    /// Adds bytes at the end.
+    ///
+    /// # Errors
+    ///
+    /// `AllocError` where memory was refused; then nothing is changed.
     pub fn append(&mut self, more: &[u8]) -> Result<(), AllocError>
         ensures ok { OnOk result (self.new ≡ self.old ++ more.now) }
         ensures err { OnErr result (self.new ≡ self.old) }

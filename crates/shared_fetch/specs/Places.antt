@@ -8,12 +8,12 @@ pub record ReadsAt (place : ℕ) (count : ℕ) (buffer bytes : List ℕ) : Type 
   pub same : take count buffer ≡ take count (drop place bytes)
   pub end : count ≡ 0 → 0 < length buffer → length bytes ≤ place
 
--- each part that was fetched is the `size` bytes that stand where its turn comes
+-- part i, if it was fetched, is the `size` bytes from the place `size * i` on
 abbrev pub AreParts : (size : ℕ) (bytes : List ℕ) → List (Option (Vec ℕ Global)) → Type 0
 AreParts size bytes parts = (i : ℕ) (none : Option (Vec ℕ Global)) → i < length parts
     → IfSome (slice_index_or parts i none) (λ part. part.items ≡ take size (drop (size * i) bytes))
 
--- each part that was fetched has so many bytes
+-- each part that was fetched has `size` bytes
 abbrev pub AreFull : (size : ℕ) → List (Option (Vec ℕ Global)) → Type 0
 AreFull size parts = (i : ℕ) (none : Option (Vec ℕ Global)) → i < length parts
     → IfSome (slice_index_or parts i none) (λ part. length part.items ≡ size)

@@ -9,12 +9,13 @@ use text_pieces::text::Text;
 // How many bytes are read at a time.
 const CHUNK: usize = 16_384;
 
-// How much memory a part has beside its bytes: where it ends in the middle of a line, the end of that line
-// is added to it, which should not move it.
+// How many bytes of memory a part gets beyond its own: if it ends inside a line, the rest of that line is
+// added to it, and should fit without moving it.
 const LINE: usize = 4_096;
 
 /// The bytes of a file from a place on: `most` of them, or those up to its end. `None` where a read fails
-/// or is interrupted, and where memory was refused. Room is memory that is asked for at once.
+/// or is interrupted, and where memory was refused. `room` is how
+/// many bytes of memory are asked for at once.
 pub fn fetch_from<F: PlacedFile>(
     alloc: Global,
     file: &F,

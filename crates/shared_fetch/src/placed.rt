@@ -13,7 +13,7 @@ pub trait PlacedFile: Read + Sync {
     ghost bytes: { Self → Option (List ℕ) };
 
     /// How many bytes there are, as far as the system tells: a hint, which no answer rests on. `None`
-    /// where the file has no places, as a pipe or a device.
+    /// where the file has no places, such as a pipe or a device.
     fn size_hint(&self) -> Option<u64>;
 
     /// Reads from a place on, and leaves the place of `Read` where it is; how many bytes that was, 0 at

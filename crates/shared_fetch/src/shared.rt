@@ -22,7 +22,11 @@ const MOST_WORKERS: u32 = 16;
 ///
 /// Each worker reads a part into memory of its own. Whatever goes wrong with a part, one thread then
 /// fetches the file from its beginning: nothing was taken from the reader until then, so the faults are
-/// those of `fetch`. What is behind the size that the system told is read too, up to the limit.
+/// those of `fetch`. If the file is longer than the system said, the rest is read too, up to the limit.
+///
+/// # Errors
+///
+/// `Read` if a read fails or more than 1,000 are interrupted; `OutOfMemory` if memory was refused.
 pub fn fetch_shared<F: PlacedFile, R: Threads + Sync>(
     rt: &R,
     alloc: Global,

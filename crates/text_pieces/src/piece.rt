@@ -3,8 +3,8 @@
 use std::alloc::{AllocError, Global};
 use std::marker::Model;
 
-/// The bytes of a piece. Some at the front of its memory may be another piece's: they were given away
-/// when the pieces were cut at lines, and taking them out would move all behind them.
+/// The bytes of a piece. The front of its memory may hold bytes that complete the last line of the piece
+/// before it and belong to that; removing them here would move all the others.
 #[derive(Debug, Drop)]
 pub struct Piece {
     memory: Vec<u8>,
@@ -40,8 +40,8 @@ impl Piece {
         &self.memory[self.from..]
     }
 
-    /// Adds what its last line lacks, from what follows it in the text, and answers how many bytes that
-    /// was: none where it ends with LF, all of them where no line ends there.
+    /// Completes its last line from `more`, which follows it in the text, and answers how many bytes it
+    /// took: none if it ends with LF, all of them if `more` has no LF.
     ///
     /// # Errors
     ///

@@ -39,7 +39,8 @@ impl Text {
         }
     }
 
-    /// Adds bytes at the end, in a piece of their own but for those that end the last line.
+    /// Adds bytes at the end. Those that complete the last line join its piece; the others become a piece
+    /// of their own.
     ///
     /// # Errors
     ///

@@ -119,7 +119,8 @@ fn wait_for<'l, 'a, P: Predict, R: Wait>(
     desk
 }
 
-/// Takes the lock. A hold is short, and whoever sleeps has to be woken, so a worker tries for a while first.
+/// Takes the lock. A hold is short and waking a thread is slow, so a worker tries for a while before it
+/// sleeps.
 fn take_lock<'l, T, R: Wait>(rt: &R, shared: &'l Mutex<T>) -> MutexGuard<'l, T> {
     for _ in 0..ROUNDS {
         if let Some(guard) = try_lock_soon(shared) {
