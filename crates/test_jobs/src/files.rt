@@ -1,5 +1,7 @@
 //! Files that several threads fetch, and readers and writers that fail.
 
+ghost use Rattle.std.specs.Prelude.{◌≡◌, ◌≤◌, length, take};
+
 use crate::answers::{Bench, texts_of};
 use jobs::job::Job;
 use shared_fetch::placed::PlacedFile;
