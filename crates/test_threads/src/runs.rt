@@ -279,6 +279,7 @@ fn gate_diamond_predictor(rt: HostRuntime) -> Result<(), Fail> {
     let report = run_threads(&rt, alloc, &accepted, 2, 1_000_000, Last, &gate);
     let report = report.ok().expect(&rt, "a report");
     assert!(rt; both_saw(&gate));
+    assert_eq!(rt; report.how, How::Ended);
     assert_eq!(rt; report.machine.counts(), (3, 6));
     let history = report.machine.history();
     assert!(rt; assigns(history, 0));
@@ -289,6 +290,7 @@ fn gate_diamond_predictor(rt: HostRuntime) -> Result<(), Fail> {
     let gate = Meeting::new(rt.clone()?);
     let report = run_threads(&rt, alloc, &accepted, 2, 1_000_000, First, &gate);
     let report = report.ok().expect(&rt, "a report");
+    assert_eq!(rt; report.how, How::Ended);
     assert_eq!(rt; report.machine.counts(), (3, 6));
     assert!(rt; assigns(report.machine.history(), 1));
     Ok(())
