@@ -1,6 +1,7 @@
 //! A worker's thread: events under the lock, bursts away from it.
 
 use crate::bell::Bell;
+use crate::called::Called;
 use crate::desk::Desk;
 use crate::gate::RunGate;
 use crate::hold::{NextBurst, Then, Worker};
@@ -35,8 +36,7 @@ pub(crate) fn serve<P: Predict, G: RunGate, R: Wait>(
         match then {
             Then::Burst(next) => {
                 let lease = desk.machine().lease(next.unit);
-                drop(desk);
-                called.ring(bells);
+                let_go(desk, &called, bells);
                 desk = burst_on(rt, shared, gate, &mut worker, &next, lease);
             }
             Then::BurstInPlace(next) => {
@@ -46,23 +46,25 @@ pub(crate) fn serve<P: Predict, G: RunGate, R: Wait>(
             Then::Wait => {
                 desk.fall_asleep(share.worker);
                 let heard = bell.rings();
-                drop(desk);
-                called.ring(bells);
+                let_go(desk, &called, bells);
                 desk = wait_for(bell, heard, rt, shared, share.worker);
             }
             Then::GoOn => {
-                drop(desk);
-                called.ring(bells);
+                let_go(desk, &called, bells);
                 desk = take_lock(rt, shared);
             }
-            Then::End => {
-                desk.wake_all();
-                break;
-            }
+            Then::End => break,
         }
     }
+    desk.wake_all();
     drop(desk);
     ring_all(bells);
+}
+
+/// Lets go of the lock, and rings for the workers that now have something to do.
+fn let_go<P: Predict>(desk: MutexGuard<'_, Desk<'_, P>>, called: &Called, bells: &[Bell]) {
+    drop(desk);
+    called.ring(bells);
 }
 
 /// Makes a burst on a unit that was lent, and takes the lock to hand it in.
