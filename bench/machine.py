@@ -51,6 +51,26 @@ B:      halt
 .rodata
         .word 1,2,3,4
 """
+# Short tasks, one after another: each computes, loads, branches, and sends both registers that it writes.
+SENDING = """.task S create=$8,$9 targets=A
+.task A create=$9,$10 targets=A,B
+.task B create=- targets=-
+S:      lui $8,4096 !f
+        addiu $9,$0,1 !f
+        j A !s
+A:      andi $10,$9,12
+        addu $10,$10,$8
+        lw $10,0($10)
+        bne $10,$0,L
+        addiu $10,$0,5
+L:      addu $9,$9,$10
+        sll $10,$9,3 !f
+        xor $9,$9,$10 !f
+        bne $8,$0,A !s
+B:      halt
+.rodata
+        .word 1,2,3,4
+"""
 # Two instructions with loads, of as many bytes of read-only data as there may be.
 LOADS = (
     ".task A create=$8,$9 targets=A,B\n.task B create=- targets=-\nA: lui $8,4096\nlw $9,0($8)\nj A\nB: halt\n.rodata\n"
