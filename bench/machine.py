@@ -17,7 +17,7 @@ import tempfile
 HERE = pathlib.Path(__file__).resolve().parent
 TOP = HERE.parent
 NAME = "machine_bench"
-LINE = f"{NAME}: annotated_asm annotator mark_checker machine_events unit_core sequencer\n"
+LINE = f"{NAME}: mips_plain annotated_asm annotator mark_checker machine_events unit_core sequencer\n"
 
 # Two tasks, the first of which never ends and waits for no register.
 SMALL = ".task A create=- targets=A,B\n.task B create=- targets=-\nA: sll $0,$0,0\nj A\nB: halt\n"
