@@ -61,7 +61,10 @@ class Multiscalar:
 
 
 class Spim:
+    """It asks the kernel for the time before each instruction, which is most of its time: its figures are
+    not its interpreter's speed, so no factor is written."""
     name = "SPIM"
+    has_factor = False
     tools = ("spim",)
     runs = 1
 
@@ -81,6 +84,7 @@ class Qemu:
     """Linux's `write` for `out`, of the word's four bytes, and `exit` for `halt`. A kernel is too short
     for a translator, so it is run several times in one process; its data becomes 0 again between."""
     name = "QEMU"
+    has_factor = True
     tools = ("qemu-mipsel", "mipsel-linux-gnu-as", "mipsel-linux-gnu-ld")
     runs = 50
     out = "la $5, OUTPUT\nsw {}, 0($5)\nli $4, 1\nli $6, 4\nli $2, 4004\nsyscall"
@@ -163,8 +167,10 @@ def main():
             own, *theirs = timed(ours, others, kernel, empty, given.rounds, folder)
             line = f"{kernel.stem}: {own:.2f} ns an instruction"
             for it, each in zip(others, theirs):
-                ratios[it.name].append(each / own)
-                line += f"; {it.name} {each:.2f} ns, {each / own:.2f} times as long"
+                line += f"; {it.name} {each:.2f} ns"
+                if it.has_factor:
+                    ratios[it.name].append(each / own)
+                    line += f", {each / own:.2f} times as long"
             print(line, flush=True)
     for name, all_of_it in ratios.items():
         if all_of_it:

@@ -17,7 +17,7 @@ import tempfile
 HERE = pathlib.Path(__file__).resolve().parent
 TOP = HERE.parent
 NAME = "machine_bench"
-LINE = f"{NAME}: annotated_asm annotator mark_checker machine_events unit_core sequencer\n"
+LINE = f"{NAME}: mips_plain annotated_asm annotator mark_checker machine_events unit_core sequencer\n"
 
 # Two tasks, the first of which never ends and waits for no register.
 SMALL = ".task A create=- targets=A,B\n.task B create=- targets=-\nA: sll $0,$0,0\nj A\nB: halt\n"
@@ -47,6 +47,26 @@ L:      lw $9,4($8)
         xor $10,$10,$11
         bne $8,$0,L
         j B !s
+B:      halt
+.rodata
+        .word 1,2,3,4
+"""
+# Short tasks, one after another: each computes, loads, branches, and sends both registers that it writes.
+SENDING = """.task S create=$8,$9 targets=A
+.task A create=$9,$10 targets=A,B
+.task B create=- targets=-
+S:      lui $8,4096 !f
+        addiu $9,$0,1 !f
+        j A !s
+A:      andi $10,$9,12
+        addu $10,$10,$8
+        lw $10,0($10)
+        bne $10,$0,L
+        addiu $10,$0,5
+L:      addu $9,$9,$10
+        sll $10,$9,3 !f
+        xor $9,$9,$10 !f
+        bne $8,$0,A !s
 B:      halt
 .rodata
         .word 1,2,3,4

@@ -12,8 +12,10 @@ Of the certificate and the events the least processor time of the rounds counts,
 user and system time, since most of it goes into memory that is touched for the
 first time; of the kernels and the printer the median.
 
-How a compiler lays out a loop moves its time by a third, so the plain machine
-and the printer are built several times, with the functions at other alignments.
+How a compiler lays out a loop moves its time by a third, so the programs of
+unproved/ are built several times, with the functions at other alignments: the
+median of the builds counts. Both machines of events write how many they applied;
+where these differ, the script ends.
 emulators.py runs the same kernels in SPIM and QEMU.
 """
 import argparse
@@ -28,6 +30,8 @@ import machine
 
 HERE = pathlib.Path(__file__).resolve().parent
 EVENTS = 900000
+# Short tasks, of at most 12 events each; each of 1, 4 and 16 units executes as many of them.
+TASKS = 72000
 
 
 def compiled(name, folder, build=0):
@@ -74,8 +78,9 @@ def kernels(rounds, builds, proved, folder):
         each = [(full - base) / count * 1e9 for base, full in zip(times[::2], times[1::2])]
         ours, theirs = each[0], statistics.median(each[1:])
         ratios.append(ours / theirs)
-        print(f"{kernel.stem}: {ours:.2f} ns an instruction, without proofs {theirs:.2f} ns: {ours / theirs:.2f} times")
-    print(f"all kernels: {statistics.geometric_mean(ratios):.2f} times, {builds} builds, {rounds} rounds each")
+        print(f"{kernel.stem}: {ours:.2f} ns an instruction, without proofs {theirs:.2f} ns: {ours / theirs:.2f} times, "
+              f"{builds} builds, {rounds} rounds", flush=True)
+    print(f"all kernels: {statistics.geometric_mean(ratios):.2f} times, {builds} builds, {rounds} rounds")
 
 
 def printing(rounds, builds, proved, folder):
@@ -88,31 +93,65 @@ def printing(rounds, builds, proved, folder):
           f"{ours / theirs:.2f} times, {builds} builds, {rounds} rounds")
 
 
-def events(rounds, proved, plain, folder):
-    """Events round the ring; 64 Exec events of a unit behind the head; a lease, a burst of 64 and its check-in."""
-    bursts = EVENTS // 64
-    for name, text in (("small", machine.SMALL), ("registers", machine.REGISTERS), ("loop", machine.LOOP)):
-        file = pathlib.Path(folder) / name
+def event_cases(name):
+    """The rows of a program: what they are, and the words of both programs for few events and for many."""
+    if name == "sending":
+        kinds = [("tasks", "tasks at the head", units) for units in (1, 4, 16)]
+        kinds += [("ahead", "tasks ahead, in bursts", units) for units in (4, 16)]
+        return [(f"{said}, {units:2} units", *[[what, units, 0], [what, units, TASKS]] * 2) for what, said, units in kinds]
+    round_it = [(f"{units:2} units", *[["events", units, 0], ["events", units, EVENTS]] * 2) for units in (1, 4, 16)]
+    many = EVENTS // 64
+    # The program without proofs takes no log and no history to begin with.
+    return round_it + [
+        (f"{what} of 64", [what, 0, 0, 1], [what, 0, 0, many], [what, 1], [what, many]) for what in ("single", "bursts")
+    ]
+
+
+def counts(few, many):
+    """By how much each count that a program writes is greater for many events than for few."""
+    written = [subprocess.run([*map(str, words)], capture_output=True, check=True, text=True).stdout for words in (few, many)]
+    base, full = ([int(word) for word in text.split()] for text in written)
+    # Of events behind the head the proved program writes a time, too.
+    kept = 1 if "single" in many or "bursts" in many else len(full)
+    return [after - before for before, after in zip(base[:kept], full)]
+
+
+def event_row(rounds, ours, theirs):
+    """How many events a row has, and the times of one of them; `theirs` has a pair of commands for each build."""
+    told, others = counts(*ours), [counts(*build) for build in theirs]
+    if any(told != other for other in others):
+        raise SystemExit(f"{ours[1]}: {told}, without proofs {others}")
+    events = EVENTS if "events" in ours[1] else told[0]
+    times = least(rounds, *ours, *(words for build in theirs for words in build))
+    own, *each = [(full - base) / events for base, full in zip(times[::2], times[1::2])]
+    return own, statistics.median(each)
+
+
+def events(rounds, builds, proved, folder):
+    """Events round the ring; events of a unit behind the head, and a lease, a burst and its check-in; short tasks."""
+    folder = pathlib.Path(folder)
+    plain = [compiled("machine", folder, build) for build in range(builds)]
+    programs = {"small": machine.SMALL, "registers": machine.REGISTERS, "loop": machine.LOOP, "sending": machine.SENDING}
+    for name, text in programs.items():
+        file = folder / name
         file.write_text(text)
-        cases = [(f"{units:2} units", ["events", units, 0], ["events", units, EVENTS], None) for units in (1, 4, 16)]
-        cases += [(f"{what} of 64", [what, 0, 0, 1], [what, 0, 0, bursts], 0) for what in ("single", "bursts")]
-        for said, none, many, short in cases:
-            # The program without proofs takes no log and no history to begin with.
-            shorter = [words if short is None else [words[0], words[3]] for words in (none, many)]
-            base, full, plain_base, plain_full = least(
-                rounds, [proved, file, *none], [proved, file, *many], [plain, name, *shorter[0]], [plain, name, *shorter[1]]
-            )
-            ours, theirs = (full - base) / EVENTS, (plain_full - plain_base) / EVENTS
-            print(f"{name}, {said}: {ours * 1e9:5.1f} ns an event, without proofs {theirs * 1e9:5.1f} ns: {ours / theirs:.2f} times")
+        for said, few, many, plain_few, plain_many in event_cases(name):
+            theirs = [([program, name, *plain_few], [program, name, *plain_many]) for program in plain]
+            own, other = event_row(rounds, ([proved, file, *few], [proved, file, *many]), theirs)
+            print(f"{name}, {said}: {own * 1e9:5.1f} ns an event, without proofs {other * 1e9:5.1f} ns: {own / other:.2f} times, "
+                  f"{builds} builds, {rounds} rounds", flush=True)
 
 
-def certificate(rounds, proved, plain, folder):
+def certificate(rounds, builds, proved, folder):
     program, text = pathlib.Path(folder) / "program.s", pathlib.Path(folder) / "program.cert"
     program.write_text(bench.maximal_program())
     text.write_text("".join(bench.maximal_certificate()))
     size = text.stat().st_size
-    ours, theirs = least(rounds, [proved, "check", program, text], [plain, program, text])
-    print(f"certificate of {size} bytes: {size / ours / 1e6:.0f} MB/s, without proofs {size / theirs / 1e6:.0f} MB/s: {ours / theirs:.2f} times")
+    commands = [[proved, "check", program, text]] + [[compiled("checker", folder, build), program, text] for build in range(builds)]
+    ours, *others = least(rounds, *commands)
+    theirs = statistics.median(others)
+    print(f"certificate of {size} bytes: {size / ours / 1e6:.0f} MB/s, without proofs {size / theirs / 1e6:.0f} MB/s: "
+          f"{ours / theirs:.2f} times, {builds} builds, {rounds} rounds")
 
 
 def main():
@@ -128,9 +167,9 @@ def main():
         if given.only in "print":
             printing(rounds, builds, bench.built(), folder)
         if given.only in "certificate":
-            certificate(rounds, bench.built(), compiled("checker", folder), folder)
+            certificate(rounds, builds, bench.built(), folder)
         if given.only in "events":
-            events(rounds, machine.built(pathlib.Path(folder)), compiled("machine", folder), folder)
+            events(rounds, builds, machine.built(pathlib.Path(folder)), folder)
 
 
 if __name__ == "__main__":
