@@ -100,7 +100,7 @@ class Case:
     def line(self):
         wall, user, system = (statistics.median(times) * 1e3 for times in (self.wall, self.user, self.system))
         rate = f"{self.count / wall / 1e3:8.1f}" if self.count else f"{'-':>8}"
-        return f"{self.name:46} {wall:8.1f} {min(self.wall) * 1e3:8.1f} {user:8.1f} {system:8.1f} {self.count:9} {rate}"
+        return f"{self.name:60} {wall:8.1f} {min(self.wall) * 1e3:8.1f} {user:8.1f} {system:8.1f} {self.count:9} {rate}"
 
 
 def output(program, *words):
@@ -168,7 +168,7 @@ def main():
         for _ in range(given.rounds):
             for case in chosen:
                 case.run(program)
-    print(f"{'case':46} {'wall ms':>8} {'least':>8} {'user ms':>8} {'system':>8} {'events':>9} {'million/s':>9}")
+    print(f"{'case':60} {'wall ms':>8} {'least':>8} {'user ms':>8} {'system':>8} {'events':>9} {'million/s':>9}")
     for case in chosen:
         print(case.line())
     long_costs(chosen)
