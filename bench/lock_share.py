@@ -1,5 +1,5 @@
 #!/usr/bin/env python3
-"""Measures how long the workers of `run` hold the lock. Needs python3, rt, clang and ar's libraries of the toolchain.
+"""Measures how long the workers of `run` hold the lock. Needs python3, rt and clang.
 
     lock_share.py [--module MODULE.bc] [--rounds N] [--keep FOLDER]
 
