@@ -10,7 +10,7 @@ sleeps), so the module is the place where each take and each release can be seen
 
 Without --module it makes the module by fuzz/entry/capture.py, which takes two minutes. That module is of an
 unproved build. Its checks are taken out here again, and still it executes more instructions than the proved
-program, so a hold lasts longer than there.
+program, so a hold may last longer than there.
 
 `run` is called with 4 units and 4 workers on `tiny` and `parallel` of threads.py. The medians of the rounds are
 printed: the time from the start of the first worker to the end of the last one; the sum of the times in which the
