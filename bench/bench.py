@@ -30,6 +30,7 @@ HERE = pathlib.Path(__file__).resolve().parent
 TOP = HERE.parent
 LONGEST_TEXT = 4194304
 CODE, TASKS, TARGETS, REGION = 4096, 1024, 16, 65536
+RING = 50
 
 
 # Texts ---------------------------------------------------------------------
@@ -76,6 +77,16 @@ def maximal_program():
     for section in (".data", ".rodata"):
         lines.append(section)
         lines += [f".word 0x{word * 2654435761 % 2**32:08x}" for word in range(REGION // 4)]
+    return "\n".join(lines) + "\n"
+
+
+def ring_program():
+    """200 instructions in a ring of 50 tasks, each of which reaches four of them."""
+    lines = []
+    for task in range(RING):
+        lines.append(f".task T{task} create=$8,$9 targets=T{(task + 1) % RING}")
+    for task in range(RING):
+        lines += [f"T{task}:", "addiu $8,$8,1 !f", "addu $9,$9,$8", "xor $9,$9,$8 !f", f"j T{(task + 1) % RING} !s"]
     return "\n".join(lines) + "\n"
 
 
@@ -235,7 +246,7 @@ def write_texts(folder, with_certificate):
     """All texts that are generated, in the folder."""
     for name, text in [("maximal", maximal_program()), ("comments", comment_text()), ("labels", label_text()),
                        ("statements", statement_text()), ("late_fault", late_fault_text()), ("nest", loop_nest()),
-                       ("zigzag", zigzag()), ("steady", STEADY)]:
+                       ("zigzag", zigzag()), ("steady", STEADY), ("ring", ring_program())]:
         write(folder, f"{name}.s", text)
     write(folder, "steady.cert2", STEADY_CERTIFICATE)
     write(folder, "long.cert2", LONG_TASK_CERTIFICATE)
@@ -273,6 +284,12 @@ def cases(program, folder, known):
     for workers in (1, 4):
         words = ["check", "--workers", workers, maximal, certificate]
         out.append(Case(f"check of the maximal certificate ({size} bytes), workers {workers}", words, "byte", size))
+    ring, ring_certificate = folder / "ring.s", folder / "ring.cert2"
+    if known("annotate"):
+        ring_certificate.write_bytes(Run(program, ["annotate", "--emit", "keep", ring], True).output)
+    for workers in (1, 4):
+        words = ["check", "--workers", workers, ring, ring_certificate]
+        out.append(Case(f"check of {4 * RING} instructions in {RING} tasks, workers {workers}", words))
     for file, name, size in [("maximal", "maximal program", CODE * TASKS), ("nest", "loop nest", 4002), ("zigzag", "zigzag path", CODE)]:
         words = ["annotate", "--emit", "keep", folder / f"{file}.s"]
         out.append(Case(f"annotate --emit keep of the {name}", words, "entry", size))

@@ -1,18 +1,26 @@
 #!/usr/bin/env python3
-"""Times `run` with threads beside `replay` of the same history and `seq`. Needs python3 alone.
+"""Times `run` with threads beside `replay` of a history and `seq`. Needs python3 alone.
 
     threads.py [--program PATH] [--rounds N] [--only WORD]
 
-Every case is run once a round, in turn, and the median wall time and the least
-processor time of the rounds count. Give it free cores: a thread that has to
-wait for a core is not what is meant to be timed.
+Every case is run once a round, in turn; each time is the median of the rounds, for
+wall time also the least. Give it free cores: a thread that has to wait for a core is
+not what is meant to be timed.
 
   parallel   forty tasks of some 20,000 register-only instructions; each needs
              one register of the one before, which is sent at once
-  tiny       100,000 tasks of four instructions: 600,000 events with one
-             worker, up to 900,000 with four, which pass registers on
-  long       one task of 9,000, 90,000 and 900,000 instructions
-  kernels    those of kernels/, with marks by `annotate`
+  tiny       166,665 tasks of four instructions: 999,998 events with one worker;
+             with four, which pass registers on, the budget of 1,000,000 events
+             ends the run
+  long       one task of 9,003, 90,003 and 900,003 instructions; the cost of an
+             instruction is the median less that of a task of 9 instructions
+  kernels    those of kernels/, with marks by `annotate`, until they end or the
+             budget of 1,000,000 events ends the run
+
+Beside each run stand `replay` of the history of one such run, with reading and
+printing (its column of events is exact), and `seq` of the same program. Events of a
+`run` are those of the run whose history is replayed: they differ a little from run to
+run. For `seq` the last column is instructions.
 """
 import argparse
 import pathlib
@@ -44,13 +52,15 @@ out $10
 halt
 """
 
+# As many tasks as 1,000,000 events have room for, with six events each: an assign, four
+# instructions, a retire.
 TINY = """\
 .start I
 .task I create=$11 targets=A
 .task A create=$8,$9,$10 targets=A,B
 .task B create=- targets=-
-I: lui $11,1
-ori $11,$11,0x86a0 !f
+I: lui $11,2
+ori $11,$11,0x8b09 !f
 j A !s
 A: addiu $8,$8,1 !f
 addu $9,$9,$8 !f
@@ -60,6 +70,9 @@ B: out $9
 halt
 """
 
+LONG_ROUNDS = (3000, 30000, 300000)
+LEAST_ROUNDS = 2
+
 
 def long_task(rounds):
     return f".start A\n.task A create=$8,$9 targets=-\nA: lui $9,{rounds >> 16}\nori $9,$9,{rounds & 0xffff}\n" \
@@ -67,8 +80,10 @@ def long_task(rounds):
 
 
 class Case:
-    def __init__(self, name, words, status=0):
-        self.name, self.words, self.status = name, [str(word) for word in words], status
+    """A command, its times, and how many events or instructions it has."""
+
+    def __init__(self, name, words, count=0, status=0):
+        self.name, self.words, self.count, self.status = name, [str(word) for word in words], count, status
         self.wall, self.user, self.system = [], [], []
 
     def run(self, program):
@@ -82,60 +97,81 @@ class Case:
         if done.returncode != self.status:
             print(f"{self.name}: status {done.returncode}, wanted {self.status}: {done.stderr.decode()}")
 
-
-def kept(program, folder, name, source, *kind):
-    """The certificate of a program, and the script of one run of it."""
-    certificate, script = folder / f"{name}.cert2", folder / f"{name}.events"
-    certificate.write_bytes(subprocess.run([program, "annotate", "--emit", "keep", source], capture_output=True).stdout)
-    script.write_bytes(subprocess.run([program, "run", "--emit", "script", *kind, source, certificate], capture_output=True).stdout)
-    return certificate, script
+    def line(self):
+        wall, user, system = (statistics.median(times) * 1e3 for times in (self.wall, self.user, self.system))
+        rate = f"{self.count / wall / 1e3:8.1f}" if self.count else f"{'-':>8}"
+        return f"{self.name:60} {wall:8.1f} {min(self.wall) * 1e3:8.1f} {user:8.1f} {system:8.1f} {self.count:9} {rate}"
 
 
-def cases(program, folder):
-    source = folder / "parallel.s"
-    source.write_text(PARALLEL)
-    certificate, script = kept(program, folder, "parallel", source, "--units", "4")
-    for units in (1, 2, 4):
-        yield Case(f"parallel, {units} units", ["run", "--units", units, source, certificate])
-    yield Case("parallel, 4 units, 1 worker", ["run", "--units", 4, "--workers", 1, source, certificate])
-    yield Case("parallel, replay of the run with 4 units", ["replay", "--units", 4, source, certificate, script])
-    yield Case("parallel, seq", ["seq", source])
-    source = folder / "tiny.s"
-    source.write_text(TINY)
-    certificate, script = kept(program, folder, "tiny", source, "--units", "4", "--workers", "1")
-    for workers in (1, 4):
-        yield Case(f"tiny, 4 units, {workers} workers", ["run", "--units", 4, "--workers", workers, source, certificate])
-    yield Case("tiny, replay of the run with 1 worker", ["replay", "--units", 4, source, certificate, script])
-    for rounds in (3000, 30000, 300000):
-        source = folder / f"long{rounds}.s"
-        source.write_text(long_task(rounds))
-        certificate, _ = kept(program, folder, source.stem, source, "--units", "1")
-        yield Case(f"one task of {3 * rounds + 2} instructions", ["run", "--units", 1, source, certificate])
+def output(program, *words):
+    done = subprocess.run([program, *map(str, words)], capture_output=True)
+    return done.returncode, done.stdout
+
+
+def beside(program, name, source, extents):
+    """Runs of a program with so many units and workers, each with the replay of its history, and `seq`."""
+    certificate = source.with_suffix(".cert2")
+    certificate.write_bytes(output(program, "annotate", "--emit", "keep", source)[1])
+    for units, workers in extents:
+        how = f"{units} units, {workers} workers"
+        words = ["--units", units, "--workers", workers, source, certificate]
+        script = source.with_suffix(f".events{units}_{workers}")
+        status, history = output(program, "run", "--emit", "script", *words)
+        script.write_bytes(history)
+        count = history.count(b"\n")
+        yield Case(f"{name}, {how}", ["run", *words], count, status)
+        replay = ["replay", "--units", units, source, certificate, script]
+        yield Case(f"{name}, replay of {how}", replay, count, output(program, *replay)[0])
+    status, told = output(program, "seq", source)
+    yield Case(f"{name}, seq", ["seq", source], bench.number_before(told, "instructions"), status)
+
+
+def cases(program, folder, wanted):
+    """The cases whose name has the wanted word. Histories are made only where they are wanted."""
+    texts = [("parallel", PARALLEL, ((1, 1), (2, 2), (4, 4), (4, 1))), ("tiny", TINY, ((4, 1), (4, 4)))]
+    for rounds in (LEAST_ROUNDS, *LONG_ROUNDS):
+        texts.append((f"long, {3 * rounds + 3} instructions", long_task(rounds), ((1, 1),)))
     for kernel in sorted((HERE / "kernels").glob("*.s")):
-        source = folder / kernel.name
-        source.write_bytes(subprocess.run([program, "annotate", kernel], capture_output=True).stdout)
-        certificate, _ = kept(program, folder, kernel.stem, source, "--units", "1")
-        for units in (1, 4):
-            status = subprocess.run([program, "run", "--units", str(units), source, certificate], capture_output=True).returncode
-            yield Case(f"{kernel.stem}, {units} units", ["run", "--units", units, source, certificate], status)
+        texts.append((f"kernels, {kernel.stem}", kernel, ((1, 1), (4, 4))))
+    for number, (name, text, extents) in enumerate(texts):
+        if wanted and wanted.split(",")[0] not in name and name.split(",")[0] not in wanted:
+            continue
+        source = folder / f"program{number}.s"
+        source.write_bytes(text.encode() if isinstance(text, str) else output(program, "annotate", text)[1])
+        yield from beside(program, name, source, extents)
+
+
+def long_costs(chosen):
+    """What an instruction of a long task costs, the start of the process taken off."""
+    for kind in ("1 units, 1 workers", "replay of 1 units, 1 workers", "seq"):
+        found = {case.name.split(", ")[1]: case for case in chosen
+                 if case.name.startswith("long, ") and case.name.split(", ", 2)[2] == kind}
+        if len(found) != len(LONG_ROUNDS) + 1:
+            continue
+        base, *others = sorted(found.values(), key=lambda case: int(case.name.split()[1]))
+        least = int(base.name.split()[1])
+        for case in others:
+            more = int(case.name.split()[1]) - least
+            spent = statistics.median(case.wall) - statistics.median(base.wall)
+            print(f"{case.name}: {spent / more * 1e9:.1f} ns an instruction, without start-up")
 
 
 def main():
     options = argparse.ArgumentParser(description=__doc__, formatter_class=argparse.RawDescriptionHelpFormatter)
     options.add_argument("--program", type=pathlib.Path)
     options.add_argument("--rounds", type=int, default=11)
-    options.add_argument("--only", default="")
+    options.add_argument("--only", default="", help="only the cases whose name has this: parallel, tiny, long, kernels ..")
     given = options.parse_args()
-    program = str((given.program or bench.built()).resolve())
+    program = str(pathlib.Path(given.program or bench.built()).resolve())
     with tempfile.TemporaryDirectory(prefix="multiscalar-bench-") as name:
-        chosen = [case for case in cases(program, pathlib.Path(name)) if given.only in case.name]
+        chosen = list(cases(program, pathlib.Path(name), given.only))
         for _ in range(given.rounds):
             for case in chosen:
                 case.run(program)
-        print(f"{'case':44} {'wall ms':>8} {'least':>8} {'user ms':>8} {'system':>8}")
-        for case in chosen:
-            wall, user, system = (statistics.median(times) * 1e3 for times in (case.wall, case.user, case.system))
-            print(f"{case.name:44} {wall:8.1f} {min(case.wall) * 1e3:8.1f} {user:8.1f} {system:8.1f}")
+    print(f"{'case':60} {'wall ms':>8} {'least':>8} {'user ms':>8} {'system':>8} {'events':>9} {'million/s':>9}")
+    for case in chosen:
+        print(case.line())
+    long_costs(chosen)
 
 
 if __name__ == "__main__":
