@@ -2,6 +2,7 @@
 """Refuses growths of memory, and looks at what the program answers.
 
     refused_growths.py PROGRAM [--minutes M] [--seed N] [--only SUBCOMMAND]
+    refused_growths.py PROGRAM --all examples|limits [--part K/OF] [--minutes M] [--only SUBCOMMAND]
 
 Each call that asks the system's allocator for memory is refused in turn, over
 every subcommand and every example; then several calls in a row, or all, from each
@@ -12,6 +13,11 @@ with its own status, or print nothing, end with status 2 and say one line on sta
 `OutOfMemory`, or the file, where the growth was one of reading it. Anything else
 (a crash, a run that does not end, half an answer, another status) is told, and
 the script ends with status 1. If the minutes do not suffice, the runs are drawn.
+
+With --all no run is drawn: each growth of the examples, or of the texts at the limits, is refused alone, and the
+script says how many of all runs it made; it ends when all are made, or the minutes are over. `--part 2/4` makes the
+second quarter of them, so that several processes, or several nights, share them: of each case the growths
+2, 6, 10 .. .
 
 `run` makes threads, and no two runs need ask for memory in the same order: so each
 number is refused three times. Of `run --emit script` no bytes are known
@@ -33,6 +39,8 @@ from faults import EVERY, GROW, TOP, Row, fault
 
 ENOMEM = 12
 EXAMPLES = TOP / "examples"
+# A certificate that is long enough to be fetched, read and checked by several threads.
+SHARED = TOP / "crates" / "test_shared_check" / "data"
 REFUSED = {
     "program.s": "A: addu $1,$2\n",
     "no-task.s": "halt\n",
@@ -63,6 +71,8 @@ def example_cases():
                 words += ["--budget", "2000"]
             yield words
             yield [*words, "--emit", "script"]
+    for workers in ("1", "2", "3", "4", "16"):
+        yield ["check", str(SHARED / "large.s"), str(SHARED / "large.cert2"), "--workers", workers]
 
 
 def refused_cases(folder):
@@ -195,6 +205,31 @@ def perform(name, jobs, draw, end):
     return row.line()
 
 
+def turns(cases, part, of):
+    """Of each case each growth of this part refused alone, those of a case after one another."""
+    for case in cases:
+        for first in range(part, case.growths + 1, of):
+            for _ in range(3 if case.shares else 1):
+                yield case, refusal(first, first)
+
+
+def complete(program, kind, part, of, minutes, only=""):
+    """Each growth of all cases of a kind that falls into this part, none drawn, as one row."""
+    end = time.monotonic() + 60 * minutes
+    with faults.Bench(program) as bench:
+        words = limit_cases(bench.folder) if kind == "limits" else itertools.chain(example_cases(), refused_cases(bench.folder))
+        cases = [Case(bench, w) for w in words if only in ("", w[0])]
+        for case in cases:
+            print(f"{case.growths} growths: {' '.join(case.words)}", file=sys.stderr, flush=True)
+        total, row = sum(1 for _ in turns(cases, part, of)), Row("")
+        for case, faults_of in turns(cases, part, of):
+            if time.monotonic() > end:
+                break
+            case.judge(row, bench.run(case.words, faults_of), f"faults {faults_of}")
+    row.part = f"each growth refused alone, {kind}, part {part} of {of} ({row.cases} of {total})"
+    return row.line()
+
+
 def limited(name, kind, least, most, cases, draw, end, **environment):
     """Runs under a drawn limit of the system."""
     row = Row(name)
@@ -225,15 +260,29 @@ def run(program, minutes, seed, only=""):
     return rows
 
 
+def part_of(text):
+    """The two numbers of `K/OF`."""
+    part, _, of = text.partition("/")
+    if not (part.isdigit() and of.isdigit() and 1 <= int(part) <= int(of)):
+        raise argparse.ArgumentTypeError(f"{text} is no part such as 2/4")
+    return int(part), int(of)
+
+
 def main():
     parser = argparse.ArgumentParser(description=__doc__.splitlines()[0])
     parser.add_argument("program")
-    parser.add_argument("--minutes", default=10, type=float)
+    parser.add_argument("--minutes", type=float, help="10, and with --all no end")
+    parser.add_argument("--all", choices=("examples", "limits"), help="refuse each growth of these, none drawn")
+    parser.add_argument("--part", default=(1, 1), type=part_of, metavar="K/OF", help="with --all, only this part of the growths")
     parser.add_argument("--seed", default=1, type=int)
     parser.add_argument("--only", default="", help="only the cases of this subcommand")
     args = parser.parse_args()
-    wrong = 0
-    for part, cases, answers, differences in run(args.program, args.minutes, args.seed, args.only):
+    wrong, minutes = 0, args.minutes or (1e9 if args.all else 10)
+    if args.all:
+        rows = [complete(args.program, args.all, *args.part, minutes, args.only)]
+    else:
+        rows = run(args.program, minutes, args.seed, args.only)
+    for part, cases, answers, differences in rows:
         print(f"{part}: {cases} runs", *(f"{count} {answer}" for answer, count in answers.items()), sep=", ")
         for difference in differences:
             print("wrong:", difference)

@@ -1,0 +1,198 @@
+#!/usr/bin/env python3
+"""Runs the program on texts at the limits that take the most memory, and looks at answers, memory and time.
+
+    limits.py PROGRAM [--only WORD]
+
+A certificate of 134,217,728 bytes is judged and one of a byte more is not, by `check` with one worker and four, by
+`run` and by `replay`; so with an event script. Certificates and scripts without end are refused within the memory
+of the limit. The other texts are those that were found to take the most memory: as many labels, targets or numbers
+as a program text can name, and as many entries, events and answers as the longest files give. Of each run the
+greatest memory is compared with BOUNDS, which README.md counts from the limits. The script ends with status 1 where
+an answer or the memory is another, and says the seconds, which depend on the machine. Needs python3, Linux, 400 MB
+in the temporary folder and 2 GB of memory; it is no part of the tests.
+"""
+import argparse
+import collections
+import itertools
+import os
+import pathlib
+import string
+import sys
+import tempfile
+import time
+
+TOP = pathlib.Path(__file__).resolve().parent.parent
+COUNT = TOP / "examples" / "count"
+PROGRAM_LIMIT, FILE_LIMIT = 4_194_304, 134_217_728
+
+# The most memory of a subcommand, in millions of bytes: README.md, "How much memory".
+BOUNDS = {"seq": 410, "print": 410, "annotate": 410, "check": 545, "run": 545, "replay": 1760}
+# How much more than the limit a file without end may take.
+ENDLESS = (FILE_LIMIT + 16_000_000) / 1e6
+
+Ended = collections.namedtuple("Ended", "status out told memory seconds")
+
+
+def ran(program, words, folder):
+    """A run, with the greatest memory in millions of bytes."""
+    out, told = folder / "out", folder / "told"
+    begin = time.monotonic()
+    process = os.fork()
+    if process == 0:
+        os.dup2(os.open(out, os.O_WRONLY | os.O_CREAT | os.O_TRUNC), 1)
+        os.dup2(os.open(told, os.O_WRONLY | os.O_CREAT | os.O_TRUNC), 2)
+        os.execv(program, [program, *words])
+    _, status, usage = os.wait4(process, 0)
+    with open(out, "rb") as file:
+        first = file.read(200)
+    return Ended(os.waitstatus_to_exitcode(status), first, told.read_bytes(), usage.ru_maxrss * 1024 / 1e6, time.monotonic() - begin)
+
+
+def filled(path, head, line, longer, size):
+    """Writes a head and then equal lines, the last of them a byte longer, so that the file is just so long; answers
+    how many lines that are."""
+    count, rest = divmod(size - len(head), len(line))
+    with open(path, "wb") as file:
+        file.write(head + line * (count - rest) + longer * rest)
+    return head.count(b"\n") + count
+
+
+def certificate(path, mask="0" * 16, size=FILE_LIMIT):
+    """A certificate whose second list has one index over and over, with lines as short as they get."""
+    head = b"cert 2\ntask A\ntask B\n" if len(mask) == 16 else b"cert 1\ntask A\ntask B\n"
+    return filled(path, head, f"7 {mask}\n".encode(), f"70 {mask}\n".encode(), size)
+
+
+def script(path, size=FILE_LIMIT):
+    """A script of as many events as it can have."""
+    return filled(path, b"", b"fault\n", b"retire\n", size)
+
+
+def names():
+    """Names, the shortest first."""
+    for length in itertools.count(1):
+        for letters in itertools.product(string.ascii_letters + "_", repeat=length):
+            yield "".join(letters)
+
+
+def programs(folder):
+    """Program texts of 4,194,304 bytes, and what refuses them."""
+    labels, room = [], PROGRAM_LIMIT
+    for name in names():
+        room -= len(name) + 1
+        if room < 0:
+            break
+        labels.append(name)
+    half = PROGRAM_LIMIT // 2
+    texts = {
+        "one label many times": (b"a:" * half, b"8 Duplicate line 1"),
+        "many labels": ((":".join(labels) + ":").encode(), b"10 Build 2 NoTask"),
+        "many targets": (b".task A create=- targets=" + b"A," * (half - 20) + b"A\nA: halt\n", b"10 Build 1 TooMany"),
+        "many words": (b".data\n.word " + b"0," * (half - 20) + b"0\n", b"10 Build 1 TooMany"),
+        "many instructions": (b"nop\n" * (PROGRAM_LIMIT // 4), b"10 Build 1 TooMany"),
+    }
+    for name, (text, refusal) in texts.items():
+        path = folder / f"{name}.s"
+        path.write_bytes(text)
+        for subcommand in ("seq", "print", "annotate"):
+            yield name, [subcommand, path], 1, b"program refused: " + refusal + b"\n", BOUNDS[subcommand]
+
+
+def certificates(folder):
+    """Certificates at the limit and a byte above, and without end."""
+    program, path = COUNT / "program.s", folder / "limit.cert2"
+    kinds = [["check", program, path, "--workers", "1"], ["check", program, path, "--workers", "4"],
+             ["run", program, path], ["replay", program, path, COUNT / "script.events"]]
+    for name, mask in (("the longest certificate", "0" * 16), ("the longest certificate, short lines", "0" * 8)):
+        certificate(path, mask)
+        for words in kinds:
+            yield name, words, 1, b"certificate refused: 5 Shape\n", BOUNDS[words[0]]
+    lines = certificate(path)
+    with open(path, "rb+") as file:
+        file.seek(-1, os.SEEK_END)
+        file.write(b" ")
+    for words in kinds:
+        yield "the longest certificate, its last line wrong", words, 1, b"certificate refused: 2 Line %d\n" % lines, BOUNDS[words[0]]
+    certificate(path, size=FILE_LIMIT + 1)
+    for words in kinds:
+        yield "a certificate of one byte more", words, 2, path, ENDLESS
+    for words in kinds:
+        yield "a certificate without end", ["/dev/zero" if word == path else word for word in words], 2, "/dev/zero", ENDLESS
+    path.unlink()
+
+
+def scripts(folder):
+    """Event scripts at the limit and a byte above, and without end."""
+    path = folder / "limit.events"
+    words = ["replay", COUNT / "program.s", COUNT / "certificate.cert2", path]
+    script(path)
+    yield "the script of the most events", words, 0, b"1 refused", BOUNDS["replay"]
+    script(path, FILE_LIMIT + 1)
+    yield "a script of one byte more", words, 2, path, ENDLESS
+    yield "a script without end", [*words[:3], "/dev/zero"], 2, "/dev/zero", ENDLESS
+    path.unlink()
+
+
+def runs(folder):
+    """The most events, and the most output."""
+    folder = folder / "runs"
+    folder.mkdir()
+    out, loop = folder / "out.s", folder / "loop.s"
+    out.write_text(".task A create=- targets=A\nA: " + "out $0\n" * 4095 + "j A !s\n")
+    loop.write_text(".task A create=$8 targets=A\nA: addiu $8,$8,1\nL: addiu $8,$8,1\nbne $8,$0,L\nj A !s\n")
+    for program, entries in ((out, 4096), (loop, 4)):
+        mask = "0000000000000100" if program == loop else "0" * 16
+        cert = program.with_suffix(".cert2")
+        cert.write_text("cert 2\ntask A\n" + "".join(f"{index} {mask if index < 3 else '0' * 16}\n" for index in range(entries)))
+        yield "the most output" if program == out else "the most events", ["seq", program], 3, None, BOUNDS["seq"]
+        for units in ("1", "16"):
+            for emit in ("report", "script"):
+                yield ("the most output" if program == out else "the most events",
+                       ["run", program, cert, "--units", units, "--emit", emit], 3, None, BOUNDS["run"])
+
+
+def faults_of(ended, status, answer, bound):
+    """What is wrong with a run. The answer is how standard output begins, or the file that is refused, or left open."""
+    if isinstance(answer, (str, pathlib.Path)):
+        right = (ended.out, ended.told) == (b"", f"multiscalar: file {answer}\n".encode())
+    else:
+        right = answer is None or (ended.out.startswith(answer) and ended.told == b"")
+    if ended.status != status or not right:
+        yield f"status {ended.status}, {ended.out[:60]}, {ended.told[:60]}"
+    if ended.memory > bound:
+        yield f"{ended.memory:.0f} MB"
+
+
+def run(program, minutes=0, seed=0, only=""):
+    """One row for each kind of text: its name, the number of runs, what they took, and the differences."""
+    rows = {}
+    with tempfile.TemporaryDirectory(prefix="multiscalar-limits-") as name:
+        folder = pathlib.Path(name)
+        for kind, words, status, answer, bound in itertools.chain(programs(folder), certificates(folder), scripts(folder), runs(folder)):
+            if only not in f"{kind} {words[0]}":
+                continue
+            ended = ran(program, [str(word) for word in words], folder)
+            row = rows.setdefault((words[0], kind), [0, 0, 0, bound, []])
+            row[0], row[1], row[2] = row[0] + 1, max(row[1], ended.memory), max(row[2], ended.seconds)
+            row[4] += [f"{' '.join(map(str, words))}: {fault}" for fault in faults_of(ended, status, answer, bound)]
+    return [(f"`{subcommand}` of {kind}", count, {f"at most {memory:.0f} MB of {bound:.0f}, {seconds:.1f} s": count}, differences)
+            for (subcommand, kind), (count, memory, seconds, bound, differences) in rows.items()]
+
+
+def main():
+    parser = argparse.ArgumentParser(description=__doc__.splitlines()[0])
+    parser.add_argument("program")
+    parser.add_argument("--only", default="", metavar="WORD", help="only what has this in its name")
+    args = parser.parse_args()
+    wrong = 0
+    for part, count, seen, differences in run(str(pathlib.Path(args.program).resolve()), only=args.only):
+        print(f"{part}: {count} runs,", *seen, flush=True)
+        for difference in differences:
+            print("wrong:", difference)
+        wrong += len(differences)
+    print("wrong", wrong)
+    return 1 if wrong else 0
+
+
+if __name__ == "__main__":
+    sys.exit(main())

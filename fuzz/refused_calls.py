@@ -1,0 +1,338 @@
+#!/usr/bin/env python3
+"""Calls the libraries one by one, refuses each growth of memory in turn, and makes the same call again.
+
+    refused_calls.py [--program BUILT] [--keep BUILT] [--unproved] [--only CALL] [--minutes M]
+
+It puts calls.rt.txt into the repository as a crate of its own, builds it (proved, which takes some minutes, or
+with --unproved by `rt try` and clang), and takes it away again; --keep keeps the built program, and --program
+takes one that was kept. That program makes one public call on the texts of an example. A library that is
+loaded before the C library refuses the growths inside the call: each alone, and each with the four behind it.
+Where the call then says that memory ran out, what it was given must be as its contract says (as a rule
+unchanged), and the same call made again must answer, and leave, what it does with ample memory. Calls that make
+threads are tried three times for each growth, since threads take memory in no fixed order. A table tells how
+many growths each call has and what was answered; differences end the script with status 1.
+
+Needs python3, cc, rt unless there is --program, and Linux; it is no part of the tests.
+"""
+import argparse
+import collections
+import os
+import pathlib
+import shutil
+import subprocess
+import sys
+import tempfile
+import time
+
+HERE = pathlib.Path(__file__).resolve().parent
+TOP = HERE.parent
+EXAMPLES = TOP / "examples"
+NAME = "calls_of_libraries"
+BELOW = ("mips_plain task_descriptor annotated_asm canonical_text canonical_round_trip task_graph mask_certificate mark_checker "
+         "annotator machine_events unit_core sequencer parallel_check threaded_runner event_script text_pieces shared_fetch jobs "
+         "command_line verdict_report")
+
+SOURCE = r"""
+#define _GNU_SOURCE
+#include <dlfcn.h>
+#include <errno.h>
+#include <fcntl.h>
+#include <stdio.h>
+#include <stdlib.h>
+#include <string.h>
+#include <sys/syscall.h>
+#include <unistd.h>
+static unsigned long growths, refusals, from, to;
+static int counts_now;
+__attribute__((constructor)) static void start(void) {
+    from = getenv("FROM") ? strtoul(getenv("FROM"), NULL, 10) : 0;
+    to = getenv("TO") ? strtoul(getenv("TO"), NULL, 10) : 0;
+}
+static int refused(void) {
+    if (!__atomic_load_n(&counts_now, __ATOMIC_SEQ_CST)) return 0;
+    unsigned long growth = __atomic_add_fetch(&growths, 1, __ATOMIC_SEQ_CST);
+    if (growth < from || growth > to) return 0;
+    __atomic_add_fetch(&refusals, 1, __ATOMIC_SEQ_CST);
+    errno = ENOMEM;
+    return 1;
+}
+static void *next(const char *name) { return dlsym(RTLD_NEXT, name); }
+void *malloc(size_t n) {
+    static void *(*real)(size_t); if (!real) real = next("malloc");
+    return refused() ? NULL : real(n);
+}
+void *realloc(void *p, size_t n) {
+    static void *(*real)(void *, size_t); if (!real) real = next("realloc");
+    return refused() ? NULL : real(p, n);
+}
+void *aligned_alloc(size_t a, size_t n) {
+    static void *(*real)(size_t, size_t); if (!real) real = next("aligned_alloc");
+    return refused() ? NULL : real(a, n);
+}
+int posix_memalign(void **p, size_t a, size_t n) {
+    static int (*real)(void **, size_t, size_t); if (!real) real = next("posix_memalign");
+    return refused() ? ENOMEM : real(p, a, n);
+}
+ssize_t write(int fd, const void *p, size_t n) {
+    if (fd == 1 && n == 6 && !memcmp(p, "begin\n", 6)) __atomic_store_n(&counts_now, 1, __ATOMIC_SEQ_CST);
+    if (fd == 1 && n == 4 && !memcmp(p, "end\n", 4)) __atomic_store_n(&counts_now, 0, __ATOMIC_SEQ_CST);
+    return syscall(SYS_write, fd, p, n);
+}
+// The program ends so: no destructor runs.
+void _exit(int status) {
+    char text[99];
+    int size = snprintf(text, sizeof text, "%lu %lu", growths, refusals);
+    long file = syscall(SYS_openat, AT_FDCWD, getenv("COUNTS"), O_WRONLY | O_CREAT | O_TRUNC, 0666);
+    if (syscall(SYS_write, file, text, size) < 0) { }
+    for (;;) syscall(SYS_exit_group, status);
+}
+"""
+
+# Tasks that execute some thousand instructions each, one after another and side by side; the next one needs one
+# register, which is sent early.
+LONG = """.start A
+.task A create=$8,$9,$10,$11 targets=A,B
+.task B create=- targets=-
+A: addiu $8,$8,1 !f
+addu $10,$8,$0
+addiu $9,$0,600
+L: sll $11,$10,5
+xor $10,$10,$11
+addiu $9,$9,-1
+bne $9,$0,L
+slti $11,$8,8
+bne $11,$0,A !s
+B: out $8
+out $10
+halt
+"""
+# Calls on a program alone, on its certificate too, and those that make threads.
+ON_PROGRAM = ["Memory::new", "Program::plain", "Plain::new", "Plain::step", "Plain::run", "assemble", "print",
+              "print_and_assemble", "members", "propose", "certify", "is_sound"]
+ON_BOTH = ["certificate read", "certificate write", "check_task", "verdict", "Accepted::new", "fetch", "Text::append", "Text::pieces"]
+IN_THREADS = ["read_shared", "verdict_shared", "accepts_shared", "fetch_shared", "run_threads", "run_workers", "serve"]
+# Calls on an accepted program whose run ends.
+ON_ACCEPTED = ["Machine::new", "finish", "Burst::run", "apply_burst", "run_threads"]
+REFUSED = {"refused: unchanged", "refused: changed", "another fault"}
+
+Case = collections.namedtuple("Case", "call name program certificate script units workers words")
+Ran = collections.namedtuple("Ran", "status faults notes answer growths refusals")
+
+
+def compiled(crate, folder, unproved):
+    """The program that was built in the crate's folder."""
+    if not unproved:
+        run = subprocess.run(["rt", "run", "--", "none"], cwd=crate, capture_output=True, text=True)
+        if (crate / "out" / NAME).exists():
+            return shutil.copy(crate / "out" / NAME, folder)
+        raise SystemExit(run.stdout + run.stderr)
+    module, kit = folder / "module.bc", pathlib.Path(shutil.which("rt")).resolve().parent.parent
+    subprocess.run([sys.executable, HERE / "entry" / "capture.py", module, NAME], check=True, stdout=subprocess.DEVNULL, stderr=subprocess.DEVNULL)
+    words = ["--target=x86_64-unknown-linux-gnu", "--no-default-config", "-Wno-override-module", "-x", "ir", module, "-O1", "-fPIE",
+             "-mllvm", "-trap-unreachable", "-mllvm", "-no-trap-after-noreturn", "-c", "-o", folder / "calls.o"]
+    subprocess.run([kit / "toolchain" / "bin" / "clang", *words], check=True)
+    archives = [kit / "c" / "libos_c.a", kit / "c" / "liblibc_c.a"]
+    subprocess.run(["cc", "-pie", folder / "calls.o", *archives, "-lpthread", "-o", folder / NAME], check=True)
+    return folder / NAME
+
+
+def built(folder, unproved):
+    """Builds the program in a crate that is there only for so long."""
+    crate, listed = TOP / "crates" / NAME, TOP / "crates.txt"
+    before = listed.read_text()
+    try:
+        (crate / "src").mkdir(parents=True)
+        shutil.copy(HERE / "calls.rt.txt", crate / "src" / "main.rt")
+        listed.write_text(before.rstrip("\n") + f"\n{NAME}: {BELOW}\n")
+        return compiled(crate, folder, unproved)
+    finally:
+        listed.write_text(before)
+        shutil.rmtree(crate, ignore_errors=True)
+
+
+def of_example(folder, calls, units=2, workers=1):
+    """Cases on the texts of a folder."""
+    certificate, script = folder / "certificate.cert2", folder / "script.events"
+    none = folder / "program.s"
+    for call in calls:
+        yield Case(call, folder.name, folder / "program.s", certificate if certificate.exists() else none,
+                   script if script.exists() else none, units, workers, ())
+
+
+def served(folder, script="script.events"):
+    """Cases of `job_of` and `serve`."""
+    lines = ["seq P", "print P", "annotate P", "annotate P --emit cert", "annotate P --emit keep", "check P C", "check P C --workers 4"]
+    if folder.name != "five-findings":
+        lines += ["run P C --units 1", "run P C --units 4"]
+    if (folder / script).exists():
+        lines.append("replay P C S --units 2")
+    for line in lines:
+        for call in ("serve", "job_of"):
+            yield Case(call, f"{folder.name}, {line}", folder / "program.s", folder / "certificate.cert2",
+                       folder / (script if (folder / script).exists() else "program.s"), 1, 1, line.split())
+
+
+def cases(folder):
+    """All cases; texts that are made are written into the folder."""
+    for example in sorted(path for path in EXAMPLES.iterdir() if (path / "program.s").exists()):
+        certified, is_sound = (example / "certificate.cert2").exists(), example.name != "five-findings"
+        yield from of_example(example, ON_PROGRAM if example.name not in ("spin", "corner-operands") else ON_PROGRAM[5:])
+        if not certified:
+            continue
+        yield from of_example(example, ON_BOTH)
+        for workers in (1, 4):
+            yield from of_example(example, ["read_shared", "verdict_shared", "accepts_shared"], workers=workers)
+        if is_sound and example.name not in ("spin", "wrong-path-spin"):
+            yield from of_example(example, ON_ACCEPTED)
+            yield from of_example(example, ["run_workers"], units=4, workers=1)
+            yield from of_example(example, ["run_workers"], units=4, workers=4)
+    for name in ("count", "five-findings"):
+        yield from served(EXAMPLES / name)
+    yield from scripts()
+    yield from made(folder)
+
+
+def scripts():
+    """Each event kind, and the texts of scripts."""
+    for example, script, units in (("count", "script", 2), ("count", "squash", 2), ("count", "drop", 3), ("read-only", "script", 4),
+                                   ("unlisted-jump", "script", 2), ("wrong-path-load", "script", 4)):
+        folder = EXAMPLES / example
+        for call in ("apply", "script read", "script write"):
+            yield Case(call, f"{example}, {script}.events", folder / "program.s", folder / "certificate.cert2",
+                       folder / f"{script}.events", units, 1, ())
+
+
+def made(folder):
+    """A program of long tasks, and a certificate that is large enough to be shared out."""
+    long, large = folder / "long tasks", TOP / "crates" / "test_shared_check" / "data"
+    yield from of_example(long, ["finish", "Burst::run", "apply_burst"], units=4)
+    for workers in (1, 2, 4):
+        yield from of_example(long, ["run_workers"], units=4, workers=workers)
+    for call in ("read_shared", "verdict_shared", "accepts_shared", "fetch_shared", "fetch", "Text::pieces"):
+        for workers in (1, 4) if call in IN_THREADS else (1,):
+            yield Case(call, "the shared certificate", large / "large.s", large / "large.cert2", large / "large.s", 1, workers, ())
+
+
+class Bench:
+    """The program with the library before it."""
+
+    def __init__(self, program, folder):
+        self.program, self.folder = str(program), folder
+        self.library, self.counts = folder / "refuse.so", folder / "counts"
+        source = folder / "refuse.c"
+        source.write_text(SOURCE)
+        subprocess.run(["cc", "-O1", "-shared", "-fPIC", "-o", self.library, source, "-ldl"], check=True)
+        long = folder / "long tasks"
+        long.mkdir()
+        (long / "program.s").write_text(LONG)
+        answer = self.run(Case("certify", "", long / "program.s", long / "program.s", long / "program.s", 1, 1, ()), 0, 0).answer
+        (long / "certificate.cert2").write_bytes(answer)
+
+    def run(self, case, first, last):
+        """A run of the case with the growths from the first to the last refused."""
+        words = [self.program, case.call, case.program, case.certificate, case.script, case.units, case.workers, *case.words]
+        environment = dict(os.environ, LD_PRELOAD=str(self.library), COUNTS=str(self.counts), FROM=str(first), TO=str(last))
+        self.counts.unlink(missing_ok=True)
+        try:
+            done = subprocess.run([str(word) for word in words], stdin=subprocess.DEVNULL, capture_output=True, env=environment, timeout=120)
+        except subprocess.TimeoutExpired:
+            return Ran("did not end", [], [], b"", 0, 0)
+        before, _, answer = done.stdout.partition(b"answer\n")
+        lines = before.decode(errors="replace").splitlines()
+        growths, refusals = map(int, self.counts.read_text().split()) if self.counts.exists() else (0, 0)
+        return Ran(done.returncode, [line for line in lines if line in REFUSED], [line for line in lines if line.startswith("note")],
+                   answer, growths, refusals)
+
+
+class Row:
+    """What was seen of a call."""
+
+    def __init__(self, call):
+        self.call, self.cases, self.growths, self.runs = call, 0, 0, 0
+        self.answers, self.notes, self.differences = collections.Counter(), collections.Counter(), []
+
+    def judge(self, case, ample, ran, what):
+        self.runs += 1
+        for note in ran.notes:
+            if note.endswith(" refused"):
+                self.notes[f"{note.split()[1].split('(')[0]} refused"] += 1
+            elif note.startswith("note drops") and not note.endswith(" 0"):
+                self.notes["runs with a Drop"] += 1
+        is_right = (ran.status, ran.answer) == (0, ample.answer) and not set(ran.faults) - {"refused: unchanged"}
+        if not is_right:
+            faults = ", ".join(sorted(set(ran.faults))) or "another answer"
+            self.differences.append(f"{case.call}, {case.name}, {case.workers} workers, {what}: status {ran.status}, {faults}, {ran.answer[:60]}")
+        elif ran.refusals == 0:
+            self.answers["not reached"] += 1
+        elif not ran.faults:
+            self.answers["answered nevertheless"] += 1
+        else:
+            self.answers["refused, then answered"] += 1
+
+
+def tried(bench, case, row, end):
+    """Refuses the growths of a case in turn."""
+    amples = [bench.run(case, 0, 0) for _ in range(5 if case.call in IN_THREADS else 1)]
+    ample, growths = amples[0], max(ran.growths for ran in amples)
+    row.cases += 1
+    row.growths += growths
+    for ran in amples:
+        if (ran.status, ran.faults, ran.answer) != (0, [], ample.answer) or not ran.answer:
+            row.differences.append(f"{case.call}, {case.name}, {case.workers} workers, with ample memory: status {ran.status}, {ran.faults}")
+            return
+    for first in range(1, growths + 1):
+        for last in (first, first + 4):
+            for _ in range(3 if case.call in IN_THREADS else 1):
+                if time.monotonic() > end:
+                    row.notes["cut short"] += 1
+                    return
+                row.judge(case, ample, bench.run(case, first, last), f"growths {first} to {last}")
+
+
+def run(program, minutes, seed=0, only=""):
+    """A row for each call. The program is one that was built from calls.rt.txt; nothing is drawn."""
+    end, rows = time.monotonic() + 60 * minutes, {}
+    with tempfile.TemporaryDirectory(prefix="multiscalar-calls-") as name:
+        bench = Bench(program, pathlib.Path(name))
+        for case in cases(bench.folder):
+            if only in ("", case.call):
+                tried(bench, case, rows.setdefault(case.call, Row(case.call)), end)
+    return [rows[call] for call in sorted(rows)]
+
+
+def table(rows):
+    """The rows as text."""
+    yield "| Call | Cases | Growths | Runs | Seen | Differences |"
+    yield "|---|---|---|---|---|---|"
+    for row in rows:
+        seen = ", ".join(f"{answer}: {count:,}" for answer, count in [*row.answers.most_common(), *sorted(row.notes.items())])
+        yield f"| `{row.call}` | {row.cases} | {row.growths:,} | {row.runs:,} | {seen} | {len(row.differences)} |"
+    sums = [sum(column) for column in zip(*((row.cases, row.growths, row.runs, len(row.differences)) for row in rows))]
+    yield f"| all | {sums[0]} | {sums[1]:,} | {sums[2]:,} | | {sums[3]} |"
+
+
+def main():
+    parser = argparse.ArgumentParser(description=__doc__.splitlines()[0])
+    parser.add_argument("--program", type=pathlib.Path, help="a program that --keep kept")
+    parser.add_argument("--keep", type=pathlib.Path, metavar="BUILT", help="where the built program is kept")
+    parser.add_argument("--unproved", action="store_true", help="build without proofs, by rt try and clang")
+    parser.add_argument("--only", default="", metavar="CALL", help="only this call")
+    parser.add_argument("--minutes", default=60, type=float, help="end after so many minutes, complete or not")
+    args = parser.parse_args()
+    with tempfile.TemporaryDirectory(prefix="multiscalar-calls-") as name:
+        program = args.program or built(pathlib.Path(name), args.unproved)
+        if args.keep:
+            shutil.copy(program, args.keep)
+        rows = run(pathlib.Path(program).resolve(), args.minutes, only=args.only)
+    print("\n".join(table(rows)))
+    differences = [difference for row in rows for difference in row.differences]
+    for difference in differences:
+        print("difference:", difference)
+    unknown = {note for row in rows if row.call == "apply" for note in row.notes} - {"Exec refused", "Retire refused", "cut short"}
+    if unknown:
+        print("difference: events that take memory beside Exec and Retire:", *sorted(unknown))
+    return 1 if differences or unknown or not rows else 0
+
+
+if __name__ == "__main__":
+    sys.exit(main())
