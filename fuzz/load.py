@@ -349,13 +349,13 @@ def no_memory(files):
     return [b"multiscalar: 1 OutOfMemory\n", b"multiscalar: 4 OutOfMemory\n", *(f"multiscalar: file {path}\n".encode() for path in files)]
 
 
-def run(program, minutes, seed, only=""):
+def run(program, minutes, seed, only="", kinds=None):
     """Rows for the table: (part, cases, answers seen, differences)."""
     draw = random.Random(seed)
     accepted.R.seed(seed)
-    in_turn = [refused_in_turn(program, minutes / 6)] if only in "each thread refused in turn" else []
+    in_turn = [refused_in_turn(program, minutes / 6)] if not kinds and only in "each thread refused in turn" else []
     end = time.monotonic() + 60 * minutes * (5 / 6 if in_turn else 1)
-    kinds = [how for how in KINDS if only in how]
+    kinds = kinds or [how for how in KINDS if only in how]
     others = []
     with tempfile.TemporaryDirectory() as name:
         load = Load(program, pathlib.Path(name), draw, kinds)
