@@ -20,7 +20,7 @@ import threading
 import time
 
 import faults
-from faults import EVERY, OPEN, READ, TELL, TOP, WRITE, Row, fault
+from faults import EVERY, OPEN, PLACE, READ, SIZE, TELL, TOP, WRITE, Row, fault
 
 EXPECTED = {
     "reads of 1, 7 or 4,096 bytes": "the answer of whole reads",
@@ -46,8 +46,18 @@ EXPECTED = {
     "a file of another user, as nobody": "status 2, nothing on standard output, `multiscalar: file PATH`",
     "files at the limit, and one byte above": "program: judged, and `1 TooLong`; other files: judged, and status 2 with the file named",
     "words that are not UTF-8": "status 2, nothing on standard output, `multiscalar: 1 Words`",
+    "reads by places: short": "of 1, 7, 100 or 4,096 bytes: the answer of one worker",
+    "reads by places: failed or interrupted": "one, all from one on, or one in some: the answer of one worker, since one thread then reads the file from its beginning",
+    "reads by places: one fails, then a read": "status 2, nothing on standard output, `multiscalar: file PATH` of that file",
+    "reads by places: the end too early": "in a part: the answer of one worker, as before; behind the parts: the answer for the bytes that were read",
+    "reads by places: the file is cut": "the answer for the bytes that were read: those that are left, where a part was short; else all parts and what was read behind them",
+    "reads by places: the file grows": "the answer for the longer file",
+    "reads by places: files about as long as those that threads fetch": "the answer of one worker, from 262,142 to 262,146 bytes",
+    "the size of a file is refused": "the answer as ever, also where the file is said to be a pipe",
+    "a wrong size of a file": "the answer as ever, for sizes that are too small, too large, and none that a file can have",
 }
-MANY_RUNS = ["a read fails", "a read finds the end too early", "a file is cut while it is read", "a file grows while it is read", "a write fails"]
+MANY_RUNS = ["reads by places: failed or interrupted", "reads by places: the end too early", "reads by places: the file is cut", "reads by places: the file grows",
+             "a read fails", "a read finds the end too early", "a file is cut while it is read", "a file grows while it is read", "a write fails"]
 READ_ERRORS = [errno.EIO, errno.EAGAIN, errno.EISDIR, errno.EBADF, errno.ENOMEM, errno.ESTALE, errno.EINVAL, errno.EPERM]
 OPEN_ERRORS = [errno.EACCES, errno.ENOENT, errno.EMFILE, errno.ENFILE, errno.ENOMEM, errno.ELOOP, errno.EIO, errno.EPERM, errno.ENXIO]
 WRITE_ERRORS = [errno.EIO, errno.ENOSPC, errno.EPIPE, errno.EBADF, errno.EAGAIN, errno.EFBIG, errno.EDQUOT, 0]
@@ -125,8 +135,8 @@ class Part:
         """`wanted` is status, output and what is told; None in its place is anything."""
         given = (ended.status, ended.out, ended.told)
         is_right = all(w is None or w == g for w, g in zip(wanted, given))
-        if ended.counts and ended.counts[5]:
-            is_right, what = False, f"{what}, {ended.counts[5]} files opened for writing"
+        if ended.counts and ended.counts[-1]:
+            is_right, what = False, f"{what}, {ended.counts[-1]} files opened for writing"
         answer = name_of(wanted) if is_right else "did not end" if ended.status is None else f"status {ended.status}"
         text = f"{what}: {ended.out[:60]} {ended.told[:60]}, wanted {[w if w is None or isinstance(w, int) else w[:60] for w in wanted]}"
         self.row.seen(answer, words, text, not is_right)
@@ -396,9 +406,139 @@ def not_text(part, every, draw):
         part.expect(case.words, f"{words[place]} as word {place}", part.bench.run(words), (2, b"", NO_TEXT))
 
 
+class SharedCase(Case):
+    """A `check` whose certificate several workers fetch; right is what one worker answers."""
+
+    def __init__(self, bench, workers, certificate):
+        data = TOP / "crates" / "test_shared_check" / "data"
+        files = [str(data / "large.s"), str(certificate or data / "large.cert2")]
+        super().__init__(bench, ["check", "--workers", "1", *files])
+        self.words, self.workers = ["check", "--workers", str(workers), *files], workers
+        with open(files[1], "rb") as file:
+            self.text = file.read()
+
+    def behind(self, size):
+        """Where the parts end, for a file that is said to be so long."""
+        return size // self.workers * self.workers
+
+
+def shared_cases(bench):
+    """A certificate with findings, for each number of workers; and one whose last line is a fault."""
+    broken = bench.folder / "broken.cert2"
+    broken.write_bytes((TOP / "crates" / "test_shared_check" / "data" / "large.cert2").read_bytes()[:-2] + b"x\n")
+    return [SharedCase(bench, workers, None) for workers in (2, 3, 4, 16)] + [SharedCase(bench, 4, broken)]
+
+
+def placed(part, case, wanted, *faults_of):
+    """A run of which reads by places are known to have been made."""
+    ended = part.bench.run(case.words, *faults_of)
+    if ended.counts and not ended.counts[PLACE]:
+        part.row.differences.append(f"no reads by places: {' '.join(case.words)}")
+    part.expect(case.words, "".join(faults_of), ended, wanted)
+
+
+def short_places(part, every, draw):
+    for case, size in part.each([(case, size) for case in shared_cases(part.bench) for size in (1, 7, 100, 4096, EVERY)], draw):
+        placed(part, case, case.right[:3], fault(PLACE, 1, EVERY, "s", size))
+
+
+def place_faults(draw, n, error):
+    """A read by places fails alone, with all after it, or one in some does."""
+    return fault(PLACE, n, n, "e", error), fault(PLACE, n, EVERY, "e", error), fault(PLACE, 1, EVERY, "e", error, 2 + n, draw.randrange(9999))
+
+
+def failing_place(part, every, draw):
+    jobs = [(case, which) for case in shared_cases(part.bench) for n in range(1, 40) for error in [INTERRUPTED, *READ_ERRORS]
+            for which in place_faults(draw, n, error)]
+    for case, which in part.each(jobs, draw):
+        placed(part, case, case.right[:3], fault(PLACE, 1, EVERY, "s", draw.choice((4096, EVERY))), which)
+
+
+def failing_place_and_read(part, every, draw):
+    jobs = [(case, n, error) for case in shared_cases(part.bench) for n in range(1, 12) for error in READ_ERRORS]
+    for case, n, error in part.each(jobs, draw):
+        first = case.right.read_of.index(2) + draw.randrange(1, 20)
+        placed(part, case, named(case.files[1]), fault(PLACE, n, n, "e", draw.choice([INTERRUPTED, *READ_ERRORS])), fault(READ, first, EVERY, "e", error))
+
+
+def told_sizes(case):
+    """The size as it is, and smaller ones, so that more is read behind the parts."""
+    return len(case.text), 300000, 262144
+
+
+def early_place(part, every, draw):
+    jobs = [(case, n, size) for case in shared_cases(part.bench) for n in range(1, 90) for size in told_sizes(case)]
+    for case, n, size in part.each(jobs, draw):
+        which = fault(PLACE, 1, EVERY, "s", 4096), fault(PLACE, n, n, "z"), fault(SIZE, 1, EVERY, "l", size)
+        ended = part.bench.run(case.words, *which)
+        place = ended.places[n - 1][0] if ended.places and n <= len(ended.places) else 0
+        wanted = prefix_answer(case, 1, place) if place >= case.behind(size) else case.right[:3]
+        part.expect(case.words, f"at {place} {''.join(which)}", ended, wanted)
+
+
+def left_of_cut(case, ended, size, value):
+    """How many bytes were read of a file that was said to be of one size and was cut to another."""
+    if 2 in ended.read_of:
+        return value
+    return case.behind(size) + sum(got for place, got in ended.places if place >= case.behind(size))
+
+
+def changed_places(how, more):
+    """A copy of the certificate is cut, or made longer, before a read by places."""
+    def runs(part, every, draw):
+        copy = part.bench.folder / "changing"
+        jobs = [(case, n, size) for case in shared_cases(part.bench) for n in range(1, 90) for size in told_sizes(case)]
+        for case, n, size in part.each(jobs, draw):
+            copy.write_bytes(case.text)
+            value = draw.randint(draw.choice((0, case.behind(size) - 9)), len(case.text)) if how == "t" else draw.choice((1, 500))
+            which = fault(PLACE, 1, EVERY, "s", 4096), fault(PLACE, n, n, how, value), fault(SIZE, 1, EVERY, "l", size)
+            ended = part.bench.run(case.with_file(1, copy), *which, TARGET=str(copy), MORE=more)
+            if not ended.places or n > len(ended.places):
+                wanted = case.right[:3]
+            elif how == "t":
+                wanted = prefix_answer(case, 1, left_of_cut(case, ended, size, value))
+            else:
+                wanted = prefix_answer(case, 1, len(case.text), more.encode() * value)
+            part.expect(case.words, "".join(which), ended, wanted)
+    return runs
+
+
+def least_shared(part, every, draw):
+    """Beginnings of a certificate, of about the length from which on several threads fetch."""
+    jobs = [(case, size) for case in shared_cases(part.bench) for size in range(262142, 262147)]
+    path = part.bench.folder / "beginning"
+    for case, size in part.each(jobs, draw):
+        path.write_bytes(case.text[:size])
+        words = case.with_file(1, path)
+        ended = part.bench.run(words)
+        if ended.counts and bool(ended.counts[PLACE]) != (size >= 262144):
+            part.row.differences.append(f"{ended.counts[PLACE]} reads by places of {size} bytes: {' '.join(words)}")
+        part.expect(words, f"{size} bytes", ended, part.bench.run([*words[:2], "1", *words[3:]])[:3])
+
+
+def with_sizes(part, every):
+    """The cases that ask for the size of a file."""
+    return [case for case in every if case.right.counts[SIZE]] + shared_cases(part.bench)
+
+
+def no_size(part, every, draw):
+    hows = [("e", error) for error in (errno.EIO, errno.EACCES, errno.ENOSYS, errno.EOVERFLOW, errno.ENOMEM, errno.EBADF, INTERRUPTED)] + [("p", 0), ("z", 0)]
+    for case, how in part.each([(case, how) for case in with_sizes(part, every) for how in hows], draw):
+        part.run(case, "", case.right[:3], fault(SIZE, 1, EVERY, *how))
+
+
+def wrong_size(part, every, draw):
+    jobs = [(case, size) for case in with_sizes(part, every) for length in [os.path.getsize(case.files[1])]
+            for size in (0, 1, length // 2, length - 1, length + 1, 2 * length, 262143, 262144, 300000, FILE_LIMIT, FILE_LIMIT + 1, 1 << 40, -1)]
+    for case, size in part.each(jobs, draw):
+        part.run(case, "", case.right[:3], fault(SIZE, 1, EVERY, "l", size))
+
+
 RUNS = [short_reads, interrupted_read, interrupted_reads(1000), interrupted_reads(1001), failing_read, early_end,
         changed_while_read("t", ""), changed_while_read("a", "# more\n"), failing_open, interrupted_open, short_writes, interrupted_write,
-        failing_write, failing_telling, bad_outputs, bad_streams, pipes, endless, empty, unreadable, forbidden, limits, not_text]
+        failing_write, failing_telling, bad_outputs, bad_streams, pipes, endless, empty, unreadable, forbidden, limits, not_text,
+        short_places, failing_place, failing_place_and_read, early_place, changed_places("t", ""), changed_places("a", "# more\n"), least_shared,
+        no_size, wrong_size]
 
 
 def run(program, minutes, seed, only=""):

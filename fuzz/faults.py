@@ -1,8 +1,8 @@
 """Runs the program with calls of the C library that fail, as a module of the scripts beside it.
 
-A library that is loaded before the C library counts the program's calls of five kinds, and changes
-those that a fault names: it refuses them, cuts them short, or sends the process a signal in the middle
-of them. Needs cc and a program that is linked with the C library of the system at run time.
+A library that is loaded before the C library counts the program's calls of seven kinds, and changes
+those that a fault names: it refuses them, cuts them short, has them lie, or sends the process a signal in
+the middle of them. Needs cc and a program that is linked with the C library of the system at run time.
 """
 import collections
 import os
@@ -12,8 +12,9 @@ import tempfile
 
 TOP = pathlib.Path(__file__).resolve().parent.parent
 
-# The kinds of calls: memory, files that are opened, reads, writes to standard output and to standard error.
-GROW, OPEN, READ, WRITE, TELL = range(5)
+# The kinds of calls: memory, files that are opened, reads, writes to standard output and to standard error, reads
+# from a place of a file (pread), and what a file is and how long (statx).
+GROW, OPEN, READ, WRITE, TELL, PLACE, SIZE = range(7)
 EVERY = 10 ** 12
 
 SOURCE = r"""
@@ -26,15 +27,17 @@ SOURCE = r"""
 #include <stdio.h>
 #include <stdlib.h>
 #include <string.h>
+#include <sys/stat.h>
 #include <sys/syscall.h>
 #include <unistd.h>
-enum { GROW, OPEN, READ, WRITE, TELL, KINDS };
+enum { GROW, OPEN, READ, WRITE, TELL, PLACE, SIZE, KINDS };
 // Calls of a kind from one number to another, and of these one in some, by a seed: what becomes of them.
 struct fault { int kind; unsigned long from, to, one_in, seed; char how; long value; };
 static struct fault faults[8];
 static int count, ready;
 static unsigned long calls[KINDS], for_writing;
 static unsigned char opened[1024], read_of[1 << 16];
+static struct { long place, got; } placed[1 << 13];
 
 // Has the stack grow at once, so that a limit on the address space meets the heap alone.
 static void grow_stack(size_t size) {
@@ -126,14 +129,35 @@ ssize_t write(int fd, const void *p, size_t n) {
     long result;
     return fails(kind, call, &result) ? result : syscall(SYS_write, fd, p, room(kind, call, n));
 }
+ssize_t pread(int fd, void *p, size_t n, off_t place) {
+    unsigned long call = number(PLACE);
+    long result;
+    if (!fails(PLACE, call, &result)) result = syscall(SYS_pread64, fd, p, room(PLACE, call, n), place);
+    if (call < sizeof placed / sizeof *placed) { placed[call].place = place; placed[call].got = result; }
+    return result;
+}
+int statx(int fd, const char *restrict path, int flags, unsigned mask, struct statx *restrict into) {
+    unsigned long call = number(SIZE);
+    long result;
+    if (fails(SIZE, call, &result)) return (int)result;
+    int done = (int)syscall(SYS_statx, fd, path, flags, mask, into);
+    const struct fault *f = call ? fault_at(SIZE, call, 0) : NULL;
+    if (f && f->how == 'l') into->stx_size = (unsigned long)f->value;
+    if (f && f->how == 'p') into->stx_mode = S_IFIFO | 0644;
+    return done;
+}
 static void finish(void) {
     const char *path = getenv("COUNTS");
     if (!path) return;
-    static char text[3 * sizeof read_of];
-    int size = snprintf(text, sizeof text, "%lu %lu %lu %lu %lu %lu\n",
-                        calls[GROW], calls[OPEN], calls[READ], calls[WRITE], calls[TELL], for_writing);
+    static char text[4 * sizeof read_of + 40 * (sizeof placed / sizeof *placed)];
+    int size = 0;
+    for (int kind = 0; kind < KINDS; kind++) size += snprintf(text + size, sizeof text - size, "%lu ", calls[kind]);
+    size += snprintf(text + size, sizeof text - size, "%lu\n", for_writing);
     for (unsigned long i = 1; i <= calls[READ] && i < sizeof read_of; i++)
         size += snprintf(text + size, sizeof text - size, "%d ", read_of[i]);
+    text[size++] = '\n';
+    for (unsigned long i = 1; i <= calls[PLACE] && i < sizeof placed / sizeof *placed; i++)
+        size += snprintf(text + size, sizeof text - size, "%ld,%ld ", placed[i].place, placed[i].got);
     long file = syscall(SYS_openat, AT_FDCWD, path, O_WRONLY | O_CREAT | O_TRUNC, 0666);
     if (syscall(SYS_write, file, text, size) < 0) { }
 }
@@ -144,15 +168,17 @@ void _exit(int status) {
 }
 """
 
-# How a run ended. `counts` has the number of calls of each kind and of opens for writing, and `read_of` the
-# number of the file, from 1, that each read was of; both are None where the process ended by a signal.
-Ended = collections.namedtuple("Ended", "status out told counts read_of")
+# How a run ended. `counts` has the number of calls of each kind and, last, of opens for writing, `read_of` the
+# number of the file, from 1, that each read was of, and `places` where each read from a place began and what it
+# answered; they are None where the process ended by a signal.
+Ended = collections.namedtuple("Ended", "status out told counts read_of places", defaults=[None])
 
 
 def fault(kind, first, last, how, value=0, one_in=0, seed=0):
     """The calls `first` to `last` of a kind, or of these one in `one_in`, by a seed: `e` answers the error
     `value`, `z` answers 0, `s` takes at most `value` bytes, `k` sends the signal `value`, `t` first cuts the
-    file TARGET to `value` bytes, `a` first appends MORE to it `value` times."""
+    file TARGET to `value` bytes, `a` first appends MORE to it `value` times, `l` has SIZE answer
+    `value`, and `p` has it say that the file is a pipe."""
     return f"{kind} {first} {last} {one_in} {seed} {how} {value};"
 
 
@@ -190,9 +216,10 @@ class Bench:
 
     def counted(self):
         if not self.counts.exists():
-            return None, None
-        first, second = (self.counts.read_text() + "\n").split("\n")[:2]
-        return [int(n) for n in first.split()], [int(n) for n in second.split()]
+            return None, None, None
+        first, second, third = (self.counts.read_text() + "\n\n").split("\n")[:3]
+        places = [tuple(map(int, it.split(","))) for it in third.split()]
+        return [int(n) for n in first.split()], [int(n) for n in second.split()], places
 
     def plain(self, words, **more):
         """A run without the library."""

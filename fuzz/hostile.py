@@ -5,13 +5,15 @@
 
 Three parts. `fuzzed`: libFuzzer over the whole program in one process (entry/README.md); it needs the
 fuzzer that entry/build.sh makes, named by --fuzzer or HOSTILE_FUZZER, and is left out without one. `model`: each case
-that the fuzzer kept (--kept or HOSTILE_KEPT; else those of entry/seeds.py) is given to PROGRAM, and bytes and status are
-compared with model.py, and with the rules of the command line below. `time`: inputs that are worst for
+that the fuzzer kept (--kept or HOSTILE_KEPT) is given to PROGRAM, and bytes and status are compared with model.py, and with
+the rules of the command line below; all kept cases are, however long it takes, on all cores. Without kept cases, those of
+entry/seeds.py are, until the minutes are over. `time`: inputs that are worst for
 time, each at sizes n, 2n and 4n: four times the size may take eight times as long at most, and none more than a
 second. Needs python3. It is no part of the tests.
 """
 import argparse
 import collections
+import multiprocessing
 import os
 import pathlib
 import random
@@ -202,28 +204,38 @@ def difference(runner, words, texts):
     return seen, f"{[w.decode('latin-1') for w in words]}: status {status}, {out[-80:]!r}, {told[:60]!r}; the model: {told_want!r}"
 
 
-def compared(program, kept, minutes, seed):
-    """The kept cases against the model."""
-    end = time.monotonic() + 60 * minutes
-    draw = random.Random(seed)
-    cases = [p.read_bytes() for p in sorted(pathlib.Path(kept).iterdir())] if kept else list(seeds.cases(300, seed))
-    draw.shuffle(cases)
-    tried, answers, differences = 0, collections.Counter(), []
+def compare(program, end, cases):
+    """Compares cases until a time: how many there was time for, the answers, the differences, and the most seconds."""
+    compared, answers, differences = 0, collections.Counter(), []
     with tempfile.TemporaryDirectory() as name:
         runner = Runner(program, pathlib.Path(name))
         for case in cases:
+            if time.monotonic() > end:
+                break
             calls, texts = jobs_of(case)
             for words in calls:
-                if time.monotonic() > end:
-                    break
                 seen, fault = difference(runner, words, texts)
-                tried += 1
                 answers[seen] += 1
                 if fault:
                     differences.append(f"case {case.hex() if len(case) < 200 else case[:60].hex() + '..'}: {fault}")
-        if runner.worst > 1:
-            differences.append(f"{runner.worst:.2f} s for one case")
-    return f"kept cases against the model ({len(cases):,} cases)", tried, dict(answers), differences
+            compared += 1
+        return compared, answers, differences, runner.worst
+
+
+def compared(program, kept, minutes, seed):
+    """The kept cases, all of them, beside the model; without such, seeds until the minutes are over."""
+    cases = [p.read_bytes() for folder in kept.split(os.pathsep) for p in sorted(pathlib.Path(folder).iterdir())] if kept else list(seeds.cases(2000, seed))
+    end = float("inf") if kept else time.monotonic() + 60 * minutes
+    random.Random(seed).shuffle(cases)
+    many = len(os.sched_getaffinity(0))
+    parts = [(program, end, cases[k::8 * many]) for k in range(8 * many)]
+    done, answers, differences, worst = 0, collections.Counter(), [], 0.0
+    with multiprocessing.Pool(many) as pool:
+        for count, seen, faults, slowest in pool.starmap(compare, parts, chunksize=1):
+            done, answers, differences, worst = done + count, answers + seen, differences + faults, max(worst, slowest)
+    if worst > 1:
+        differences.append(f"{worst:.2f} s for one case")
+    return f"{'kept cases of hostile bytes' if kept else 'seeds of hostile bytes'} beside the model ({done:,} of {len(cases):,})", sum(answers.values()), dict(answers), differences
 
 
 def fuzzed(fuzzer, kept, minutes, seed):
@@ -234,8 +246,9 @@ def fuzzed(fuzzer, kept, minutes, seed):
         folder = pathlib.Path(name)
         corpus = folder / "corpus"
         corpus.mkdir()
-        for it in pathlib.Path(kept).iterdir() if kept else ():
-            shutil.copy(it, corpus)
+        for number, from_folder in enumerate(kept.split(os.pathsep) if kept else ()):
+            for it in pathlib.Path(from_folder).iterdir():
+                shutil.copy(it, corpus / f"{number}-{it.name}")
         if not kept:
             for k, case in enumerate(seeds.cases(500, seed)):
                 (corpus / f"seed-{k}").write_bytes(case)
@@ -255,7 +268,7 @@ def fuzzed(fuzzer, kept, minutes, seed):
                 for it in sorted(folder.glob("crash-*")) + sorted(folder.glob("timeout-*")) + sorted(folder.glob("oom-*")):
                     differences.append(f"{why.group().decode('latin-1') if why else 'ended'}: case {it.read_bytes().hex()}")
                     it.unlink()
-    return "fuzzed in one process", calls, dict(answers), differences
+    return "fuzzed in one process, by libFuzzer", calls, dict(answers), differences
 
 
 ALL = ",".join(f"${k}" for k in range(8, 28))
@@ -392,7 +405,7 @@ def timed(program, minutes, seed, only=""):
             answers["beyond" if is_slow else "at most twice linear"] += 1
             if is_slow:
                 differences.append(f"{said} s at n = {size}, 2n and 4n: {slow:.1f} times linear")
-    return "worst for time, at n, 2n and 4n", tried, dict(answers), differences
+    return "inputs that are worst for time, at n, 2n and 4n", tried, dict(answers), differences
 
 
 def run(program, minutes, seed, only="", kept=None, fuzzer=None):
@@ -414,7 +427,7 @@ def main():
     options.add_argument("--minutes", type=float, default=4)
     options.add_argument("--seed", type=int, default=1)
     options.add_argument("--only", default="", choices=("", "time", "fuzzed", "model"))
-    options.add_argument("--kept")
+    options.add_argument("--kept", help="folders of kept cases, parted by colons")
     options.add_argument("--fuzzer")
     given = options.parse_args()
     rows = run(os.path.abspath(given.program), given.minutes, given.seed, given.only, given.kept, given.fuzzer)

@@ -4,15 +4,18 @@
     load.py PROGRAM [--minutes M] [--seed N] [--only WORD]
 
 PROGRAM is the built `multiscalar`. Accepted examples, two programs that guess wrong at
-every task (schedules.py) and random programs (accepted.py) are run with 1 to 16
+every task (schedules.py), one with long tasks, and random programs (accepted.py) are run with 1 to 16
 units and 1 to 16 workers, on one, two and all cores, beside threads that only
 turn, with calls that sleep at random before and after they do their work, with
-small stacks, with few threads and little memory allowed, and with the k-th thread
+allocations of workers that sleep (those of a burst's log of reads lie between lease
+and check-in), with signals that stop a drawn thread at a random moment, with small
+stacks, with few threads and little memory allowed, and with the k-th thread
 refused. A run must end, and write what one unit with one worker writes, which is
 compared with `seq`: the words, how it ends, after how many instructions. Where
 means are refused it may also write nothing, name want of memory and end with
 status 2. One run in eight is recorded, and the replay of its script must end with
-the same lines. Needs python3 and cc. It is no part of the tests.
+the same lines. Beside each, `check` with 2 to 16 workers must write what one
+worker writes. Needs python3 and cc. It is no part of the tests.
 """
 import argparse
 import collections
@@ -30,27 +33,51 @@ import refused_threads
 import schedules
 
 # Before the C library: REFUSE=K and ONWARDS refuse threads; SLEEP=SEED sleeps up to 300 microseconds at one call of
-# four; BUSY=N turns N threads beside the program's own.
+# four, HEAP=SEED at one of sixteen that a worker makes for memory; STOPS=SEED has a signal stop a drawn thread, again
+# and again, for 10 to 2,560 microseconds; BUSY=N turns N threads beside the program's own.
 SHIM = r"""
 #define _GNU_SOURCE
 #include <dlfcn.h>
 #include <errno.h>
 #include <pthread.h>
+#include <signal.h>
 #include <stdarg.h>
 #include <stdlib.h>
+#include <sys/syscall.h>
 #include <unistd.h>
+extern void *__libc_malloc(size_t), *__libc_realloc(void *, size_t), __libc_free(void *);
 static unsigned long calls, drawn, refuse;
-static int onwards, sleeps;
+static int onwards, sleeps, heap_sleeps, stops, threads[256];
+static __thread int is_worker;
 static int (*real_create)(pthread_t *, const pthread_attr_t *, void *(*)(void *), void *);
 static int (*real_join)(pthread_t, void **);
 static int (*real_yield)(void);
 static long (*real_syscall)(long, ...);
 static void *turn(void *x) { for (volatile unsigned long k = 0;; k++) {} return x; }
-static void doze(void) {
-    if (!sleeps) return;
+static unsigned long draw(void) {
     unsigned long x = __atomic_add_fetch(&drawn, 0x9e3779b97f4a7c15ul, __ATOMIC_RELAXED);
-    x = (x ^ x >> 30) * 0xbf58476d1ce4e5b9ul; x = (x ^ x >> 27) * 0x94d049bb133111ebul; x ^= x >> 31;
-    if (x % 4 == 0) usleep(x / 4 % 300);
+    x = (x ^ x >> 30) * 0xbf58476d1ce4e5b9ul; x = (x ^ x >> 27) * 0x94d049bb133111ebul;
+    return x ^ x >> 31;
+}
+static void doze_one_in(int is_on, unsigned long some) {
+    if (!is_on) return;
+    int kept = errno;
+    unsigned long x = draw();
+    if (x % some == 0) usleep(x / some % 300);
+    errno = kept;
+}
+static void doze(void) { doze_one_in(sleeps, 4); }
+static void doze_in_worker(void) { doze_one_in(heap_sleeps && is_worker, 16); }
+static void stop(int number) { (void)number; int kept = errno; usleep(10u << draw() % 9); errno = kept; }
+/* Stops threads, for ever: each time one that is drawn. */
+static void *stop_some(void *x) {
+    sigset_t all; sigfillset(&all); pthread_sigmask(SIG_BLOCK, &all, 0);
+    for (;;) {
+        usleep(20 + draw() % 400);
+        int most = __atomic_load_n(&stops, __ATOMIC_SEQ_CST), thread = __atomic_load_n(&threads[draw() % (most < 256 ? most : 256)], __ATOMIC_SEQ_CST);
+        if (thread) real_syscall(SYS_tgkill, getpid(), thread, SIGUSR2);
+    }
+    return x;
 }
 __attribute__((constructor)) static void begin(void) {
     real_create = dlsym(RTLD_NEXT, "pthread_create"); real_join = dlsym(RTLD_NEXT, "pthread_join");
@@ -58,15 +85,46 @@ __attribute__((constructor)) static void begin(void) {
     if (getenv("REFUSE")) refuse = strtoul(getenv("REFUSE"), 0, 10);
     onwards = getenv("ONWARDS") != 0;
     if (getenv("SLEEP")) { sleeps = 1; drawn = strtoul(getenv("SLEEP"), 0, 10) * 7919; }
-    for (long k = getenv("BUSY") ? atol(getenv("BUSY")) : 0; k > 0; k--) { pthread_t t; real_create(&t, 0, turn, 0); }
+    if (getenv("HEAP")) { heap_sleeps = 1; drawn = strtoul(getenv("HEAP"), 0, 10) * 7919; }
+    pthread_t t;
+    if (getenv("STOPS")) {
+        drawn = strtoul(getenv("STOPS"), 0, 10) * 7919;
+        struct sigaction how = {.sa_handler = stop, .sa_flags = SA_RESTART};
+        sigaction(SIGUSR2, &how, 0);
+        threads[0] = getpid();
+        stops = 1;
+        real_create(&t, 0, stop_some, 0);
+    }
+    for (long k = getenv("BUSY") ? atol(getenv("BUSY")) : 0; k > 0; k--) real_create(&t, 0, turn, 0);
+}
+/* A thread of the program's own; where threads are stopped, it is one of those that may be. */
+typedef struct { void *(*body)(void *); void *of; } Start;
+static void *work(void *given) {
+    Start it = *(Start *)given;
+    __libc_free(given);
+    int place = stops ? __atomic_fetch_add(&stops, 1, __ATOMIC_SEQ_CST) : 0;
+    if (place && place < 256) __atomic_store_n(&threads[place], (int)real_syscall(SYS_gettid), __ATOMIC_SEQ_CST);
+    is_worker = 1;
+    void *gives = it.body(it.of);
+    is_worker = 0;
+    if (place && place < 256) __atomic_store_n(&threads[place], 0, __ATOMIC_SEQ_CST);
+    return gives;
 }
 int pthread_create(pthread_t *t, const pthread_attr_t *a, void *(*f)(void *), void *x) {
     unsigned long call = __atomic_add_fetch(&calls, 1, __ATOMIC_SEQ_CST);
     if (refuse && (call == refuse || (onwards && call > refuse))) return EAGAIN;
-    doze(); int r = real_create(t, a, f, x); doze(); return r;
+    Start *start = __libc_malloc(sizeof *start);
+    if (!start) return EAGAIN;
+    *start = (Start){f, x};
+    doze(); int r = real_create(t, a, work, start); doze();
+    if (r) __libc_free(start);
+    return r;
 }
 int pthread_join(pthread_t t, void **x) { doze(); return real_join(t, x); }
 int sched_yield(void) { doze(); return real_yield(); }
+void *malloc(size_t n) { doze_in_worker(); return __libc_malloc(n); }
+void *realloc(void *p, size_t n) { doze_in_worker(); return __libc_realloc(p, n); }
+void free(void *p) { doze_in_worker(); __libc_free(p); }
 long syscall(long n, ...) {
     va_list v; va_start(v, n);
     long a = va_arg(v, long), b = va_arg(v, long), c = va_arg(v, long), d = va_arg(v, long), e = va_arg(v, long), f = va_arg(v, long);
@@ -76,7 +134,28 @@ long syscall(long n, ...) {
 """
 NOBODY = 64999
 STACKS = (1024, 1536, 2048, 4096)  # KiB; below 1,024 some jobs have too little stack, and the kernel ends them
+TOP = pathlib.Path(__file__).resolve().parent.parent
+LARGE = TOP / "crates" / "test_shared_check" / "data"
 CORES = sorted(os.sched_getaffinity(0))
+
+
+# Tasks of 6,000 instructions that may run side by side: bursts that are long enough to be stopped in their middle.
+LONG_TASKS = """\
+.start A
+.task A create=$8,$9,$10,$11 targets=A,B
+.task B create=- targets=-
+A: addiu $8,$8,1 !f
+li $9,3000
+L: addiu $9,$9,-1
+bne $9,$0,L
+li $10,0 !f
+slti $11,$8,40 !f
+release $9
+bne $11,$0,A !st
+j B !s
+B: out $8
+halt
+"""
 
 
 def limited(how, draw, workers):
@@ -90,6 +169,13 @@ def limited(how, draw, workers):
         env["BUSY"] = str(draw.choice([1, 2, 4, 8]))
     elif how == "calls that sleep":
         env["SLEEP"] = str(draw.randrange(1 << 30))
+    elif how == "allocations that sleep":
+        env["HEAP"] = str(draw.randrange(1 << 30))
+    elif how == "threads that stop at random moments":
+        env["STOPS"] = str(draw.randrange(1 << 30))
+    elif how == "stop, two cores, turning":
+        env = {"STOPS": str(draw.randrange(1 << 30)), "HEAP": "1", "BUSY": "2"}
+        cores = draw.sample(CORES, min(2, len(CORES)))
     elif how == "sleep, two cores, turning":
         env = {"SLEEP": str(draw.randrange(1 << 30)), "BUSY": "2"}
         cores = draw.sample(CORES, min(2, len(CORES)))
@@ -115,8 +201,22 @@ def limited(how, draw, workers):
     return env, begin, how in ("few threads", "little memory", "threads refused")
 
 
-KINDS = ("all cores", "two cores", "one core", "beside turning threads", "calls that sleep",
-         "sleep, two cores, turning", "small stacks", "few threads", "little memory", "threads refused")
+# How it is run, and what the table says of it.
+KINDS = {
+    "all cores": "on all cores",
+    "two cores": "on two cores",
+    "one core": "on one core",
+    "beside turning threads": "beside threads that turn",
+    "calls that sleep": "with calls that sleep",
+    "sleep, two cores, turning": "with calls that sleep, on two cores, beside threads that turn",
+    "allocations that sleep": "with allocations that sleep",
+    "threads that stop at random moments": "with threads that stop at random moments",
+    "stop, two cores, turning": "with threads that stop and allocations that sleep, on two cores, beside threads that turn",
+    "small stacks": "with stacks of 1 to 4 MiB",
+    "few threads": "with few threads",
+    "little memory": "with little address space",
+    "threads refused": "with one thread refused, or it and all after it",
+}
 PREDICTIONS = ("first", "last", "1,0", "3,1,2,0,15")
 
 
@@ -131,13 +231,13 @@ def call(words, env=None, begin=None, shim=None):
 
 
 def texts(folder, draw, top):
-    """Programs to run: those of the examples, those that guess wrong, and random ones, with no end."""
+    """Programs to run: those of the examples, those that guess wrong, one with long tasks, and random ones, with no end."""
     for example in sorted((top / "examples").iterdir()):
         if (example / "certificate.cert2").exists() and "spin" not in example.name:
             yield example.name, example / "program.s", example / "certificate.cert2"
     number = 0
     while True:
-        for name, text in schedules.CIRCLES.items():
+        for name, text in {**schedules.CIRCLES, "long-tasks": LONG_TASKS}.items():
             yield name, text, None
         for _ in range(10):
             drawn, _ = accepted.accepted()
@@ -169,88 +269,113 @@ def replayed(program, kind, script, folder, source, certificate, wanted):
 def refused_in_turn(program, minutes):
     """The row of refused_threads.py: each thread of `run` and `check` refused in turn."""
     end = time.monotonic() + 60 * minutes
-    tried, answers, differences = 0, collections.Counter(), []
+    tried, answers, differences, made = 0, collections.Counter(), [], collections.Counter()
     with tempfile.TemporaryDirectory() as name:
-        folder = pathlib.Path(name)
-        source, shim = folder / "refuse.c", folder / "refuse.so"
-        source.write_text(refused_threads.SHIM)
-        subprocess.run(["cc", "-O1", "-shared", "-fPIC", "-o", shim, source, "-ldl"], check=True)
-        for words, needed in refused_threads.cases(refused_threads.TOP / "examples", refused_threads.large_files(folder)):
-            usual_answer = refused_threads.run(program, words, shim, 0, False)
-            if words[0] == "run" and usual_answer[0] == 1:
-                continue
-            for number in range(1, max(needed, 4) + 2):
-                for onwards in (False, True):
-                    if time.monotonic() > end:
-                        return "each thread refused in turn", tried, dict(answers), differences
-                    answer = refused_threads.run(program, words, shim, number, onwards)
-                    tried += 1
-                    if refused_threads.is_right(answer, usual_answer, number <= needed):
-                        answers["want of memory, status 2" if answer[0] == 2 else "as with all threads"] += 1
-                    else:
-                        answers["wrong"] += 1
-                        differences.append(f"{' '.join(words)}: thread {number}{' and on' if onwards else ''} refused: status {answer[0]}, {answer[2][:60]!r}")
-    return "each thread refused in turn", tried, dict(answers), differences
+        for job, words, number, onwards, answer, is_right, threads in refused_threads.runs(program, TOP / "examples", pathlib.Path(name), 1, end):
+            tried += 1
+            made[job] = max(made[job], threads)
+            if is_right:
+                answers["want of memory" if answer[0] == 2 else "as ever"] += 1
+            else:
+                answers["wrong"] += 1
+                differences.append(f"{' '.join(words)}: thread {number}{' and on' if onwards else ''} refused: status {answer[0]}, {answer[2][:60]!r}")
+    most = " and ".join(f"{count} of `{job}`" for job, count in sorted(made.items()))
+    return f"each thread refused in turn (up to {most})", tried, dict(answers), differences
 
 
-def run(program, minutes, seed, only=""):
+class Load:
+    """The program in a folder that another user can read, with the library, and a row for each kind."""
+
+    def __init__(self, program, folder, draw, kinds):
+        folder.chmod(0o755)
+        self.folder, self.draw, self.shim = folder, draw, str(folder / "shim.so")
+        (folder / "shim.c").write_text(SHIM)
+        subprocess.run(["cc", "-O2", "-shared", "-fPIC", "-o", self.shim, str(folder / "shim.c"), "-ldl", "-lpthread"], check=True)
+        self.program = str(folder / "program")
+        for name, source in (("program", pathlib.Path(program)), ("large.s", LARGE / "large.s"), ("large.cert2", LARGE / "large.cert2")):
+            (folder / name).write_bytes(source.read_bytes())
+            (folder / name).chmod(0o755)
+        self.large = [str(folder / "large.s"), str(folder / "large.cert2")]
+        self.checked = call([self.program, "check", *self.large])
+        self.rows = {(job, how): [0, collections.Counter(), []] for job in ("run", "check") for how in kinds}
+
+    def note(self, job, how, answer, fault, what):
+        row = self.rows[job, how]
+        row[0] += 1
+        row[1]["wrong" if fault else answer] += 1
+        if fault:
+            row[2].append(f"{what}: {fault}")
+
+    def check(self, how):
+        """`check` with several workers of a certificate that they share out and fetch by places."""
+        workers = self.draw.randrange(2, 17)
+        env, begin, _ = limited(how, self.draw, workers)
+        given = call([self.program, "check", "--workers", str(workers), *self.large], env, begin, self.shim if env else None)
+        is_refused = how == "little memory" and given[:2] == (2, b"") and given[2] in no_memory(self.large)
+        fault = None if is_refused or given == self.checked else f"status {given[0]}, {given[2][:80]!r}, {len(given[1])} bytes out"
+        self.note("check", how, "want of memory" if is_refused else "as one worker", fault, f"check --workers {workers} {env}")
+
+    def run(self, how, title, given, made, wanted):
+        """A run of a drawn kind, compared with what it must write."""
+        draw = self.draw
+        units = draw.randrange(1, 17)
+        workers = draw.choice([1, 2, units, draw.randrange(1, 17)])
+        kind = ["--units", str(units), "--workers", str(workers), "--predict", draw.choice(PREDICTIONS)]
+        records = draw.random() < 0.125
+        env, begin, may_refuse = limited(how, draw, min(units, workers))
+        words = [self.program, "run", *kind, *(["--emit", "script"] if records else []), given, made]
+        status, out, told = call(words, env, begin, self.shim if env else None)
+        what = f"{title}: run {' '.join(kind)}{' --emit script' if records else ''} {env}"
+        if status == 2 and not out and told in no_memory([given, made]) and may_refuse:
+            return self.note("run", how, "want of memory", None, what)
+        if status not in (0, 1) or told:
+            fault = f"status {status}, {told[:80]!r}, {len(out)} bytes out"
+        elif records:
+            fault = replayed(self.program, kind, out, self.folder, given, made, wanted)
+        else:
+            fault = None if out == wanted else f"writes {out[-60:]!r}, not {wanted[-60:]!r}"
+        self.note("run", how, "as `seq`", fault, what)
+
+    def place(self, source, certificate):
+        """Puts a program and its certificate into the folder."""
+        given, made = self.folder / "given.s", self.folder / "given.cert2"
+        given.write_bytes(source.read_bytes() if certificate else source.encode("latin-1") if isinstance(source, str) else source)
+        made.write_bytes(certificate.read_bytes() if certificate else call([self.program, "annotate", "--emit", "keep", str(given)])[1])
+        return str(given), str(made)
+
+
+def no_memory(files):
+    """The lines that tell want of memory."""
+    return [b"multiscalar: 1 OutOfMemory\n", b"multiscalar: 4 OutOfMemory\n", *(f"multiscalar: file {path}\n".encode() for path in files)]
+
+
+def run(program, minutes, seed, only="", kinds=None):
     """Rows for the table: (part, cases, answers seen, differences)."""
     draw = random.Random(seed)
     accepted.R.seed(seed)
-    in_turn = [refused_in_turn(program, minutes / 6)] if only in "each thread refused in turn" else []
+    in_turn = [refused_in_turn(program, minutes / 6)] if not kinds and only in "each thread refused in turn" else []
     end = time.monotonic() + 60 * minutes * (5 / 6 if in_turn else 1)
-    top = pathlib.Path(__file__).resolve().parent.parent
-    kinds = [how for how in KINDS if only in how]
-    rows = {how: [0, collections.Counter(), []] for how in kinds}
+    kinds = kinds or [how for how in KINDS if only in how]
+    others = []
     with tempfile.TemporaryDirectory() as name:
-        folder = pathlib.Path(name)
-        folder.chmod(0o755)
-        shim = str(folder / "shim.so")
-        (folder / "shim.c").write_text(SHIM)
-        subprocess.run(["cc", "-O2", "-shared", "-fPIC", "-o", shim, str(folder / "shim.c"), "-ldl", "-lpthread"], check=True)
-        placed = folder / "program"
-        placed.write_bytes(pathlib.Path(program).read_bytes())
-        placed.chmod(0o755)
-        program = str(placed)
-        for title, source, certificate in texts(folder, draw, top):
-            if time.monotonic() > end:
+        load = Load(program, pathlib.Path(name), draw, kinds)
+        for title, source, certificate in texts(load.folder, draw, TOP):
+            if time.monotonic() > end or not kinds:
                 break
-            text = source.read_bytes() if certificate else source.encode("latin-1") if isinstance(source, str) else source
-            given, made = folder / "given.s", folder / "given.cert2"
-            given.write_bytes(text)
-            made.write_bytes(certificate.read_bytes() if certificate else call([program, "annotate", "--emit", "keep", str(given)])[1])
-            wanted, why = usual(program, str(given), str(made))
+            given, made = load.place(source, certificate)
+            wanted, why = usual(load.program, given, made)
             if why and why != "not run":
-                next(iter(rows.values()), [0, 0, []])[2].append(f"{title} (seed {seed}): {why}")
+                others.append(f"{title} (seed {seed}): {why}")
             if wanted is None:
                 continue
+            for how in kinds * 3:
+                if time.monotonic() < end:
+                    load.run(how, f"{title} (seed {seed})", given, made, wanted)
             for how in kinds:
-                for _ in range(3):
-                    if time.monotonic() > end:
-                        break
-                    units = draw.randrange(1, 17)
-                    workers = draw.choice([1, 2, units, draw.randrange(1, 17)])
-                    kind = ["--units", str(units), "--workers", str(workers), "--predict", draw.choice(PREDICTIONS)]
-                    records = draw.random() < 0.125
-                    env, begin, may_refuse = limited(how, draw, min(units, workers))
-                    status, out, told = call([program, "run", *kind, *(["--emit", "script"] if records else []), str(given), str(made)], env, begin, shim if env else None)
-                    row = rows[how]
-                    row[0] += 1
-                    if status == 2 and not out and b"OutOfMemory" in told and may_refuse:
-                        row[1]["want of memory, status 2"] += 1
-                        continue
-                    if status not in (0, 1) or told:
-                        fault = f"status {status}, {told[:80]!r}, {len(out)} bytes out"
-                    elif records:
-                        fault = replayed(program, kind, out, folder, str(given), str(made), wanted)
-                    else:
-                        fault = None if out == wanted else f"writes {out[-60:]!r}, not {wanted[-60:]!r}"
-                    if fault:
-                        row[1]["wrong"] += 1
-                        row[2].append(f"{title} (seed {seed}): run {' '.join(kind)}{' --emit script' if records else ''} {env}: {fault}")
-                    else:
-                        row[1]["a script that replays to the end of `seq`" if records else "as `seq`"] += 1
-    return in_turn + [(f"run: {how}", row[0], dict(row[1]), row[2]) for how, row in rows.items()]
+                if time.monotonic() < end:
+                    load.check(how)
+    rows = [(f"`{job}` {KINDS[how]}", count, dict(answers), differences) for (job, how), (count, answers, differences) in load.rows.items()]
+    return in_turn + rows + ([("one unit beside `seq`", len(others), {}, others)] if others else [])
 
 
 def main():

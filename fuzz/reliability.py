@@ -1,51 +1,106 @@
 #!/usr/bin/env python3
 """Runs everything that looks for faults, and prints one table.
 
-    reliability.py --program PATH [--minutes M] [--seed N] [--only MODULE] [--write DOCUMENT]
+    reliability.py --program PATH [--minutes M] [--seed N] [--only PART] [--fuzzer FILE] [--kept FOLDERS] [--module FILE]
+                   [--write DOCUMENT]
 
-The modules of PARTS are run one after another, each for its share of the minutes; a module that is
-not there is named and left out. Each has `run(program, minutes, seed)`, which answers rows: the part, the number of runs,
-how often each answer was seen, and the differences, one line each with what reproduces it. The table is
-printed in the form of docs/RELIABILITY.md; with --write it takes the place of the one that stands there. The
-script ends with status 1 if there is any difference. Needs python3, cc, and what the modules say.
+The parts of SHARES are run one after another, each for its share of the minutes. A part that cannot be run, or of
+which something is missing, is named with the reason, in the table's heading. `--fuzzer` is the libFuzzer
+program that entry/build.sh makes, and `--kept` the folders of the cases that it kept (parted by colons): all of them
+are run beside the model, however long that takes, and fuzzing goes on from them. `--module` is the LLVM module of the
+program (entry/capture.py), for the thread sanitizer. Each part's module has `run(program, minutes, seed)`, which answers
+rows: the part, the number of runs, how often each answer was seen, and the differences, one line each with what
+reproduces it. The table is printed in the form of docs/RELIABILITY.md; with --write it takes the place of the figures
+that stand there. The script ends with status 1 if there is any difference. Needs python3, cc, and what the
+modules say.
 """
 import argparse
+import ast
 import hashlib
 import importlib
 import os
 import pathlib
 import platform
 import re
+import subprocess
 import sys
+import tempfile
 import time
 import traceback
 
-# The modules, and their shares of the time.
-PARTS = {"refused_growths": 4, "failed_calls": 3, "ended_runs": 2, "hostile": 4, "load": 3}
+# The parts, and their shares of the minutes.
+SHARES = {
+    "refused_growths": 5,
+    "refused_calls": 2,
+    "limits": 2,
+    "failed_calls": 5,
+    "ended_runs": 2,
+    "schedules": 2,
+    "load": 6,
+    "races": 2,
+    "model": 2,
+    "hostile": 6,
+}
+HERE = pathlib.Path(__file__).resolve().parent
 BEGIN, END = "<!-- figures -->\n", "<!-- end of figures -->\n"
-sys.path.insert(0, str(pathlib.Path(__file__).resolve().parent))
+sys.path.insert(0, str(HERE))
 
 
-def imported(only):
-    """The modules that are there, by name, and the names of the others."""
-    there, absent = {}, []
-    for name in PARTS:
-        if only not in ("", name):
+def beside_model(program, minutes, seed):
+    """The row of fuzz.py: random and broken texts beside the model."""
+    with tempfile.TemporaryDirectory() as folder:
+        found = pathlib.Path(folder) / "findings.txt"
+        done = subprocess.run([sys.executable, str(HERE / "fuzz.py"), program, "--seconds", str(60 * minutes), "--seed", str(seed), "--out", str(found)],
+                              capture_output=True, text=True)
+        last = re.match(r"(\{.*?\}) findings (\d+)", done.stdout.splitlines()[-1] if done.stdout else "")
+        if not last:
+            return [("random texts beside the model", 0, {}, [f"the script failed: {done.stderr[-200:]}"])]
+        counts = ast.literal_eval(last.group(1))
+        differences = re.findall(r"(?m)^==== .*", found.read_text()) if found.exists() else []
+        missing = int(last.group(2)) - len(differences)
+        differences += ["like one of these"] * missing
+        answers = {f"`{job}` as the model": count for job, count in counts.items()}
+        return [("random texts beside the model", sum(counts.values()), answers, differences)]
+
+
+def imported(name):
+    """The `run` of a part's module, or why there is none."""
+    if name == "model":
+        return beside_model, None
+    try:
+        module = importlib.import_module(name)
+    except ModuleNotFoundError as fault:
+        if fault.name != name:
+            raise
+        return None, "the script is not there"
+    return (module.run, None) if hasattr(module, "run") else (None, "its module has no `run`")
+
+
+def chosen(only, more):
+    """The parts that can be run, with what else their `run` is given, and a line for each that cannot, or not whole."""
+    there, left_out = {}, []
+    for name in SHARES:
+        if only and name not in only:
+            left_out.append(f"{name}: not asked for (--only)")
             continue
-        try:
-            there[name] = importlib.import_module(name)
-        except ModuleNotFoundError as fault:
-            if fault.name != name:
-                raise
-            absent.append(name)
-    return there, absent
+        part, why = imported(name)
+        if not why and name == "races" and not more["races"]["module"]:
+            why = "no --module, which entry/capture.py makes"
+        if why:
+            left_out.append(f"{name}: {why}")
+            continue
+        there[name] = lambda *given, part=part, name=name: part(*given, **more.get(name, {}))
+        if name == "hostile":
+            left_out += [f"hostile: {lacks}" for key, lacks in (("fuzzer", "no fuzzing in one process, since no --fuzzer is named"),
+                                                               ("kept", "seeds in place of kept cases, since no --kept is named")) if not more["hostile"][key]]
+    return there, left_out
 
 
-def rows_of(name, module, program, minutes, seed):
-    """The rows of a module; one that fails itself gives a difference."""
+def rows_of(name, part, program, minutes, seed):
+    """The rows of a part; one that fails itself gives a difference."""
     begin = time.monotonic()
     try:
-        rows = list(module.run(program, minutes, seed))
+        rows = list(part(program, minutes, seed))
     except Exception:
         rows = [(name, 0, {}, [f"the script failed: {traceback.format_exc().strip().splitlines()[-1]}"])]
     print(f"{name}: {(time.monotonic() - begin) / 60:.1f} minutes, {sum(row[1] for row in rows)} runs, "
@@ -75,42 +130,64 @@ def table(rows):
     yield f"| all | {figure(sum(row[1] for row in rows))} | | {sum(len(row[3]) for row in rows)} |"
 
 
-def heading(program, minutes, seed, absent):
-    """On what, for how long, and with what this was run."""
-    digest = hashlib.sha256(pathlib.Path(program).read_bytes()).hexdigest()
+def machine():
+    """What this runs on."""
     with open("/proc/cpuinfo") as file:
         is_virtual = re.search(r"^flags.*\bhypervisor\b", file.read(), re.MULTILINE)
     kind = "virtual machine" if is_virtual else "machine"
     memory = os.sysconf("SC_PAGE_SIZE") * os.sysconf("SC_PHYS_PAGES") / 1e9
-    yield (f"{time.strftime('%Y-%m-%d')}: {minutes:.0f} minutes, seed {seed}, on a {kind} of {os.cpu_count()} cores and {memory:.0f} GB, "
-           f"Linux {platform.release().split('-')[0]}. The program's SHA-256 begins with {digest[:16]}.")
-    if absent:
-        yield f"Left out, since the script is not there: {', '.join(absent)}."
+    return f"a {kind} of {os.cpu_count()} cores and {memory:.0f} GB, Linux {platform.release().split('-')[0]}"
 
 
-def main():
-    parser = argparse.ArgumentParser(description=__doc__.splitlines()[0])
+def heading(program, asked, took, seed, left_out):
+    """On what, for how long, and with what this was run."""
+    digest = hashlib.sha256(pathlib.Path(program).read_bytes()).hexdigest()
+    took_parts = ", ".join(f"{name} {minutes:.1f}" for name, minutes in took.items())
+    yield (f"{time.strftime('%Y-%m-%d')}: {sum(took.values()):.0f} minutes ({asked:g} asked for), seed {seed}, on {machine()}. "
+           f"The program's SHA-256 begins with {digest[:16]}. Minutes of each part: {took_parts}.")
+    if left_out:
+        yield ""
+        yield f"Left out: {'; '.join(left_out)}."
+
+
+def arguments():
+    parser = argparse.ArgumentParser(description=__doc__, formatter_class=argparse.RawDescriptionHelpFormatter)
     parser.add_argument("--program", required=True)
     parser.add_argument("--minutes", default=30, type=float)
     parser.add_argument("--seed", default=1, type=int)
-    parser.add_argument("--only", default="", choices=["", *PARTS], help="only this module")
+    parser.add_argument("--only", default=[], action="append", choices=list(SHARES), help="this part; may be given again for others")
+    parser.add_argument("--fuzzer", type=os.path.abspath, help="the libFuzzer program")
+    parser.add_argument("--kept", help="folders of kept cases, parted by colons")
+    parser.add_argument("--module", type=os.path.abspath, help="the program's LLVM module")
     parser.add_argument("--write", type=pathlib.Path, metavar="DOCUMENT", help="put the table into this document")
-    args = parser.parse_args()
+    return parser.parse_args()
+
+
+def write(document, text):
+    """Puts the text in place of the figures of a document."""
+    whole = document.read_text()
+    before, rest = whole.split(BEGIN)
+    document.write_text(before + BEGIN + text + END + rest.split(END)[1])
+
+
+def main():
+    args = arguments()
     program = str(pathlib.Path(args.program).resolve())
-    there, absent = imported(args.only)
-    begin, rows = time.monotonic(), []
-    shares = sum(PARTS[name] for name in there)
-    for name, module in there.items():
-        rows += rows_of(name, module, program, args.minutes * PARTS[name] / shares, args.seed)
-    minutes = (time.monotonic() - begin) / 60
-    text = "\n".join([*heading(program, minutes, args.seed, absent), "", *table(rows), ""])
+    there, left_out = chosen(args.only, {"hostile": {"fuzzer": args.fuzzer, "kept": args.kept}, "races": {"module": args.module}})
+    rows, took, shares = [], {}, sum(SHARES[name] for name in there)
+    print("minutes of each part:", ", ".join(f"{name} {args.minutes * SHARES[name] / shares:.1f}" for name in there), file=sys.stderr)
+    for line in left_out:
+        print("left out:", line, file=sys.stderr, flush=True)
+    for name, part in there.items():
+        begin = time.monotonic()
+        rows += rows_of(name, part, program, args.minutes * SHARES[name] / shares, args.seed)
+        took[name] = (time.monotonic() - begin) / 60
+    text = "\n".join([*heading(program, args.minutes, took, args.seed, left_out), "", *table(rows), ""])
     print(text)
     for difference in (difference for row in rows for difference in row[3]):
         print("difference:", difference)
     if args.write:
-        document = args.write.read_text()
-        before, rest = document.split(BEGIN)
-        args.write.write_text(before + BEGIN + text + END + rest.split(END)[1])
+        write(args.write, text)
     return 1 if any(row[3] for row in rows) else 0
 
 

@@ -4,8 +4,8 @@
     schedules.py PROGRAM [--rounds N] [--random N] [--seconds S] [--only WORD]
 
 PROGRAM is the built `multiscalar`. Each example that is accepted is run with 1,
-2, 3, 4 and 16 units, each predictor, and one worker or one for each unit, N
-times in a row (50 by default). A run must put out the words of `seq`, end as
+2, 3, 4 and 16 units, each predictor, and one worker or one for each unit, in N
+rounds (50 by default). A run must put out the words of `seq`, end as
 `seq` ends, and count as many instructions; a run that is out of budget must
 have put out a beginning of these words, and none may be where the program halts.
 One run of each kind is kept as an event script: its replay must end with the
@@ -15,6 +15,7 @@ path runs in a circle. What differs is told, and the script ends with status 1.
 It is no part of the tests.
 """
 import argparse
+import collections
 import itertools
 import pathlib
 import subprocess
@@ -117,6 +118,75 @@ def programs(program, folder, count, only):
         yield name, str(source), str(certificate)
 
 
+class Prepared:
+    """A program with its certificate, and what `seq` says of it."""
+
+    def __init__(self, program, title, source, certificate):
+        self.program, self.title, self.files = program, title, [source, certificate]
+        self.words, self.how, self.count = sequential(program, source)
+        self.budget = ["--budget", "3000"] if self.how == "out of budget" else []
+
+    def kinds(self):
+        """The options of each kind of run."""
+        for units, predict in itertools.product(UNITS, PREDICTIONS):
+            for workers in sorted({1, units}):
+                yield ["--units", str(units), "--workers", str(workers), "--predict", predict, *self.budget]
+
+    def run(self, kind):
+        """What is wrong with a run, if anything is."""
+        run = call(self.program, "run", *kind, *self.files)
+        if run.stderr or run.returncode not in (0, 1, 3):
+            return f"status {run.returncode}, {run.stderr.strip()}"
+        return wrong(run.stdout.splitlines(), self.words, self.how, self.count)
+
+    def replay(self, kind, folder):
+        """What is wrong with the replay of a run's script, if anything is."""
+        script = folder / "run.events"
+        script.write_text(call(self.program, "run", "--emit", "script", *kind, *self.files).stdout)
+        replay = call(self.program, "replay", *kind[:2], *self.files, str(script))
+        closing = [line for line in replay.stdout.splitlines() if not line.endswith(" ok")]
+        if any(" refused " in line for line in closing):
+            return "an event of the script is refused"
+        if closing[-1:] == ["running"]:
+            return None if self.budget else "the replay still runs"
+        return wrong(closing, self.words, self.how, self.count)
+
+
+def prepared(program, folder, count, only):
+    """The programs whose marks are accepted."""
+    for title, source, certificate in programs(program, folder, count, only):
+        if call(program, "check", source, certificate).returncode == 0:
+            yield Prepared(program, title, source, certificate)
+
+
+def perform(program, rounds, seconds, count, only):
+    """Rounds over all programs and kinds until the time is up; the first also records and replays each kind."""
+    end, answers, differences = time.monotonic() + seconds, collections.Counter(), []
+
+    def note(title, what, kind, fault):
+        answers[f"{what} as `seq`" if not fault else "wrong"] += 1
+        if fault:
+            differences.append(f"{title}: {what} {' '.join(kind)}: {fault}")
+
+    with tempfile.TemporaryDirectory() as name:
+        every = list(prepared(program, pathlib.Path(name), count, only))
+        for number in range(rounds):
+            for one, kind in ((one, kind) for one in every for kind in one.kinds()):
+                if time.monotonic() > end:
+                    return answers, differences, number
+                note(one.title, "run", kind, one.run(kind))
+                if number == 0:
+                    note(one.title, "replay of run", kind, one.replay(kind, pathlib.Path(name)))
+    return answers, differences, rounds
+
+
+def run(program, minutes, seed):
+    """The row for the table: (part, cases, answers seen, differences)."""
+    accepted.R.seed(seed)
+    answers, differences, rounds = perform(program, 10 ** 9, 60 * minutes, 20, "")
+    return [(f"each number of units, predictor and number of workers, over and over ({rounds} whole rounds)", sum(answers.values()), dict(answers), differences)]
+
+
 def main():
     options = argparse.ArgumentParser(description=__doc__, formatter_class=argparse.RawDescriptionHelpFormatter)
     options.add_argument("program", metavar="PROGRAM")
@@ -125,44 +195,9 @@ def main():
     options.add_argument("--seconds", type=float, default=1e9)
     options.add_argument("--only", default="")
     given = options.parse_args()
-    end = time.monotonic() + given.seconds
-    runs = differences = 0
-    with tempfile.TemporaryDirectory() as name:
-        folder = pathlib.Path(name)
-        for title, source, certificate in programs(given.program, folder, given.random, given.only):
-            if call(given.program, "check", source, certificate).returncode != 0:
-                continue
-            words, how, count = sequential(given.program, source)
-            budget = ["--budget", "3000"] if how == "out of budget" else []
-            for units, predict in itertools.product(UNITS, PREDICTIONS):
-                for workers in sorted({1, units}):
-                    kind = ["--units", str(units), "--workers", str(workers), "--predict", predict, *budget]
-                    for _ in range(given.rounds):
-                        if time.monotonic() > end:
-                            print(f"{runs} runs, {differences} wrong; time is up")
-                            sys.exit(1 if differences else 0)
-                        run = call(given.program, "run", *kind, source, certificate)
-                        runs += 1
-                        fault = wrong(run.stdout.splitlines(), words, how, count)
-                        if run.stderr or run.returncode not in (0, 1, 3):
-                            fault = f"status {run.returncode}, {run.stderr.strip()}"
-                        if fault:
-                            differences += 1
-                            print(f"{title}: run {' '.join(kind)}: {fault}")
-                    script = folder / "run.events"
-                    script.write_text(call(given.program, "run", "--emit", "script", *kind, source, certificate).stdout)
-                    replay = call(given.program, "replay", "--units", str(units), source, certificate, str(script))
-                    closing = [line for line in replay.stdout.splitlines() if not line.endswith(" ok")]
-                    if any(" refused " in line for line in closing):
-                        fault = "an event of the script is refused"
-                    elif closing[-1:] == ["running"]:
-                        fault = None if budget else "the replay still runs"
-                    else:
-                        fault = wrong(closing, words, how, count)
-                    if fault:
-                        differences += 1
-                        print(f"{title}: replay of run {' '.join(kind)}: {fault}")
-    print(f"{runs} runs, {differences} wrong")
+    answers, differences, rounds = perform(given.program, given.rounds, given.seconds, given.random, given.only)
+    print(*differences, sep="\n", end="\n" if differences else "")
+    print(f"{sum(answers.values())} runs, {len(differences)} wrong; {rounds} rounds")
     sys.exit(1 if differences else 0)
 
 
