@@ -27,7 +27,10 @@ Needs python3, cc and a program that is linked with the C library of the system 
 run time; it is no part of the tests.
 """
 import argparse
+import collections
+import concurrent.futures
 import itertools
+import os
 import random
 import resource
 import subprocess
@@ -230,6 +233,15 @@ def complete(program, kind, part, of, minutes, only=""):
     return row.line()
 
 
+def every_growth(program):
+    """Each growth of the examples refused alone, in as many parts at once as there are cores, as one row."""
+    of = os.cpu_count()
+    with concurrent.futures.ThreadPoolExecutor(of) as parts:
+        rows = list(parts.map(lambda part: complete(program, "examples", part, of, 1e9), range(1, of + 1)))
+    answers = sum((collections.Counter(row[2]) for row in rows), collections.Counter())
+    return "each growth refused alone (all)", sum(row[1] for row in rows), answers, [one for row in rows for one in row[3]]
+
+
 def limited(name, kind, least, most, cases, draw, end, **environment):
     """Runs under a drawn limit of the system."""
     row = Row(name)
@@ -240,16 +252,18 @@ def limited(name, kind, least, most, cases, draw, end, **environment):
     return row.line()
 
 
-def run(program, minutes, seed, only=""):
-    """The rows of all parts, in about so many minutes."""
+def run(program, minutes, seed, only="", whole=False):
+    """The rows of all parts, in about so many minutes; with `whole`, each growth of the examples, however long it takes."""
+    rows = [every_growth(program)] if whole else []
     begin, draw = time.monotonic(), random.Random(seed)
     with faults.Bench(program) as bench:
         words = [w for w in itertools.chain(example_cases(), refused_cases(bench.folder)) if only in ("", w[0])]
         small = [Case(bench, w) for w in words]
-        rows = []
         for name, jobs, until in (("each growth refused alone", alone, 0.45),
                                   ("several in a row, or all, from each on", in_a_row, 0.65),
                                   ("one growth in 10 or 100 refused", at_random, 0.72)):
+            if whole and jobs is alone:
+                continue
             rows.append(perform(name, jobs(small, draw), draw, begin + 60 * minutes * until))
         large = [Case(bench, w) for w in limit_cases(bench.folder) if only in ("", w[0])]
         rows.append(perform("growths refused, texts at the limits", at_limits(large, draw), draw, begin + 60 * minutes * 0.9))

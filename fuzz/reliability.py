@@ -1,14 +1,16 @@
 #!/usr/bin/env python3
 """Runs everything that looks for faults, and prints one table.
 
-    reliability.py --program PATH [--minutes M] [--seed N] [--only PART] [--fuzzer FILE] [--kept FOLDERS] [--module FILE]
-                   [--write DOCUMENT]
+    reliability.py --program PATH [--minutes M] [--seed N] [--only PART] [--whole] [--calls FILE] [--fuzzer FILE]
+                   [--kept FOLDERS] [--module FILE] [--write DOCUMENT]
 
 The parts of SHARES are run one after another, each for its share of the minutes. A part that cannot be run, or of
 which something is missing, is named with the reason, in the table's heading. `--fuzzer` is the libFuzzer
 program that entry/build.sh makes, and `--kept` the folders of the cases that it kept (parted by colons): all of them
 are run beside the model, however long that takes, and fuzzing goes on from them. `--module` is the LLVM module of the
-program (entry/capture.py), for the thread sanitizer. Each part's module has `run(program, minutes, seed)`, which answers
+program (entry/capture.py), for the thread sanitizer; `--calls` is the program of public calls that
+`refused_calls.py --keep` keeps. With `--whole`, each growth of the examples and of those calls is refused, however long
+that takes, and none is drawn. Each part's module has `run(program, minutes, seed)`, which answers
 rows: the part, the number of runs, how often each answer was seen, and the differences, one line each with what
 reproduces it. The table is printed in the form of docs/RELIABILITY.md; with --write it takes the place of the figures
 that stand there. The script ends with status 1 if there is any difference. Needs python3, cc, and what the
@@ -16,6 +18,7 @@ modules say.
 """
 import argparse
 import ast
+import collections
 import hashlib
 import importlib
 import os
@@ -63,6 +66,16 @@ def beside_model(program, minutes, seed):
         return [("random texts beside the model", sum(counts.values()), answers, differences)]
 
 
+def call_by_call(calls, minutes, seed, whole):
+    """The row of refused_calls.py: the growths of public calls, one by one."""
+    rows = importlib.import_module("refused_calls").run(calls, 1e9 if whole else minutes, seed)
+    cases, runs = sum(row.cases for row in rows), sum(row.runs for row in rows)
+    growths = sum(row.growths for row in rows)
+    answers = sum((row.answers for row in rows), collections.Counter())
+    name = f"{len(rows)} public calls in {cases} cases, each of their {growths:,} growths refused, and the call made again"
+    return [(name, runs, answers, [one for row in rows for one in row.differences])]
+
+
 def imported(name):
     """The `run` of a part's module, or why there is none."""
     if name == "model":
@@ -89,6 +102,11 @@ def chosen(only, more):
         if why:
             left_out.append(f"{name}: {why}")
             continue
+        if name == "refused_calls" and not more[name]["calls"]:
+            left_out.append("refused_calls: no --calls, which refused_calls.py keeps")
+            continue
+        if name == "refused_calls":
+            part = lambda _, minutes, seed, calls, whole: call_by_call(calls, minutes, seed, whole)
         there[name] = lambda *given, part=part, name=name: part(*given, **more.get(name, {}))
         if name == "hostile":
             left_out += [f"hostile: {lacks}" for key, lacks in (("fuzzer", "no fuzzing in one process, since no --fuzzer is named"),
@@ -156,6 +174,8 @@ def arguments():
     parser.add_argument("--minutes", default=30, type=float)
     parser.add_argument("--seed", default=1, type=int)
     parser.add_argument("--only", default=[], action="append", choices=list(SHARES), help="this part; may be given again for others")
+    parser.add_argument("--whole", action="store_true", help="refuse each growth of the examples and of the calls")
+    parser.add_argument("--calls", type=os.path.abspath, help="the program that refused_calls.py keeps")
     parser.add_argument("--fuzzer", type=os.path.abspath, help="the libFuzzer program")
     parser.add_argument("--kept", help="folders of kept cases, parted by colons")
     parser.add_argument("--module", type=os.path.abspath, help="the program's LLVM module")
@@ -173,7 +193,13 @@ def write(document, text):
 def main():
     args = arguments()
     program = str(pathlib.Path(args.program).resolve())
-    there, left_out = chosen(args.only, {"hostile": {"fuzzer": args.fuzzer, "kept": args.kept}, "races": {"module": args.module}})
+    more = {
+        "refused_growths": {"whole": args.whole},
+        "refused_calls": {"calls": args.calls, "whole": args.whole},
+        "hostile": {"fuzzer": args.fuzzer, "kept": args.kept},
+        "races": {"module": args.module},
+    }
+    there, left_out = chosen(args.only, more)
     rows, took, shares = [], {}, sum(SHARES[name] for name in there)
     print("minutes of each part:", ", ".join(f"{name} {args.minutes * SHARES[name] / shares:.1f}" for name in there), file=sys.stderr)
     for line in left_out:
