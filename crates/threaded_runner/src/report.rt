@@ -11,7 +11,8 @@ pub enum RunFault {
     Budget,
     /// 3: want of memory, or a thread could not be made.
     OutOfMemory,
-    /// 4: the machine that came out of the threads has another program or number of units.
+    /// 4: the machine that came out of the threads has another program or number of units. No run answers
+    /// this.
     Foreign,
 }
 

@@ -1,6 +1,6 @@
 //! The run of a program by threads.
 
-ghost use Rattle.std.specs.Prelude.{◌≡◌, ◌<◌, ◌≤◌, ◌⊎◌, ◌↔◌, length, IfOk, IfErr};
+ghost use Rattle.std.specs.Prelude.{◌≡◌, ◌≢◌, ◌<◌, ◌≤◌, ◌⊎◌, ◌↔◌, length, IfOk, IfErr};
 ghost use Rattle.machine_events.specs.declared.event.Standing.TheVariants as standing;
 ghost use Rattle.machine_model.specs.Replay.{Replays};
 ghost use Rattle.sequencer.specs.Seen.{state, units_of};
@@ -10,6 +10,7 @@ use crate::bell::Bell;
 use crate::desk::Desk;
 use crate::gate::RunGate;
 use crate::hold::Worker;
+use crate::naming::Naming;
 use crate::report::{How, Report, RunFault};
 use crate::share::Share;
 use crate::worker::{ring_all, serve};
@@ -17,6 +18,7 @@ use mark_checker::accept::Accepted;
 use sequencer::machine::{MOST_UNITS, Machine};
 use sequencer::predict::Predict;
 use std::alloc::{AllocError, Global};
+use std::marker::Brand;
 use std::sync::{Mutex, Wait};
 use std::thread;
 use std::thread::Threads;
@@ -31,8 +33,7 @@ const MOST_BUDGET: u32 = 1_000_000;
 ///
 /// # Errors
 ///
-/// `Units`, `Budget`, `OutOfMemory` and `Foreign`, in this order. After each the predictor and the machine
-/// are gone.
+/// `Units`, `Budget` and `OutOfMemory`, in this order. After each the predictor and the machine are gone.
 pub fn run_threads<'a, P: Predict, G: RunGate, R: Threads + Wait + Sync>(
     rt: &R,
     alloc: Global,
@@ -44,6 +45,7 @@ pub fn run_threads<'a, P: Predict, G: RunGate, R: Threads + Wait + Sync>(
 ) -> Result<Report<'a>, RunFault>
     ensures units { (result ≡ Err RunFault.Units) ↔ ((units ≡ 0) ⊎ (16 < units)) }
     ensures budget { (result ≡ Err RunFault.Budget) ↔ ((0 < units) × (units ≤ 16) × ((budget ≡ 0) ⊎ (1000000 < budget))) }
+    ensures own { result ≢ Err RunFault.Foreign }
     ensures over { IfOk result (λ report. (report.machine.accepted ≡ accepted.now) × (units_of report.machine ≡ units)) }
     ensures replay { IfOk result (λ report. Replays report.machine.accepted.program (units_of report.machine) report.machine.history (state report.machine)) }
     ensures counts { IfOk result (λ report. (length report.counts.items ≡ units) × IsCounted units report.machine.history report.counts.items) }
@@ -58,8 +60,8 @@ pub fn run_threads<'a, P: Predict, G: RunGate, R: Threads + Wait + Sync>(
 ///
 /// # Errors
 ///
-/// `Units`, also where the number of workers is not 1 to `units`; `Budget`, `OutOfMemory` and `Foreign`, in
-/// this order. After each the predictor and the machine are gone.
+/// `Units`, also where the number of workers is not 1 to `units`; `Budget` and `OutOfMemory`, in this order.
+/// After each the predictor and the machine are gone.
 pub fn run_workers<'a, P: Predict, G: RunGate, R: Threads + Wait + Sync>(
     rt: &R,
     alloc: Global,
@@ -72,6 +74,7 @@ pub fn run_workers<'a, P: Predict, G: RunGate, R: Threads + Wait + Sync>(
 ) -> Result<Report<'a>, RunFault>
     ensures units { (result ≡ Err RunFault.Units) ↔ ((units ≡ 0) ⊎ (16 < units) ⊎ (workers ≡ 0) ⊎ (units < workers)) }
     ensures budget { (result ≡ Err RunFault.Budget) ↔ ((units ≤ 16) × (0 < workers) × (workers ≤ units) × ((budget ≡ 0) ⊎ (1000000 < budget))) }
+    ensures own { result ≢ Err RunFault.Foreign }
     ensures over { IfOk result (λ report. (report.machine.accepted ≡ accepted.now) × (units_of report.machine ≡ units)) }
     ensures replay { IfOk result (λ report. Replays report.machine.accepted.program (units_of report.machine) report.machine.history (state report.machine)) }
     ensures counts { IfOk result (λ report. (length report.counts.items ≡ workers) × IsCounted units report.machine.history report.counts.items) }
@@ -84,25 +87,50 @@ pub fn run_workers<'a, P: Predict, G: RunGate, R: Threads + Wait + Sync>(
     if budget == 0 || budget > MOST_BUDGET {
         return Err(RunFault::Budget);
     }
+    run_named::<P, Brand, G, R>(rt, alloc, accepted, units, workers, budget, predictor, gate)
+}
+
+/// The run, once the numbers are as they must be, over the program and certificate that its types name.
+fn run_named<'a, P: Predict, J: Naming + Send + Sync, G: RunGate, R: Threads + Wait + Sync>(
+    rt: &R,
+    alloc: Global,
+    accepted: &'a Accepted,
+    units: u32,
+    workers: u32,
+    budget: u32,
+    predictor: P,
+    gate: &G,
+) -> Result<Report<'a>, RunFault>
+    requires named { accepted.now ≡ J.accepted }
+    requires units { (0 < units) × (units ≤ 16) × (units ≡ J.units) }
+    requires workers { (0 < workers) × (workers ≡ J.workers) }
+    ensures fault { IfErr result (λ fault. fault ≡ RunFault.OutOfMemory) }
+    ensures over { IfOk result (λ report. (report.machine.accepted ≡ accepted.now) × (units_of report.machine ≡ units)) }
+    ensures replay { IfOk result (λ report. Replays report.machine.accepted.program (units_of report.machine) report.machine.history (state report.machine)) }
+    ensures counts { IfOk result (λ report. (length report.counts.items ≡ workers) × IsCounted units report.machine.history report.counts.items) }
+    ensures ended { IfOk result (λ report. (report.how ≡ How.Ended) ↔ ((state report.machine).outcome ≡ standing.Running → ⊥)) }
+    ensures spent { IfOk result (λ report. report.how ≡ How.OutOfBudget → budget ≤ length report.machine.history) }
+{
     let Ok(bells) = new_bells(alloc, workers) else {
         return Err(RunFault::OutOfMemory);
     };
-    let desk = new_desk(alloc, accepted, units, workers, predictor)?;
+    let desk: Desk<'a, P, J> = new_desk(alloc, accepted, units, workers, predictor)?;
     let shared = Mutex::new(desk);
     work(rt, &shared, bells.as_slice(), gate, units, workers, budget);
-    shared.into_inner().report(accepted, units, workers, budget)
+    shared.into_inner().report(budget)
 }
 
 /// A desk with a machine at its start.
-fn new_desk<'a, P: Predict>(
+fn new_desk<'a, P: Predict, J: Naming>(
     alloc: Global,
     accepted: &'a Accepted,
     units: u32,
     workers: u32,
     predictor: P,
-) -> Result<Desk<'a, P>, RunFault>
-    requires units { (0 < units) × (units ≤ 16) }
-    requires workers { 0 < workers }
+) -> Result<Desk<'a, P, J>, RunFault>
+    requires named { accepted.now ≡ J.accepted }
+    requires units { (0 < units) × (units ≤ 16) × (units ≡ J.units) }
+    requires workers { (0 < workers) × (workers ≡ J.workers) }
     ensures { IfErr result (λ fault. fault ≡ RunFault.OutOfMemory) }
 {
     let Ok(machine) = Machine::new(alloc, accepted, units) else {
@@ -124,9 +152,9 @@ fn new_bells(alloc: Global, workers: u32) -> Result<Vec<Bell>, AllocError> {
 }
 
 /// One thread for each worker; returns when all have ended.
-fn work<'a, 't, P: Predict, G: RunGate, R: Threads + Wait + Sync>(
+fn work<'a, 't, P: Predict, J: Naming + Send + Sync, G: RunGate, R: Threads + Wait + Sync>(
     rt: &'t R,
-    shared: &'t Mutex<Desk<'a, P>>,
+    shared: &'t Mutex<Desk<'a, P, J>>,
     bells: &'t [Bell],
     gate: &'t G,
     units: u32,
@@ -152,7 +180,7 @@ fn work<'a, 't, P: Predict, G: RunGate, R: Threads + Wait + Sync>(
 }
 
 /// Notes that a thread could not be made, and rings for all workers.
-fn give_up<P: Predict, R: Wait>(rt: &R, shared: &Mutex<Desk<'_, P>>, bells: &[Bell]) {
+fn give_up<P: Predict, J: Naming, R: Wait>(rt: &R, shared: &Mutex<Desk<'_, P, J>>, bells: &[Bell]) {
     shared.lock(rt).stop();
     ring_all(bells);
 }

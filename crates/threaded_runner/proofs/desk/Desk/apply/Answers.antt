@@ -1,14 +1,21 @@
-use Rattle.std.proofs.Common.{◌≡◌, ◌∷◌, [], length, refl, ap, ◌∙◌, vec_len}
+use Rattle.std.proofs.Common.{◌≡◌, ◌+◌, ◌%◌, ◌∷◌, [], length, refl, ap, ◌∙◌, vec_len}
+use Rattle.std.specs.Prelude.{slice_index}
 use Rattle.sequencer.specs.Rings.{unit_for}
 use Rattle.threaded_runner.specs.Desks.{DeskView}
-use Rattle.threaded_runner.proofs.Locked.{one_own, more}
+use Rattle.threaded_runner.proofs.Locked.{one_own, more, as_many}
 use Rattle.threaded_runner.proofs.desk.Desk.apply.Goals as goal
 
 pub invariant_of-self-2 : goal.invariant_of-self-2
 invariant_of-self-2 g c =
     let i = c.self.inside in
     let e = c.args.event in
-    let belongs : unit_for i.machine e ≡ c.args.unit = ap (λ (d : DeskView). unit_for d.machine e) c.self.view_is ∙ c.requires in
-    more i.machine c.apply.new.self i.counts.items c.add.new.counts.items (e ∷ []) c.args.unit 1 (vec_len i.counts) i.is_stopped c.self.invariant
-    (one_own i.machine (length i.counts.items) c.args.unit e c.known.ensures.retired c.known.ensures.active belongs)
-    refl c.in_ok-apply.ensures.ok.history c.in_ok-apply.ensures.kept.units i.counts.ok.0 c.add.ensures
+    let belongs : unit_for i.machine e ≡ c.args.unit = ap (λ (d : DeskView). unit_for d.machine e) c.self.view_is ∙ c.requires in (
+      more i.machine c.apply.new.self i.counts.items c.add.new.counts.items (e ∷ []) c.args.unit 1 (vec_len i.counts) i.is_stopped c.self.invariant.0
+          (one_own i.machine (length i.counts.items) c.args.unit e c.known.ensures.retired c.known.ensures.active belongs)
+          refl c.in_ok-apply.ensures.ok.history c.in_ok-apply.ensures.kept.units i.counts.ok.0 c.add.ensures,
+      record {
+        accepted = c.in_ok-apply.ensures.kept.accepted ∙ c.self.invariant.1.accepted;
+        units = c.in_ok-apply.ensures.kept.units ∙ c.self.invariant.1.units;
+        workers = as_many i.counts.items c.add.new.counts.items (c.args.unit % vec_len i.counts) (slice_index i.counts.items (c.args.unit % vec_len i.counts) + 1) c.add.ensures ∙ c.self.invariant.1.workers;
+      },
+    )

@@ -1,0 +1,25 @@
+//! Which run the threads make, as the types of what they share say it.
+
+ghost use Rattle.std.specs.Prelude.{ℕ, []};
+ghost use Rattle.mark_checker.specs.Places.{Checked};
+
+use std::marker::Brand;
+
+/// The program and certificate of a run, its number of units and its number of workers. They exist in the
+/// proofs alone, and each run picks its own. What lies under the lock says by this type that its machine is
+/// that of this run, so neither a burst nor the machine that comes out has to be compared with anything.
+pub(crate) trait Naming {
+    ghost accepted: { Checked };
+
+    ghost units: { ℕ };
+
+    ghost workers: { ℕ };
+}
+
+impl Naming for Brand {
+    ghost accepted = { record { program = record { code = []; bytes = []; fixed = []; tasks = []; start = 0 }; cert = [] } };
+
+    ghost units = { 1 };
+
+    ghost workers = { 1 };
+}
