@@ -1,5 +1,5 @@
 -- What a job writes of its texts, and the status (own choice).
-use Rattle.std.specs.Prelude.{◌≡◌, ℕ, Bool, true, false, List, Option, Result, Ok, Err}
+use Rattle.std.specs.Prelude.{◌≡◌, ℕ, List, Option, Result, Ok, Err}
 use Rattle.std.specs.Io.KnownBytes.{Appends}
 use Rattle.task_descriptor.specs.Listing.{Listing}
 use Rattle.annotated_asm.specs.declared.fault.AsmFault.{AsmFault}
@@ -22,11 +22,6 @@ print_read (Err fault) = program_refused fault
 -- what `print` writes of a program text
 abbrev pub print_text : List ℕ → Report
 print_text text = print_read (parse text)
-
--- the job runs threads over a machine
-abbrev pub is_run : Job → Bool
-is_run (Run units workers budget predict emit) = true
-is_run _ = false
 
 -- what a job may write of its texts; how many threads there are does not matter
 abbrev pub IsReportOf : Job → Texts → Report → Type 0

@@ -12,7 +12,7 @@ pub enum ServeFault {
     /// 2: the writer failed; it is not known how much was written.
     #[error("2 Write")]
     Write,
-    /// 3: the threads of `run` gave back another machine; nothing was written.
+    /// 3: the threads of `run` gave back another machine; nothing was written. No job answers this.
     #[error("3 Foreign")]
     Foreign,
 }

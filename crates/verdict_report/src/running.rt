@@ -20,7 +20,7 @@ use std::thread::Threads;
 use text_pieces::text::Text;
 use threaded_runner::gate::Open;
 use threaded_runner::report;
-use threaded_runner::report::{How, RunFault};
+use threaded_runner::report::How;
 use threaded_runner::runner::run_workers;
 
 /// How a program is run.
@@ -38,7 +38,7 @@ pub struct Extent {
 ///
 /// # Errors
 ///
-/// `OutOfMemory`, also where a thread can't be made; `Foreign` where the threads gave back another machine.
+/// `OutOfMemory`, also where a thread can't be made.
 pub fn run<R: Threads + Wait + Sync>(
     rt: &R,
     alloc: Global,
@@ -50,6 +50,7 @@ pub fn run<R: Threads + Wait + Sync>(
 ) -> Result<Report, ServeFault>
     ensures report { IfOk result (λ report. IsRunText extent.units extent.budget emit program.now certificate.now report) }
     ensures fault { result ≢ Err ServeFault.Write }
+    ensures own { result ≢ Err ServeFault.Foreign }
 {
     match judge(alloc, program, certificate)? {
         Judged::Refused(report) => Ok(report),
@@ -68,6 +69,7 @@ fn run_accepted<R: Threads + Wait + Sync>(
 ) -> Result<Report, ServeFault>
     ensures report { IfOk result (λ report. IsRunReport extent.units extent.budget emit accepted.now.program report) }
     ensures fault { result ≢ Err ServeFault.Write }
+    ensures own { result ≢ Err ServeFault.Foreign }
 {
     let ran = run_predicting(rt, alloc, extent, predict, accepted)?;
     Ok(report_of_run(alloc, emit, &ran, accepted)?)
@@ -84,6 +86,7 @@ fn run_predicting<'a, R: Threads + Wait + Sync>(
     ensures over { IfOk result (λ ran. (ran.machine.accepted ≡ accepted.now) × (units_of ran.machine ≤ 16)) }
     ensures run { IfOk result (λ ran. IsRunOf accepted.now.program extent.units extent.budget (run_of ran)) }
     ensures fault { result ≢ Err ServeFault.Write }
+    ensures own { result ≢ Err ServeFault.Foreign }
 {
     match predict {
         Prediction::First => run_with(rt, alloc, extent, accepted, First),
@@ -106,6 +109,7 @@ fn run_with<'a, P: Predict, R: Threads + Wait + Sync>(
     ensures over { IfOk result (λ ran. (ran.machine.accepted ≡ accepted.now) × (units_of ran.machine ≤ 16)) }
     ensures run { IfOk result (λ ran. IsRunOf accepted.now.program extent.units extent.budget (run_of ran)) }
     ensures fault { result ≢ Err ServeFault.Write }
+    ensures own { result ≢ Err ServeFault.Foreign }
 {
     let units = extent.units.get();
     let workers = extent.workers.get().min(units);
@@ -114,7 +118,6 @@ fn run_with<'a, P: Predict, R: Threads + Wait + Sync>(
         rt, alloc, accepted, units, workers, budget, predictor, &Open,
     ) {
         Ok(ran) => Ok(ran),
-        Err(RunFault::Foreign) => Err(ServeFault::Foreign),
         Err(_) => Err(ServeFault::OutOfMemory),
     }
 }

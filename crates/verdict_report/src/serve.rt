@@ -1,7 +1,7 @@
 //! Doing a job: its text is built whole, and then written.
-ghost use Rattle.std.specs.Prelude.{◌≡◌, ◌≢◌, false, Err, IfOk, OnOk, OnErr};
+ghost use Rattle.std.specs.Prelude.{◌≡◌, ◌≢◌, Err, IfOk, OnOk, OnErr};
 ghost use Rattle.std.specs.Io.KnownBytes.{Appends, Keeps};
-ghost use Rattle.verdict_report.specs.JobTexts.{IsDone, IsReportOf, is_run, print_text};
+ghost use Rattle.verdict_report.specs.JobTexts.{IsDone, IsReportOf, print_text};
 
 use crate::annotating::annotate;
 use crate::checking::check;
@@ -31,7 +31,7 @@ pub fn serve<W: Write, R: Threads + Wait + Sync>(
         (W.contents writer.old) (W.contents writer.new)) }
     ensures nothing { OnErr result (result ≢ Err ServeFault.Write →
         Keeps (W.contents writer.old) (W.contents writer.new)) }
-    ensures own { is_run job.now ≡ false → result ≢ Err ServeFault.Foreign }
+    ensures own { result ≢ Err ServeFault.Foreign }
 {
     let report = report_of(rt, alloc, job, texts)?;
     deliver(writer, report.bytes())?;
@@ -47,7 +47,7 @@ fn report_of<R: Threads + Wait + Sync>(
 ) -> Result<Report, ServeFault>
     ensures report { IfOk result (λ report. IsReportOf job.now texts.now report) }
     ensures fault { result ≢ Err ServeFault.Write }
-    ensures own { is_run job.now ≡ false → result ≢ Err ServeFault.Foreign }
+    ensures own { result ≢ Err ServeFault.Foreign }
 {
     let program = texts.program.as_slice();
     let certificate = &texts.certificate;
