@@ -13,7 +13,7 @@ fn read_at(pc: u32) -> Read {
 fn log_of(rt: &impl Abort, alloc: Global, count: u32) -> ReadLog {
     let mut log = ReadLog::new(alloc);
     for pc in 0..count {
-        let room = log.reserve_one();
+        let room = log.reserve(1);
         room.expect(rt, "room for a read");
         log.push_reserved(read_at(pc));
     }

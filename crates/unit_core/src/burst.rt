@@ -63,6 +63,9 @@ impl<'a> Model for Burst<'a> {
     ghost invariant = { λ b. IsMade (record { accepted = b.accepted.now; before = b.before; steps = b.steps; after = b.after; stretch = b.stretch }) };
 }
 
+/// For how many reads a burst takes memory before its first step, so that the log of a usual one grows once.
+const RESERVED_READS: u32 = 64;
+
 /// Executes one instruction ahead, where the unit may, and answers the stretch with it.
 #[inline(always)]
 fn step_ahead(accepted: &Accepted, unit: &mut Unit, stretch: Stretch) -> Option<Stretch>
@@ -135,6 +138,8 @@ impl<'a> Burst<'a> {
     {
         let Lease { accepted, unit } = lease;
         let mut after = unit.without_log();
+        // Where this growth is refused, each step asks for room of its own.
+        let _ = after.reserve_reads(most.min(RESERVED_READS) as usize);
         let (steps, stretch) = run_ahead(accepted, &mut after, most);
         Burst {
             accepted,

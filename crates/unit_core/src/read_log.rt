@@ -71,17 +71,17 @@ impl ReadLog {
         (&self.closed, &self.current)
     }
 
-    /// Sees to it that one more read finds room.
+    /// Sees to it that so many more reads find room.
     ///
     /// # Errors
     ///
     /// `AllocError` where the growth is refused; nothing is changed then.
     #[inline]
-    pub fn reserve_one(&mut self) -> Result<(), AllocError>
+    pub fn reserve(&mut self, count: usize) -> Result<(), AllocError>
         ensures reads { self.new.reads ≡ self.old.reads }
-        ensures room { OnOk result (0 < self.new.room) }
+        ensures room { OnOk result (count ≤ self.new.room) }
     {
-        self.current.reserve(1)
+        self.current.reserve(count)
     }
 
     /// Puts a read behind all others, for which there is room.

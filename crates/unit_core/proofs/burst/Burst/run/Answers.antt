@@ -10,6 +10,6 @@ pub returns-clause-sends_last : goal.returns-clause-sends_last
 returns-clause-sends_last c =
     let u : UnitView = c.lease.inside.unit in
     let with_log : List Read → UnitView = λ log. record u { log = log } in
-    let same : c.without_log-after.result ≡ u = c.without_log-after.ensures ∙ ap with_log (sym c.lease.invariant.0) in
+    let same : c.reserve_reads.new.self ≡ u = c.reserve_reads.ensures ∙ c.without_log-after.ensures ∙ ap with_log (sym c.lease.invariant.0) in
     subst (λ (v : UnitView). SendsLast c.lease.inside.accepted.now.program c.run_ahead-steps.result.1 v c.run_ahead-steps.result.0) same
     c.run_ahead-steps.ensures.sends_last
