@@ -211,3 +211,20 @@ fn replays_what_was_run(rt: HostRuntime) {
         }
     }
 }
+
+// One unit guesses nothing: four rounds retire, and the last task halts, so it never does.
+#[test]
+fn sums_up_count(rt: HostRuntime) {
+    let row = Row {
+        words: "run --units 1 --emit summary a.s a.cert",
+        expected: SUMMARY,
+        ..COUNTED
+    };
+    row.runs(&rt, rt.alloc());
+}
+
+const SUMMARY: &str = "assigned  retired  squashed  dropped  unfinished  useful  wasted  task
+       4        4         0        0           0      16       0  A
+       1        0         0        0           1       0       0  B
+       5        4         0        0           1      16       0  (all)
+";

@@ -1,6 +1,7 @@
 -- What a job writes of its texts, and the status (own choice).
 use Rattle.std.specs.Prelude.{◌≡◌, ℕ, List, Option, Result, Ok, Err}
 use Rattle.std.specs.Io.KnownBytes.{Appends}
+use Rattle.std.specs.String.{string_bytes}
 use Rattle.task_descriptor.specs.Listing.{Listing}
 use Rattle.annotated_asm.specs.declared.fault.AsmFault.{AsmFault}
 use Rattle.annotated_asm.specs.ProgramText.{parse}
@@ -11,8 +12,9 @@ use Rattle.verdict_report.specs.CheckText.{check_text}
 use Rattle.verdict_report.specs.ReplayText.{replay_text}
 use Rattle.verdict_report.specs.RunText.{IsRunText}
 use Rattle.verdict_report.specs.AnnotateText.{IsAnnotateReport}
+use Rattle.verdict_report.specs.ExplainText.{IsExplainReport}
 use Rattle.jobs.specs.declared.job.Job.{Job}
-use Rattle.jobs.specs.declared.job.Job.TheVariants.{Seq, Print, Annotate, Check, Replay, Run}
+use Rattle.jobs.specs.declared.job.Job.TheVariants.{Seq, Print, Annotate, Explain, Check, Replay, Run}
 use Rattle.jobs.specs.declared.job.Texts.{Texts}
 
 abbrev pub print_read : Result Listing AsmFault → Report
@@ -28,6 +30,7 @@ abbrev pub IsReportOf : Job → Texts → Report → Type 0
 IsReportOf (Seq budget) texts report = report ≡ seq_text budget texts.program.items
 IsReportOf Print texts report = report ≡ print_text texts.program.items
 IsReportOf (Annotate emit) texts report = IsAnnotateReport emit texts.program.items report
+IsReportOf (Explain name) texts report = IsExplainReport (string_bytes name) texts.program.items report
 IsReportOf (Check workers) texts report = report ≡ check_text texts.program.items texts.certificate
 IsReportOf (Replay units) texts report = report ≡ replay_text units texts.program.items texts.certificate texts.script.items
 IsReportOf (Run units workers budget predict emit) texts report = IsRunText units budget emit texts.program.items texts.certificate report

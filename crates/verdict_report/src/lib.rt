@@ -8,6 +8,7 @@
 pub mod annotating;
 pub mod checking;
 pub mod event_text;
+pub mod explaining;
 pub mod fault;
 pub mod judging;
 pub mod machine_text;

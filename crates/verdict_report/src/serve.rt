@@ -5,6 +5,7 @@ ghost use Rattle.verdict_report.specs.JobTexts.{IsDone, IsReportOf, print_text};
 
 use crate::annotating::annotate;
 use crate::checking::check;
+use crate::explaining::explain;
 use crate::fault::ServeFault;
 use crate::replaying::replay;
 use crate::report::{Report, refused_program};
@@ -55,6 +56,7 @@ fn report_of<R: Threads + Wait + Sync>(
         Job::Seq { budget } => Ok(seq(alloc, *budget, program)?),
         Job::Print => Ok(print(alloc, program)?),
         Job::Annotate { emit } => Ok(annotate(alloc, *emit, program)?),
+        Job::Explain { name } => Ok(explain(alloc, name, program)?),
         Job::Check { workers } => Ok(check(rt, alloc, *workers, program, certificate)?),
         Job::Replay { units } => {
             let script = texts.script.as_slice();

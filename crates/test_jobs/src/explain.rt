@@ -1,0 +1,227 @@
+//! `explain`: what is said of wrong marks and of refused texts, and nothing of right marks.
+
+use crate::answers::{EMPTY, Row};
+use test_programs::programs::{
+    COUNT, COUNT_CREATES_LESS, DIAMOND, FIVE_FINDINGS, PRODUCT, READ_ONLY, RELEASE, SPIN,
+};
+
+const EXPLAIN: Row<'static> = Row {
+    words: "explain a.s",
+    ..EMPTY
+};
+
+#[test]
+fn says_nothing_of_right_marks(rt: HostRuntime) {
+    for program in [COUNT, DIAMOND, PRODUCT, READ_ONLY, RELEASE, SPIN] {
+        let row = Row { program, ..EXPLAIN };
+        row.runs(&rt, rt.alloc());
+    }
+}
+
+// Programs with wrong marks, and what is said of them.
+const WRONG: [(&str, &str); 2] = [
+    (
+        COUNT_CREATES_LESS,
+        "a.s:2:1: error: task A may write $10, which its create mask lacks [rule 5]
+a.s:7:1: note: written here, on the path 5 -> 6 -> 7
+a.s:2:1: help: add $10 to the create mask of task A
+",
+    ),
+    (
+        FIVE_FINDINGS,
+        "a.s:1:1: error: task A may write $8, which its create mask lacks [rule 5]
+a.s:4:4: note: written here, on the path 4
+a.s:1:1: help: add $8 to the create mask of task A
+a.s:4:4: error: task A sends $8 here, which its create mask lacks [rule 8]
+a.s:4:4: note: reached from here, on the path 4
+a.s:4:4: help: add $8 to the create mask of task A
+a.s:5:4: error: task B can end here and go on to a place that is not one of its targets [rule 9]
+a.s:5:4: note: reached from here, on the path 5
+a.s:5:4: help: add the place to the targets of task B; if no task begins there, the control flow must change
+a.s:2:1: error: a target of task B is not where a task begins [rule 12]
+a.s:2:1: help: remove the target, or let a task begin there
+",
+    ),
+];
+
+#[test]
+fn explains_wrong_marks(rt: HostRuntime) {
+    for &(program, expected) in &WRONG {
+        let row = Row {
+            program,
+            expected,
+            status: 1,
+            ..EXPLAIN
+        };
+        row.runs(&rt, rt.alloc());
+    }
+}
+
+// Texts that are refused, and what is said of them.
+const REFUSED: [(&str, &str); 4] = [
+    (
+        "foo $8",
+        "a.s:1: error: there is no such instruction or directive here [4 Mnemonic line 1]
+a.s:1: help: instructions stand in .text; .word, .byte and .space stand in .data or .rodata
+",
+    ),
+    (
+        ".task A create=- targets=-\nA: halt\nA: nop\n",
+        "a.s:3: error: a label, a task or .start stands a second time [8 Duplicate line 3]
+a.s:3: help: a label and a task of one name stand once, and .start stands once
+",
+    ),
+    (
+        "halt\n",
+        "a.s: error: the program has no task [10 Build 2 NoTask]
+a.s: help: add a line for each task, such as .task A create=$8 targets=A,B
+",
+    ),
+    // `li` is two instructions, so the one with the wrong mark has the index 2; it stands in line 4.
+    (
+        ".task A create=$8 targets=-\n\nA: li $8,0x12345678\n  out $8 !f\nhalt\n",
+        "a.s:4: error: this instruction cannot have this mark, or releases nothing [10 Build 6 BadMark 2]
+a.s:4: help: !f stands on an instruction that writes a register, !st and !sn on a conditional branch, no stop on halt; release takes registers other than $0
+",
+    ),
+];
+
+#[test]
+fn explains_refused_texts(rt: HostRuntime) {
+    for &(program, expected) in &REFUSED {
+        let row = Row {
+            program,
+            expected,
+            status: 1,
+            ..EXPLAIN
+        };
+        row.runs(&rt, rt.alloc());
+    }
+}
+
+// One program for each of the rules 5 to 12: the same marks, right but for one.
+const BY_RULE: [(&str, &str); 8] = [
+    (
+        ".task A create=$8 targets=A,B
+.task B create=- targets=-
+A: addiu $8,$8,1 !f
+slti $9,$8,4
+bne $9,$0,A !s
+B: out $8
+halt
+",
+        "a.s:1:1: error: task A may write $9, which its create mask lacks [rule 5]
+a.s:4:1: note: written here, on the path 3 -> 4
+a.s:1:1: help: add $9 to the create mask of task A
+",
+    ),
+    (
+        ".task A create=$8,$9 targets=A,B
+.task B create=- targets=-
+A: addiu $8,$8,1 !f
+slti $8,$8,4
+bne $9,$0,A !s
+B: out $8
+halt
+",
+        "a.s:3:4: error: task A forwards $8 here and may write it again [rule 6]
+a.s:4:1: note: written here, on the path 3 -> 4
+a.s:3:4: help: remove !f here and put it at the last instruction that writes $8
+",
+    ),
+    (
+        ".task A create=$8,$9 targets=A,B
+.task B create=- targets=-
+A: release $9
+slti $9,$8,4
+bne $9,$0,A !s
+B: out $8
+halt
+",
+        "a.s:3:4: error: task A releases $9 here and may write it again [rule 7]
+a.s:4:1: note: written here, on the path 3 -> 4
+a.s:3:4: help: remove $9 from this release, and release it behind the last instruction that writes it
+",
+    ),
+    (
+        ".task A create=$8,$9 targets=A,B
+.task B create=- targets=-
+A: release $10
+slti $9,$8,4
+bne $9,$0,A !s
+B: out $8
+halt
+",
+        "a.s:3:4: error: task A sends $10 here, which its create mask lacks [rule 8]
+a.s:3:4: note: reached from here, on the path 3
+a.s:3:4: help: add $10 to the create mask of task A
+",
+    ),
+    (
+        ".task A create=$8,$9 targets=A
+.task B create=- targets=-
+A: addiu $8,$8,1 !f
+slti $9,$8,4
+bne $9,$0,A !s
+B: out $8
+halt
+",
+        "a.s:5:1: error: task A can end here and go on to a place that is not one of its targets [rule 9]
+a.s:3:4: note: reached from here, on the path 3 -> 4 -> 5
+a.s:5:1: help: add the place to the targets of task A; if no task begins there, the control flow must change
+",
+    ),
+    (
+        ".task A create=$8,$9 targets=A,B
+.task B create=- targets=-
+A: addiu $8,$8,1 !f
+slti $9,$8,4
+bne $9,$0,A !s
+B: out $8
+",
+        "a.s:6:4: error: task B can go on from here to an index that has no instruction [rule 10]
+a.s:6:4: note: reached from here, on the path 6
+a.s:6:4: help: the control flow must change: put halt or a jump there
+",
+    ),
+    (
+        ".task A create=$8,$9 targets=A,B
+.task B create=- targets=-
+A: addiu $8,$8,1 !f
+slti $9,$8,4
+bne $9,$0,A !s
+B: out $8
+jr $31
+",
+        "a.s:7:1: error: task B goes on over a jump to an address in a register [rule 11]
+a.s:6:4: note: reached from here, on the path 6 -> 7
+a.s:7:1: help: end the task here: add !s
+",
+    ),
+    (
+        ".task A create=$8,$9 targets=A,B,@1
+.task B create=- targets=-
+A: addiu $8,$8,1 !f
+slti $9,$8,4
+bne $9,$0,A !s
+B: out $8
+halt
+",
+        "a.s:1:1: error: a target of task A is not where a task begins [rule 12]
+a.s:1:1: help: remove the target, or let a task begin there
+",
+    ),
+];
+
+#[test]
+fn explains_each_rule(rt: HostRuntime) {
+    for &(program, expected) in &BY_RULE {
+        let row = Row {
+            program,
+            expected,
+            status: 1,
+            ..EXPLAIN
+        };
+        row.runs(&rt, rt.alloc());
+    }
+}

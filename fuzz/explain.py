@@ -1,0 +1,305 @@
+#!/usr/bin/env python3
+"""Compares what `explain` says with the model, and applies each help that it gives.
+
+Takes random programs whose marks are right, plants wrong marks, and lays the text out anew: labels on
+lines of their own or before their statement, blanks, comments, blank lines. For each it compares the
+diagnostics with the model's: places, sentences, that each path is a path inside the task, that it leads
+where the rule says, and that none is shorter. Then it follows each help alone, and that finding must be
+gone. PROGRAM is the built `multiscalar`.
+"""
+import argparse
+import collections
+import os
+import random
+import re
+import subprocess
+import sys
+import tempfile
+import time
+
+import accepted as generator
+from accepted import accepted
+from model import Fault, TOK, assemble, certify, dests, exits, inner, print_program, verdict
+
+R = random.Random()
+WRITTEN = {5, 6, 7}
+ON_TASK = {5, 12}
+
+
+def columns(line):
+    """The columns at which the tokens of a line begin, from 1."""
+    starts, pos = [], 0
+    while pos < len(line):
+        match = TOK.match(line, pos)
+        if match.lastgroup not in ("ws", "comment"):
+            starts.append((match.start() + 1, match.group()))
+        pos = match.end()
+    return starts
+
+
+def places(text):
+    """Line and column of each task and of each instruction."""
+    tasks, code = [], []
+    for number, line in enumerate(text.split("\n"), 1):
+        starts = columns(line)
+        while len(starts) >= 2 and starts[1][1] == ":":
+            starts = starts[2:]
+        if not starts:
+            continue
+        column, head = starts[0]
+        if head == ".task":
+            tasks.append((number, column))
+        elif not head.startswith("."):
+            code += [(number, column)] * instructions(head, starts)
+    return tasks, code
+
+
+def instructions(head, starts):
+    """How many instructions a line with this mnemonic stands for."""
+    if head == "la":
+        return 2
+    if head != "li":
+        return 1
+    value = int(next(t for _, t in starts if re.fullmatch(r"-?(0x[0-9a-f]+|\d+)", t)), 0) & 0xFFFFFFFF
+    return 1 if value < 0x10000 or value >= 0xFFFF8000 else 2
+
+
+def sentence(rule, task, register):
+    """The error and the help of a rule."""
+    return {
+        5: (f"task {task} may write ${register}, which its create mask lacks",
+            f"add ${register} to the create mask of task {task}"),
+        6: (f"task {task} forwards ${register} here and may write it again",
+            f"remove !f here and put it at the last instruction that writes ${register}"),
+        7: (f"task {task} releases ${register} here and may write it again",
+            f"remove ${register} from this release, and release it behind the last instruction that writes it"),
+        8: (f"task {task} sends ${register} here, which its create mask lacks",
+            f"add ${register} to the create mask of task {task}"),
+        9: (f"task {task} can end here and go on to a place that is not one of its targets",
+            f"add the place to the targets of task {task}; if no task begins there, the control flow must change"),
+        10: (f"task {task} can go on from here to an index that has no instruction",
+             "the control flow must change: put halt or a jump there"),
+        11: (f"task {task} goes on over a jump to an address in a register", "end the task here: add !s"),
+        12: (f"a target of task {task} is not where a task begins",
+             "remove the target, or let a task begin there"),
+    }[rule]
+
+
+def distance(program, start, sought, on):
+    """How many edges a shortest path from start to what is sought has, of one edge at least where it goes on."""
+    layer, seen, count = {start}, set(), 0
+    while layer:
+        if (count or not on) and any(sought(i) for i in layer):
+            return count
+        seen |= layer if count or not on else set()
+        layer = {j for i in layer for j in inner(program, i) if j < len(program.code)} - seen
+        count += 1
+    return None
+
+
+def query(program, finding):
+    """Where a path that shows a finding begins, what it leads to, and whether it goes on by an edge."""
+    task, index, rule, register = finding
+    entry = program.tasks[task][1]
+    writes = lambda i: register in dests(program.code[i][0])
+    if rule == 5:
+        return entry, writes, False
+    if rule in (6, 7):
+        return index, writes, True
+    return (entry, lambda i: i == index, False) if rule in (8, 9, 10, 11) else None
+
+
+def lines_lead(program, code, lines, start, sought):
+    """Whether the lines are those of a path from start to what is sought."""
+    at = {start} if code[start][0] == lines[0] else set()
+    for line in lines[1:]:
+        at = {j for i in at for j in inner(program, i) if j < len(code) and code[j][0] == line}
+    return any(sought(i) for i in at)
+
+
+def differs(program, text, name, said):
+    """What is wrong with what was said; None where nothing is."""
+    tasks, code = places(text)
+    told = said.split("\n")[:-1]
+    for finding in verdict(program, certify(program)):
+        task, index, rule, register = finding
+        line, column = tasks[task] if rule in ON_TASK else code[index]
+        error, todo = sentence(rule, program.tasks[task][0], register)
+        at = f"{name}:{line}:{column}: "
+        if not told or told.pop(0) != f"{at}error: {error} [rule {rule}]":
+            return f"the error of {finding}"
+        asked = query(program, finding)
+        if asked:
+            start, sought, on = asked
+            match = re.fullmatch(r"(.*):(\d+):(\d+): note: (written here|reached from here), on the path ([\d >-]+)",
+                                 told.pop(0) if told else "")
+            if not match:
+                return f"the note of {finding}"
+            path = [int(n) for n in match.group(5).split(" -> ")]
+            if not lines_lead(program, code, path, start, sought):
+                return f"the path of {finding}"
+            if len(path) != distance(program, start, sought, on) + 1:
+                return f"the length of the path of {finding}"
+            end = path[-1] if rule in WRITTEN else path[0]
+            words = "written here" if rule in WRITTEN else "reached from here"
+            if (match.group(1), int(match.group(2)), match.group(4)) != (name, end, words):
+                return f"the place of the note of {finding}"
+            if (end, int(match.group(3))) not in code:
+                return f"the column of the note of {finding}"
+        if not told or told.pop(0) != f"{at}help: {todo}":
+            return f"the help of {finding}"
+    return f"more is said: {told[0]}" if told else None
+
+
+def refused_so(fault, text, name, said):
+    """Whether these two lines tell the first fault of a text, at its line if it has one."""
+    line = places(text)[1][fault.index][0] if fault.index is not None else fault.line
+    at = re.escape(f"{name}:{line}: " if line else f"{name}: ")
+    told = re.escape(fault.text()[len("program refused: "):-1])
+    return re.fullmatch(f"{at}error: [^\n]+ \\[{told}\\]\n{at}help: [^\n]+\n", said) is not None
+
+
+def label_of(program, index):
+    """A place as a program text names it."""
+    for name, entry, _, _ in program.tasks:
+        if entry == index:
+            return name
+    return f"@{index}"
+
+
+def mended(program, text, finding):
+    """The text with what the help of a finding says; None where it says that the control flow must change."""
+    task, index, rule, register = finding
+    tasks, code = places(text)
+    lines = text.split("\n")
+    number = (tasks[task] if rule in (5, 8, 9, 12) else code[index])[0] - 1
+    line = lines[number]
+    if rule in (5, 8):
+        line = line.replace("create=-", f"create=${register}") if "create=-" in line else \
+            line.replace("create=", f"create=${register},")
+    elif rule == 6:
+        line = line.replace("!f", "", 1)
+    elif rule == 7:
+        match = re.search(r"release ([$\w, ]+\w)", line)
+        rest = [r for r in match.group(1).replace(" ", "").split(",") if r != f"${register}"]
+        line = line.replace(match.group(0), "release " + ",".join(rest) if rest else "nop")
+    elif rule == 9:
+        new = [label_of(program, j) for j in exits(program, index) if j not in program.tasks[task][3]]
+        joined = ",".join(new)
+        line = line.replace("targets=-", f"targets={joined}") if "targets=-" in line else \
+            line.replace("targets=", f"targets={joined},")
+    elif rule == 11:
+        line = re.sub(r"\s*(#.*)?$", lambda m: " !s" + (" " + m.group(1) if m.group(1) else ""), line, count=1)
+    elif rule == 12:
+        begins = {t[1] for t in program.tasks}
+        kept = [label_of(program, j) for j in program.tasks[task][3] if j in begins]
+        line = re.sub(r"targets=[\w,@-]+", "targets=" + (",".join(kept) or "-"), line)
+    else:
+        return None
+    lines[number] = line
+    return "\n".join(lines)
+
+
+def plant(text):
+    """The text with a mark or two that may be wrong."""
+    registers = ["$8", "$9", "$10", "$11", "$12", "$31", "$33"]
+    for _ in range(R.choice([0, 1, 1, 2, 3])):
+        lines = text.split("\n")
+        k = R.randrange(len(lines))
+        line, kind = lines[k], R.randrange(7)
+        if kind == 0:
+            line = re.sub(r"create=\$\d+,?", "create=", line)
+            line = line.replace("create= ", "create=- ")
+        elif kind == 1 and not line.startswith(".") and not line.endswith(":") and "!f" not in line:
+            line = re.sub(r"( !s[tn]?)?$", r" !f\1", line, count=1)
+        elif kind == 2:
+            line = re.sub(r"(targets=[^\n]*),[\w@]+", r"\1", line)
+        elif kind == 3:
+            line = re.sub(r" !s[tn]?$", "", line)
+        elif kind == 4 and line and line[0] not in "." and not line.endswith(":"):
+            line = "release " + ",".join(R.sample(registers, R.choice([1, 2])))
+        elif kind == 5 and line.startswith(".task"):
+            line += f",@{R.randrange(12)}" if "targets=-" not in line else ""
+        elif kind == 6 and re.match(r"(j|beq|bne) ", line):
+            line = re.sub(r"[\w@]+( !.*)?$", lambda m: f"@{R.randrange(40)}" + (m.group(1) or ""), line, count=1)
+        lines[k] = line
+        text = "\n".join(lines)
+    return text
+
+
+def laid_out(text):
+    """The same program in another layout."""
+    lines, held = [], ""
+    for line in text.split("\n")[:-1]:
+        if line.endswith(":") and R.random() < .5:
+            held += line + R.choice(["", " ", "  ", "\t"])
+            continue
+        if R.random() < .1:
+            lines.append(R.choice(["", "# why", "   ", "\t# x: y"]))
+        line = line.replace(",", ", ") if R.random() < .2 and not line.startswith(".task") else line
+        tail = R.choice(["", "", "", "  # so", " "])
+        lines.append((R.choice(["", "", "  ", "\t"]) if not held else "") + held + line + tail)
+        held = ""
+    return "\n".join(lines + ([held] if held else [])) + "\n"
+
+
+class Bench:
+    def __init__(self, program):
+        self.program = os.path.abspath(program)
+        self.folder = tempfile.mkdtemp(prefix="explain")
+        self.counts = collections.Counter()
+
+    def explain(self, text):
+        with open(os.path.join(self.folder, "p.s"), "w") as file:
+            file.write(text)
+        run = subprocess.run([self.program, "explain", "p.s"], cwd=self.folder, capture_output=True)
+        return run.stdout.decode("latin-1"), run.returncode, run.stderr.decode("latin-1")
+
+    def wrong(self, text):
+        said, status, complaint = self.explain(text)
+        try:
+            program = assemble(text.encode("latin-1"))
+        except Fault as fault:
+            self.counts["refused texts"] += 1
+            return None if status == 1 and not complaint and refused_so(fault, text, "p.s", said) else "a refused text"
+        findings = verdict(program, certify(program))
+        self.counts["programs"] += 1
+        self.counts["findings"] += len(findings)
+        if status != (1 if findings else 0) or complaint:
+            return f"status {status}, {len(findings)} findings"
+        return differs(program, text, "p.s", said) or self.unmended(program, text, findings)
+
+    def unmended(self, program, text, findings):
+        for finding in findings:
+            after = mended(program, text, finding)
+            if after is None:
+                self.counts["helps on control flow"] += 1
+                continue
+            new = assemble(after.encode("latin-1"))
+            left = verdict(new, certify(new))
+            if finding in left:
+                return f"{finding} is there after its help"
+            self.counts["helps that mend"] += 1
+        return None
+
+
+def main():
+    options = argparse.ArgumentParser(description=__doc__, formatter_class=argparse.RawDescriptionHelpFormatter)
+    options.add_argument("program", metavar="PROGRAM")
+    options.add_argument("--seconds", type=float, default=60)
+    options.add_argument("--seed", type=int, default=int(time.time()))
+    given = options.parse_args()
+    R.seed(given.seed)
+    generator.R.seed(given.seed)
+    bench, end = Bench(given.program), time.time() + given.seconds
+    while time.time() < end:
+        text = laid_out(plant(print_program(accepted()[0])))
+        what = bench.wrong(text)
+        if what:
+            print(f"seed {given.seed}: {what}\n{text}{bench.explain(text)[0]}")
+            sys.exit(1)
+    print(", ".join(f"{n} {what}" for what, n in bench.counts.items()), f"seed {given.seed}")
+
+
+if __name__ == "__main__":
+    main()
