@@ -1,5 +1,5 @@
 -- Tallies with one life more: each number grows by what the life adds, and there is room for it.
-use Rattle.std.proofs.Common.{◌≡◌, ℕ, zero, suc, ◌+◌, ◌^◌, ◌<◌, ◌≤◌, Bool, true, false, cond, List, [], ◌∷◌, ◌++◌, map, length, replicate, take, get_or, set, refl, sym, ap, ◌∙◌, subst, arith, length-append, length-take-le, append-nil, eq-eqb}
+use Rattle.std.proofs.Common.{◌≡◌, ℕ, zero, suc, ◌+◌, ◌<◌, ◌≤◌, Bool, true, false, cond, List, [], ◌∷◌, ◌++◌, map, length, replicate, take, get_or, set, refl, sym, ap, ◌∙◌, subst, arith, length-append, length-take-le, append-nil, eq-eqb}
 use Rattle.std.specs.Prelude.{filter, nat_eq}
 use Rattle.std.specs.List.{sum_by, range_with_len}
 use Rattle.std.proofs.lemmas.Bool.{ne_eqb}

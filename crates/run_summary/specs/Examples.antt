@@ -1,7 +1,8 @@
 -- Worked examples, computed by the checker: the tallies of three lives, and the text of a summary.
-use Rattle.std.specs.Prelude.{◌≡◌, ℕ, List, [], ◌∷◌, ◌++◌, codes}
+use Rattle.std.specs.Prelude.{◌≡◌, ℕ, List, [], ◌∷◌, ◌++◌, false, codes}
 use Rattle.std.specs.Fmt.{digits}
 use Rattle.std.proofs.Common.{refl}
+use Rattle.task_descriptor.specs.Names.{is_name}
 use Rattle.task_lives.specs.declared.life.Ending.{Ending}
 use Rattle.task_lives.specs.declared.life.Ending.TheVariants.{Retired, Squashed, Dropped, Unfinished}
 use Rattle.task_lives.specs.declared.life.Life.{Life}
@@ -47,3 +48,6 @@ number_at_the_right = refl
 pub row_of_all : row_text (tally_of some_lives) (codes "(all)") ≡ codes "       4        1         1        1           1       4       5  (all)" ++ 10 ∷ []
 unfolding digits
 row_of_all = refl
+
+pub all_is_no_name : is_name (codes "(all)") ≡ false
+all_is_no_name = refl

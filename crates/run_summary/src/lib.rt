@@ -1,4 +1,5 @@
-//! The summary of a run: what the lives of each task came to.
+//! The summary of a run: for each task, how often it was assigned to a unit, how these lives ended, and how
+//! many instructions they executed.
 #![tactic(auto)]
 
 pub mod summary;

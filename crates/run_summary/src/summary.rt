@@ -12,7 +12,10 @@ use task_descriptor::descriptor::Descriptor;
 use task_descriptor::program::Program;
 use task_lives::life::Life;
 
-/// The summary of a program's run with these lives: a heading, a row for each task, and one for all lives.
+/// The summary of a run of a program, whose lives these are: a heading, a row for each task of the program
+/// in the order of their numbers, and a row for all lives. A life of a task that the program lacks counts in
+/// the last row alone. There are at most 1,000,000 lives, which executed at most 1,000,000 instructions, as
+/// `lives_of_runs` returns them. The error says that memory was refused.
 pub fn write(alloc: Global, program: &Program, lives: &[Life]) -> Result<Vec<u8>, AllocError>
     requires { AreFew lives.now }
     ensures { IfOk result (λ text. text.items ≡ summary_text program.now lives.now) }
@@ -36,7 +39,7 @@ fn write_heading(text: &mut String) -> Result<(), AllocError>
     )
 }
 
-/// Adds the rows of tasks.
+/// Adds a row for each task, with the tally at its number.
 fn write_rows(text: &mut String, tallies: &[Tally], tasks: &[Descriptor]) -> Result<(), AllocError>
     requires { length tasks.now ≤ length tallies.now }
     ensures { OnOk result (string_bytes text.new ≡ string_bytes text.old ++ rows_from tallies.now 0 tasks.now) }
@@ -47,7 +50,7 @@ fn write_rows(text: &mut String, tallies: &[Tally], tasks: &[Descriptor]) -> Res
     Ok(())
 }
 
-/// Adds a row.
+/// Adds a row: the numbers of a tally, and a name.
 fn write_row(text: &mut String, tally: &Tally, name: &str) -> Result<(), AllocError>
     ensures { OnOk result (string_bytes text.new ≡ string_bytes text.old ++ row_text tally.now name.now) }
 {
@@ -61,7 +64,7 @@ fn write_row(text: &mut String, tally: &Tally, name: &str) -> Result<(), AllocEr
     writeln!(text, "  {name}")
 }
 
-/// Adds a number at the right of a column.
+/// Adds a number at the right of a column of this width; one that is wider is written whole.
 fn write_number(text: &mut String, number: u32, width: usize) -> Result<(), AllocError>
     ensures { OnOk result (string_bytes text.new ≡ string_bytes text.old ++ column width number) }
 {

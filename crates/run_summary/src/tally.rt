@@ -1,4 +1,4 @@
-//! What lives come to.
+//! Lives counted, for each task and for all.
 
 ghost use Rattle.std.specs.Prelude.{◌≡◌, IfOk};
 ghost use Rattle.task_lives.specs.Sums.{AreFew};
@@ -8,10 +8,11 @@ ghost use Rattle.run_summary.specs.Counting.{HasRoom, HaveRoom, with_life, with_
 use std::alloc::{AllocError, Global};
 use task_lives::life::{Ending, Life};
 
-/// Of some lives, how many there are, how they ended, and how many instructions they executed.
+/// Of some lives, how many there are, how they ended, and how many instructions they executed. Each number
+/// is at most 1,000,000 in the tallies that `add_up` and `by_task` return.
 #[derive(Clone, Copy, Debug, PartialEq, Eq)]
 pub struct Tally {
-    /// How many there are.
+    /// How many there are: how often a task was assigned to a unit.
     pub assigned: u32,
     /// How many retired.
     pub retired: u32,
@@ -23,7 +24,8 @@ pub struct Tally {
     pub unfinished: u32,
     /// How many instructions the retired ones executed.
     pub useful: u32,
-    /// How many instructions those that were squashed or dropped executed.
+    /// How many instructions those that were squashed or dropped executed. What the unfinished ones executed
+    /// counts neither here nor in `useful`.
     pub wasted: u32,
 }
 
@@ -37,7 +39,7 @@ const NONE: Tally = Tally {
     wasted: 0,
 };
 
-/// The tally of some lives.
+/// The tally of some lives: at most 1,000,000, which executed at most 1,000,000 instructions.
 pub fn add_up(lives: &[Life]) -> Tally
     requires { AreFew lives.now }
     ensures { result ≡ tally_of lives.now }
@@ -49,7 +51,9 @@ pub fn add_up(lives: &[Life]) -> Tally
     tally
 }
 
-/// The tallies of so many tasks, task 0 first, each of the task's own lives.
+/// The tallies of so many tasks, from task 0 on, each of the lives of that task. A life of any other task
+/// counts in none. There are at most 1,000,000 lives, which executed at most 1,000,000 instructions. The
+/// error says that memory was refused.
 pub fn by_task(alloc: Global, lives: &[Life], tasks: usize) -> Result<Vec<Tally>, AllocError>
     requires { AreFew lives.now }
     ensures { IfOk result (λ tallies. tallies.items ≡ tallies_of tasks lives.now) }
@@ -61,7 +65,7 @@ pub fn by_task(alloc: Global, lives: &[Life], tasks: usize) -> Result<Vec<Tally>
     Ok(tallies)
 }
 
-/// Counts a life in the tally of its task, where it is among them.
+/// Counts a life in the tally of its task, if there is one.
 fn count(tallies: &mut Vec<Tally>, life: &Life)
     requires { HaveRoom life.now tallies.old.items }
     ensures { tallies.new.items ≡ with_task_life 0 life.now tallies.old.items }

@@ -1,8 +1,7 @@
 -- The format writes spaces before the digits.
-use Rattle.std.proofs.Common.{◌≡◌, ◌∙◌, ℕ, List, Option, Some, OnOk, ap, subst}
+use Rattle.std.proofs.Common.{◌∙◌, ℕ, List, Option, Some, OnOk, ap, subst}
 use Rattle.std.specs.Fmt.{AppendsText, styled_decimal}
 use Rattle.std.specs.String.{string_bytes}
-use Rattle.run_summary.specs.SummaryText.{column}
 use Rattle.run_summary.proofs.Rows.{right_aligned}
 use Rattle.run_summary.proofs.summary.write_number.Goals as goal
 
