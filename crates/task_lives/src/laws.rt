@@ -5,8 +5,8 @@ ghost use Rattle.task_lives.specs.Laws.{HistoriesFit, LivesAddUp};
 
 use machine_model::laws::events_count;
 
-/// Each Exec of a list of events that a machine allows is one of a unit at work, and its Squashes and
-/// Drops cut the queue where there are units.
+/// In every list of events that a machine allows, each Exec and each Squash is at the position of a unit at
+/// work, and each Drop at one of these or right behind them: what `lives_of_runs` requires.
 pub fn histories_fit()
     ensures { HistoriesFit }
 {

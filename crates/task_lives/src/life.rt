@@ -1,30 +1,31 @@
-//! What is said of a task that a unit took.
+//! The life of a task on a unit, and how it ended.
 
 /// How the life of a task ended.
 #[derive(Clone, Copy, Debug, PartialEq, Eq)]
 pub enum Ending {
-    /// It retired.
+    /// By a Retire, when it was at the head of the queue.
     Retired,
-    /// A task before it went on elsewhere.
+    /// By a Squash: a task before it was not followed by the task that had been predicted.
     Squashed,
-    /// It was given up.
+    /// By a Drop: its unit, or one before it, was given up.
     Dropped,
-    /// It did not: a unit is at work on it behind the last event.
+    /// It has not ended: its unit is still at work after the last event.
     Unfinished,
 }
 
-/// The life of a task on a unit. Events are numbered from 0 in the order of the history.
+/// The life of a task on a unit. Events are numbered from 0 in the order of the history, which has at
+/// most 1,000,000.
 #[derive(Clone, Copy, Debug, PartialEq, Eq)]
 pub struct Life {
-    /// The number of the task.
+    /// The number of the task among the tasks of the program, from 0.
     pub task: u32,
-    /// The number of its unit round the ring.
+    /// The number of its unit round the ring, from 0 and less than the number of units.
     pub unit: u32,
-    /// The event that assigned it.
+    /// The number of the event that assigned it.
     pub first: u32,
-    /// The event that ended it; of an unfinished one, the last event of the history.
+    /// The number of the event that ended it; for an unfinished life, that of the last event.
     pub last: u32,
-    /// How many instructions it executed.
+    /// How many instructions its unit executed for it, at most 1,000,000.
     pub executed: u32,
     /// How it ended.
     pub ending: Ending,
