@@ -76,9 +76,9 @@ abbrev pub run : Shape
 run = subcommand (codes "run") (program ∷ certificate ∷ units ∷ workers ∷ budget
     ∷ word (codes "predict") (codes "first") ∷ word (codes "emit") (codes "report") ∷ [])
 
--- the program, of which a subcommand is wanted
+-- the program, which has a version, and of which a subcommand is wanted
 abbrev pub program_name : Shape
-program_name = record (new_shape (codes "multiscalar")) { subcommand_required = true }
+program_name = record (new_shape (codes "multiscalar")) { has_version = true; subcommand_required = true }
 
 abbrev pub command_line : App
 command_line = record {

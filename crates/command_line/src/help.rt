@@ -1,4 +1,7 @@
-//! What `--help` says.
+//! What `--help` and `--version` say.
+
+/// The version that `--version` names.
+pub const VERSION: &str = "0.1.0";
 
 /// What the program is for, in one line.
 pub const PROGRAM: &str = "Runs and checks annotated Multiscalar programs";
@@ -14,8 +17,8 @@ whole before any text is judged.";
 
 /// What stands below every help of the program.
 pub const STATUS: &str = "Exit status:
-  0  accepted, printed, halted, or a replay that is still running; help
-  1  a text or an annotation refused; trapped; ended at an address that is not listed
+  0  accepted, nothing found wrong, printed, halted, or a replay that is still running; help; version
+  1  a text or an annotation refused or found wrong; trapped; ended at an address that is not listed
   2  wrong words, or a file, the memory or the output that failed
   3  out of budget
 
@@ -52,17 +55,23 @@ pub const ANNOTATE_LONG: &str =
 targets stay as they are. The proposal is not trusted: `check` judges it like any other.";
 
 /// `explain`, in one line.
-pub const EXPLAIN: &str = "Says which marks of a program are wrong, and why";
+pub const EXPLAIN: &str = "Says which of a program's annotations are wrong, and why";
 
 /// `explain`.
 pub const EXPLAIN_LONG: &str =
-    "Says of each wrong mark of a program what is wrong, on which path, and what to do. It takes the least
-certificate itself, so it finds something exactly where the marks are unsound.
+    "Says which of a program's annotations are wrong, and why. It needs no certificate: it makes the least
+one itself, so it finds something exactly where the annotations are wrong.
 
-Writes diagnostics in the form that compilers use,
-  FILE:LINE:COLUMN: error: ..
-each with a note, which has the path, and a help. The status is 0 where nothing is wrong, and 1 where
-something is.";
+Writes for each finding what is wrong, which path shows it, and what to do, in the form that compilers
+use; a finding that no path shows has no note:
+  FILE:LINE:COLUMN: error: .. [rule R]
+  FILE:LINE:COLUMN: note: ..
+  FILE:LINE:COLUMN: help: ..
+Of a text that is no program it writes the first fault, and what would be right:
+  FILE:LINE: error: .. [K Name line N]
+  FILE:LINE: help: ..
+The exit status is 0 where nothing is wrong, and 1 where something is or the text is refused:
+  multiscalar explain a.s";
 
 /// `check`, in one line.
 pub const CHECK: &str = "Checks a program with its certificate";
@@ -125,7 +134,13 @@ A run that came to its budget has one line for the two:
 With `--emit script` it writes what the machine did instead, one event on each line, for `replay` with
 as many units:
   multiscalar run --units 2 --emit script a.s a.cert > a.events
-  multiscalar replay --units 2 a.s a.cert a.events";
+  multiscalar replay --units 2 a.s a.cert a.events
+
+With `--emit summary` it writes a table instead, with a row for each task and one for all of them:
+  assigned  retired  squashed  dropped  unfinished  useful  wasted  task
+`assigned` counts how often the task was assigned, and the next four how that ended; `useful` counts the
+instructions of those that retired, `wasted` the instructions of those that were squashed or dropped:
+  multiscalar run --units 8 --predict last --emit summary a.s a.cert";
 
 /// `--emit` of `annotate`.
 pub const ANNOTATE_EMIT: &str =
@@ -135,8 +150,7 @@ the program as it stands)";
 /// `--emit` of `run`.
 pub const RUN_EMIT: &str =
     "What is written: report (the words that were put out, and how the run ended), script (the events
-of the run) or summary (how often each task was assigned, how that ended, and how many
-instructions were of use)";
+of the run) or summary (how often each task was assigned, and how that ended)";
 
 /// `--workers` of `run`.
 pub const RUN_WORKERS: &str = "How many threads serve the units, 1 to 16; never more than units

@@ -19,14 +19,15 @@ use thiserror::Error;
 /// Why a command line gives no job.
 #[derive(Debug, Drop, Error)]
 pub enum UsageFault {
-    /// 1: the words are none of the program's, or ask for help. The fault is `clap`'s, with its text.
+    /// 1: the words are none of the program's, or ask for help or for the version. The fault is `clap`'s,
+    /// with its text.
     #[error("1 Words")]
     Words(clap::Error),
     /// 2: the value of `--predict` is neither `first`, `last` nor 1 to 64 numbers 0..=15.
     #[error("2 Predict")]
     Predict,
-    /// 3: the value of `--emit` is none of `text`, `cert` and `keep`, or for `run` none of `report` and
-    /// `script`.
+    /// 3: the value of `--emit` is none of `text`, `cert` and `keep`, or for `run` none of `report`,
+    /// `script` and `summary`.
     #[error("3 Emit")]
     Emit,
     /// 4: memory ran out.
