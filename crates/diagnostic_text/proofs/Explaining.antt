@@ -1,6 +1,5 @@
 -- Each finding has a text that is not empty, so nothing is said exactly where nothing is found.
-use Rattle.std.proofs.Common.{◌≡◌, ◌↔◌, ℕ, ◌<◌, List, [], ◌∷◌, ◌++◌, Result, Ok, Err, length, refl, sym, ◌∙◌, ap, arith, length-append}
-use Rattle.std.specs.List.{flat_map}
+use Rattle.std.proofs.Common.{◌≡◌, ◌↔◌, ℕ, ◌<◌, List, [], ◌∷◌, ◌++◌, Ok, length, refl, sym, ◌∙◌, ap, arith, length-append}
 use Rattle.task_descriptor.specs.Listing.{Listing}
 use Rattle.task_graph.specs.Soundness.{Sound}
 use Rattle.annotated_asm.specs.Steps.{FailsText}

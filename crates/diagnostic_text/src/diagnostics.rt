@@ -1,6 +1,6 @@
 //! The text of findings for the author of a program text.
 
-ghost use Rattle.std.specs.Prelude.{◌≡◌, ◌++◌, codes, slice_get, IfOk, IfErr, OnOk};
+ghost use Rattle.std.specs.Prelude.{◌≡◌, [], ◌∷◌, ◌++◌, codes, slice_get, IfOk, IfErr, OnOk};
 ghost use Rattle.std.specs.List.{flat_map};
 ghost use Rattle.std.specs.Fmt.{decimal};
 ghost use Rattle.std.specs.String.{string_bytes};
@@ -99,6 +99,33 @@ fn write_path(text: &mut String, map: &SourceMap, path: &[u32]) -> Result<(), Al
     }
 }
 
+/// Adds the end of a note: on which path it is.
+fn write_on_path(text: &mut String, map: &SourceMap, path: &[u32]) -> Result<(), AllocError>
+    ensures { OnOk result (string_bytes text.new
+        ≡ string_bytes text.old ++ (codes ", on the path " ++ (path_text (sources_in map.now) path.now ++ 10 ∷ []))) }
+{
+    write!(text, ", on the path ")?;
+    write_path(text, map, path)?;
+    writeln!(text, "")
+}
+
+/// Adds a note at a place: what is said of it, and the path.
+fn write_note_at(
+    text: &mut String,
+    file: &str,
+    map: &SourceMap,
+    at: Position,
+    words: &str,
+    path: &[u32],
+) -> Result<(), AllocError>
+    ensures { OnOk result (string_bytes text.new ≡ string_bytes text.old ++ (position_text file.now at
+        ++ (codes "note: " ++ (words.now ++ (codes ", on the path " ++ (path_text (sources_in map.now) path.now ++ 10 ∷ [])))))) }
+{
+    write_position(text, file, at)?;
+    write!(text, "note: {words}")?;
+    write_on_path(text, map, path)
+}
+
 /// Adds the path that shows a finding.
 fn write_note(
     text: &mut String,
@@ -109,11 +136,8 @@ fn write_note(
 ) -> Result<(), AllocError>
     ensures { OnOk result (string_bytes text.new ≡ string_bytes text.old ++ note_text file.now (sources_in map.now) rule path.now) }
 {
-    let words = note_words(rule);
-    write_position(text, file, place_of(map, note_index(rule, path)))?;
-    write!(text, "note: {words}, on the path ")?;
-    write_path(text, map, path)?;
-    writeln!(text, "")
+    let at = place_of(map, note_index(rule, path));
+    write_note_at(text, file, map, at, note_words(rule), path)
 }
 
 /// Adds the path that shows a finding, if there is one.

@@ -25,7 +25,11 @@ fn instruction_place(alloc: Global, text: &[u8], index: u32) -> Result<Option<Po
 }
 
 /// Where a program as a whole has a fault, if that is in one line.
-fn build_place(alloc: Global, text: &[u8], fault: BuildFault) -> Result<Option<Position>, AllocError>
+fn build_place(
+    alloc: Global,
+    text: &[u8],
+    fault: BuildFault,
+) -> Result<Option<Position>, AllocError>
     ensures { IfOk result (λ at. at ≡ build_place text.now fault) }
 {
     match fault {
@@ -48,7 +52,12 @@ fn write_place(said: &mut String, at: Option<Position>) -> Result<(), AllocError
 }
 
 /// Adds the line with the fault, if it is in one line.
-fn write_line(alloc: Global, said: &mut String, text: &[u8], fault: AsmFault) -> Result<(), AllocError>
+fn write_line(
+    alloc: Global,
+    said: &mut String,
+    text: &[u8],
+    fault: AsmFault,
+) -> Result<(), AllocError>
     ensures { OnOk result (string_bytes said.new ≡ string_bytes said.old ++ fault_line text.now fault) }
 {
     match fault {

@@ -1,5 +1,5 @@
 -- What is told is of the program that the text spells, and its map is refused for want of memory alone.
-use Rattle.std.proofs.Common.{◌≡◌, ◌∙◌, ap}
+use Rattle.std.proofs.Common.{◌∙◌, ap}
 use Rattle.std.proofs.lemmas.Result.{err_from_is_err_and}
 use Rattle.std.specs.String.{string_bytes}
 use Rattle.source_map.specs.Sources.{sources_in}
@@ -22,4 +22,4 @@ returns-in_err-map-clause-refused c =
     let text = c.args.text.now in
     let fits = c.map_fits.ensures text c.in_ok-program.program c.in_ok-program.ensures.found in
     let why = err_from_is_err_and c.from_residual-in_err-map.result c.from_residual-in_err-map.ensures.1 in
-    rw (why.1, why.2) (only_memory c.in_err-map.field-0.0 text fits.0 fits.1.0 c.in_err-map.ensures)
+    rw (why.1, why.2) (only_memory c.in_err-map.field-0.0 text fits.0 fits.1 c.in_err-map.ensures)
