@@ -2,10 +2,10 @@
 
 use verdict_report::fault::ServeFault;
 
-/// Why the program does no job: it says so, and ends with status 2, or with 0 for help.
+/// Why the program does no job: it says so, and ends with status 2, or with 0 for help and the version.
 #[derive(Debug, Drop)]
 pub enum Fault {
-    /// The words ask for help, which is this text.
+    /// The words ask for help or for the version, which is this text.
     Help(String),
     /// The words give no job; the text says why.
     Words(String),
