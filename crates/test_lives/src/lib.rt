@@ -1,5 +1,9 @@
-//! Tests of the lives of tasks, worked out by hand.
+//! Tests of the lives of tasks and of their summaries, worked out by hand.
 #![tactic(auto)]
 
 #[cfg(test)]
+mod given;
+#[cfg(test)]
 mod machines;
+#[cfg(test)]
+mod summaries;

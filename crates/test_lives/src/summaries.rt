@@ -1,0 +1,159 @@
+//! What lives come to, and the summaries of machines that were given some events.
+
+ghost use Rattle.std.specs.Prelude.{◌<◌};
+
+use crate::given::{accepted, apply_all, life, machine, two_rounds};
+use machine_events::event::Event;
+use mark_checker::accept::Accepted;
+use run_summary::summary::write;
+use run_summary::tally::{Tally, add_up, by_task};
+use sequencer::machine::Machine;
+use std::alloc::Global;
+use std::process::Abort;
+use task_lives::laws::histories_fit;
+use task_lives::life::Ending;
+use task_lives::lives::lives_of_runs;
+use test_programs::certificates::{COUNT_CERTIFICATE, DIAMOND_CERTIFICATE};
+use test_programs::programs::{COUNT, DIAMOND};
+
+fn expect_summary(
+    rt: &impl Abort,
+    alloc: Global,
+    accepted: &Accepted,
+    machine: &Machine<'_>,
+    units: u32,
+    expected: &str,
+)
+    requires { 0 < units }
+{
+    histories_fit();
+    let lives = lives_of_runs(alloc, machine.history(), units).ok();
+    let lives = lives.expect(rt, "room for lives");
+    let text = write(alloc, accepted.program(), &lives).ok();
+    let text = text.expect(rt, "room for a summary");
+    assert_eq!(rt; text.as_slice(), expected.as_bytes());
+}
+
+// Nothing was assigned.
+#[test]
+fn no_events(rt: HostRuntime) {
+    let accepted = accepted(&rt, rt.alloc(), COUNT, COUNT_CERTIFICATE);
+    let machine = machine(&rt, rt.alloc(), &accepted, 2);
+    let expected = "assigned  retired  squashed  dropped  unfinished  useful  wasted  task
+       0        0         0        0           0       0       0  A
+       0        0         0        0           0       0       0  B
+       0        0         0        0           0       0       0  (all)
+";
+    expect_summary(&rt, rt.alloc(), &accepted, &machine, 2, expected);
+}
+
+// The instructions of the unfinished round are of no column.
+#[test]
+fn rounds_and_a_squash(rt: HostRuntime) {
+    let accepted = accepted(&rt, rt.alloc(), COUNT, COUNT_CERTIFICATE);
+    let mut machine = machine(&rt, rt.alloc(), &accepted, 2);
+    two_rounds(&rt, &mut machine);
+    let expected = "assigned  retired  squashed  dropped  unfinished  useful  wasted  task
+       2        1         0        0           1       4       0  A
+       1        0         1        0           0       0       0  B
+       3        1         1        0           1       4       0  (all)
+";
+    expect_summary(&rt, rt.alloc(), &accepted, &machine, 2, expected);
+}
+
+// The wrong side of `DIAMOND` and what stands behind it execute an instruction each, and are squashed.
+#[test]
+fn wasted_work(rt: HostRuntime) {
+    let accepted = accepted(&rt, rt.alloc(), DIAMOND, DIAMOND_CERTIFICATE);
+    let mut machine = machine(&rt, rt.alloc(), &accepted, 3);
+    let events = [
+        Event::Assign(0),
+        Event::Assign(1),
+        Event::Assign(3),
+        Event::Exec(1),
+        Event::Exec(2),
+        Event::Exec(0),
+        Event::Exec(0),
+        Event::Squash(0),
+        Event::Assign(2),
+        Event::Assign(3),
+        Event::Exec(2),
+        Event::Exec(1),
+        Event::Retire,
+        Event::Retire,
+        Event::Exec(0),
+        Event::Exec(0),
+    ];
+    apply_all(&rt, &mut machine, &events);
+    let expected = "assigned  retired  squashed  dropped  unfinished  useful  wasted  task
+       1        1         0        0           0       2       0  A
+       1        0         1        0           0       0       1  B
+       1        1         0        0           0       1       0  C
+       2        0         1        0           1       0       1  D
+       5        2         2        0           1       3       2  (all)
+";
+    expect_summary(&rt, rt.alloc(), &accepted, &machine, 3, expected);
+}
+
+// A Drop takes two of four tasks.
+#[test]
+fn a_drop(rt: HostRuntime) {
+    let accepted = accepted(&rt, rt.alloc(), COUNT, COUNT_CERTIFICATE);
+    let mut machine = machine(&rt, rt.alloc(), &accepted, 3);
+    let events = [
+        Event::Assign(0),
+        Event::Assign(0),
+        Event::Assign(1),
+        Event::Drop(1),
+        Event::Assign(0),
+    ];
+    apply_all(&rt, &mut machine, &events);
+    let expected = "assigned  retired  squashed  dropped  unfinished  useful  wasted  task
+       3        0         0        1           2       0       0  A
+       1        0         0        1           0       0       0  B
+       4        0         0        2           2       0       0  (all)
+";
+    expect_summary(&rt, rt.alloc(), &accepted, &machine, 3, expected);
+}
+
+// Four lives, one of each ending, of which the last is of a task behind the others.
+#[test]
+fn tallies_of_four_lives(rt: HostRuntime) {
+    let lives = [
+        life(1, 0, 0, 9, 10, Ending::Retired),
+        life(0, 1, 1, 9, 20, Ending::Unfinished),
+        life(1, 2, 2, 8, 30, Ending::Squashed),
+        life(7, 3, 3, 7, 40, Ending::Dropped),
+    ];
+    let all = Tally {
+        assigned: 4,
+        retired: 1,
+        squashed: 1,
+        dropped: 1,
+        unfinished: 1,
+        useful: 10,
+        wasted: 70,
+    };
+    assert_eq!(rt; add_up(&lives), all);
+    let first = Tally {
+        assigned: 1,
+        retired: 0,
+        squashed: 0,
+        dropped: 0,
+        unfinished: 1,
+        useful: 0,
+        wasted: 0,
+    };
+    let second = Tally {
+        assigned: 2,
+        retired: 1,
+        squashed: 1,
+        dropped: 0,
+        unfinished: 0,
+        useful: 10,
+        wasted: 30,
+    };
+    let tallies = by_task(rt.alloc(), &lives, 2).ok();
+    let tallies = tallies.expect(&rt, "room for tallies");
+    assert_eq!(rt; tallies.as_slice(), [first, second].as_slice());
+}
