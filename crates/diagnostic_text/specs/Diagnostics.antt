@@ -1,5 +1,5 @@
 -- The text of a finding for the author of a program text (own choice, in the form of gcc and clang): the
--- sentence of its rule where it is wrong, the path that shows it, and what to do.
+-- sentence of its rule where it is wrong, the line itself, the path that shows it, and what to do.
 use Rattle.std.specs.Prelude.{◌≡◌, ◌↔◌, ℕ, ◌-◌, List, [], ◌∷◌, ◌++◌, codes, flat_map, length, slice_get, Option, Some, None, Ok}
 use Rattle.std.specs.Fmt.{decimal}
 use Rattle.std.specs.declared.alloc.Global.{Global}
@@ -17,6 +17,7 @@ use Rattle.mark_checker.specs.declared.finding.Finding.{Finding}
 use Rattle.finding_paths.specs.declared.shown.ShownFinding.{ShownFinding}
 use Rattle.finding_paths.specs.Shown.{AreShown}
 use Rattle.diagnostic_text.specs.Sentences.{number_in, sentence_text, help_text}
+use Rattle.diagnostic_text.specs.Excerpt.{excerpt_text}
 
 -- a place; where the map has none, the text's first byte
 abbrev pub place_in : Option Position → Position
@@ -76,20 +77,21 @@ note_text file s rule path =
     position_text file (place_in (slice_get s.code (note_index rule path)))
     ++ (codes "note: " ++ (note_words rule ++ (codes ", on the path " ++ (path_text s path ++ 10 ∷ []))))
 
-abbrev pub path_note : (file : List ℕ) → Sources → Rule → Option (Vec ℕ Global) → List ℕ
-path_note file s rule None = []
-path_note file s rule (Some path) = note_text file s rule path.items
+abbrev pub path_note : (file text : List ℕ) → Sources → Rule → Option (Vec ℕ Global) → List ℕ
+path_note file text s rule None = []
+path_note file text s rule (Some path) =
+    note_text file s rule path.items ++ excerpt_text text (place_in (slice_get s.code (note_index rule path.items)))
 
 -- all that is said of one finding
-abbrev pub finding_text : (file : List ℕ) → Listing → Sources → ShownFinding → List ℕ
-finding_text file p s shown =
+abbrev pub finding_text : (file text : List ℕ) → Listing → Sources → ShownFinding → List ℕ
+finding_text file text p s shown =
     let f = shown.finding in
     let at = place_by f.rule s f.task f.index in
     let task = task_name (slice_get p.tasks f.task) in
-    error_text file at task f ++ (path_note file s f.rule shown.path ++ todo_text file at task f)
+    error_text file at task f ++ (excerpt_text text at ++ (path_note file text s f.rule shown.path ++ todo_text file at task f))
 
-abbrev pub findings_text : (file : List ℕ) → Listing → Sources → List ShownFinding → List ℕ
-findings_text file p s list = flat_map (finding_text file p s) list
+abbrev pub findings_text : (file text : List ℕ) → Listing → Sources → List ShownFinding → List ℕ
+findings_text file text p s list = flat_map (finding_text file text p s) list
 
 -- The bytes say what is wrong with the marks of the program that the text spells.
 pub record IsExplained (file text bytes : List ℕ) : Type 0 where
@@ -99,6 +101,6 @@ pub record IsExplained (file text bytes : List ℕ) : Type 0 where
   pub mapped : sources_of text ≡ Ok sources
   pub list : List ShownFinding
   pub shown : AreShown program list
-  pub said : bytes ≡ findings_text file program sources list
+  pub said : bytes ≡ findings_text file text program sources list
   -- nothing is said exactly where the marks are sound
   pub silent : (bytes ≡ []) ↔ Sound program

@@ -1,2 +1,3 @@
 pub mod Sentences
+pub mod Excerpt
 pub mod Diagnostics

@@ -9,6 +9,7 @@ ghost use Rattle.annotated_asm.specs.ProgramText.{parse};
 ghost use Rattle.source_map.specs.Sources.{sources_in};
 ghost use Rattle.diagnostic_text.specs.Diagnostics.{position_text, task_name, error_text, todo_text, line_of, path_text, note_text, path_note, finding_text, findings_text, IsExplained};
 
+use crate::excerpt::write_excerpt;
 use crate::place::{line_of, note_index, note_words, place_by, place_of};
 use crate::sentence::{number_in, write_help, write_sentence};
 use annotated_asm::assembler::assemble;
@@ -140,40 +141,52 @@ fn write_note(
     write_note_at(text, file, map, at, note_words(rule), path)
 }
 
-/// Adds the path that shows a finding, if there is one.
+/// Adds the path that shows a finding, if there is one, and the line where it is told.
 fn write_path_note(
+    alloc: Global,
     text: &mut String,
     file: &str,
+    source: &[u8],
     map: &SourceMap,
     shown: &ShownFinding,
 ) -> Result<(), AllocError>
-    ensures { OnOk result (string_bytes text.new ≡ string_bytes text.old ++ path_note file.now (sources_in map.now) shown.now.finding.rule shown.now.path) }
+    ensures { OnOk result (string_bytes text.new
+        ≡ string_bytes text.old ++ path_note file.now source.now (sources_in map.now) shown.now.finding.rule shown.now.path) }
 {
     match &shown.path {
-        Some(path) => write_note(text, file, map, shown.finding.rule, path),
+        Some(path) => {
+            let rule = shown.finding.rule;
+            write_note(text, file, map, rule, path)?;
+            write_excerpt(alloc, text, source, place_of(map, note_index(rule, path)))
+        }
         None => Ok(()),
     }
 }
 
 /// Adds all that is said of one finding.
 fn write_finding(
+    alloc: Global,
     text: &mut String,
     file: &str,
+    source: &[u8],
     program: &Program,
     map: &SourceMap,
     shown: &ShownFinding,
 ) -> Result<(), AllocError>
-    ensures { OnOk result (string_bytes text.new ≡ string_bytes text.old ++ finding_text file.now program.now (sources_in map.now) shown.now) }
+    ensures { OnOk result (string_bytes text.new
+        ≡ string_bytes text.old ++ finding_text file.now source.now program.now (sources_in map.now) shown.now) }
 {
     let finding = &shown.finding;
     let at = place_by(map, finding);
     let task = task_name(program, finding.task);
     write_error(text, file, at, task, finding)?;
-    write_path_note(text, file, map, shown)?;
+    write_excerpt(alloc, text, source, at)?;
+    write_path_note(alloc, text, file, source, map, shown)?;
     write_todo(text, file, at, task, finding)
 }
 
-/// What is said of the findings of a program whose text has this map and stands in a file of this name.
+/// What is said of the findings of a program whose text, `source`, has this map and stands in a file of
+/// this name.
 ///
 /// # Errors
 ///
@@ -181,15 +194,17 @@ fn write_finding(
 pub fn findings_text(
     alloc: Global,
     file: &str,
+    source: &[u8],
     program: &Program,
     map: &SourceMap,
     list: &[ShownFinding],
 ) -> Result<String, AllocError>
-    ensures { IfOk result (λ text. string_bytes text ≡ findings_text file.now program.now (sources_in map.now) list.now) }
+    ensures { IfOk result (λ text. string_bytes text
+        ≡ findings_text file.now source.now program.now (sources_in map.now) list.now) }
 {
     let mut text = String::new(alloc);
     for shown in list {
-        write_finding(&mut text, file, program, map, shown)?;
+        write_finding(alloc, &mut text, file, source, program, map, shown)?;
     }
     Ok(text)
 }
@@ -208,6 +223,6 @@ pub fn explain(alloc: Global, file: &str, text: &[u8]) -> Result<String, AsmFaul
     let program = assemble(alloc, text)?;
     let list = shown_findings(alloc, &program)?;
     let map = source_map(alloc, text)?;
-    let said = findings_text(alloc, file, &program, &map, &list)?;
+    let said = findings_text(alloc, file, text, &program, &map, &list)?;
     Ok(said)
 }

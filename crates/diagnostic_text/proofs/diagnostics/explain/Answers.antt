@@ -13,7 +13,7 @@ returns-clause-said c =
     let text = c.args.text.now in
     let program = c.in_ok-program.program in
     let sources = sources_in c.in_ok-map.map in
-    let said = c.in_ok-said.ensures ∙ ap (findings_text file program sources) c.deref.ensures.value in
+    let said = c.in_ok-said.ensures ∙ ap (findings_text file text program sources) c.deref.ensures.value in
     explained file text (string_bytes c.in_ok-said.said) program sources c.in_ok-list.list.items c.in_ok-program.ensures.found
     c.in_ok-map.ensures c.in_ok-list.ensures.shown c.in_ok-list.ensures.sound said
 

@@ -1,0 +1,37 @@
+-- The line of a text that something is said of, and a caret below the column (own choice, in the form of gcc).
+use Rattle.std.specs.Prelude.{ℕ, ◌-◌, max, List, [], ◌∷◌, ◌++◌, map, take, length, replicate, codes, slice_get, Option, Some, None, nat_lt, if◌then◌else◌, ◌==◌}
+use Rattle.std.specs.Fmt.{decimal}
+use Rattle.std.specs.Str.Lines.{strip_carriage_return}
+use Rattle.program_tokens.specs.Lines.{lines}
+use Rattle.source_map.specs.declared.position.Position.{Position}
+
+-- a line without the CR that may end it; no bytes where there is no line
+abbrev pub line_or_none : Option (List ℕ) → List ℕ
+line_or_none None = []
+line_or_none (Some line) = strip_carriage_return line
+
+-- the line of this number, from 1
+abbrev pub line_in : (text : List ℕ) → (number : ℕ) → List ℕ
+line_in text number = line_or_none (slice_get (lines text) (number - 1))
+
+-- A byte as it is shown: a byte that is not ASCII, which no program text has, as a question mark.
+abbrev pub shown_byte : ℕ → ℕ
+shown_byte b = if nat_lt b 128 then b else 63
+
+-- what stands below a byte, so that the caret keeps its column: a tab below a tab, else a space
+abbrev pub below_byte : ℕ → ℕ
+below_byte b = if b == 9 then 9 else 32
+
+-- the line behind its number, which ends at the fifth column
+abbrev pub line_row : (number line : List ℕ) → List ℕ
+line_row number line = replicate (5 - length number) 32 ++ (number ++ (codes " | " ++ (map shown_byte line ++ 10 ∷ [])))
+
+-- the caret behind what stands before the column
+abbrev pub caret_row : (number front : List ℕ) → List ℕ
+caret_row number front = replicate (max 5 (length number)) 32 ++ (codes " | " ++ (map below_byte front ++ (codes "^" ++ 10 ∷ [])))
+
+-- the line of a place, and the caret below the place
+unfoldable pub excerpt_text : (text : List ℕ) → Position → List ℕ
+excerpt_text text at =
+    let line = line_in text at.line in
+    line_row (decimal at.line) line ++ caret_row (decimal at.line) (take (at.column - 1) line)

@@ -1,0 +1,132 @@
+//! The line of a text that something is said of, and a caret below the column.
+
+ghost use Rattle.std.specs.Prelude.{◌≡◌, ◌++◌, ◌-◌, ◌<◌, map, take, replicate, OnOk, IfSome};
+ghost use Rattle.std.specs.String.{string_bytes};
+ghost use Rattle.std.specs.Str.Lines.{strip_carriage_return};
+ghost use Rattle.diagnostic_text.specs.Excerpt.{line_in, shown_byte, below_byte, line_row, caret_row, excerpt_text};
+
+use program_tokens::line::first_line;
+use source_map::position::Position;
+use std::alloc::{AllocError, Global};
+
+/// The line without the CR that may end it.
+fn without_carriage_return(line: &[u8]) -> &[u8]
+    ensures { result.now ≡ strip_carriage_return line.now }
+{
+    match line {
+        [text @ .., b'\r'] => text,
+        _ => line,
+    }
+}
+
+/// The line of this number; empty where the text has none.
+fn line_in(text: &[u8], number: u32) -> &[u8]
+    ensures { result.now ≡ line_in text.now number }
+{
+    let mut rest = text;
+    let mut left = number.saturating_sub(1);
+    'lines: while left > 0 {
+        match first_line(rest).1 {
+            Some(more) => {
+                rest = more;
+                left -= 1;
+            }
+            None => return &[],
+        }
+    }
+    without_carriage_return(first_line(rest).0)
+}
+
+/// What stands before a column.
+fn before(line: &[u8], column: usize) -> &[u8]
+    ensures { result.now ≡ take (column - 1) line.now }
+{
+    let count = column.saturating_sub(1);
+    if count < line.len() {
+        &line[..count]
+    } else {
+        line
+    }
+}
+
+/// Adds as many spaces.
+fn write_spaces(text: &mut String, count: usize) -> Result<(), AllocError>
+    ensures { OnOk result (string_bytes text.new ≡ string_bytes text.old ++ replicate count 32) }
+{
+    for place in 0..count {
+        text.push(' ')?;
+    }
+    Ok(())
+}
+
+/// A byte as it is shown.
+fn shown_byte(byte: u8) -> char
+    ensures value { result ≡ shown_byte byte }
+    ensures ascii { result < 128 }
+{
+    if byte < 128 { char::from(byte) } else { '?' }
+}
+
+/// What stands below a byte.
+fn below_byte(byte: u8) -> char
+    ensures value { result ≡ below_byte byte }
+    ensures ascii { result < 128 }
+{
+    if byte == b'\t' { '\t' } else { ' ' }
+}
+
+/// Adds the bytes of a line.
+fn write_shown(text: &mut String, line: &[u8]) -> Result<(), AllocError>
+    ensures { OnOk result (string_bytes text.new ≡ string_bytes text.old ++ map shown_byte line.now) }
+{
+    for byte in line {
+        text.push(shown_byte(*byte))?;
+    }
+    Ok(())
+}
+
+/// Adds what stands below the bytes before a column.
+fn write_below(text: &mut String, front: &[u8]) -> Result<(), AllocError>
+    ensures { OnOk result (string_bytes text.new ≡ string_bytes text.old ++ map below_byte front.now) }
+{
+    for byte in front {
+        text.push(below_byte(*byte))?;
+    }
+    Ok(())
+}
+
+/// Adds a line behind its number.
+fn write_line_row(text: &mut String, number: &str, line: &[u8]) -> Result<(), AllocError>
+    ensures { OnOk result (string_bytes text.new ≡ string_bytes text.old ++ line_row number.now line.now) }
+{
+    write_spaces(text, 5usize.saturating_sub(number.len()))?;
+    write!(text, "{number} | ")?;
+    write_shown(text, line)?;
+    writeln!(text, "")
+}
+
+/// Adds the caret behind what stands before its column.
+fn write_caret_row(text: &mut String, number: &str, front: &[u8]) -> Result<(), AllocError>
+    ensures { OnOk result (string_bytes text.new ≡ string_bytes text.old ++ caret_row number.now front.now) }
+{
+    write_spaces(text, 5usize.max(number.len()))?;
+    write!(text, " | ")?;
+    write_below(text, front)?;
+    writeln!(text, "^")
+}
+
+/// Adds the line of a place in a text, and a caret below the place.
+#[tactic(auto, unfolding(crate::specs::Excerpt::excerpt_text))]
+pub(crate) fn write_excerpt(
+    alloc: Global,
+    text: &mut String,
+    source: &[u8],
+    at: Position,
+) -> Result<(), AllocError>
+    ensures { OnOk result (string_bytes text.new ≡ string_bytes text.old ++ excerpt_text source.now at) }
+{
+    let number = format!(in alloc; "{}", at.line)?;
+    let line = line_in(source, at.line);
+    write_line_row(text, number.as_str(), line)?;
+    write_caret_row(text, number.as_str(), before(line, at.column))
+}
