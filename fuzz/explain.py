@@ -85,6 +85,19 @@ def sentence(rule, task, register):
     }[rule]
 
 
+def excerpt(text, line, column):
+    """The two rows that show a line and a column of a text."""
+    shown, number = text.split("\n")[line - 1], str(line)
+    below = "".join("\t" if c == "\t" else " " for c in shown[:column - 1])
+    return [f"{number:>5} | {shown}", f"{' ' * max(5, len(number))} | {below}^"]
+
+
+def cut(told, rows):
+    """Takes these rows off the front of what was told, and says whether they were there."""
+    front, told[:len(rows)] = told[:len(rows)], []
+    return front == rows
+
+
 def distance(program, start, sought, on):
     """How many edges a shortest path from start to what is sought has, of one edge at least where it goes on."""
     layer, seen, count = {start}, set(), 0
@@ -126,7 +139,7 @@ def differs(program, text, name, said):
         line, column = tasks[task] if rule in ON_TASK else code[index]
         error, todo = sentence(rule, program.tasks[task][0], register)
         at = f"{name}:{line}:{column}: "
-        if not told or told.pop(0) != f"{at}error: {error} [rule {rule}]":
+        if not cut(told, [f"{at}error: {error} [rule {rule}]", *excerpt(text, line, column)]):
             return f"the error of {finding}"
         asked = query(program, finding)
         if asked:
@@ -144,9 +157,9 @@ def differs(program, text, name, said):
             words = "written here" if rule in WRITTEN else "reached from here"
             if (match.group(1), int(match.group(2)), match.group(4)) != (name, end, words):
                 return f"the place of the note of {finding}"
-            if (end, int(match.group(3))) not in code:
+            if (end, int(match.group(3))) not in code or not cut(told, excerpt(text, end, int(match.group(3)))):
                 return f"the column of the note of {finding}"
-        if not told or told.pop(0) != f"{at}help: {todo}":
+        if not cut(told, [f"{at}help: {todo}"]):
             return f"the help of {finding}"
     return f"more is said: {told[0]}" if told else None
 
