@@ -38,7 +38,7 @@ use Rattle.annotated_asm.proofs.Runs.{parts_append}
 use Rattle.source_map.specs.declared.position.Position.{Position}
 use Rattle.source_map.specs.declared.position.LabelSource.{LabelSource}
 use Rattle.source_map.specs.Sources.{Sources, no_sources, token_position, label_sources, with_labels, with_statement, with_line, with_lines, sources_of}
-use Rattle.source_map.proofs.LineSteps.{line_more}
+use Rattle.source_map.proofs.LineSteps.{line_read, line_more}
 
 -- a stage that gives a value comes after one that does
 first_ok : {A B F : Type 0} (r : Result A F) (f : A → Result B F) (b : B) → (r >>= f) ≡ Ok b → (a : A) × (r ≡ Ok a) × (f a ≡ Ok b)
@@ -167,17 +167,6 @@ lines_fit labels s p made n here (line ∷ ls) items fits read built =
       made = line_more s next n here (section_after here said.0) line ls is_line ∙ rest.made;
       fits = rest.fits;
     }
-  where
-    line_read : (s : Sources) (n : ℕ) (here : Section) (line : List ℕ) (tokens : List Token) (said : Statement)
-        → tokens_on_line n (line_tokens line) ≡ Ok tokens → on_line n (statement_of here (after_labels tokens)) ≡ Ok said
-        → with_line s n here line ≡ Ok (
-          with_statement (with_labels s (label_sources n (line_spans line) 0 tokens))
-              (token_position n (line_spans line) (2 * length (labels_of tokens))) here said,
-          section_after here said,
-        )
-    line_read s n here line tokens said e f =
-        ap (λ (r : Result (List Token) AsmFault). r >>= λ ts. on_line n (statement_of here (after_labels ts)) >>= λ x. Ok (with_statement (with_labels s (label_sources n (line_spans line) 0 ts)) (token_position n (line_spans line) (2 * length (labels_of ts))) here x, section_after here x)) e
-        ∙ ap (λ (r : Result Statement AsmFault). r >>= λ x. Ok (with_statement (with_labels s (label_sources n (line_spans line) 0 tokens)) (token_position n (line_spans line) (2 * length (labels_of tokens))) here x, section_after here x)) f
 
 -- a choice that gives a value
 chosen : {A F : Type 0} (b : Bool) (e : F) (r : Result A F) (x : A) → (if b then Err e else r) ≡ Ok x → (b ≡ false) × (r ≡ Ok x)

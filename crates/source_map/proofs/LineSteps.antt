@@ -1,11 +1,47 @@
 -- One line more: the map with it is where the map with the lines behind it begins.
-use Rattle.std.proofs.Common.{◌≡◌, ℕ, ◌+◌, List, [], ◌∷◌, Option, Some, None, Result, Ok, Err, refl, ap, sym, ◌∙◌, subst, IfSome, IfNone}
+use Rattle.std.proofs.Common.{◌≡◌, ℕ, ◌+◌, ◌*◌, List, length, [], ◌∷◌, Option, Some, None, Result, Ok, Err, refl, ap, sym, ◌∙◌, subst, IfSome, IfNone}
 use Rattle.program_statements.specs.Steps.{◌>>=◌}
 use Rattle.program_statements.specs.declared.statement.Section.{Section}
 use Rattle.annotated_asm.specs.Steps.{FailsText}
 use Rattle.annotated_asm.specs.declared.fault.AsmFault.{AsmFault}
 use Rattle.annotated_asm.specs.declared.fault.AsmFault.TheVariants as text
-use Rattle.source_map.specs.Sources.{Sources, with_line, with_lines}
+use Rattle.program_tokens.specs.Grammar.{line_tokens}
+use Rattle.program_tokens.specs.Spans.{line_spans}
+use Rattle.program_tokens.specs.declared.token.Token.{Token}
+use Rattle.program_tokens.specs.declared.span.Span.{Span}
+use Rattle.program_statements.specs.Statements.{statement_of}
+use Rattle.program_statements.specs.declared.statement.Statement.{Statement}
+use Rattle.annotated_asm.specs.Items.{labels_of, after_labels, on_line, tokens_on_line, section_after}
+use Rattle.source_map.specs.declared.position.LabelSource.{LabelSource}
+use Rattle.source_map.specs.Sources.{Sources, token_position, label_sources, with_labels, with_statement, with_line, with_lines}
+
+-- what a line adds, from its tokens and its statement
+pub line_read : (front : Sources) (n : ℕ) (here : Section) (line : List ℕ) (tokens : List Token) (said : Statement)
+    → tokens_on_line n (line_tokens line) ≡ Ok tokens → on_line n (statement_of here (after_labels tokens)) ≡ Ok said
+    → with_line front n here line ≡ Ok (
+      with_statement (with_labels front (label_sources n (line_spans line) 0 tokens))
+          (token_position n (line_spans line) (2 * length (labels_of tokens))) here said,
+      section_after here said,
+    )
+unfolding with_line
+line_read front n here line tokens said e f =
+    ap (λ (r : Result (List Token) AsmFault). r >>= λ ts. on_line n (statement_of here (after_labels ts)) >>= λ x. Ok (with_statement (with_labels front (label_sources n (line_spans line) 0 ts)) (token_position n (line_spans line) (2 * length (labels_of ts))) here x, section_after here x)) e
+    ∙ ap (λ (r : Result Statement AsmFault). r >>= λ x. Ok (with_statement (with_labels front (label_sources n (line_spans line) 0 tokens)) (token_position n (line_spans line) (2 * length (labels_of tokens))) here x, section_after here x)) f
+
+-- the same in the terms of the code: the places and the tokens behind the labels as it has them
+pub line_told : (front last : Sources) (n : ℕ) (here : Section) (line : List ℕ) (tokens rest : List Token) (spans : List Span) (number : ℕ) (labels : List LabelSource) (said : Statement)
+    → tokens_on_line n (line_tokens line) ≡ Ok tokens → spans ≡ line_spans line
+    → rest ≡ after_labels tokens → number ≡ 2 * length (labels_of tokens) → labels ≡ label_sources n spans 0 tokens
+    → on_line n (statement_of here rest) ≡ Ok said → last ≡ with_statement (with_labels front labels) (token_position n spans number) here said
+    → with_line front n here line ≡ Ok (last, section_after here said)
+line_told front last n here line tokens rest spans number labels said is_tokens is_spans is_rest is_number is_labels is_said is_last =
+    line_read front n here line tokens said is_tokens (ap (λ ts. on_line n (statement_of here ts)) (sym is_rest) ∙ is_said)
+    ∙ ap (λ (next : Sources). let read : Result (Sources × Section) AsmFault = Ok (next, section_after here said) in read) (
+      ap (λ ss. with_statement (with_labels front (label_sources n ss 0 tokens)) (token_position n ss (2 * length (labels_of tokens))) here said) (sym is_spans)
+      ∙ ap (λ m. with_statement (with_labels front (label_sources n spans 0 tokens)) (token_position n spans m) here said) (sym is_number)
+      ∙ ap (λ ls. with_statement (with_labels front ls) (token_position n spans number) here said) (sym is_labels)
+      ∙ sym is_last
+    )
 
 pub line_more : (front next : Sources) (n : ℕ) (here behind : Section) (line : List ℕ) (lines : List (List ℕ))
     → with_line front n here line ≡ Ok (next, behind) → with_lines front n here (line ∷ lines) ≡ with_lines next (n + 1) behind lines

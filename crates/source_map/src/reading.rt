@@ -1,6 +1,6 @@
 //! The source map of a text, read line by line.
 
-ghost use Rattle.std.specs.Prelude.{◌≡◌, ◌≤◌, ◌+◌, ◌*◌, ◌++◌, ◌∷◌, [], length, slice_get, replicate, IfOk, OnOk};
+ghost use Rattle.std.specs.Prelude.{◌≡◌, ◌≤◌, ◌+◌, ◌*◌, ◌++◌, ◌∷◌, [], length, slice_get, replicate, IfOk, IfSome, IfNone, OnOk};
 ghost use Rattle.annotated_asm.specs.Steps.{Answers};
 ghost use Rattle.annotated_asm.specs.Items.{labels_of, after_labels};
 ghost use Rattle.source_map.specs.Sources.{column_of, token_position, label_sources, data_source, sources_in, with_statement, with_line, sources_of};
@@ -14,10 +14,11 @@ use program_tokens::line::first_line;
 use program_tokens::span::{Span, read_spans};
 use program_tokens::token::Token;
 use std::alloc::{AllocError, Global};
+use task_descriptor::name::Name;
 
 /// The column of a token.
 fn column_of(span: Option<&Span>) -> usize
-    ensures { result ≡ column_of (option_copied span) }
+    ensures { result ≡ column_of (option_copied span.entry) }
 {
     match span {
         Some(span) => span.column,
@@ -35,6 +36,17 @@ fn token_position(line: u32, spans: &[Span], number: usize) -> Position
     }
 }
 
+/// The label at the front of some tokens, and the tokens behind its colon.
+fn first_label<'a>(tokens: &'a [Token]) -> Option<(Name, &'a [Token])>
+    ensures label { IfSome result (λ cut. tokens.now ≡ Token.Name cut.0 ∷ Token.Colon ∷ cut.1.now) }
+    ensures none { IfNone result (labels_of tokens.now ≡ []) }
+{
+    match tokens {
+        [Token::Name(name), Token::Colon, behind @ ..] => Some((*name, behind)),
+        _ => None,
+    }
+}
+
 /// Adds the labels at the front of a line. Answers the tokens behind them, and how many tokens they are.
 fn add_labels<'a>(
     labels: &mut Vec<LabelSource>,
@@ -48,13 +60,13 @@ fn add_labels<'a>(
 {
     let mut rest = tokens;
     let mut number = 0;
-    while let [Token::Name(name), Token::Colon, after @ ..] = rest {
+    while let Some((name, behind)) = first_label(rest) {
         labels.push(LabelSource {
-            name: *name,
+            name,
             position: token_position(line, spans, number),
         })?;
         number += 2;
-        rest = after;
+        rest = behind;
     }
     Ok((rest, number))
 }
