@@ -35,13 +35,13 @@ pub line_told : (front last : Sources) (n : ℕ) (here : Section) (line : List �
     → on_line n (statement_of here rest) ≡ Ok said → last ≡ with_statement (with_labels front labels) (token_position n spans number) here said
     → with_line front n here line ≡ Ok (last, section_after here said)
 line_told front last n here line tokens rest spans number labels said is_tokens is_spans is_rest is_number is_labels is_said is_last =
+    let same : with_statement (with_labels front (label_sources n (line_spans line) 0 tokens)) (token_position n (line_spans line) (2 * length (labels_of tokens))) here said ≡ last =
+    ap (λ ss. with_statement (with_labels front (label_sources n ss 0 tokens)) (token_position n ss (2 * length (labels_of tokens))) here said) (sym is_spans)
+    ∙ ap (λ m. with_statement (with_labels front (label_sources n spans 0 tokens)) (token_position n spans m) here said) (sym is_number)
+    ∙ ap (λ ls. with_statement (with_labels front ls) (token_position n spans number) here said) (sym is_labels)
+    ∙ sym is_last in
     line_read front n here line tokens said is_tokens (ap (λ ts. on_line n (statement_of here ts)) (sym is_rest) ∙ is_said)
-    ∙ ap (λ (next : Sources). let read : Result (Sources × Section) AsmFault = Ok (next, section_after here said) in read) (
-      ap (λ ss. with_statement (with_labels front (label_sources n ss 0 tokens)) (token_position n ss (2 * length (labels_of tokens))) here said) (sym is_spans)
-      ∙ ap (λ m. with_statement (with_labels front (label_sources n spans 0 tokens)) (token_position n spans m) here said) (sym is_number)
-      ∙ ap (λ ls. with_statement (with_labels front ls) (token_position n spans number) here said) (sym is_labels)
-      ∙ sym is_last
-    )
+    ∙ ap (λ (next : Sources). let read : Result (Sources × Section) AsmFault = Ok (next, section_after here said) in read) same
 
 pub line_more : (front next : Sources) (n : ℕ) (here behind : Section) (line : List ℕ) (lines : List (List ℕ))
     → with_line front n here line ≡ Ok (next, behind) → with_lines front n here (line ∷ lines) ≡ with_lines next (n + 1) behind lines

@@ -59,10 +59,10 @@ label_sources n spans number _ = []
 abbrev pub with_labels : Sources → List LabelSource → Sources
 with_labels front labels = record front { labels = front.labels ++ labels }
 
--- the map with the statement that stands at a place, in a section
 abbrev pub data_source : Section → Position → DataSource
 data_source here at = record { section = here; position = at }
 
+-- the map with the statement that stands at a place, in a section
 abbrev pub with_statement : Sources → Position → Section → Statement → Sources
 with_statement front at here (statement.Code i marks) =
     record front { code = front.code ++ replicate (instruction_count i) at }
