@@ -8,7 +8,7 @@ use Rattle.annotated_asm.specs.Items.{tokens_on_line}
 use Rattle.annotated_asm.specs.declared.fault.AsmFault.{AsmFault}
 use Rattle.source_map.specs.declared.position.Position.{Position}
 use Rattle.source_map.specs.declared.position.LabelSource.{LabelSource}
-use Rattle.source_map.specs.Sources.{Sources, sources_in, token_position, label_sources, with_labels, with_statement, with_line}
+use Rattle.source_map.specs.Sources.{Sources, sources_in, token_position, label_sources, with_labels, with_statement}
 use Rattle.source_map.proofs.LineSteps.{line_told}
 use Rattle.source_map.proofs.reading.add_line.Goals as goal
 

@@ -1,5 +1,5 @@
 -- The last line ends the map, and so does the first fault of a line.
-use Rattle.std.proofs.Common.{◌≡◌, ◌+◌, ◌<◌, ◌≤◌, ◌∷◌, [], length, ◌∙◌, sym, ap, IfSome, IfNone, subst, arith}
+use Rattle.std.proofs.Common.{◌≡◌, ◌<◌, ◌∷◌, [], length, ◌∙◌, sym, ap, IfSome, IfNone, subst, arith}
 use Rattle.std.proofs.lemmas.Result.{err_from_is_err_and}
 use Rattle.program_tokens.specs.Lines.{lines}
 use Rattle.program_statements.specs.declared.statement.Section.TheVariants.{Text}
