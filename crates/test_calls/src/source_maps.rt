@@ -29,10 +29,12 @@ fn two_instructions_stand_at_one_place(rt: HostRuntime) {
 fn labels_and_data_have_places(rt: HostRuntime) {
     let map = source_map(rt.alloc(), TEXT).ok().expect(&rt, "a map");
     for (number, place) in [(0, at(2, 1)), (1, at(5, 2)), (2, at(5, 5))] {
-        assert_eq!(rt; map.labels[number].position, place);
+        let label = map.labels.get(number).expect(&rt, "a label");
+        assert_eq!(rt; label.position, place);
     }
     assert_eq!(rt; map.pieces.len(), 1);
-    assert_eq!(rt; map.pieces[0].position, at(5, 7));
+    let piece = map.pieces.get(0).expect(&rt, "a piece of data");
+    assert_eq!(rt; piece.position, at(5, 7));
 }
 
 #[test]
