@@ -1,6 +1,6 @@
 -- The text of a finding for the author of a program text (own choice, in the form of gcc and clang): the
 -- sentence of its rule where it is wrong, the path that shows it, and what to do.
-use Rattle.std.specs.Prelude.{◌≡◌, ℕ, ◌-◌, List, [], ◌∷◌, ◌++◌, codes, flat_map, length, slice_get, Option, Some, None, Ok}
+use Rattle.std.specs.Prelude.{◌≡◌, ◌↔◌, ℕ, ◌-◌, List, [], ◌∷◌, ◌++◌, codes, flat_map, length, slice_get, Option, Some, None, Ok}
 use Rattle.std.specs.Fmt.{decimal}
 use Rattle.std.specs.declared.alloc.Global.{Global}
 use Rattle.std.specs.declared.vec.Vec.{Vec}
@@ -9,6 +9,7 @@ use Rattle.task_descriptor.specs.declared.descriptor.Descriptor.{Descriptor}
 use Rattle.annotated_asm.specs.ProgramText.{Spells}
 use Rattle.source_map.specs.declared.position.Position.{Position}
 use Rattle.source_map.specs.Sources.{Sources, sources_of}
+use Rattle.task_graph.specs.Soundness.{Sound}
 use Rattle.mark_checker.specs.Numbers.{number_of}
 use Rattle.mark_checker.specs.declared.finding.Rule.{Rule}
 use Rattle.mark_checker.specs.declared.finding.Rule.TheVariants.{EntryWithoutMask, ExceedsCreate, ForwardedInNext, ReleasedInNext, TargetNotEntry}
@@ -99,3 +100,5 @@ pub record IsExplained (file text bytes : List ℕ) : Type 0 where
   pub list : List ShownFinding
   pub shown : AreShown program list
   pub said : bytes ≡ findings_text file program sources list
+  -- nothing is said exactly where the marks are sound
+  pub silent : (bytes ≡ []) ↔ Sound program

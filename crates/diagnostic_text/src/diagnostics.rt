@@ -1,9 +1,11 @@
 //! The text of findings for the author of a program text.
 
-ghost use Rattle.std.specs.Prelude.{◌≡◌, ◌++◌, codes, slice_get, IfOk, OnOk};
+ghost use Rattle.std.specs.Prelude.{◌≡◌, ◌++◌, codes, slice_get, IfOk, IfErr, OnOk};
 ghost use Rattle.std.specs.List.{flat_map};
 ghost use Rattle.std.specs.Fmt.{decimal};
 ghost use Rattle.std.specs.String.{string_bytes};
+ghost use Rattle.annotated_asm.specs.Steps.{FailsText};
+ghost use Rattle.annotated_asm.specs.ProgramText.{parse};
 ghost use Rattle.source_map.specs.Sources.{sources_in};
 ghost use Rattle.diagnostic_text.specs.Diagnostics.{position_text, task_name, error_text, todo_text, line_of, path_text, note_text, path_note, finding_text, findings_text, IsExplained};
 
@@ -13,6 +15,7 @@ use annotated_asm::assembler::assemble;
 use annotated_asm::fault::AsmFault;
 use finding_paths::shown::{ShownFinding, shown_findings};
 use mark_checker::finding::{Finding, Rule};
+use source_map::laws::map_fits;
 use source_map::position::{Position, SourceMap};
 use source_map::reading::source_map;
 use std::alloc::{AllocError, Global};
@@ -173,8 +176,11 @@ pub fn findings_text(
 ///
 /// The first fault of the text, where it is no program, or `OutOfMemory`.
 pub fn explain(alloc: Global, file: &str, text: &[u8]) -> Result<String, AsmFault>
-    ensures { IfOk result (λ said. IsExplained file.now text.now (string_bytes said)) }
+    ensures said { IfOk result (λ said. IsExplained file.now text.now (string_bytes said)) }
+    ensures refused { IfErr result (λ fault. FailsText fault (parse text.now)) }
 {
+    // A text that spells a program has a source map, so no fault is told of it.
+    map_fits();
     let program = assemble(alloc, text)?;
     let list = shown_findings(alloc, &program)?;
     let map = source_map(alloc, text)?;

@@ -10,7 +10,7 @@ use source_map::position::{Position, SourceMap};
 
 /// A place; where there is none, the text's first byte.
 fn place_in(place: Option<&Position>) -> Position
-    ensures { result ≡ place_in (option_copied place) }
+    ensures { result ≡ place_in (option_copied place.entry) }
 {
     match place {
         Some(place) => *place,
@@ -46,7 +46,7 @@ pub(crate) fn place_by(map: &SourceMap, finding: &Finding) -> Position
 
 /// An index of a path.
 fn index_in(index: Option<&u32>) -> u32
-    ensures { result ≡ index_in (option_copied index) }
+    ensures { result ≡ index_in (option_copied index.entry) }
 {
     match index {
         Some(index) => *index,
