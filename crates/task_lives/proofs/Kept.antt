@@ -1,0 +1,84 @@
+-- What is kept of a state of the lives, over each event.
+use Rattle.std.proofs.Common.{◌≡◌, ℕ, zero, suc, ◌+◌, ◌-◌, ◌<◌, ◌≤◌, List, [], ◌∷◌, ◌++◌, length, take, drop, refl, sym, ap, ◌∙◌, subst, arith, length-append}
+use Rattle.std.proofs.lemmas.List.{length-take, length-drop}
+use Rattle.task_lives.specs.declared.life.Life.{Life}
+use Rattle.task_lives.specs.declared.following.AtWork.{AtWork}
+use Rattle.task_lives.specs.AtWork.{more_executed}
+use Rattle.task_lives.specs.Following.{FollowingView, IsFollowing, ArePlaced}
+use Rattle.task_lives.proofs.Placed.{placed_on, placed_front, placed_push, placed_more, length-more_executed}
+
+pub kept_by : (f g : FollowingView) → f ≡ g → IsFollowing f → IsFollowing g
+kept_by f g is h = subst IsFollowing is h
+
+pub placed_behind : (n ev : ℕ) (ws : List AtWork) → ArePlaced n ev ws → ArePlaced n ev (drop 1 ws)
+placed_behind n ev [] h = tt
+placed_behind n ev (w ∷ ws) h = h.3
+
+take_few : (k : ℕ) (ws : List AtWork) → length (take k ws) ≤ length ws
+take_few zero ws = omega arith
+take_few (suc k) [] = omega arith
+take_few (suc k) (w ∷ ws) = let rest = take_few k ws in omega arith
+
+drop_few : (ws : List AtWork) → length (drop 1 ws) + 1 ≤ length ws + 1
+drop_few [] = omega arith
+drop_few (w ∷ ws) = omega arith
+
+module _ (f : FollowingView) (h : IsFollowing f) where
+  on : ArePlaced (length f.lives) (f.events + 1) f.queue
+  on = placed_on (length f.lives) (length f.lives) f.events (f.events + 1) f.queue (omega arith) (omega arith) h.placed
+
+  -- an event that changes no more than the count
+  pub kept_event : IsFollowing (record f { events = f.events + 1 })
+  kept_event = record {
+    some_unit = h.some_unit;
+    placed = on;
+    few = (let few : f.retired + length f.queue ≤ f.events = h.few in omega arith);
+  }
+
+  -- the front of the queue stays
+  pub kept_front : (k : ℕ) (lives : List Life) → length lives ≡ length f.lives → IsFollowing (record f { lives = lives; queue = take k f.queue; events = f.events + 1 })
+  kept_front k lives same = record {
+    some_unit = h.some_unit;
+    placed = subst (λ (n : ℕ). ArePlaced n (f.events + 1) (take k f.queue)) (sym same) (placed_front (length f.lives) (f.events + 1) k f.queue on);
+    few = (let few : f.retired + length f.queue ≤ f.events = h.few in let less = take_few k f.queue in omega arith);
+  }
+
+  -- the head goes, if there is one
+  pub kept_behind : (lives : List Life) → length lives ≡ length f.lives → IsFollowing (record f { lives = lives; queue = drop 1 f.queue; retired = f.retired + 1; events = f.events + 1 })
+  kept_behind lives same = record {
+    some_unit = h.some_unit;
+    placed = subst (λ (n : ℕ). ArePlaced n (f.events + 1) (drop 1 f.queue)) (sym same) (placed_behind (length f.lives) (f.events + 1) f.queue on);
+    few = (let few : f.retired + length f.queue ≤ f.events = h.few in let less = drop_few f.queue in omega arith);
+  }
+
+  -- instructions of a task
+  pub kept_execs : (j count : ℕ) → IsFollowing (record f { queue = more_executed 0 j count f.queue; events = f.events + count })
+  kept_execs j count = record {
+    some_unit = h.some_unit;
+    placed = placed_more (length f.lives) f.events 0 j count f.queue h.placed;
+    few = (let few : f.retired + length f.queue ≤ f.events = h.few in let same = length-more_executed 0 j count f.queue in omega arith);
+  }
+
+  -- a life that nobody is at work on yet
+  pub kept_life : (life : Life) → IsFollowing (record f { lives = f.lives ++ life ∷ [] })
+  kept_life life =
+      let long : length (f.lives ++ life ∷ []) ≡ length f.lives + 1 = length-append f.lives (life ∷ []) in
+      record {
+        some_unit = h.some_unit;
+        placed = placed_on (length f.lives) (length (f.lives ++ life ∷ [])) f.events f.events f.queue (omega arith) (omega arith) h.placed;
+        few = h.few;
+      }
+
+  -- a task more
+  pub kept_assign : (life : Life) (w : AtWork) → w.place ≡ length f.lives → w.life.executed ≡ 0 → IsFollowing (record f { lives = f.lives ++ life ∷ []; queue = f.queue ++ w ∷ []; events = f.events + 1 })
+  kept_assign life w place none =
+      let long : length (f.lives ++ life ∷ []) ≡ length f.lives + 1 = length-append f.lives (life ∷ []) in
+      let one : suc (length f.lives) ≡ length (f.lives ++ life ∷ []) = omega arith in
+      let more : length (f.queue ++ w ∷ []) ≡ length f.queue + 1 = length-append f.queue (w ∷ []) in
+      let few : f.retired + length f.queue ≤ f.events = h.few in
+      let nothing : w.life.executed ≤ f.events + 1 = omega arith in
+      record {
+        some_unit = h.some_unit;
+        placed = subst (λ (n : ℕ). ArePlaced n (f.events + 1) (f.queue ++ w ∷ [])) one (placed_push (length f.lives) (f.events + 1) f.queue w place nothing on);
+        few = omega arith;
+      }

@@ -1,0 +1,10 @@
+pub mod Carrying
+pub mod Placed
+pub mod Followed
+pub mod Ledgers
+pub mod Totals
+pub mod Counted
+pub mod Closing
+pub mod Kept
+pub mod RunByRun
+pub mod EachEvent

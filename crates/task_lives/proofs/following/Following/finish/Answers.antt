@@ -1,0 +1,18 @@
+-- The tasks at work are unfinished.
+use Rattle.std.proofs.Common.{◌≡◌, ◌-◌, ◌∙◌, ap, sym, append-nil}
+use Rattle.task_lives.specs.Following.{FollowingView, all_lives}
+use Rattle.task_lives.proofs.Placed.{have_places}
+use Rattle.task_lives.proofs.Carrying.{carried_end}
+use Rattle.task_lives.proofs.following.Following.finish.Goals as goal
+
+pub close_behind-requires : goal.close_behind-requires
+close_behind-requires c = have_places _ c.self.inside.events c.self.inside.queue.items c.self.invariant.placed
+
+pub returns : goal.returns
+returns c =
+    let i = c.self.inside in
+    let f : FollowingView = record { lives = i.lives.items; queue = i.queue.items; units = i.units; retired = i.retired; events = i.events } in
+    c.close_behind.ensures.lives
+    ∙ sym (carried_end f.events 0 f.queue f.lives)
+    ∙ sym (append-nil _)
+    ∙ ap (λ (g : FollowingView). all_lives g []) c.self.view_is

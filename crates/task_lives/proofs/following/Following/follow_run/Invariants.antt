@@ -1,0 +1,7 @@
+-- The event was followed so many times.
+use Rattle.std.proofs.Common.{replicate}
+use Rattle.task_lives.specs.Following.{Follows}
+use Rattle.task_lives.proofs.following.Following.follow_run.Given as goal
+
+abbrev pub invariant-loop : goal.invariant-loop
+invariant-loop l = Follows l.initial.self (replicate l.counter l.run.event) l.self

@@ -1,0 +1,35 @@
+-- The tasks at work while a history is followed. For private functions.
+use Rattle.std.specs.Prelude.{ℕ, suc, ◌+◌, ◌^◌, ◌<◌, List, [], ◌∷◌, nat_eq, if◌then◌else◌, slice_set}
+use Rattle.task_lives.specs.declared.life.Ending.{Ending}
+use Rattle.task_lives.specs.declared.life.Life.{Life}
+use Rattle.task_lives.specs.declared.following.AtWork.{AtWork}
+
+-- each has one of so many places
+abbrev pub HavePlaces : (places : ℕ) → List AtWork → Type 0
+HavePlaces places [] = Unit {0}
+HavePlaces places (w ∷ ws) = (w.place < places) × HavePlaces places ws
+
+-- each can execute so many instructions more, as far as its type goes
+abbrev pub HaveRoom : (count : ℕ) → List AtWork → Type 0
+HaveRoom count [] = Unit {0}
+HaveRoom count (w ∷ ws) = (w.life.executed + count < 2 ^ 32) × HaveRoom count ws
+
+-- a life that ended in an event
+abbrev pub closed : (last : ℕ) → Ending → Life → Life
+closed last ending life = record life { last = last; ending = ending }
+
+-- the lives, where those of some tasks ended in an event
+abbrev pub all_closed : (last : ℕ) → Ending → List AtWork → List Life → List Life
+all_closed last ending [] lives = lives
+all_closed last ending (w ∷ ws) lives = slice_set (all_closed last ending ws lives) w.place (closed last ending w.life)
+
+-- a task that executed so many instructions more
+abbrev pub with_more : (count : ℕ) → AtWork → AtWork
+with_more count w = record w { life = record (w.life) { executed = w.life.executed + count } }
+
+-- the tasks at work, of which the first is at position k, where the one at some position executed so many
+-- instructions more
+abbrev pub more_executed : (k position count : ℕ) → List AtWork → List AtWork
+more_executed k position count [] = []
+more_executed k position count (w ∷ ws) =
+    with_more (if nat_eq position k then count else 0) w ∷ more_executed (suc k) position count ws

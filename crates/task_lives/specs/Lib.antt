@@ -1,0 +1,6 @@
+pub mod Lives
+pub mod Sums
+pub mod Laws
+pub mod AtWork
+pub mod Following
+pub mod Examples

@@ -1,0 +1,9 @@
+//! The lives of tasks: from the event that assigns a task to a unit to the one that retires, squashes or
+//! drops it, read off the history of a machine.
+#![tactic(auto)]
+
+mod fits;
+mod following;
+pub mod laws;
+pub mod life;
+pub mod lives;

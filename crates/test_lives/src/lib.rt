@@ -1,0 +1,5 @@
+//! Tests of the lives of tasks, worked out by hand.
+#![tactic(auto)]
+
+#[cfg(test)]
+mod machines;
