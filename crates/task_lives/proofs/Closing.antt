@@ -1,9 +1,8 @@
--- Tasks at work that go: from the tail on, or the one at the head.
-use Rattle.std.proofs.Common.{◌≡◌, ℕ, zero, suc, ◌+◌, ◌-◌, ◌<◌, ◌≤◌, List, [], ◌∷◌, ◌++◌, length, take, drop, get_or, refl, sym, ap, ◌∙◌, subst, arith, length-set}
+-- Tasks at work that go, from the tail on.
+use Rattle.std.proofs.Common.{◌≡◌, ℕ, zero, suc, ◌+◌, ◌-◌, ◌<◌, ◌≤◌, List, [], ◌∷◌, ◌++◌, length, take, drop, refl, sym, ap, ◌∙◌, subst, length-set}
 use Rattle.std.specs.Prelude.{slice_set}
 use Rattle.std.proofs.lemmas.List.{take-append-le, drop-append-le, take_all, drop_all}
 use Rattle.task_lives.specs.declared.life.Ending.{Ending}
-use Rattle.task_lives.specs.declared.life.Ending.TheVariants.{Retired}
 use Rattle.task_lives.specs.declared.life.Life.{Life}
 use Rattle.task_lives.specs.declared.following.AtWork.{AtWork}
 use Rattle.task_lives.specs.AtWork.{HavePlaces, closed, all_closed}
@@ -43,21 +42,3 @@ front_left last ending kept before now first lives few h = sym (take_all kept no
 pub rest_closed : (last : ℕ) (ending : Ending) (kept : ℕ) (before now : List AtWork) (first lives : List Life) → length now ≤ kept → IsClosing last ending kept before now first lives → lives ≡ all_closed last ending (drop kept before) first
 rest_closed last ending kept before now first lives few h =
     ap (λ (ws : List AtWork). all_closed last ending ws lives) (sym (drop_all kept now few)) ∙ h.rest
-
--- the head
-
-pub head_place : (n : ℕ) (ws : List AtWork) (w : AtWork) → 0 < length ws → w ≡ get_or ws 0 w → HavePlaces n ws → w.place < n
-head_place n [] w some is h = absurd (omega arith)
-head_place n (v ∷ ws) w some is h = subst (λ (x : AtWork). x.place < n) (sym is) h.0
-
-pub head_closed : (last : ℕ) (ws : List AtWork) (w : AtWork) (lives : List Life) → 0 < length ws → w ≡ get_or ws 0 w → slice_set lives w.place (closed last Retired w.life) ≡ all_closed last Retired (take 1 ws) lives
-head_closed last [] w lives some is = absurd (omega arith)
-head_closed last (v ∷ ws) w lives some is = ap (λ (x : AtWork). slice_set lives x.place (closed last Retired x.life)) is
-
-pub no_head : (ws : List AtWork) → length ws ≡ 0 → ws ≡ drop 1 ws
-no_head [] none = refl
-no_head (w ∷ ws) none = absurd (omega arith)
-
-pub no_head_closed : (last : ℕ) (ws : List AtWork) (lives : List Life) → length ws ≡ 0 → lives ≡ all_closed last Retired (take 1 ws) lives
-no_head_closed last [] lives none = refl
-no_head_closed last (w ∷ ws) lives none = absurd (omega arith)

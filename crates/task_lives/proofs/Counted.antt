@@ -57,8 +57,6 @@ endings_of (life ∷ lives) =
 
 -- how many tasks retire
 
-retires_from : EventsCount → (p : Listing) (units : ℕ) (es : List Event) (s s' : State) → ReplaysFrom p units s es s' → length s.commits + count_by is_retire es ≡ length s'.commits
-
 more_retired : (r : ℕ) (e : Event) (es : List Event) → r + count_by is_retire (e ∷ es) ≡ retired_after r e + count_by is_retire es
 more_retired r Retire es =
     let more = sum_by-cons (λ (e : Event). cond (is_retire e) 1 0) Retire es in
@@ -70,6 +68,8 @@ more_retired r (Drain k q) es = refl
 more_retired r (Squash k) es = refl
 more_retired r Fault es = refl
 more_retired r (Drop k) es = refl
+
+retires_from : EventsCount → (p : Listing) (units : ℕ) (es : List Event) (s s' : State) → ReplaysFrom p units s es s' → length s.commits + count_by is_retire es ≡ length s'.commits
 retires_from count p units [] s s' h =
     let same : length s'.commits ≡ length s.commits = ap (λ (x : State). length x.commits) h in
     omega arith
@@ -138,12 +138,12 @@ totals_exec : (k i n j : ℕ) (es : List Event) → j ≡ k + i → i < n → to
 totals_exec k i zero j es is within = absurd (omega arith)
 totals_exec k zero (suc n) j es is within =
     let at : j ≡ k = omega arith in
-    let here : cond (nat_eq j k) 1 0 ≡ 1 = ap (λ (b : Bool). cond b 1 0) (eq-eqb j k at) in
+    let here : ◌≡◌ {A = ℕ} (cond (nat_eq j k) 1 0) 1 = ap (λ (b : Bool). cond b 1 0) (eq-eqb j k at) in
     let rest = totals_before (suc k) n j es (omega arith) in
     omega (arith, here, rest)
 totals_exec k (suc i) (suc n) j es is within =
     let apart : j ≡ k → ⊥ = λ e. absurd (omega arith) in
-    let here : cond (nat_eq j k) 1 0 ≡ 0 = ap (λ (b : Bool). cond b 1 0) (ne_eqb j k apart) in
+    let here : ◌≡◌ {A = ℕ} (cond (nat_eq j k) 1 0) 0 = ap (λ (b : Bool). cond b 1 0) (ne_eqb j k apart) in
     let rest = totals_exec (suc k) i n j es (omega arith) (omega arith) in
     omega (arith, here, rest)
 

@@ -1,6 +1,6 @@
 -- What the functions for the events owe: the state that they leave is the one after the event, and what
 -- is kept is kept. Each says it of the fields that it wrote.
-use Rattle.std.proofs.Common.{◌≡◌, ℕ, zero, suc, ◌+◌, ◌<◌, ◌≤◌, List, [], ◌∷◌, ◌++◌, length, take, drop, replicate, refl, sym, ap, ◌∙◌, subst, arith}
+use Rattle.std.proofs.Common.{◌≡◌, ℕ, zero, suc, ◌+◌, ◌%◌, ◌<◌, ◌≤◌, List, [], ◌∷◌, ◌++◌, length, take, drop, replicate, refl, sym, ap, ◌∙◌, subst, arith}
 use Rattle.machine_events.specs.declared.event.Event.{Event}
 use Rattle.machine_events.specs.declared.event.Event.TheVariants.{Assign, Exec, Squash, Retire, Drop}
 use Rattle.task_lives.specs.declared.life.Ending.{Ending}
@@ -88,21 +88,47 @@ with_task f queue lives = record f { lives = lives; queue = queue; events = f.ev
 abbrev pub new_task : FollowingView → (task : ℕ) → AtWork
 new_task f task = record { place = length f.lives; life = life_at f task Unfinished }
 
-pub assigned : (old f : FollowingView) (task : ℕ) (queue : List AtWork) (lives : List Life) → f ≡ old → IsFollowing f → queue ≡ f.queue ++ new_task f task ∷ [] → lives ≡ f.lives ++ life_at f task Unfinished ∷ []
+-- the same, with the place and the number of units at work as they were counted
+abbrev pub life_with : FollowingView → (task count : ℕ) → Life
+life_with f task count = record {
+  task = task;
+  unit = (f.retired + count) % f.units;
+  first = f.events;
+  last = f.events;
+  executed = 0;
+  ending = Unfinished;
+}
+
+abbrev pub task_with : FollowingView → (task place count : ℕ) → AtWork
+task_with f task place count = record { place = place; life = life_with f task count }
+
+counted_task : (f : FollowingView) (task place count : ℕ) (queue : List AtWork) → place ≡ length f.lives → count ≡ length f.queue → queue ≡ f.queue ++ task_with f task place count ∷ [] → queue ≡ f.queue ++ new_task f task ∷ []
+counted_task f task place count queue here many q = q ∙ (λ i. f.queue ++ task_with f task (here i) (many i) ∷ [])
+
+counted_life : (f : FollowingView) (task count : ℕ) (lives : List Life) → count ≡ length f.queue → lives ≡ f.lives ++ life_with f task count ∷ [] → lives ≡ f.lives ++ life_at f task Unfinished ∷ []
+counted_life f task count lives many l = l ∙ (λ i. f.lives ++ life_with f task (many i) ∷ [])
+
+pub assigned : (old f : FollowingView) (task place count : ℕ) (queue : List AtWork) (lives : List Life) → f ≡ old → IsFollowing f → place ≡ length f.lives → count ≡ length f.queue → queue ≡ f.queue ++ task_with f task place count ∷ [] → lives ≡ f.lives ++ life_with f task count ∷ []
     → Follows old (Assign task ∷ []) (with_task f queue lives)
-assigned old f task queue lives is h q l =
+assigned old f task place count queue lives is h here many q l =
     from_view old f (with_task f queue lives) (Assign task ∷ []) is
-    (subst (λ (ws : List AtWork). Follows f (Assign task ∷ []) (with_task f ws lives)) (sym q)
-    (subst (λ (ls : List Life). Follows f (Assign task ∷ []) (with_task f (f.queue ++ new_task f task ∷ []) ls)) (sym l)
+    (subst (λ (ws : List AtWork). Follows f (Assign task ∷ []) (with_task f ws lives)) (sym (counted_task f task place count queue here many q))
+    (subst (λ (ls : List Life). Follows f (Assign task ∷ []) (with_task f (f.queue ++ new_task f task ∷ []) ls)) (sym (counted_life f task count lives many l))
     (follows_assign f task Unfinished (new_task f task) refl refl (have_places (length f.lives) f.events f.queue h.placed))))
 
-pub assigned_kept : (f : FollowingView) (task : ℕ) (queue : List AtWork) (lives : List Life) → queue ≡ f.queue ++ new_task f task ∷ [] → lives ≡ f.lives ++ life_at f task Unfinished ∷ [] → IsFollowing f → IsFollowing (with_task f queue lives)
-assigned_kept f task queue lives q l h =
-    subst (λ (ws : List AtWork). IsFollowing (with_task f ws lives)) (sym q)
-    (subst (λ (ls : List Life). IsFollowing (with_task f (f.queue ++ new_task f task ∷ []) ls)) (sym l) (kept_assign f h (life_at f task Unfinished) (new_task f task) refl refl))
+pub assigned_kept : (f : FollowingView) (task place count : ℕ) (queue : List AtWork) (lives : List Life) → place ≡ length f.lives → count ≡ length f.queue → queue ≡ f.queue ++ task_with f task place count ∷ [] → lives ≡ f.lives ++ life_with f task count ∷ [] → IsFollowing f → IsFollowing (with_task f queue lives)
+assigned_kept f task place count queue lives here many q l h =
+    subst (λ (ws : List AtWork). IsFollowing (with_task f ws lives)) (sym (counted_task f task place count queue here many q))
+    (subst (λ (ls : List Life). IsFollowing (with_task f (f.queue ++ new_task f task ∷ []) ls)) (sym (counted_life f task count lives many l)) (kept_assign f h (life_at f task Unfinished) (new_task f task) refl refl))
 
 -- where the queue found no memory, the life stands alone
 pub life_kept : (f : FollowingView) (life : Life) (queue : List AtWork) (lives : List Life) → queue ≡ f.queue → lives ≡ f.lives ++ life ∷ [] → IsFollowing f → IsFollowing (record f { lives = lives; queue = queue })
 life_kept f life queue lives q l h =
     subst (λ (ws : List AtWork). IsFollowing (record f { lives = lives; queue = ws })) (sym q)
     (subst (λ (ls : List Life). IsFollowing (record f { lives = ls })) (sym l) (kept_life f h life))
+
+-- an event that says nothing of a life
+
+pub passed : (old new : FollowingView) (e found : Event) → e ≡ found → new ≡ record old { events = old.events + 1 } → Follows old (found ∷ []) (record old { events = old.events + 1 }) → Follows old (e ∷ []) new
+passed old new e found is same h =
+    subst (λ (x : Event). Follows old (x ∷ []) new) (sym is) (subst (λ (f : FollowingView). Follows old (found ∷ []) f) (sym same) h)

@@ -53,10 +53,10 @@ module _ (f : FollowingView) where
       → retired ≡ retired_after f.retired e
       → length queue ≡ active_after (length f.queue) e
       → Follows f (e ∷ []) (with_event lives queue retired)
-  follows_event e lives queue retired carry no ret act = record {
+  follows_event e lives queue retired carry none ret act = record {
     same = λ es.
         let one = carry es in
-        let two = no es in
+        let two = none es in
         let three = sym ret in
         let four = sym act in
         (λ i. one i ++ (two i ++ lives_from f.units (three i) (four i) (suc f.events) es))

@@ -18,6 +18,11 @@ have_room n ev count (w ∷ ws) few h =
     let fits : w.life.executed + count < 2 ^ 32 = omega arith in
     (fits, have_room n ev count ws few h.3)
 
+pub room_at : (count : ℕ) (ws : List AtWork) (i : ℕ) (w : AtWork) → i < length ws → w ≡ get_or ws i w → HaveRoom count ws → w.life.executed + count < 2 ^ 32
+room_at count [] i w within is h = absurd (omega arith)
+room_at count (v ∷ ws) zero w within is h = subst (λ (x : AtWork). x.life.executed + count < 2 ^ 32) (sym is) h.0
+room_at count (v ∷ ws) (suc i) w within is h = room_at count ws i w (omega arith) is h.1
+
 -- more places, and more events
 pub placed_on : (n m ev later : ℕ) (ws : List AtWork) → n ≤ m → ev ≤ later → ArePlaced n ev ws → ArePlaced m later ws
 placed_on n m ev later [] more on h = tt

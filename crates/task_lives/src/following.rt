@@ -73,7 +73,9 @@ impl Following {
             Event::Squash(position) => self.squash(position),
             Event::Retire => self.retire(),
             Event::Drop(position) => self.drop_from(position),
-            Event::Transfer(_, _) | Event::Drain(_, _) | Event::Fault => self.pass(),
+            Event::Transfer(_, _) => self.pass(),
+            Event::Drain(_, _) => self.pass(),
+            Event::Fault => self.pass(),
         }
         Ok(())
     }

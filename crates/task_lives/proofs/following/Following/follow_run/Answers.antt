@@ -1,7 +1,7 @@
 -- Equal events, one behind the other: each fits, and has room.
 use Rattle.std.proofs.Common.{◌≡◌, ◌+◌, ◌<◌, ◌≤◌, ℕ, length, replicate, sym, subst, arith}
 use Rattle.std.proofs.lemmas.List.{length-replicate}
-use Rattle.task_lives.specs.Following.{Fits}
+use Rattle.task_lives.specs.Following.{Fits, Follows}
 use Rattle.task_lives.proofs.Followed.{follows_none}
 use Rattle.task_lives.proofs.RunByRun.{fit_at, follows_more}
 use Rattle.task_lives.proofs.following.Following.follow_run.Goals as goal
@@ -21,3 +21,8 @@ follow-requires-clause-room c =
 
 pub loop-preserved : goal.loop-preserved
 loop-preserved c = follows_more c.args.self.now c.loop.self c.follow.new.self c.args.run.event c.loop.counter c.loop.invariant c.in_ok-follow.ensures
+
+pub returns : goal.returns
+returns c =
+    let all : c.loop.counter ≡ c.args.run.count = omega arith in
+    subst (λ (n : ℕ). Follows c.args.self.now (replicate n c.args.run.event) c.loop.self) all c.loop.invariant

@@ -1,4 +1,4 @@
-use Rattle.std.proofs.Common.{ap}
+use Rattle.std.proofs.Common.{◌+◌, ap}
 use Rattle.task_lives.specs.Following.{FollowingView}
 use Rattle.task_lives.proofs.Kept.{kept_event}
 use Rattle.task_lives.proofs.following.Following.pass.Goals as goal
