@@ -1,26 +1,23 @@
 -- The sums over lives.
-use Rattle.std.proofs.Common.{◌≡◌, ℕ, zero, suc, ◌+◌, ◌-◌, ◌<◌, ◌≤◌, Bool, true, false, cond, List, [], ◌∷◌, ◌++◌, map, length, Option, Some, None, refl, sym, ap, ◌∙◌, subst, arith, length-append, eq-eqb}
-use Rattle.std.specs.Prelude.{nat_eq, filter}
+use Rattle.std.proofs.Common.{◌≡◌, ℕ, zero, suc, ◌+◌, ◌-◌, ◌<◌, ◌≤◌, Bool, cond, List, [], ◌∷◌, map, length, Some, None, refl, sym, ap, ◌∙◌, subst, arith, eq-eqb}
+use Rattle.std.specs.Prelude.{nat_eq}
 use Rattle.std.specs.List.{sum_by, count_by}
-use Rattle.std.proofs.lemmas.Bool.{le-ltb, lt-ltb, ne_eqb, cases_eq}
+use Rattle.std.proofs.lemmas.Bool.{le-ltb, lt-ltb, ne_eqb}
 use Rattle.std.proofs.lemmas.List.{length-map, append-nil}
-use Rattle.std.proofs.lemmas.List.Sums.{sum_by-cons, sum_by-append}
+use Rattle.std.proofs.lemmas.List.Sums.{sum_by-cons}
 use Rattle.task_descriptor.specs.Listing.{Listing}
 use Rattle.machine_model.specs.Machine.{State, opening}
 use Rattle.machine_model.specs.Replay.{ReplaysFrom, Replays}
-use Rattle.machine_model.specs.Claims.{count_c}
 use Rattle.machine_model.specs.Laws.{EventsCount}
-use Rattle.machine_model.specs.HeadEvent.{retired_after, active_after}
+use Rattle.machine_model.specs.HeadEvent.{retired_after}
 use Rattle.machine_events.specs.declared.event.Commit.{Commit}
 use Rattle.machine_events.specs.declared.event.Event.{Event}
 use Rattle.machine_events.specs.declared.event.Event.TheVariants.{Assign, Exec, Transfer, Drain, Squash, Retire, Fault, Drop}
-use Rattle.sequencer.specs.Histories.{is_exec, executed_in}
 use Rattle.task_lives.specs.declared.life.Ending.{Ending}
 use Rattle.task_lives.specs.declared.life.Ending.TheVariants.{Retired, Squashed, Dropped, Unfinished}
 use Rattle.task_lives.specs.declared.life.Life.{Life}
-use Rattle.task_lives.specs.Lives.{position_after, ending_by, executed_at, Course, after_one, course, life_of, begun, lives_from, lives_of}
-use Rattle.task_lives.specs.Sums.{is_retired, is_squashed, is_dropped, is_unfinished, ended, number_ended, instructions, is_assign, is_retire, Work, work_of_life, work_of_commit, work_of_unit, AddUp}
-use Rattle.task_lives.specs.Following.{Fits, AllFit}
+use Rattle.task_lives.specs.Lives.{position_after, executed_at, Course, course, life_of, lives_from, lives_of, AllFit}
+use Rattle.task_lives.specs.Sums.{is_retired, is_squashed, is_dropped, is_unfinished, ended, number_ended, is_assign, is_exec, is_retire, Work, work_of_life, work_of_commit, work_of_unit, AddUp}
 use Rattle.task_lives.proofs.Carrying.{course_on, course_ends}
 use Rattle.task_lives.proofs.Ledgers.{at_work, retired_work, becomes}
 use Rattle.task_lives.proofs.Totals.{kept_by}
@@ -87,8 +84,8 @@ fit_from count p units (e ∷ es) s s' h = (
   subst (λ (a : ℕ). AllFit a es) (count p units s h.0 e h.1).1 (fit_from count p units es h.0 s' h.2),
 )
 
-pub history_fits : EventsCount → (p : Listing) (units : ℕ) (history : List Event) (s : State) → Replays p units history s → AllFit 0 history
-history_fits count p units history s h = fit_from count p units history (opening p) s h
+pub histories_fit : EventsCount → (p : Listing) (units : ℕ) (history : List Event) (s : State) → Replays p units history s → AllFit 0 history
+histories_fit count p units history s h = fit_from count p units history (opening p) s h
 
 -- how many instructions the units at so many positions execute, the first at position k
 
@@ -198,7 +195,7 @@ executed_by lives = sum_by (λ life. life.executed) lives
 joined : (a b x y : ℕ) → a ≡ b → b + x ≡ y → a + x ≡ y
 joined a b x y e h = omega arith
 
-executed_from : (u r a n : ℕ) (es : List Event) → AllFit a es → totals 0 a es + executed_by (lives_from u r a n es) ≡ executed_in es
+executed_from : (u r a n : ℕ) (es : List Event) → AllFit a es → totals 0 a es + executed_by (lives_from u r a n es) ≡ count_by is_exec es
 executed_from u r a n [] fit = let none = totals_end 0 a in omega (arith, none)
 executed_from u r a n (Assign t ∷ es) fit =
     let life = life_of u r a n t (course a es) in
@@ -255,6 +252,8 @@ lives_add_up count p units history s h =
     kept_by is_unfinished refl refl count p units history 0 (opening p) s h in
     let number : number_ended is_retired lives ≡ length s.commits =
     sym (length-map (ended is_retired lives) work_of_life) ∙ ap length retired ∙ length-map s.commits work_of_commit in
+    let working : number_ended is_unfinished lives ≡ length s.queue =
+    sym (length-map (ended is_unfinished lives) work_of_life) ∙ ap length unfinished ∙ length-map s.queue work_of_unit in
     let retires = retires_from count p units history (opening p) s h in
     record {
       assigns = assigns_from units 0 0 0 history;
@@ -262,11 +261,12 @@ lives_add_up count p units history s h =
       retired = retired;
       retires = (let same : 0 + count_by is_retire history ≡ length s.commits = retires in omega (arith, number, same));
       unfinished = unfinished;
+      active = working;
       count =
           sum_of_works (ended is_retired lives)
           ∙ ap (λ (ws : List Work). sum_by (λ work. work.executed) ws) retired
           ∙ sym (sum_of_commits s.commits);
       executed =
-          (let all : 0 + sum_by (λ life. life.executed) lives ≡ executed_in history = executed_from units 0 0 0 history (history_fits count p units history s h) in
+          (let all : 0 + sum_by (λ life. life.executed) lives ≡ count_by is_exec history = executed_from units 0 0 0 history (histories_fit count p units history s h) in
           omega (arith, all));
     }

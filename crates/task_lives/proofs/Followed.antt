@@ -1,6 +1,6 @@
 -- A state of the lives is another one after an event.
-use Rattle.std.proofs.Common.{◌≡◌, ℕ, zero, suc, ◌+◌, ◌-◌, ◌%◌, ◌<◌, ◌≤◌, Bool, true, false, cond, List, [], ◌∷◌, ◌++◌, length, take, drop, replicate, Option, Some, None, refl, sym, ap, ◌∙◌, subst, arith, append_assoc, length-append, add-one, length-take-le}
-use Rattle.std.specs.Prelude.{slice_set, nat_lt}
+use Rattle.std.proofs.Common.{◌≡◌, ℕ, zero, suc, ◌+◌, ◌-◌, ◌%◌, ◌<◌, ◌≤◌, Bool, cond, List, [], ◌∷◌, ◌++◌, length, take, drop, replicate, Some, None, refl, sym, ap, ◌∙◌, arith, append_assoc, length-append, add-one, length-take-le}
+use Rattle.std.specs.Prelude.{slice_set}
 use Rattle.std.specs.List.{fold}
 use Rattle.std.proofs.lemmas.List.{length-replicate}
 use Rattle.std.proofs.lemmas.List.Sums.{fold-append}
@@ -12,7 +12,7 @@ use Rattle.task_lives.specs.declared.life.Ending.{Ending}
 use Rattle.task_lives.specs.declared.life.Ending.TheVariants.{Retired, Squashed, Dropped}
 use Rattle.task_lives.specs.declared.life.Life.{Life}
 use Rattle.task_lives.specs.declared.following.AtWork.{AtWork}
-use Rattle.task_lives.specs.Lives.{position_after, executed_at, Course, course, life_of, begun, lives_from}
+use Rattle.task_lives.specs.Lives.{Course, course, life_of, begun, lives_from}
 use Rattle.task_lives.specs.AtWork.{HavePlaces, closed, all_closed, more_executed}
 use Rattle.task_lives.specs.Following.{FollowingView, AreBehind, completed, carried_on, all_lives, Follows}
 use Rattle.task_lives.proofs.Carrying.{carried_past, carried_retire, carried_cut, carried_push, carried_execs}

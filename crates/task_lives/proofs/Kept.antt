@@ -1,6 +1,5 @@
 -- What is kept of a state of the lives, over each event.
-use Rattle.std.proofs.Common.{◌≡◌, ℕ, zero, suc, ◌+◌, ◌-◌, ◌<◌, ◌≤◌, List, [], ◌∷◌, ◌++◌, length, take, drop, refl, sym, ap, ◌∙◌, subst, arith, length-append}
-use Rattle.std.proofs.lemmas.List.{length-take, length-drop}
+use Rattle.std.proofs.Common.{◌≡◌, ℕ, zero, suc, ◌+◌, ◌≤◌, List, [], ◌∷◌, ◌++◌, length, take, drop, sym, subst, arith, length-append}
 use Rattle.task_lives.specs.declared.life.Life.{Life}
 use Rattle.task_lives.specs.declared.following.AtWork.{AtWork}
 use Rattle.task_lives.specs.AtWork.{more_executed}

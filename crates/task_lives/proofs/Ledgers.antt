@@ -1,6 +1,6 @@
 -- The tasks that retired and those at work, with how many instructions each executed: what each event
 -- makes of them, read off the machine step.
-use Rattle.std.proofs.Common.{◌≡◌, ℕ, zero, suc, ◌+◌, ◌-◌, ◌<◌, ◌≤◌, Bool, true, false, cond, List, [], ◌∷◌, ◌++◌, map, length, take, drop, Option, Some, None, refl, sym, ap, ◌∙◌, subst, arith, length-append, eq-eqb}
+use Rattle.std.proofs.Common.{◌≡◌, ℕ, zero, suc, ◌+◌, ◌<◌, Bool, true, false, cond, List, [], ◌∷◌, ◌++◌, map, length, take, drop, Some, refl, sym, ap, ◌∙◌, subst, arith, length-append, eq-eqb}
 use Rattle.std.specs.Prelude.{slice_get, slice_set, nat_eq}
 use Rattle.std.proofs.lemmas.List.{map-append, take-map}
 use Rattle.std.proofs.lemmas.Option.{slice_get_within}
@@ -9,16 +9,14 @@ use Rattle.mips_plain.specs.Words.{address}
 use Rattle.mips_plain.specs.Effect.{outcome_after}
 use Rattle.mips_plain.specs.declared.outcome.Outcome.{Outcome}
 use Rattle.mips_plain.specs.declared.outcome.Outcome.TheVariants.{Running, Halted, Trapped}
-use Rattle.mips_plain.specs.declared.outcome.Read.{Read}
 use Rattle.task_descriptor.specs.Listing.{Listing}
 use Rattle.task_descriptor.specs.declared.descriptor.Marked.{Marked}
-use Rattle.machine_events.specs.declared.event.Commit.{Commit}
 use Rattle.machine_events.specs.declared.event.Event.{Event}
 use Rattle.machine_events.specs.declared.event.Event.TheVariants.{Assign, Exec, Transfer, Drain, Squash, Retire, Fault, Drop}
 use Rattle.machine_model.specs.Machine.{Active, State}
 use Rattle.machine_model.specs.Step.{Next, started, executed, after_exec, put, filled, handed_over}
 use Rattle.task_lives.specs.Sums.{Work, work_of_unit, work_of_commit}
-use Rattle.task_lives.specs.Following.{Fits}
+use Rattle.task_lives.specs.Lives.{Fits}
 
 -- the task at a position executed one instruction more
 abbrev pub one_executed : (k j : ℕ) → List Work → List Work

@@ -1,8 +1,7 @@
 -- What is kept of the tasks at work: their places, and how many instructions they executed.
-use Rattle.std.proofs.Common.{◌≡◌, ◌≢◌, ℕ, zero, suc, ◌+◌, ◌-◌, ◌^◌, ◌<◌, ◌≤◌, Bool, true, false, cond, List, [], ◌∷◌, ◌++◌, length, take, drop, get_or, set, eq-eqb, refl, sym, ap, ◌∙◌, subst, arith}
+use Rattle.std.proofs.Common.{◌≡◌, ◌≢◌, ℕ, zero, suc, ◌+◌, ◌^◌, ◌<◌, ◌≤◌, Bool, true, false, cond, List, [], ◌∷◌, ◌++◌, length, take, get_or, set, eq-eqb, refl, sym, ap, ◌∙◌, subst, arith}
 use Rattle.std.specs.Prelude.{nat_eq}
 use Rattle.std.proofs.lemmas.Bool.{ne_eqb}
-use Rattle.task_lives.specs.declared.life.Life.{Life}
 use Rattle.task_lives.specs.declared.following.AtWork.{AtWork}
 use Rattle.task_lives.specs.AtWork.{HavePlaces, HaveRoom, with_more, more_executed}
 use Rattle.task_lives.specs.Following.{AreBehind, ArePlaced}

@@ -1,5 +1,5 @@
 -- Events that are equal, and runs of them, followed one behind the other.
-use Rattle.std.proofs.Common.{◌≡◌, ℕ, zero, suc, ◌+◌, ◌<◌, ◌≤◌, List, [], ◌∷◌, ◌++◌, length, get_or, take, drop, refl, sym, ap, ◌∙◌, subst, arith, append_assoc, append-nil, length-append}
+use Rattle.std.proofs.Common.{◌≡◌, ℕ, zero, suc, ◌+◌, ◌<◌, ◌≤◌, List, [], ◌∷◌, ◌++◌, length, get_or, take, drop, sym, ap, ◌∙◌, subst, arith, append_assoc, append-nil, length-append}
 use Rattle.std.specs.Prelude.{flat_map, replicate}
 use Rattle.std.specs.List.{fold}
 use Rattle.std.proofs.lemmas.List.{take_more, take_all, take-append-drop, length-replicate, replicate_more}
@@ -9,9 +9,8 @@ use Rattle.machine_model.specs.HeadEvent.{active_after}
 use Rattle.machine_events.specs.declared.event.Event.{Event}
 use Rattle.machine_events.specs.declared.event.EventRun.{EventRun}
 use Rattle.machine_events.specs.Runs.{events_of}
-use Rattle.task_lives.specs.declared.life.Life.{Life}
-use Rattle.task_lives.specs.Lives.{lives_of}
-use Rattle.task_lives.specs.Following.{FollowingView, Follows, Fits, AllFit, all_lives}
+use Rattle.task_lives.specs.Lives.{lives_of, Fits, AllFit}
+use Rattle.task_lives.specs.Following.{FollowingView, Follows, all_lives}
 use Rattle.task_lives.proofs.Followed.{follows_join}
 
 -- equal events

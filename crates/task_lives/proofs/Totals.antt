@@ -1,14 +1,13 @@
 -- The lives that retired and those that are unfinished, over one event more: a test of endings that no
 -- Squash and no Drop passes keeps what the ledger says.
-use Rattle.std.proofs.Common.{◌≡◌, ℕ, zero, suc, ◌+◌, ◌-◌, ◌<◌, ◌≤◌, Bool, true, false, true≢false, cond, List, [], ◌∷◌, ◌++◌, map, length, take, drop, Option, Some, None, refl, sym, ap, ◌∙◌, subst, arith, append_assoc, length-append}
-use Rattle.std.specs.Prelude.{nat_eq, filter}
+use Rattle.std.proofs.Common.{◌≡◌, ℕ, zero, suc, ◌+◌, ◌<◌, ◌≤◌, Bool, true, false, true≢false, cond, List, [], ◌∷◌, ◌++◌, map, length, take, Some, None, refl, sym, ap, ◌∙◌, arith, append_assoc}
+use Rattle.std.specs.Prelude.{nat_eq}
 use Rattle.std.proofs.lemmas.List.{append-nil, map-append, length-map}
 use Rattle.std.proofs.lemmas.List.Elements.{filter-append}
 use Rattle.std.proofs.lemmas.Bool.{le-ltb, lt-ltb}
 use Rattle.task_descriptor.specs.Listing.{Listing}
-use Rattle.machine_model.specs.Machine.{State, opening}
-use Rattle.machine_model.specs.Step.{Next}
-use Rattle.machine_model.specs.Replay.{ReplaysFrom, Replays}
+use Rattle.machine_model.specs.Machine.{State}
+use Rattle.machine_model.specs.Replay.{ReplaysFrom}
 use Rattle.machine_model.specs.Laws.{EventsCount}
 use Rattle.machine_model.specs.HeadEvent.{retired_after, active_after}
 use Rattle.machine_events.specs.declared.event.Event.{Event}
@@ -18,9 +17,8 @@ use Rattle.task_lives.specs.declared.life.Ending.TheVariants.{Retired, Squashed,
 use Rattle.task_lives.specs.declared.life.Life.{Life}
 use Rattle.task_lives.specs.Lives.{position_after, ending_by, executed_at, Course, after_one, course, begun, lives_from}
 use Rattle.task_lives.specs.Sums.{Work, work_of_life, work_of_unit, ended}
-use Rattle.task_lives.specs.Following.{Fits}
 use Rattle.task_lives.proofs.Carrying.{course_on, course_ends}
-use Rattle.task_lives.proofs.Ledgers.{one_executed, queue_after, retired_with, at_work, retired_work, Becomes, becomes}
+use Rattle.task_lives.proofs.Ledgers.{one_executed, queue_after, retired_with, at_work, retired_work, becomes}
 
 -- the work of the lives whose ending passes a test
 

@@ -3,7 +3,6 @@ use Rattle.std.specs.Prelude.{◌≡◌, ℕ, suc, ◌+◌, ◌-◌, ◌<◌, �
 use Rattle.std.specs.List.{fold}
 use Rattle.machine_model.specs.HeadEvent.{active_after}
 use Rattle.machine_events.specs.declared.event.Event.{Event}
-use Rattle.machine_events.specs.declared.event.Event.TheVariants.{Exec, Squash, Drop}
 use Rattle.task_lives.specs.declared.life.Life.{Life}
 use Rattle.task_lives.specs.declared.following.AtWork.{AtWork}
 use Rattle.task_lives.specs.Lives.{Course, course, lives_from}
@@ -58,14 +57,3 @@ pub record Follows (old : FollowingView) (events : List Event) (new : FollowingV
   pub same : (es : List Event) → all_lives old (events ++ es) ≡ all_lives new es
   pub counted : new.events ≡ old.events + length events
   pub active : length new.queue ≡ fold active_after (length old.queue) events
-
--- an Exec is one of a unit at work, and a Squash or a Drop cuts the queue where there are units
-abbrev pub Fits : (active : ℕ) → Event → Type 0
-Fits active (Exec k) = k < active
-Fits active (Squash k) = k < active
-Fits active (Drop k) = k ≤ active
-Fits active _ = Unit {0}
-
-abbrev pub AllFit : (active : ℕ) → List Event → Type 0
-AllFit active [] = Unit {0}
-AllFit active (e ∷ es) = Fits active e × AllFit (active_after active e) es

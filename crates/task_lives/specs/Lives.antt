@@ -1,7 +1,7 @@
 -- The life of a task (own): it begins where an Assign gives the task to a unit, goes on while the unit
 -- moves towards the head of the queue, and ends where the task retires, is squashed or is dropped. Each
 -- Assign of a history begins one.
-use Rattle.std.specs.Prelude.{ℕ, zero, suc, ◌+◌, List, [], ◌∷◌, ◌++◌, nat_eq, nat_lt, if◌then◌else◌, Option, Some, None}
+use Rattle.std.specs.Prelude.{ℕ, zero, suc, ◌+◌, ◌<◌, ◌≤◌, List, [], ◌∷◌, ◌++◌, nat_eq, nat_lt, if◌then◌else◌, Option, Some, None}
 use Rattle.std.specs.Option.{option_map_or}
 use Rattle.machine_model.specs.HeadEvent.{unit_of, retired_after, active_after}
 use Rattle.machine_events.specs.declared.event.Event.{Event}
@@ -79,3 +79,15 @@ lives_from units retired active first (e ∷ es) =
 -- the lives of a history, in the order in which they begin
 abbrev pub lives_of : (units : ℕ) → List Event → List Life
 lives_of units history = lives_from units 0 0 0 history
+
+-- an Exec is one of a unit at work, and a Squash or a Drop cuts the queue where there are units
+abbrev pub Fits : (active : ℕ) → Event → Type 0
+Fits active (Exec k) = k < active
+Fits active (Squash k) = k < active
+Fits active (Drop k) = k ≤ active
+Fits active _ = Unit {0}
+
+-- behind so many units at work, as every history of a machine does behind none
+abbrev pub AllFit : (active : ℕ) → List Event → Type 0
+AllFit active [] = Unit {0}
+AllFit active (e ∷ es) = Fits active e × AllFit (active_after active e) es

@@ -3,10 +3,9 @@ use Rattle.std.specs.Prelude.{◌≡◌, ℕ, ◌+◌, List, length, map, filter
 use Rattle.std.specs.List.{sum_by, count_by}
 use Rattle.machine_events.specs.declared.event.Commit.{Commit}
 use Rattle.machine_events.specs.declared.event.Event.{Event}
-use Rattle.machine_events.specs.declared.event.Event.TheVariants.{Assign, Retire}
+use Rattle.machine_events.specs.declared.event.Event.TheVariants.{Assign, Exec, Retire}
 use Rattle.machine_model.specs.Machine.{Active, State}
 use Rattle.machine_model.specs.Claims.{count_c}
-use Rattle.sequencer.specs.Histories.{executed_in}
 use Rattle.task_lives.specs.declared.life.Ending.{Ending}
 use Rattle.task_lives.specs.declared.life.Ending.TheVariants.{Retired, Squashed, Dropped, Unfinished}
 use Rattle.task_lives.specs.declared.life.Life.{Life}
@@ -39,10 +38,14 @@ number_ended test lives = length (ended test lives)
 abbrev pub instructions : (Ending → Bool) → List Life → ℕ
 instructions test lives = sum_by (λ life. life.executed) (ended test lives)
 
--- events that begin lives, and events that retire tasks
+-- events that begin lives, that execute an instruction, and that retire tasks
 abbrev pub is_assign : Event → Bool
 is_assign (Assign task) = true
 is_assign e = false
+
+abbrev pub is_exec : Event → Bool
+is_exec (Exec k) = true
+is_exec e = false
 
 abbrev pub is_retire : Event → Bool
 is_retire Retire = true
@@ -75,7 +78,9 @@ pub record AddUp (history : List Event) (s : State) (lives : List Life) : Type 0
   pub retires : number_ended is_retired lives ≡ count_by is_retire history
   -- the unfinished ones are the units at work, in their order
   pub unfinished : map work_of_life (ended is_unfinished lives) ≡ map work_of_unit s.queue
+  -- they are as many
+  pub active : number_ended is_unfinished lives ≡ length s.queue
   -- those that retired executed c instructions
   pub count : instructions is_retired lives ≡ count_c s
   -- all of them executed each instruction of the history
-  pub executed : sum_by (λ life. life.executed) lives ≡ executed_in history
+  pub executed : sum_by (λ life. life.executed) lives ≡ count_by is_exec history

@@ -42,8 +42,8 @@ impl Following {
     ghost use Rattle.machine_model.specs.Answer.{most_events};
     ghost use Rattle.machine_events.specs.declared.event.Event.{Event};
     ghost use Rattle.machine_events.specs.declared.event.Event.TheVariants.{Assign, Exec, Squash, Retire, Drop};
-    ghost use Rattle.task_lives.specs.Lives.{lives_of};
-    ghost use Rattle.task_lives.specs.Following.{Follows, Fits, AllFit, all_lives};
+    ghost use Rattle.task_lives.specs.Lives.{lives_of, Fits, AllFit};
+    ghost use Rattle.task_lives.specs.Following.{Follows, all_lives};
 
     /// Before the first event.
     pub(crate) fn new(alloc: Global, units: u32) -> Following
@@ -224,7 +224,11 @@ fn pop_behind(queue: &mut Vec<AtWork>, kept: usize) -> Option<AtWork>
     ensures some { IfSome result (λ tail. (queue.old.items ≡ queue.new.items ++ tail ∷ []) × (kept ≤ length queue.new.items)) }
     ensures none { IfNone result ((queue.new.items ≡ queue.old.items) × (length queue.old.items ≤ kept)) }
 {
-    if queue.len() > kept { queue.pop() } else { None }
+    if queue.len() > kept {
+        queue.pop()
+    } else {
+        None
+    }
 }
 
 /// Ends the lives of the tasks behind so many, from the tail on.

@@ -2,7 +2,6 @@
 //! drops it, read off the history of a machine.
 #![tactic(auto)]
 
-mod fits;
 mod following;
 pub mod laws;
 pub mod life;

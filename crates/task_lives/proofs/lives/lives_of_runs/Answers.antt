@@ -1,8 +1,7 @@
 -- Each run fits behind those before it, and has room.
-use Rattle.std.proofs.Common.{◌≡◌, ◌+◌, ◌≤◌, ℕ, List, length, take, replicate, sym, ap, ◌∙◌, subst, arith}
-use Rattle.machine_events.specs.Runs.{events_of}
+use Rattle.std.proofs.Common.{ℕ, List, length, replicate, sym, ap, ◌∙◌, subst, arith}
 use Rattle.task_lives.specs.declared.following.AtWork.{AtWork}
-use Rattle.task_lives.specs.Following.{AllFit}
+use Rattle.task_lives.specs.Lives.{AllFit}
 use Rattle.task_lives.proofs.RunByRun.{run_has_room, run_fits, followed_run, followed_all}
 use Rattle.task_lives.proofs.lives.lives_of_runs.Goals as goal
 

@@ -1,5 +1,5 @@
 -- The life has the next place.
-use Rattle.std.proofs.Common.{◌≡◌, ◌+◌, ◌≤◌, length, arith}
+use Rattle.std.proofs.Common.{◌≡◌, length, arith}
 use Rattle.task_lives.specs.Following.{FollowingView}
 use Rattle.task_lives.proofs.EachEvent.{assigned, assigned_kept, life_kept}
 use Rattle.task_lives.proofs.following.Following.assign.Goals as goal

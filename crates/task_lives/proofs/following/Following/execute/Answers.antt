@@ -1,5 +1,5 @@
 -- The instructions are counted at the position, and the state is the one after them.
-use Rattle.std.proofs.Common.{◌≡◌, ◌+◌, ◌^◌, ◌<◌, ap, arith}
+use Rattle.std.proofs.Common.{◌+◌, ◌^◌, ◌<◌, ap, arith}
 use Rattle.task_lives.specs.Following.{FollowingView}
 use Rattle.task_lives.proofs.Placed.{have_room}
 use Rattle.task_lives.proofs.EachEvent.{executed, executed_kept}

@@ -1,5 +1,5 @@
 -- The tasks at work are unfinished.
-use Rattle.std.proofs.Common.{◌≡◌, ◌-◌, ◌∙◌, ℕ, [], ap, sym, append-nil}
+use Rattle.std.proofs.Common.{◌∙◌, ℕ, [], ap, sym, append-nil}
 use Rattle.task_lives.specs.declared.life.Ending.TheVariants.{Unfinished}
 use Rattle.task_lives.specs.AtWork.{all_closed}
 use Rattle.task_lives.specs.Following.{FollowingView, all_lives}

@@ -1,7 +1,8 @@
 -- Equal events, one behind the other: each fits, and has room.
-use Rattle.std.proofs.Common.{◌≡◌, ◌+◌, ◌<◌, ◌≤◌, ℕ, length, replicate, sym, subst, arith}
+use Rattle.std.proofs.Common.{◌≡◌, ℕ, length, replicate, sym, subst, arith}
 use Rattle.std.proofs.lemmas.List.{length-replicate}
-use Rattle.task_lives.specs.Following.{Fits, Follows}
+use Rattle.task_lives.specs.Lives.{Fits}
+use Rattle.task_lives.specs.Following.{Follows}
 use Rattle.task_lives.proofs.Followed.{follows_none}
 use Rattle.task_lives.proofs.RunByRun.{fit_at, follows_more}
 use Rattle.task_lives.proofs.following.Following.follow_run.Goals as goal
