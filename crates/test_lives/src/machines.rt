@@ -1,5 +1,7 @@
 //! The lives of machines that were given some events.
 
+ghost use Rattle.std.specs.Prelude.{◌<◌};
+
 use annotated_asm::assembler::assemble;
 use machine_events::event::Event;
 use mark_checker::accept::Accepted;
@@ -8,8 +10,9 @@ use mips_plain::number::Reg;
 use sequencer::machine::Machine;
 use std::alloc::Global;
 use std::process::Abort;
+use task_lives::laws::histories_fit;
 use task_lives::life::{Ending, Life};
-use task_lives::lives::lives;
+use task_lives::lives::lives_of_runs;
 use test_programs::certificates::{COUNT_CERTIFICATE, DIAMOND_CERTIFICATE};
 use test_programs::programs::{COUNT, DIAMOND};
 
@@ -58,8 +61,11 @@ fn expect_lives(
     machine: &Machine<'_>,
     units: u32,
     expected: &[Life],
-) {
-    let lives = lives(alloc, machine, units).ok();
+)
+    requires { 0 < units }
+{
+    histories_fit();
+    let lives = lives_of_runs(alloc, machine.history(), units).ok();
     let lives = lives.expect(rt, "room for lives");
     assert_eq!(rt; lives.as_slice(), expected);
 }
