@@ -1,3 +1,4 @@
 pub mod Tallies
+pub mod Counting
 pub mod SummaryText
 pub mod Examples

@@ -1,32 +1,32 @@
--- The summary of a run: a line for each task of the program, in their order, and one for all of them
--- (own choice).
-use Rattle.std.specs.Prelude.{ℕ, ◌-◌, List, [], ◌∷◌, ◌++◌, length, replicate, flat_map, codes}
-use Rattle.std.specs.List.{enumerate_from}
+-- The summary of a run: a heading, a row for each task of the program, in their order, and one for all
+-- lives (own choice).
+use Rattle.std.specs.Prelude.{ℕ, ◌-◌, List, [], ◌∷◌, ◌++◌, length, replicate, codes}
+use Rattle.std.specs.List.{flat_map, zip}
 use Rattle.std.specs.Fmt.{decimal}
 use Rattle.task_descriptor.specs.Listing.{Listing}
 use Rattle.task_descriptor.specs.declared.descriptor.Descriptor.{Descriptor}
 use Rattle.task_lives.specs.declared.life.Life.{Life}
 use Rattle.run_summary.specs.declared.tally.Tally.{Tally}
-use Rattle.run_summary.specs.Tallies.{tally_of, of_task}
+use Rattle.run_summary.specs.Tallies.{tally_of, tallies_of}
 
 -- a number at the right of a column
 abbrev pub column : (width : ℕ) → ℕ → List ℕ
 column width n = replicate (width - length (decimal n)) 32 ++ decimal n
 
--- a name behind its columns
+-- a name behind its numbers
 abbrev pub row_text : Tally → (name : List ℕ) → List ℕ
 row_text t name =
     column 8 t.assigned ++ (column 9 t.retired ++ (column 10 t.squashed ++ (column 9 t.dropped
     ++ (column 12 t.unfinished ++ (column 8 t.useful ++ (column 8 t.wasted ++ (codes "  " ++ (name ++ 10 ∷ []))))))))
 
--- a task behind its number
-abbrev pub task_text : List Life → ℕ × Descriptor → List ℕ
-task_text lives numbered = row_text (tally_of (of_task numbered.0 lives)) numbered.1.name
+abbrev pub task_row : Tally × Descriptor → List ℕ
+task_row row = row_text row.0 row.1.name
 
 abbrev pub heading : List ℕ
 heading = codes "assigned  retired  squashed  dropped  unfinished  useful  wasted  task" ++ 10 ∷ []
 
--- no task has the name of the last line
+-- no task has the name of the last row
 abbrev pub summary_text : Listing → List Life → List ℕ
 summary_text p lives =
-    heading ++ (flat_map (task_text lives) (enumerate_from 0 p.tasks) ++ row_text (tally_of lives) (codes "(all)"))
+    heading ++ (flat_map task_row (zip (tallies_of (length p.tasks) lives) p.tasks)
+    ++ row_text (tally_of lives) (codes "(all)"))

@@ -1,5 +1,6 @@
 -- What lives come to: how many there are, how they ended, and how much of their work was of use (own).
-use Rattle.std.specs.Prelude.{ℕ, List, length, filter, nat_eq, Bool, true, false}
+use Rattle.std.specs.Prelude.{ℕ, List, length, map, filter, nat_eq, Bool, true, false}
+use Rattle.std.specs.List.{range_with_len}
 use Rattle.task_lives.specs.declared.life.Ending.{Ending}
 use Rattle.task_lives.specs.declared.life.Ending.TheVariants.{Squashed, Dropped}
 use Rattle.task_lives.specs.declared.life.Life.{Life}
@@ -28,3 +29,7 @@ tally_of lives = record {
 -- the lives of one task
 abbrev pub of_task : (task : ℕ) → List Life → List Life
 of_task task lives = filter (λ life. nat_eq life.task task) lives
+
+-- the tallies of so many tasks, by their numbers
+abbrev pub tallies_of : (tasks : ℕ) → List Life → List Tally
+tallies_of tasks lives = map (λ task. tally_of (of_task task lives)) (range_with_len 0 tasks)

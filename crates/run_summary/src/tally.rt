@@ -1,8 +1,11 @@
 //! What lives come to.
 
-ghost use Rattle.std.specs.Prelude.{◌≡◌};
-ghost use Rattle.run_summary.specs.Tallies.{with_life, HasRoom};
+ghost use Rattle.std.specs.Prelude.{◌≡◌, IfOk};
+ghost use Rattle.task_lives.specs.Sums.{AreFew};
+ghost use Rattle.run_summary.specs.Tallies.{tally_of, tallies_of};
+ghost use Rattle.run_summary.specs.Counting.{HasRoom, HaveRoom, with_life, with_task_life};
 
+use std::alloc::{AllocError, Global};
 use task_lives::life::{Ending, Life};
 
 /// Of some lives, how many there are, how they ended, and how many instructions they executed.
@@ -24,8 +27,7 @@ pub struct Tally {
     pub wasted: u32,
 }
 
-/// Of no life.
-pub(crate) const NONE: Tally = Tally {
+const NONE: Tally = Tally {
     assigned: 0,
     retired: 0,
     squashed: 0,
@@ -35,10 +37,46 @@ pub(crate) const NONE: Tally = Tally {
     wasted: 0,
 };
 
+/// The tally of some lives.
+pub fn tally(lives: &[Life]) -> Tally
+    requires { AreFew lives.now }
+    ensures { result ≡ tally_of lives.now }
+{
+    let mut tally = NONE;
+    for life in lives {
+        tally = with(tally, life);
+    }
+    tally
+}
+
+/// The tallies of so many tasks, task 0 first, each of the task's own lives.
+pub fn tallies(alloc: Global, lives: &[Life], tasks: usize) -> Result<Vec<Tally>, AllocError>
+    requires { AreFew lives.now }
+    ensures { IfOk result (λ tallies. tallies.items ≡ tallies_of tasks lives.now) }
+{
+    let mut tallies = vec![in alloc; NONE; tasks]?;
+    for life in lives {
+        count(&mut tallies, life);
+    }
+    Ok(tallies)
+}
+
+/// Counts a life in the tally of its task, where it is among them.
+fn count(tallies: &mut Vec<Tally>, life: &Life)
+    requires { HaveRoom life.now tallies.old.items }
+    ensures { tallies.new.items ≡ with_task_life 0 life.now tallies.old.items }
+{
+    let task = life.task as usize;
+    if task < tallies.len() {
+        let tally = tallies[task];
+        tallies[task] = with(tally, life);
+    }
+}
+
 /// The tally with one life more.
-pub(crate) fn with(tally: Tally, life: &Life) -> Tally
-    requires { HasRoom tally life.now }
-    ensures { result ≡ with_life tally life.now }
+fn with(tally: Tally, life: &Life) -> Tally
+    requires { HasRoom life.now tally }
+    ensures { result ≡ with_life life.now tally }
 {
     let assigned = tally.assigned + 1;
     match life.ending {

@@ -4,7 +4,7 @@ use Rattle.std.specs.Prelude.{nat_eq}
 use Rattle.std.specs.List.{sum_by, count_by}
 use Rattle.std.proofs.lemmas.Bool.{le-ltb, lt-ltb, ne_eqb}
 use Rattle.std.proofs.lemmas.List.{length-map, append-nil}
-use Rattle.std.proofs.lemmas.List.Sums.{sum_by-cons}
+use Rattle.std.proofs.lemmas.List.Sums.{count_by-le-length, sum_by-cons}
 use Rattle.task_descriptor.specs.Listing.{Listing}
 use Rattle.machine_model.specs.Machine.{State, opening}
 use Rattle.machine_model.specs.Replay.{ReplaysFrom, Replays}
@@ -17,7 +17,7 @@ use Rattle.task_lives.specs.declared.life.Ending.{Ending}
 use Rattle.task_lives.specs.declared.life.Ending.TheVariants.{Retired, Squashed, Dropped, Unfinished}
 use Rattle.task_lives.specs.declared.life.Life.{Life}
 use Rattle.task_lives.specs.Lives.{position_after, executed_at, Course, course, life_of, lives_from, lives_of, AllFit}
-use Rattle.task_lives.specs.Sums.{is_retired, is_squashed, is_dropped, is_unfinished, ended, number_ended, is_assign, is_exec, is_retire, Work, work_of_life, work_of_commit, work_of_unit, AddUp}
+use Rattle.task_lives.specs.Sums.{is_retired, is_squashed, is_dropped, is_unfinished, ended, number_ended, is_assign, is_exec, is_retire, Work, work_of_life, work_of_commit, work_of_unit, AddUp, AreFew}
 use Rattle.task_lives.proofs.Carrying.{course_on, course_ends}
 use Rattle.task_lives.proofs.Ledgers.{at_work, retired_work, becomes}
 use Rattle.task_lives.proofs.Totals.{kept_by}
@@ -223,6 +223,15 @@ executed_from u r a n (Fault ∷ es) fit =
     joined _ _ _ _ (totals_past Fault (λ i. refl) (λ i. refl) 0 a es) (executed_from u r a (suc n) es fit.1)
 executed_from u r a n (Drop k ∷ es) fit =
     joined _ _ _ _ (totals_drop k a es fit.0) (executed_from u r k (suc n) es fit.1)
+
+-- no more lives than events, and no more instructions
+pub lives_are_few : (units : ℕ) (history : List Event) → AllFit 0 history → length history ≤ most_events → AreFew (lives_of units history)
+lives_are_few units history fit room =
+    let lives : length (lives_of units history) ≡ count_by is_assign history = assigns_from units 0 0 0 history in
+    let all : 0 + executed_by (lives_of units history) ≡ count_by is_exec history = executed_from units 0 0 0 history fit in
+    let assigns = count_by-le-length is_assign history in
+    let execs = count_by-le-length is_exec history in
+    ((omega (arith, lives, assigns, room)), (omega (arith, all, execs, room)))
 
 -- what retired, in numbers
 

@@ -1,10 +1,11 @@
 -- Sums over lives: how many ended in a way, and how many instructions these executed (own).
-use Rattle.std.specs.Prelude.{◌≡◌, ℕ, ◌+◌, List, length, map, filter, Bool, true, false}
+use Rattle.std.specs.Prelude.{◌≡◌, ℕ, ◌+◌, ◌≤◌, List, length, map, filter, Bool, true, false}
 use Rattle.std.specs.List.{sum_by, count_by}
 use Rattle.machine_events.specs.declared.event.Commit.{Commit}
 use Rattle.machine_events.specs.declared.event.Event.{Event}
 use Rattle.machine_events.specs.declared.event.Event.TheVariants.{Assign, Exec, Retire}
 use Rattle.machine_model.specs.Machine.{Active, State}
+use Rattle.machine_model.specs.Answer.{most_events}
 use Rattle.machine_model.specs.Claims.{count_c}
 use Rattle.task_lives.specs.declared.life.Ending.{Ending}
 use Rattle.task_lives.specs.declared.life.Ending.TheVariants.{Retired, Squashed, Dropped, Unfinished}
@@ -37,6 +38,10 @@ number_ended test lives = length (ended test lives)
 
 abbrev pub instructions : (Ending → Bool) → List Life → ℕ
 instructions test lives = sum_by (λ life. life.executed) (ended test lives)
+
+-- no more lives than a history may have events, and no more instructions
+abbrev pub AreFew : List Life → Type 0
+AreFew lives = (length lives ≤ most_events) × (sum_by (λ life. life.executed) lives ≤ most_events)
 
 -- events that begin lives, that execute an instruction, and that retire tasks
 abbrev pub is_assign : Event → Bool

@@ -4,6 +4,7 @@ ghost use Rattle.std.specs.Prelude.{◌≡◌, ◌<◌, ◌≤◌, length, IfOk}
 ghost use Rattle.machine_model.specs.Answer.{most_events};
 ghost use Rattle.machine_events.specs.Runs.{events_of};
 ghost use Rattle.task_lives.specs.Lives.{AllFit, lives_of};
+ghost use Rattle.task_lives.specs.Sums.{AreFew};
 
 use crate::following::Following;
 use crate::life::Life;
@@ -16,7 +17,8 @@ pub fn lives_of_runs(alloc: Global, runs: &[EventRun], units: u32) -> Result<Vec
     requires some { 0 < units }
     requires room { length (events_of runs.now) ≤ most_events }
     requires fit { AllFit 0 (events_of runs.now) }
-    ensures { IfOk result (λ lives. lives.items ≡ lives_of units (events_of runs.now)) }
+    ensures exact { IfOk result (λ lives. lives.items ≡ lives_of units (events_of runs.now)) }
+    ensures few { IfOk result (λ lives. AreFew lives.items) }
 {
     let mut following = Following::new(alloc, units);
     for run in runs {
