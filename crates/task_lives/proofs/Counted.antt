@@ -8,6 +8,7 @@ use Rattle.std.proofs.lemmas.List.Sums.{count_by-le-length, sum_by-cons}
 use Rattle.task_descriptor.specs.Listing.{Listing}
 use Rattle.machine_model.specs.Machine.{State, opening}
 use Rattle.machine_model.specs.Replay.{ReplaysFrom, Replays}
+use Rattle.machine_model.specs.Answer.{most_events}
 use Rattle.machine_model.specs.Laws.{EventsCount}
 use Rattle.machine_model.specs.HeadEvent.{retired_after}
 use Rattle.machine_events.specs.declared.event.Commit.{Commit}
