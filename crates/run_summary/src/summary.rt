@@ -6,7 +6,7 @@ ghost use Rattle.std.specs.String.{string_bytes};
 ghost use Rattle.task_lives.specs.Sums.{AreFew};
 ghost use Rattle.run_summary.specs.SummaryText.{row_text, task_row, summary_text};
 
-use crate::tally::{Tally, tallies, tally};
+use crate::tally::{Tally, add_up, by_task};
 use std::alloc::{AllocError, Global};
 use task_descriptor::descriptor::Descriptor;
 use task_descriptor::program::Program;
@@ -17,23 +17,19 @@ pub fn write(alloc: Global, program: &Program, lives: &[Life]) -> Result<Vec<u8>
     requires { AreFew lives.now }
     ensures { IfOk result (λ text. text.items ≡ summary_text program.now lives.now) }
 {
-    let tallies = tallies(alloc, lives, program.tasks().len())?;
+    let tallies = by_task(alloc, lives, program.tasks().len())?;
     let mut text = String::new(alloc);
     writeln!(
         text,
         "assigned  retired  squashed  dropped  unfinished  useful  wasted  task"
     )?;
     write_rows(&mut text, &tallies, program.tasks())?;
-    write_row(&mut text, &tally(lives), "(all)")?;
+    write_row(&mut text, &add_up(lives), "(all)")?;
     Ok(text.into_bytes())
 }
 
 /// Adds the rows of tasks.
-fn write_rows(
-    text: &mut String,
-    tallies: &[Tally],
-    tasks: &[Descriptor],
-) -> Result<(), AllocError>
+fn write_rows(text: &mut String, tallies: &[Tally], tasks: &[Descriptor]) -> Result<(), AllocError>
     ensures { OnOk result (string_bytes text.new ≡ string_bytes text.old ++ flat_map task_row (zip tallies.now tasks.now)) }
 {
     for (tally, task) in tallies.iter().zip(tasks) {

@@ -38,7 +38,7 @@ const NONE: Tally = Tally {
 };
 
 /// The tally of some lives.
-pub fn tally(lives: &[Life]) -> Tally
+pub fn add_up(lives: &[Life]) -> Tally
     requires { AreFew lives.now }
     ensures { result ≡ tally_of lives.now }
 {
@@ -50,7 +50,7 @@ pub fn tally(lives: &[Life]) -> Tally
 }
 
 /// The tallies of so many tasks, task 0 first, each of the task's own lives.
-pub fn tallies(alloc: Global, lives: &[Life], tasks: usize) -> Result<Vec<Tally>, AllocError>
+pub fn by_task(alloc: Global, lives: &[Life], tasks: usize) -> Result<Vec<Tally>, AllocError>
     requires { AreFew lives.now }
     ensures { IfOk result (λ tallies. tallies.items ≡ tallies_of tasks lives.now) }
 {

@@ -4,7 +4,7 @@ use Rattle.std.proofs.lemmas.List.{take_all}
 use Rattle.run_summary.specs.Tallies.{tally_of}
 use Rattle.run_summary.specs.Counting.{with_life, HasRoom}
 use Rattle.run_summary.proofs.OneMore.{tally_to, room_to}
-use Rattle.run_summary.proofs.tally.tally.Goals as goal
+use Rattle.run_summary.proofs.tally.add_up.Goals as goal
 
 pub with-requires : goal.with-requires
 with-requires c =

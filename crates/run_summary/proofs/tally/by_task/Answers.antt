@@ -4,7 +4,7 @@ use Rattle.std.proofs.lemmas.List.{take_all}
 use Rattle.run_summary.specs.Tallies.{tallies_of}
 use Rattle.run_summary.specs.Counting.{with_task_life, HaveRoom}
 use Rattle.run_summary.proofs.OneMore.{none_counted, tallies_to, rooms_to}
-use Rattle.run_summary.proofs.tally.tallies.Goals as goal
+use Rattle.run_summary.proofs.tally.by_task.Goals as goal
 
 pub loop-life-init : goal.loop-life-init
 loop-life-init c = c.in_ok-tallies.ensures.items ∙ none_counted c.args.tasks
