@@ -104,22 +104,22 @@ no_lives first (suc tasks) =
     let rest = no_lives (first + 1) tasks in
     λ i. tally_of [] ∷ rest i
 
-pub none_counted : (tasks : ℕ) → replicate tasks (tally_of []) ≡ tallies_of tasks []
-none_counted tasks = no_lives 0 tasks
+pub none_counted : (tasks : ℕ) (ts : List Tally) → ts ≡ replicate tasks (tally_of []) → ts ≡ tallies_of tasks []
+none_counted tasks ts is = is ∙ no_lives 0 tasks
+
+-- the life at a place, in a list that has it
+abbrev pub no_life : Life
+no_life = record { task = 0; unit = 0; first = 0; last = 0; executed = 0; ending = Retired }
 
 -- so far in a loop
 
-pub tally_to : (lives : List Life) (i : ℕ) (life : Life) → i < length lives → life ≡ get_or lives i life → with_life life (tally_of (take i lives)) ≡ tally_of (take (i + 1) lives)
-tally_to lives i life within is =
-    sym (tally_more (take i lives) life)
-    ∙ ap (λ (l : Life). tally_of (take i lives ++ l ∷ [])) is
-    ∙ ap tally_of (sym (take_more lives i life within))
+pub tally_to : (lives : List Life) (i : ℕ) (d : Life) → i < length lives → with_life (get_or lives i d) (tally_of (take i lives)) ≡ tally_of (take (i + 1) lives)
+tally_to lives i d within =
+    sym (tally_more (take i lives) (get_or lives i d)) ∙ ap tally_of (sym (take_more lives i d within))
 
-pub tallies_to : (tasks : ℕ) (lives : List Life) (i : ℕ) (life : Life) → i < length lives → life ≡ get_or lives i life → with_task_life 0 life (tallies_of tasks (take i lives)) ≡ tallies_of tasks (take (i + 1) lives)
-tallies_to tasks lives i life within is =
-    all_more 0 tasks (take i lives) life
-    ∙ ap (λ (l : Life). tallies_of tasks (take i lives ++ l ∷ [])) is
-    ∙ ap (tallies_of tasks) (sym (take_more lives i life within))
+pub tallies_to : (tasks : ℕ) (lives : List Life) (i : ℕ) (d : Life) → i < length lives → with_task_life 0 (get_or lives i d) (tallies_of tasks (take i lives)) ≡ tallies_of tasks (take (i + 1) lives)
+tallies_to tasks lives i d within =
+    all_more 0 tasks (take i lives) (get_or lives i d) ∙ ap (tallies_of tasks) (sym (take_more lives i d within))
 
 -- room
 
@@ -170,17 +170,16 @@ short_to lives i h within =
     let long = length-take-le i lives (omega (arith, within)) in
     omega (arith, long, within, h.0)
 
-few_to : (lives : List Life) (i : ℕ) (life : Life) → AreFew lives → i < length lives → life ≡ get_or lives i life → executed_by (take i lives) + life.executed ≤ 1000000
-few_to lives i life h within is =
-    let more = sum_by_more_le (λ (l : Life). l.executed) lives i life within in
-    let same = ap (λ (l : Life). l.executed) is in
-    omega (arith, more, same, h.1)
+few_to : (lives : List Life) (i : ℕ) (d : Life) → AreFew lives → i < length lives → executed_by (take i lives) + (get_or lives i d).executed ≤ 1000000
+few_to lives i d h within =
+    let more = sum_by_more_le (λ (l : Life). l.executed) lives i d within in
+    omega (arith, more, h.1)
 
-pub room_to : (lives : List Life) (i : ℕ) (life : Life) → AreFew lives → i < length lives → life ≡ get_or lives i life → HasRoom life (tally_of (take i lives))
-room_to lives i life h within is = room_in (take i lives) life (short_to lives i h within) (few_to lives i life h within is)
+pub room_to : (lives : List Life) (i : ℕ) (d : Life) → AreFew lives → i < length lives → HasRoom (get_or lives i d) (tally_of (take i lives))
+room_to lives i d h within = room_in (take i lives) (get_or lives i d) (short_to lives i h within) (few_to lives i d h within)
 
-pub rooms_to : (tasks : ℕ) (lives : List Life) (i : ℕ) (life : Life) → AreFew lives → i < length lives → life ≡ get_or lives i life → HaveRoom life (tallies_of tasks (take i lives))
-rooms_to tasks lives i life h within is = rooms_in 0 tasks (take i lives) life (short_to lives i h within) (few_to lives i life h within is)
+pub rooms_to : (tasks : ℕ) (lives : List Life) (i : ℕ) (d : Life) → AreFew lives → i < length lives → HaveRoom (get_or lives i d) (tallies_of tasks (take i lives))
+rooms_to tasks lives i d h within = rooms_in 0 tasks (take i lives) (get_or lives i d) (short_to lives i h within) (few_to lives i d h within)
 
 -- the tally of a task among those of tasks
 

@@ -1,9 +1,12 @@
--- Tallies with one life more. For private functions.
-use Rattle.std.specs.Prelude.{ℕ, ◌+◌, ◌^◌, ◌<◌, List, [], ◌∷◌, nat_eq, if◌then◌else◌}
+-- Tallies with one life more, and their rows. For private functions.
+use Rattle.std.specs.Prelude.{ℕ, ◌+◌, ◌^◌, ◌<◌, List, [], ◌∷◌, ◌++◌, slice_index_or, nat_eq, if◌then◌else◌}
 use Rattle.task_lives.specs.declared.life.Ending.{Ending}
 use Rattle.task_lives.specs.declared.life.Ending.TheVariants.{Retired, Squashed, Dropped, Unfinished}
 use Rattle.task_lives.specs.declared.life.Life.{Life}
+use Rattle.task_descriptor.specs.declared.descriptor.Descriptor.{Descriptor}
 use Rattle.run_summary.specs.declared.tally.Tally.{Tally}
+use Rattle.run_summary.specs.Tallies.{tally_of}
+use Rattle.run_summary.specs.SummaryText.{row_text}
 
 -- one more that ended so, and executed so many instructions
 abbrev pub with_one : Ending → (executed : ℕ) → Tally → Tally
@@ -20,6 +23,11 @@ abbrev pub with_task_life : (first : ℕ) → Life → List Tally → List Tally
 with_task_life first life [] = []
 with_task_life first life (t ∷ ts) =
     (if nat_eq life.task first then with_life life t else t) ∷ with_task_life (first + 1) life ts
+
+-- the rows of tasks, of which the first has this number and the tally at it
+abbrev pub rows_from : List Tally → (task : ℕ) → List Descriptor → List ℕ
+rows_from ts task [] = []
+rows_from ts task (d ∷ ds) = row_text (slice_index_or ts task (tally_of [])) d.name ++ rows_from ts (task + 1) ds
 
 -- the life can be counted, as far as the numbers' type goes
 pub record HasRoom (life : Life) (t : Tally) : Type 0 where

@@ -1,5 +1,6 @@
 -- Worked examples, computed by the checker: the tallies of three lives, and the text of a summary.
 use Rattle.std.specs.Prelude.{◌≡◌, ℕ, List, [], ◌∷◌, ◌++◌, codes}
+use Rattle.std.specs.Fmt.{digits}
 use Rattle.std.proofs.Common.{refl}
 use Rattle.task_lives.specs.declared.life.Ending.{Ending}
 use Rattle.task_lives.specs.declared.life.Ending.TheVariants.{Retired, Squashed, Dropped, Unfinished}
@@ -40,7 +41,9 @@ pub tallies_of_three : tallies_of 3 some_lives ≡ tally 2 1 0 0 1 4 0 ∷ tally
 tallies_of_three = refl
 
 pub number_at_the_right : column 8 1000000 ≡ codes " 1000000"
+unfolding digits
 number_at_the_right = refl
 
 pub row_of_all : row_text (tally_of some_lives) (codes "(all)") ≡ codes "       4        1         1        1           1       4       5  (all)" ++ 10 ∷ []
+unfolding digits
 row_of_all = refl

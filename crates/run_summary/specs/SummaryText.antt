@@ -1,13 +1,12 @@
 -- The summary of a run: a heading, a row for each task of the program, in their order, and one for all
 -- lives (own choice).
-use Rattle.std.specs.Prelude.{ℕ, ◌-◌, List, [], ◌∷◌, ◌++◌, length, replicate, codes}
-use Rattle.std.specs.List.{flat_map, zip}
+use Rattle.std.specs.Prelude.{ℕ, ◌+◌, ◌-◌, List, [], ◌∷◌, ◌++◌, length, replicate, codes}
 use Rattle.std.specs.Fmt.{decimal}
 use Rattle.task_descriptor.specs.Listing.{Listing}
 use Rattle.task_descriptor.specs.declared.descriptor.Descriptor.{Descriptor}
 use Rattle.task_lives.specs.declared.life.Life.{Life}
 use Rattle.run_summary.specs.declared.tally.Tally.{Tally}
-use Rattle.run_summary.specs.Tallies.{tally_of, tallies_of}
+use Rattle.run_summary.specs.Tallies.{tally_of, of_task}
 
 -- a number at the right of a column
 abbrev pub column : (width : ℕ) → ℕ → List ℕ
@@ -19,8 +18,10 @@ row_text t name =
     column 8 t.assigned ++ (column 9 t.retired ++ (column 10 t.squashed ++ (column 9 t.dropped
     ++ (column 12 t.unfinished ++ (column 8 t.useful ++ (column 8 t.wasted ++ (codes "  " ++ (name ++ 10 ∷ []))))))))
 
-abbrev pub task_row : Tally × Descriptor → List ℕ
-task_row row = row_text row.0 row.1.name
+-- the rows of tasks, of which the first has this number
+abbrev pub task_rows : List Life → (task : ℕ) → List Descriptor → List ℕ
+task_rows lives task [] = []
+task_rows lives task (d ∷ ds) = row_text (tally_of (of_task task lives)) d.name ++ task_rows lives (task + 1) ds
 
 abbrev pub heading : List ℕ
 heading = codes "assigned  retired  squashed  dropped  unfinished  useful  wasted  task" ++ 10 ∷ []
@@ -28,5 +29,4 @@ heading = codes "assigned  retired  squashed  dropped  unfinished  useful  waste
 -- no task has the name of the last row
 abbrev pub summary_text : Listing → List Life → List ℕ
 summary_text p lives =
-    heading ++ (flat_map task_row (zip (tallies_of (length p.tasks) lives) p.tasks)
-    ++ row_text (tally_of lives) (codes "(all)"))
+    heading ++ (task_rows lives 0 p.tasks ++ row_text (tally_of lives) (codes "(all)"))

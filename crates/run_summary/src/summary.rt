@@ -1,10 +1,10 @@
 //! The text of a summary.
 
-ghost use Rattle.std.specs.Prelude.{◌≡◌, ◌++◌, length, IfOk, OnOk};
-ghost use Rattle.std.specs.List.{flat_map, zip};
+ghost use Rattle.std.specs.Prelude.{◌≡◌, ◌≤◌, ◌++◌, length, IfOk, OnOk};
 ghost use Rattle.std.specs.String.{string_bytes};
 ghost use Rattle.task_lives.specs.Sums.{AreFew};
-ghost use Rattle.run_summary.specs.SummaryText.{row_text, task_row, summary_text};
+ghost use Rattle.run_summary.specs.SummaryText.{column, heading, row_text, summary_text};
+ghost use Rattle.run_summary.specs.Counting.{rows_from};
 
 use crate::tally::{Tally, add_up, by_task};
 use std::alloc::{AllocError, Global};
@@ -17,23 +17,36 @@ pub fn write(alloc: Global, program: &Program, lives: &[Life]) -> Result<Vec<u8>
     requires { AreFew lives.now }
     ensures { IfOk result (λ text. text.items ≡ summary_text program.now lives.now) }
 {
-    let tallies = by_task(alloc, lives, program.tasks().len())?;
+    let tasks = program.tasks();
+    let tallies = by_task(alloc, lives, tasks.len())?;
     let mut text = String::new(alloc);
-    writeln!(
-        text,
-        "assigned  retired  squashed  dropped  unfinished  useful  wasted  task"
-    )?;
-    write_rows(&mut text, &tallies, program.tasks())?;
+    write_heading(&mut text)?;
+    write_rows(&mut text, &tallies, tasks)?;
     write_row(&mut text, &add_up(lives), "(all)")?;
     Ok(text.into_bytes())
 }
 
-/// Adds the rows of tasks.
-fn write_rows(text: &mut String, tallies: &[Tally], tasks: &[Descriptor]) -> Result<(), AllocError>
-    ensures { OnOk result (string_bytes text.new ≡ string_bytes text.old ++ flat_map task_row (zip tallies.now tasks.now)) }
+/// Adds the heading.
+fn write_heading(text: &mut String) -> Result<(), AllocError>
+    ensures { OnOk result (string_bytes text.new ≡ string_bytes text.old ++ heading) }
 {
-    for (tally, task) in tallies.iter().zip(tasks) {
-        write_row(text, tally, task.name.as_str())?;
+    writeln!(
+        text,
+        "assigned  retired  squashed  dropped  unfinished  useful  wasted  task"
+    )
+}
+
+/// Adds the rows of tasks.
+fn write_rows(
+    text: &mut String,
+    tallies: &[Tally],
+    tasks: &[Descriptor],
+) -> Result<(), AllocError>
+    requires { length tasks.now ≤ length tallies.now }
+    ensures { OnOk result (string_bytes text.new ≡ string_bytes text.old ++ rows_from tallies.now 0 tasks.now) }
+{
+    for (task, descriptor) in tasks.iter().enumerate() {
+        write_row(text, &tallies[task], descriptor.name.as_str())?;
     }
     Ok(())
 }
@@ -42,15 +55,19 @@ fn write_rows(text: &mut String, tallies: &[Tally], tasks: &[Descriptor]) -> Res
 fn write_row(text: &mut String, tally: &Tally, name: &str) -> Result<(), AllocError>
     ensures { OnOk result (string_bytes text.new ≡ string_bytes text.old ++ row_text tally.now name.now) }
 {
-    let Tally {
-        assigned,
-        retired,
-        squashed,
-        dropped,
-        unfinished,
-        useful,
-        wasted,
-    } = tally;
-    write!(text, "{assigned:>8}{retired:>9}{squashed:>10}{dropped:>9}")?;
-    writeln!(text, "{unfinished:>12}{useful:>8}{wasted:>8}  {name}")
+    write_number(text, tally.assigned, 8)?;
+    write_number(text, tally.retired, 9)?;
+    write_number(text, tally.squashed, 10)?;
+    write_number(text, tally.dropped, 9)?;
+    write_number(text, tally.unfinished, 12)?;
+    write_number(text, tally.useful, 8)?;
+    write_number(text, tally.wasted, 8)?;
+    writeln!(text, "  {name}")
+}
+
+/// Adds a number at the right of a column.
+fn write_number(text: &mut String, number: u32, width: usize) -> Result<(), AllocError>
+    ensures { OnOk result (string_bytes text.new ≡ string_bytes text.old ++ column width number) }
+{
+    write!(text, "{number:>width$}")
 }

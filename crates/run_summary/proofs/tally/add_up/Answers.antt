@@ -1,22 +1,20 @@
 -- One life more.
-use Rattle.std.proofs.Common.{ap, sym, ◌∙◌, subst}
+use Rattle.std.proofs.Common.{ap, sym, ◌∙◌, subst, get_or}
 use Rattle.std.proofs.lemmas.List.{take_all}
 use Rattle.run_summary.specs.Tallies.{tally_of}
 use Rattle.run_summary.specs.Counting.{with_life, HasRoom}
-use Rattle.run_summary.proofs.OneMore.{tally_to, room_to}
+use Rattle.run_summary.proofs.OneMore.{no_life, tally_to, room_to}
 use Rattle.run_summary.proofs.tally.add_up.Goals as goal
 
-pub with-requires : goal.with-requires
-with-requires c =
-    let life = c.life-item.result in
-    subst (HasRoom life) (sym c.loop-life.invariant)
-    (room_to c.args.lives.now c.loop-life.life-index life c.requires c.loop-life-test.true c.life-item.is)
+pub with-tally-requires : goal.with-tally-requires
+with-tally-requires c =
+    subst (HasRoom (get_or c.args.lives.now c.loop-life.life-index no_life)) (sym c.loop-life.invariant)
+    (room_to c.args.lives.now c.loop-life.life-index no_life c.requires c.loop-life-test.true)
 
 pub loop-life-preserved : goal.loop-life-preserved
 loop-life-preserved c =
-    let life = c.life-item.result in
-    c.with.ensures ∙ ap (with_life life) c.loop-life.invariant
-    ∙ tally_to c.args.lives.now c.loop-life.life-index life c.loop-life-test.true c.life-item.is
+    c.with-tally.ensures ∙ ap (with_life (get_or c.args.lives.now c.loop-life.life-index no_life)) c.loop-life.invariant
+    ∙ tally_to c.args.lives.now c.loop-life.life-index no_life c.loop-life-test.true
 
 pub returns : goal.returns
 returns c = c.loop-life.invariant ∙ ap tally_of (take_all c.loop-life.life-index c.args.lives.now c.loop-life-test.false)
