@@ -37,11 +37,7 @@ fn write_heading(text: &mut String) -> Result<(), AllocError>
 }
 
 /// Adds the rows of tasks.
-fn write_rows(
-    text: &mut String,
-    tallies: &[Tally],
-    tasks: &[Descriptor],
-) -> Result<(), AllocError>
+fn write_rows(text: &mut String, tallies: &[Tally], tasks: &[Descriptor]) -> Result<(), AllocError>
     requires { length tasks.now ≤ length tallies.now }
     ensures { OnOk result (string_bytes text.new ≡ string_bytes text.old ++ rows_from tallies.now 0 tasks.now) }
 {
