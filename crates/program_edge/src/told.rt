@@ -1,12 +1,11 @@
 //! What the program says of a fault, and its status.
 ghost use Rattle.std.specs.Prelude.{◌≡◌, OnOk};
 ghost use Rattle.std.specs.Io.KnownBytes.{Appends};
-ghost use Rattle.program_edge.specs.Telling.{IsTold, said_of, serve_name};
+ghost use Rattle.program_edge.specs.Telling.{IsTold, said_of};
 
 use crate::fault::Fault;
 use std::io;
 use std::io::Write;
-use verdict_report::fault::ServeFault;
 
 /// How the program ends.
 #[derive(Clone, Copy, Debug, PartialEq, Eq)]
@@ -44,25 +43,6 @@ fn say<W: Write>(fault: &Fault, writer: &mut W) -> io::Result<()>
 {
     match fault {
         Fault::Help(text) | Fault::Words(text) => writer.write_all(text.as_bytes()),
-        Fault::NoText => writeln!(writer, "multiscalar: 1 Words"),
-        Fault::Predict => writeln!(writer, "multiscalar: 2 Predict"),
-        Fault::Emit => writeln!(writer, "multiscalar: 3 Emit"),
-        Fault::OutOfMemory => writeln!(writer, "multiscalar: 4 OutOfMemory"),
-        Fault::File(path) => writeln!(writer, "multiscalar: file {path}"),
-        Fault::Serve(fault) => {
-            let name = name_of(*fault);
-            writeln!(writer, "multiscalar: {name}")
-        }
-    }
-}
-
-// The number and the name of a fault of `serve`.
-fn name_of(fault: ServeFault) -> &'static str
-    ensures { result.now ≡ serve_name fault }
-{
-    match fault {
-        ServeFault::OutOfMemory => "1 OutOfMemory",
-        ServeFault::Write => "2 Write",
-        ServeFault::Foreign => "3 Foreign",
+        _ => writeln!(writer, "multiscalar: {fault}"),
     }
 }

@@ -11,16 +11,19 @@ use processor_steps::processor::{MOST_EVENTS, Processor};
 use std::alloc::Global;
 use std::marker::Model;
 use unit_core::read_log::ReadLog;
+use thiserror::Error;
 
 /// The most units of a machine.
 pub const MOST_UNITS: u32 = 16;
 
 /// Why a machine isn't made.
-#[derive(Clone, Copy, Debug, PartialEq, Eq)]
+#[derive(Clone, Copy, Debug, PartialEq, Eq, Error)]
 pub enum MachineFault {
     /// 1: not 1 to 16 units.
+    #[error("1 Units")]
     Units,
     /// 2: want of memory.
+    #[error("2 OutOfMemory")]
     OutOfMemory,
 }
 

@@ -4,5 +4,6 @@ pub mod Worlds
 pub mod UnitStep
 pub mod Parts
 pub mod Bursts
+pub mod WaitText
 pub mod SentRegisters
 pub mod Examples
