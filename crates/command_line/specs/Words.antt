@@ -7,7 +7,7 @@ use Rattle.std.specs.Str.{bytes_eq}
 use Rattle.jobs.specs.declared.job.Emit.{Emit}
 use Rattle.jobs.specs.declared.job.Emit.TheVariants.{Text, Cert, Keep}
 use Rattle.jobs.specs.declared.job.RunEmit.{RunEmit}
-use Rattle.jobs.specs.declared.job.RunEmit.TheVariants.{Report, Script}
+use Rattle.jobs.specs.declared.job.RunEmit.TheVariants.{Report, Script, Summary}
 use Rattle.jobs.specs.declared.job.Prediction.{Prediction}
 use Rattle.jobs.specs.declared.job.Prediction.TheVariants.{First, Last, List as Answers}
 
@@ -49,4 +49,5 @@ emit_of text =
 abbrev pub run_emit_of : List ℕ → Option RunEmit
 run_emit_of text =
     if bytes_eq text (codes "report") then Some Report
-    else (if bytes_eq text (codes "script") then Some Script else None)
+    else (if bytes_eq text (codes "script") then Some Script
+    else (if bytes_eq text (codes "summary") then Some Summary else None))

@@ -121,8 +121,9 @@ the program as it stands)";
 
 /// `--emit` of `run`.
 pub const RUN_EMIT: &str =
-    "What is written: report (the words that were put out, and how the run ended) or script (the
-events of the run)";
+    "What is written: report (the words that were put out, and how the run ended), script (the events
+of the run) or summary (how often each task was assigned, how that ended, and how many
+instructions were of use)";
 
 /// `--workers` of `run`.
 pub const RUN_WORKERS: &str = "How many threads serve the units, 1 to 16; never more than units

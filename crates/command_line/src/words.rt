@@ -337,6 +337,7 @@ fn read_run_emit(text: &str) -> Option<RunEmit>
     match text {
         "report" => Some(RunEmit::Report),
         "script" => Some(RunEmit::Script),
+        "summary" => Some(RunEmit::Summary),
         _ => None,
     }
 }

@@ -21,6 +21,8 @@ pub enum RunEmit {
     Report,
     /// The history, as an event script that `replay` reads.
     Script,
+    /// How often each task was assigned, how that ended, and how much of its work was of use.
+    Summary,
 }
 
 /// How `run` guesses the next task behind a running one (the paper, section 2.1, leaves it open).

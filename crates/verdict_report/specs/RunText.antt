@@ -8,6 +8,8 @@ use Rattle.machine_events.specs.declared.event.Event.{Event}
 use Rattle.machine_events.specs.declared.event.Standing.TheVariants.{Running}
 use Rattle.event_script.specs.EventScript.{script_of}
 use Rattle.event_script.specs.ScriptText.{script_text}
+use Rattle.task_lives.specs.Lives.{lives_of}
+use Rattle.run_summary.specs.SummaryText.{summary_text}
 use Rattle.threaded_runner.specs.declared.report.How.{How}
 use Rattle.threaded_runner.specs.declared.report.How.TheVariants.{Ended, OutOfBudget}
 use Rattle.jobs.specs.declared.job.RunEmit.{RunEmit}
@@ -38,16 +40,18 @@ abbrev pub ending_status : How → State → ℕ
 ending_status Ended s = standing_status s.outcome
 ending_status OutOfBudget s = 3
 
--- what is written of a run: its end, or its history as a script, which is read as that history
-abbrev pub IsWrittenOf : RunEmit → Listing → Run → List ℕ → Type 0
-IsWrittenOf emit.Report p run bytes = bytes ≡ ending_text run.how run.state
-IsWrittenOf emit.Script p run bytes = (bytes ≡ script_text p run.history) × (script_of p bytes ≡ Ok run.history)
+-- what is written of a run: its end; its history as a script, which is read as that history; or what the
+-- tasks that it assigned came to
+abbrev pub IsWrittenOf : RunEmit → (units : ℕ) → Listing → Run → List ℕ → Type 0
+IsWrittenOf emit.Report units p run bytes = bytes ≡ ending_text run.how run.state
+IsWrittenOf emit.Script units p run bytes = (bytes ≡ script_text p run.history) × (script_of p bytes ≡ Ok run.history)
+IsWrittenOf emit.Summary units p run bytes = bytes ≡ summary_text p (lives_of units run.history)
 
 -- the report of some run of a program in which nothing is found
 pub record IsRunReport (units budget : ℕ) (emitted : RunEmit) (p : Listing) (report : Report) : Type 0 where
   pub run : Run
   pub right : IsRunOf p units budget run
-  pub written : IsWrittenOf emitted p run report.bytes
+  pub written : IsWrittenOf emitted units p run report.bytes
   pub answered : report.status ≡ ending_status run.how run.state
 
 abbrev pub IsRunJudged : (units budget : ℕ) → RunEmit → Judgement → Report → Type 0

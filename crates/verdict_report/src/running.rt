@@ -1,8 +1,13 @@
 //! The job `run`.
-ghost use Rattle.std.specs.Prelude.{◌≡◌, ◌≢◌, ◌≤◌, Err, IfOk};
+ghost use Rattle.std.specs.Prelude.{◌≡◌, ◌≢◌, ◌≤◌, Err, Ok, IfOk};
 ghost use Rattle.sequencer.specs.Seen.{state, units_of};
 ghost use Rattle.verdict_report.specs.RunText.{IsRunOf, IsRunReport, IsRunText, IsWrittenOf, ending_status, ending_text};
 ghost use Rattle.verdict_report.specs.Runs.{run_of};
+ghost use Rattle.machine_model.specs.Replay.{Replays};
+ghost use Rattle.event_script.specs.EventScript.{script_of};
+ghost use Rattle.event_script.specs.ScriptText.{script_text};
+ghost use Rattle.task_lives.specs.Lives.{lives_of};
+ghost use Rattle.run_summary.specs.SummaryText.{summary_text};
 
 use crate::fault::ServeFault;
 use crate::judging::{Judged, judge};
@@ -17,6 +22,8 @@ use sequencer::predict::{First, Last, Predict, Script};
 use std::alloc::{AllocError, Global};
 use std::sync::Wait;
 use std::thread::Threads;
+use task_lives::laws::histories_fit;
+use task_lives::lives::lives_of_runs;
 use text_pieces::text::Text;
 use threaded_runner::gate::Open;
 use threaded_runner::report;
@@ -72,7 +79,7 @@ fn run_accepted<R: Threads + Wait + Sync>(
     ensures own { result ≢ Err ServeFault.Foreign }
 {
     let ran = run_predicting(rt, alloc, extent, predict, accepted)?;
-    Ok(report_of_run(alloc, emit, &ran, accepted)?)
+    Ok(report_of_run(alloc, emit, extent.units, &ran, accepted)?)
 }
 
 // Runs an accepted program, with the predictor that is asked for.
@@ -126,17 +133,19 @@ fn run_with<'a, P: Predict, R: Threads + Wait + Sync>(
 fn report_of_run(
     alloc: Global,
     emit: RunEmit,
+    units: Units,
     ran: &report::Report<'_>,
     accepted: &Accepted,
 ) -> Result<Report, AllocError>
     requires over { ran.now.machine.accepted ≡ accepted.now }
-    requires units { units_of ran.now.machine ≤ 16 }
-    ensures bytes { IfOk result (λ report. IsWrittenOf emit accepted.now.program (run_of ran.now) report.bytes) }
+    requires units { (units_of ran.now.machine ≤ 16) × (units_of ran.now.machine ≡ units) }
+    ensures bytes { IfOk result (λ report. IsWrittenOf emit units accepted.now.program (run_of ran.now) report.bytes) }
     ensures status { IfOk result (λ report. report.status ≡ ending_status ran.now.how (state ran.now.machine)) }
 {
     let bytes = match emit {
         RunEmit::Report => ending(alloc, ran)?,
         RunEmit::Script => script(alloc, ran, accepted)?,
+        RunEmit::Summary => summary(alloc, units, ran, accepted)?,
     };
     Ok(Report::new(bytes, ending_status_of(ran)))
 }
@@ -164,9 +173,26 @@ fn script(
 ) -> Result<Vec<u8>, AllocError>
     requires over { ran.now.machine.accepted ≡ accepted.now }
     requires units { units_of ran.now.machine ≤ 16 }
-    ensures { IfOk result (λ bytes. IsWrittenOf RunEmit.Script accepted.now.program (run_of ran.now) bytes.items) }
+    ensures { IfOk result (λ bytes. (bytes.items ≡ script_text accepted.now.program ran.now.machine.history) × (script_of accepted.now.program bytes.items ≡ Ok ran.now.machine.history)) }
 {
     write(alloc, ran.machine.history(), accepted.program())
+}
+
+// What the tasks came to that the run assigned.
+fn summary(
+    alloc: Global,
+    units: Units,
+    ran: &report::Report<'_>,
+    accepted: &Accepted,
+) -> Result<Vec<u8>, AllocError>
+    requires over { ran.now.machine.accepted ≡ accepted.now }
+    requires units { units_of ran.now.machine ≡ units }
+    requires replay { Replays ran.now.machine.accepted.program (units_of ran.now.machine) ran.now.machine.history (state ran.now.machine) }
+    ensures { IfOk result (λ bytes. bytes.items ≡ summary_text accepted.now.program (lives_of units ran.now.machine.history)) }
+{
+    histories_fit();
+    let lives = lives_of_runs(alloc, ran.machine.history(), units.get())?;
+    run_summary::summary::write(alloc, accepted.program(), &lives)
 }
 
 // The status of a run.
