@@ -90,7 +90,7 @@ fn run_predicting<'a, R: Threads + Wait + Sync>(
     predict: &Prediction,
     accepted: &'a Accepted,
 ) -> Result<report::Report<'a>, ServeFault>
-    ensures over { IfOk result (λ ran. (ran.machine.accepted ≡ accepted.now) × (units_of ran.machine ≤ 16)) }
+    ensures over { IfOk result (λ ran. (ran.machine.accepted ≡ accepted.now) × (units_of ran.machine ≤ 16) × (units_of ran.machine ≡ extent.units)) }
     ensures run { IfOk result (λ ran. IsRunOf accepted.now.program extent.units extent.budget (run_of ran)) }
     ensures fault { result ≢ Err ServeFault.Write }
     ensures own { result ≢ Err ServeFault.Foreign }
@@ -113,7 +113,7 @@ fn run_with<'a, P: Predict, R: Threads + Wait + Sync>(
     accepted: &'a Accepted,
     predictor: P,
 ) -> Result<report::Report<'a>, ServeFault>
-    ensures over { IfOk result (λ ran. (ran.machine.accepted ≡ accepted.now) × (units_of ran.machine ≤ 16)) }
+    ensures over { IfOk result (λ ran. (ran.machine.accepted ≡ accepted.now) × (units_of ran.machine ≤ 16) × (units_of ran.machine ≡ extent.units)) }
     ensures run { IfOk result (λ ran. IsRunOf accepted.now.program extent.units extent.budget (run_of ran)) }
     ensures fault { result ≢ Err ServeFault.Write }
     ensures own { result ≢ Err ServeFault.Foreign }
@@ -139,6 +139,7 @@ fn report_of_run(
 ) -> Result<Report, AllocError>
     requires over { ran.now.machine.accepted ≡ accepted.now }
     requires units { (units_of ran.now.machine ≤ 16) × (units_of ran.now.machine ≡ units) }
+    requires replay { Replays accepted.now.program units ran.now.machine.history (state ran.now.machine) }
     ensures bytes { IfOk result (λ report. IsWrittenOf emit units accepted.now.program (run_of ran.now) report.bytes) }
     ensures status { IfOk result (λ report. report.status ≡ ending_status ran.now.how (state ran.now.machine)) }
 {
@@ -187,7 +188,7 @@ fn summary(
 ) -> Result<Vec<u8>, AllocError>
     requires over { ran.now.machine.accepted ≡ accepted.now }
     requires units { units_of ran.now.machine ≡ units }
-    requires replay { Replays ran.now.machine.accepted.program (units_of ran.now.machine) ran.now.machine.history (state ran.now.machine) }
+    requires replay { Replays accepted.now.program units ran.now.machine.history (state ran.now.machine) }
     ensures { IfOk result (λ bytes. bytes.items ≡ summary_text accepted.now.program (lives_of units ran.now.machine.history)) }
 {
     histories_fit();
