@@ -15,7 +15,7 @@ use Rattle.jobs.specs.declared.job.Emit.{Emit}
 use Rattle.jobs.specs.declared.job.RunEmit.{RunEmit}
 use Rattle.jobs.specs.declared.job.Prediction.{Prediction}
 use Rattle.jobs.specs.declared.job.Job.{Job}
-use Rattle.jobs.specs.declared.job.Job.TheVariants.{Seq, Print, Annotate, Check, Replay, Run}
+use Rattle.jobs.specs.declared.job.Job.TheVariants.{Seq, Print, Annotate, Explain, Check, Replay, Run}
 use Rattle.jobs.specs.declared.job.Paths.{Paths}
 use Rattle.command_line.specs.Words.{emit_of, prediction_of, run_emit_of}
 use Rattle.command_line.specs.CommandLine.{command_line}
@@ -50,6 +50,8 @@ Gives name values (Seq budget) =
     (name ≡ codes "seq") × (number_at (codes "budget") values ≡ Some budget)
 Gives name values Print = name ≡ codes "print"
 Gives name values (Annotate emit) = (name ≡ codes "annotate") × (emit_in values ≡ Some emit)
+Gives name values (Explain file) =
+    (name ≡ codes "explain") × (first_of (codes "program") values ≡ Some (string_bytes file))
 Gives name values (Check workers) =
     (name ≡ codes "check") × (number_at (codes "workers") values ≡ Some workers)
 Gives name values (Replay units) =

@@ -63,6 +63,9 @@ print = subcommand (codes "print") (program ∷ [])
 abbrev pub annotate : Shape
 annotate = subcommand (codes "annotate") (program ∷ word (codes "emit") (codes "text") ∷ [])
 
+abbrev pub explain : Shape
+explain = subcommand (codes "explain") (program ∷ [])
+
 abbrev pub check : Shape
 check = subcommand (codes "check") (program ∷ certificate ∷ checkers ∷ [])
 
@@ -80,7 +83,7 @@ program_name = record (new_shape (codes "multiscalar")) { subcommand_required = 
 abbrev pub command_line : App
 command_line = record {
   top = record program_name { is_leaf = false };
-  subs = seq ∷ print ∷ annotate ∷ check ∷ replay ∷ run ∷ [];
+  subs = seq ∷ print ∷ annotate ∷ explain ∷ check ∷ replay ∷ run ∷ [];
 }
 
 -- the command is the subcommand s, without an argument that is global

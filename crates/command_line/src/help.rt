@@ -51,6 +51,19 @@ pub const ANNOTATE_LONG: &str =
     "Proposes which registers each task creates and where values are forwarded; stops, releases and
 targets stay as they are. The proposal is not trusted: `check` judges it like any other.";
 
+/// `explain`, in one line.
+pub const EXPLAIN: &str = "Says which marks of a program are wrong, and why";
+
+/// `explain`.
+pub const EXPLAIN_LONG: &str =
+    "Says of each wrong mark of a program what is wrong, on which path, and what to do. It takes the least
+certificate itself, so it finds something exactly where the marks are unsound.
+
+Writes diagnostics in the form that compilers use,
+  FILE:LINE:COLUMN: error: ..
+each with a note, which has the path, and a help. The status is 0 where nothing is wrong, and 1 where
+something is.";
+
 /// `check`, in one line.
 pub const CHECK: &str = "Checks a program with its certificate";
 

@@ -6,7 +6,7 @@ ghost use Rattle.command_line.specs.CommandLine.{IsSubcommand, command_line, pro
 ghost use Rattle.command_line.specs.CommandLine.{free_number as free_number_rule, number as number_rule};
 ghost use Rattle.command_line.specs.CommandLine.{program as program_rule, certificate as certificate_rule, script as script_rule};
 ghost use Rattle.command_line.specs.CommandLine.{budget as budget_rule, units as units_rule, checkers as checkers_rule, workers as workers_rule};
-ghost use Rattle.command_line.specs.CommandLine.{seq as seq_shape, print as print_shape, annotate as annotate_shape, check as check_shape, replay as replay_shape, run as run_shape};
+ghost use Rattle.command_line.specs.CommandLine.{seq as seq_shape, print as print_shape, annotate as annotate_shape, explain as explain_shape, check as check_shape, replay as replay_shape, run as run_shape};
 
 use crate::help;
 use clap::{Arg, ArgAction, Command, value_parser};
@@ -21,6 +21,7 @@ pub(crate) fn command<'a>(alloc: Global) -> Result<Command<'a>, AllocError>
         .subcommand(seq(alloc)?)?
         .subcommand(print(alloc)?)?
         .subcommand(annotate(alloc)?)?
+        .subcommand(explain(alloc)?)?
         .subcommand(check(alloc)?)?
         .subcommand(replay(alloc)?)?
         .subcommand(run(alloc)?)
@@ -167,6 +168,12 @@ fn annotate<'a>(alloc: Global) -> Result<Command<'a>, AllocError>
     subcommand(alloc, "annotate", help::ANNOTATE, help::ANNOTATE_LONG)
         .arg(program(alloc))?
         .arg(emit)
+}
+
+fn explain<'a>(alloc: Global) -> Result<Command<'a>, AllocError>
+    ensures { IfOk result (IsSubcommand explain_shape) }
+{
+    subcommand(alloc, "explain", help::EXPLAIN, help::EXPLAIN_LONG).arg(program(alloc))
 }
 
 fn check<'a>(alloc: Global) -> Result<Command<'a>, AllocError>

@@ -89,6 +89,7 @@ fn read_job(alloc: Global, name: &str, values: &ArgMatches<'_>) -> Result<(Job, 
         "seq" => read_seq(alloc, values),
         "print" => read_print(alloc, values),
         "annotate" => read_annotate(alloc, values),
+        "explain" => read_explain(alloc, values),
         "check" => read_check(alloc, values),
         "replay" => read_replay(alloc, values),
         "run" => read_run(alloc, values),
@@ -203,6 +204,13 @@ fn read_annotate(alloc: Global, values: &ArgMatches<'_>) -> Result<(Job, Paths),
         .and_then(read_emit)
         .ok_or(UsageFault::Emit)?;
     Ok((Job::Annotate { emit }, program_path(alloc, values)?))
+}
+
+fn read_explain(alloc: Global, values: &ArgMatches<'_>) -> Result<(Job, Paths), UsageFault>
+    ensures { Reads (codes "explain") (values_in values.now) result }
+{
+    let name = path(alloc, values, "program")?;
+    Ok((Job::Explain { name }, program_path(alloc, values)?))
 }
 
 fn read_check(alloc: Global, values: &ArgMatches<'_>) -> Result<(Job, Paths), UsageFault>

@@ -49,6 +49,11 @@ pub enum Job {
     Annotate {
         emit: Emit,
     },
+    /// Says of each wrong mark of a program what is wrong, on which path, and what to do.
+    Explain {
+        /// The program's file as the words have it, for the diagnostics.
+        name: String,
+    },
     /// Checks the program against its certificate.
     Check {
         workers: Workers,

@@ -8,6 +8,7 @@ returns c =
     let one = with_sub c.in_ok-subcommand.ensures c.program_name.ensures.0 c.in_ok-seq.ensures in
     let two = with_sub c.in_ok-subcommand-2.ensures one c.in_ok-print.ensures in
     let three = with_sub c.in_ok-subcommand-3.ensures two c.in_ok-annotate.ensures in
-    let four = with_sub c.in_ok-subcommand-4.ensures three c.in_ok-check.ensures in
-    let five = with_sub c.in_ok-subcommand-5.ensures four c.in_ok-replay.ensures in
-    IfOk-weaker c.subcommand-6.result _ _ (λ _ h. with_sub h five c.in_ok-run.ensures) c.subcommand-6.ensures
+    let four = with_sub c.in_ok-subcommand-4.ensures three c.in_ok-explain.ensures in
+    let five = with_sub c.in_ok-subcommand-5.ensures four c.in_ok-check.ensures in
+    let six = with_sub c.in_ok-subcommand-6.ensures five c.in_ok-replay.ensures in
+    IfOk-weaker c.subcommand-7.result _ _ (λ _ h. with_sub h six c.in_ok-run.ensures) c.subcommand-7.ensures
