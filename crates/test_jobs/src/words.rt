@@ -12,6 +12,7 @@ enum Wanted {
     Seq(u32),
     Print,
     Annotate(Emit),
+    Explain(bool),
     Check(u32),
     Replay(u32),
     Run(WantedRun),
@@ -65,6 +66,7 @@ impl Wanted {
             Job::Seq { budget } => Wanted::Seq(budget.get()),
             Job::Print => Wanted::Print,
             Job::Annotate { emit } => Wanted::Annotate(*emit),
+            Job::Explain { name } => Wanted::Explain(name.as_str() == "a.s"),
             Job::Check { workers } => Wanted::Check(workers.get()),
             Job::Replay { units } => Wanted::Replay(units.get()),
             Job::Run {
@@ -94,10 +96,11 @@ impl Wanted {
 }
 
 // Words that give a job of the program `a.s`.
-const JOBS: [(&str, Wanted); 13] = [
+const JOBS: [(&str, Wanted); 14] = [
     ("seq a.s", Wanted::Seq(1_000_000)),
     ("seq --budget 17 a.s", Wanted::Seq(17)),
     ("print a.s", Wanted::Print),
+    ("explain a.s", Wanted::Explain(true)),
     ("check a.s a.cert", Wanted::Check(1)),
     ("check a.s a.cert --workers 16", Wanted::Check(16)),
     ("check --workers 3 a.s a.cert", Wanted::Check(3)),
