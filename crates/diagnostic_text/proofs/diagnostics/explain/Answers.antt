@@ -1,0 +1,25 @@
+-- What is told is of the program that the text spells, and its map is refused for want of memory alone.
+use Rattle.std.proofs.Common.{◌≡◌, ◌∙◌, ap}
+use Rattle.std.proofs.lemmas.Result.{err_from_is_err_and}
+use Rattle.std.specs.String.{string_bytes}
+use Rattle.source_map.specs.Sources.{sources_in}
+use Rattle.diagnostic_text.specs.Diagnostics.{findings_text}
+use Rattle.diagnostic_text.proofs.Explaining.{explained, only_memory}
+use Rattle.diagnostic_text.proofs.diagnostics.explain.Goals as goal
+
+pub returns-clause-said : goal.returns-clause-said
+returns-clause-said c =
+    let file = c.args.file.now in
+    let text = c.args.text.now in
+    let program = c.in_ok-program.program in
+    let sources = sources_in c.in_ok-map.map in
+    let said = c.in_ok-said.ensures ∙ ap (findings_text file program sources) c.deref.ensures.value in
+    explained file text (string_bytes c.in_ok-said.said) program sources c.in_ok-list.list.items c.in_ok-program.ensures.found
+    c.in_ok-map.ensures c.in_ok-list.ensures.shown c.in_ok-list.ensures.sound said
+
+pub returns-in_err-map-clause-refused : goal.returns-in_err-map-clause-refused
+returns-in_err-map-clause-refused c =
+    let text = c.args.text.now in
+    let fits = c.map_fits.ensures text c.in_ok-program.program c.in_ok-program.ensures.found in
+    let why = err_from_is_err_and c.from_residual-in_err-map.result c.from_residual-in_err-map.ensures.1 in
+    rw (why.1, why.2) (only_memory c.in_err-map.field-0.0 text fits.0 fits.1.0 c.in_err-map.ensures)
