@@ -1,7 +1,8 @@
 -- A burst that is taken over is one Exec event for each step, by the law on bursts.
-use Rattle.std.proofs.Common.{◌≡◌, ℕ, ◌+◌, ◌≤◌, List, ◌++◌, length, Some, None, sym, ap, ◌∙◌, subst, arith, length-append}
+use Rattle.std.proofs.Common.{◌≡◌, refl, ℕ, ◌+◌, ◌≤◌, List, ◌++◌, length, Some, None, sym, ap, ◌∙◌, subst, arith, length-append}
 use Rattle.std.proofs.lemmas.List.{length-replicate}
 use Rattle.std.specs.Prelude.{◌<◌, slice_get, slice_set, replicate}
+use Rattle.task_descriptor.specs.Listing.{Listing}
 use Rattle.machine_model.specs.Machine.{State, Active}
 use Rattle.machine_model.specs.Replay.{ReplaysFrom}
 use Rattle.machine_model.specs.Answer.{with_queue, most_events}
@@ -83,3 +84,7 @@ is_machine m b p' h' taken kept law =
     let long : length h' ≡ length m.history + length es = ap (λ (h : List Event). length h) taken.history ∙ length-append m.history es in
     let fits : length h' ≤ most_events = taken.fits in
     subst (λ (h : List Event). IsMachine (record m { processor = p'; history = h })) (sym taken.history) (law es p' taken.events kept (omega arith))
+
+-- a burst that was made with a program is one of it
+pub own_is_of : (b : BurstView) (q : Listing) → b.accepted.program ≡ q → IsOf b q
+own_is_of b q same = subst (λ (p : Listing). IsOf b p) same (record { stretch = record { code = λ i from to. refl; fixed = λ loads. refl }; descriptor = refl })

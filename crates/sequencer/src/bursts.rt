@@ -8,7 +8,7 @@ use processor_steps::processor::MOST_EVENTS;
 use unit_core::burst::{Burst, Lease};
 
 impl<'a> Machine<'a> {
-    ghost use Rattle.std.specs.Prelude.{◌≡◌, ℕ, ◌+◌, ◌%◌, ◌<◌, ◌≤◌, [], length, slice_get, Some, IfOk, IfErr, IfSome, IfNone, IsOk};
+    ghost use Rattle.std.specs.Prelude.{◌≡◌, ℕ, ◌+◌, ◌%◌, ◌<◌, ◌≤◌, [], length, slice_get, Some, IfOk, IfErr, IfSome, IfNone, IsOk, IsTrue, ◌↔◌};
     ghost use Rattle.std.specs.Option.{option_map};
     ghost use Rattle.machine_model.specs.Machine.{Active};
     ghost use Rattle.machine_model.specs.Step.{with_log};
@@ -60,7 +60,7 @@ impl<'a> Machine<'a> {
     /// active unit is the one that it was made on, as when that was squashed, or its part of the program
     /// is not this machine's: the code from the least to the greatest index that it executed, the
     /// descriptor of its task and, where it loaded, the read-only data. It costs what the burst is long,
-    /// whatever the size of the program, the certificate, the log and the history.
+    /// and what that part is, whatever the size of the program, the certificate, the log and the history.
     ///
     /// # Errors
     ///
@@ -74,10 +74,49 @@ impl<'a> Machine<'a> {
         ensures refused { IfErr result (λ back. (back.0 ≡ burst.entry) × (self.new ≡ self.old) × IsRefusedBurst self.old burst.entry back.1) }
         ensures kept { SameRing self.old self.new }
     {
+        let is_own = burst.is_of(self.accepted.program());
+        self.take_over(burst, is_own)
+    }
+
+    /// Hands in a burst as `apply_burst` does, and compares nothing of the program: the caller sees to it
+    /// that the burst was made with this machine's. It costs what the burst is long, whatever it executed
+    /// or loaded.
+    ///
+    /// # Errors
+    ///
+    /// Those of `apply_burst`.
+    #[tactic(auto, using(crate::proofs::TakenBursts::own_is_of))]
+    pub fn apply_own_burst<'b>(&mut self, burst: Burst<'b>) -> Result<u32, (Burst<'b>, Refused)>
+        requires { burst.accepted.program ≡ self.old.accepted.program }
+        ensures running { IsOk result → (state self.old).outcome ≡ standing.Running }
+        ensures taken { IfOk result (λ events. 0 < events → (events ≡ burst.entry.steps) × Takes self.old burst.entry self.new) }
+        ensures stale { IfOk result (λ events. events ≡ 0 → (IsFresh self.old burst.entry → ⊥) × (self.new ≡ self.old)) }
+        ensures refused { IfErr result (λ back. (back.0 ≡ burst.entry) × (self.new ≡ self.old) × IsRefusedBurst self.old burst.entry back.1) }
+        ensures kept { SameRing self.old self.new }
+    {
+        self.take_over(burst, true)
+    }
+
+    /// Hands in a burst of which it is known whether its part of the program is this machine's.
+    fn take_over<'b>(
+        &mut self,
+        burst: Burst<'b>,
+        is_own: bool,
+    ) -> Result<u32, (Burst<'b>, Refused)>
+        requires { IsTrue is_own ↔ IsOf burst self.old.accepted.program }
+        ensures running { IsOk result → (state self.old).outcome ≡ standing.Running }
+        ensures taken { IfOk result (λ events. 0 < events → (events ≡ burst.entry.steps) × Takes self.old burst.entry self.new) }
+        ensures stale { IfOk result (λ events. events ≡ 0 → (IsFresh self.old burst.entry → ⊥) × (self.new ≡ self.old)) }
+        ensures refused { IfErr result (λ back. (back.0 ≡ burst.entry) × (self.new ≡ self.old) × IsRefusedBurst self.old burst.entry back.1) }
+        ensures kept { SameRing self.old self.new }
+    {
         bursts_are_events();
         self.is_known();
         if !self.is_running() {
             return Err((burst, Refused::Ended));
+        }
+        if !is_own {
+            return Ok(0);
         }
         let Some(position) = self.position_for(&burst) else {
             return Ok(0);
@@ -95,9 +134,10 @@ impl<'a> Machine<'a> {
         }
     }
 
-    /// The position of the unit that takes a burst over; `None` where the burst is stale.
+    /// The position of the unit that takes over a burst of this machine's program; `None` where the burst
+    /// is stale.
     fn position_for(&self, burst: &Burst<'_>) -> Option<u32>
-        ensures some { IfSome result (λ k. (0 < burst.now.steps) × IsOf burst.now self.now.accepted.program
+        ensures some { IfSome result (λ k. (0 < burst.now.steps)
             × (position_with (state self.now).queue burst.now.before.serial ≡ Some k)
             × ((u : Active) × (slice_get (state self.now).queue k ≡ Some u) × HasMore (active_of burst.now.before) u)) }
         ensures none { IfNone result (IsFresh self.now burst.now → ⊥) }
@@ -116,10 +156,6 @@ impl<'a> Machine<'a> {
         if !unit.has_more(before) {
             return None;
         }
-        if burst.is_of(self.accepted.program()) {
-            Some(position)
-        } else {
-            None
-        }
+        Some(position)
     }
 }
