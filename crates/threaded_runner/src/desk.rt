@@ -4,6 +4,7 @@
 use crate::called::Called;
 use crate::counts::{add, zeros};
 use crate::known::{head_is_first, known};
+use crate::naming::Naming;
 use crate::report::{How, Report, RunFault};
 use crate::share::Share;
 use machine_events::event::{Event, Refused, Standing};
@@ -11,30 +12,32 @@ use mark_checker::accept::Accepted;
 use sequencer::machine::Machine;
 use sequencer::predict::Predict;
 use std::alloc::{AllocError, Global};
-use std::marker::Model;
+use std::marker::{Model, PhantomData};
 use unit_core::burst::Burst;
 
-/// What the lock holds.
+/// What the lock holds: a machine over the program and certificate of the run.
 #[derive(Drop)]
-pub(crate) struct Desk<'a, P: Predict> {
+pub(crate) struct Desk<'a, P: Predict, J: Naming> {
     machine: Machine<'a>,
     predictor: P,
     counts: Vec<u64>,
     is_stopped: bool,
     asleep: [bool; 16],
+    run: PhantomData<J>,
 }
 
-impl<'a, P: Predict> Model for Desk<'a, P> {
+impl<'a, P: Predict, J: Naming> Model for Desk<'a, P, J> {
+    ghost use Rattle.std.specs.Prelude.{◌≡◌};
     ghost use Rattle.threaded_runner.specs.Desks.{DeskView, IsDesk};
 
     ghost Value = { DeskView };
 
     ghost view = { λ d. record { machine = d.machine; counts = d.counts.items; is_stopped = d.is_stopped } };
 
-    ghost invariant = { λ d. IsDesk (record { machine = d.machine; counts = d.counts.items; is_stopped = d.is_stopped }) };
+    ghost invariant = { λ d. IsDesk (record { machine = d.machine; counts = d.counts.items; is_stopped = d.is_stopped }) × (d.machine.accepted ≡ J.accepted) };
 }
 
-impl<'a, P: Predict> Desk<'a, P> {
+impl<'a, P: Predict, J: Naming> Desk<'a, P, J> {
     ghost use Rattle.std.specs.Prelude.{◌≡◌, ◌+◌, ◌<◌, ◌≤◌, ◌⊎◌, ◌↔◌, [], ◌++◌, replicate, IfOk, IfErr, OnOk, OnErr, IsTrue, length, true};
     ghost use Rattle.sequencer.specs.Seen.{state, units_of, SameRing, Applies};
     ghost use Rattle.sequencer.specs.Rings.{unit_for};
@@ -51,8 +54,9 @@ impl<'a, P: Predict> Desk<'a, P> {
         machine: Machine<'a>,
         predictor: P,
         workers: u32,
-    ) -> Result<Desk<'a, P>, AllocError>
+    ) -> Result<Desk<'a, P, J>, AllocError>
         requires workers { 0 < workers }
+        requires over { machine.accepted ≡ J.accepted }
         requires start { machine.history ≡ [] }
         ensures { IfOk result (λ desk. (desk.machine ≡ machine.entry) × (length desk.counts ≡ workers)) }
     {
@@ -63,13 +67,15 @@ impl<'a, P: Predict> Desk<'a, P> {
             counts,
             is_stopped: false,
             asleep: [false; 16],
+            run: PhantomData,
         })
     }
 
     /// The machine.
     #[inline]
     pub(crate) fn machine(&self) -> &Machine<'a>
-        ensures { result.now ≡ self.now.machine }
+        ensures machine { result.now ≡ self.now.machine }
+        ensures over { result.now.accepted ≡ J.accepted }
     {
         &self.machine
     }
@@ -151,6 +157,7 @@ impl<'a, P: Predict> Desk<'a, P> {
     ///
     /// What the machine refuses the burst by; nothing is changed then.
     pub(crate) fn check_in(&mut self, burst: Burst<'_>) -> Result<u32, Refused>
+        requires own { burst.accepted ≡ J.accepted }
         ensures stale { IfOk result (λ events. events ≡ 0 → self.new ≡ self.old) }
         ensures err { OnErr result (self.new ≡ self.old) }
         ensures workers { length self.new.counts ≡ length self.old.counts }
@@ -212,6 +219,7 @@ impl<'a, P: Predict> Desk<'a, P> {
         workers: u32,
         budget: u32,
     ) -> Result<Report<'a>, RunFault>
+        requires over { accepted.now ≡ J.accepted }
         ensures fault { IfErr result (λ fault. (fault ≡ RunFault.OutOfMemory) ⊎ (fault ≡ RunFault.Foreign)) }
         ensures over { IfOk result (λ report. (report.machine.accepted ≡ accepted.now) × (units_of report.machine ≡ units)) }
         ensures replay { IfOk result (λ report. Replays report.machine.accepted.program (units_of report.machine) report.machine.history (state report.machine)) }
@@ -226,6 +234,7 @@ impl<'a, P: Predict> Desk<'a, P> {
             counts,
             is_stopped,
             asleep: _,
+            run: _,
         } = self;
         if is_stopped {
             return Err(RunFault::OutOfMemory);
@@ -322,12 +331,13 @@ fn exec_head(machine: &mut Machine<'_>, most: u32) -> u32
 
 /// Hands a burst in; one that is refused is gone.
 fn hand_in(machine: &mut Machine<'_>, burst: Burst<'_>) -> Result<u32, Refused>
+    requires { burst.accepted.program ≡ machine.old.accepted.program }
     ensures taken { IfOk result (λ events. 0 < events → (events ≡ burst.entry.steps) × Takes machine.old burst.entry machine.new) }
     ensures stale { IfOk result (λ events. events ≡ 0 → machine.new ≡ machine.old) }
     ensures err { OnErr result (machine.new ≡ machine.old) }
     ensures kept { SameRing machine.old machine.new }
 {
-    let answer = machine.apply_burst(burst);
+    let answer = machine.apply_own_burst(burst);
     match &answer {
         Ok(events) => Ok(*events),
         Err((_, refused)) => Err(*refused),

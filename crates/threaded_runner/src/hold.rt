@@ -6,6 +6,7 @@ ghost use Rattle.threaded_runner.specs.Turns.{MayChoose};
 
 use crate::deciding::turn_at_head;
 use crate::desk::Desk;
+use crate::naming::Naming;
 use crate::pace::Pace;
 use crate::share::Share;
 use crate::turn::Turn;
@@ -69,7 +70,7 @@ impl Worker {
     }
 
     /// Takes turns of the worker's units, at most 64.
-    pub(crate) fn hold<P: Predict>(&mut self, desk: &mut Desk<'_, P>) -> Then {
+    pub(crate) fn hold<P: Predict, J: Naming>(&mut self, desk: &mut Desk<'_, P, J>) -> Then {
         for _ in 0..EVENTS_OF_A_HOLD {
             if desk.is_done(self.budget) {
                 return Then::End;
@@ -101,7 +102,7 @@ impl Worker {
 
     /// Applies an event of a unit, unless it is an Assign that has to wait; answers whether it did not
     /// have to.
-    fn apply<P: Predict>(&mut self, desk: &mut Desk<'_, P>, unit: u32, event: Event) -> bool
+    fn apply<P: Predict, J: Naming>(&mut self, desk: &mut Desk<'_, P, J>, unit: u32, event: Event) -> bool
         requires { unit_for desk.old.machine event ≡ unit }
     {
         let assigns = matches!(&event, Event::Assign(_));
@@ -121,7 +122,7 @@ impl Worker {
 
     /// Assigns the task that the predictor chooses to a unit, unless it has to wait; answers whether it did
     /// not have to.
-    fn choose<P: Predict>(&mut self, desk: &mut Desk<'_, P>, unit: u32) -> bool
+    fn choose<P: Predict, J: Naming>(&mut self, desk: &mut Desk<'_, P, J>, unit: u32) -> bool
         requires { MayChoose desk.old.machine unit }
     {
         if self.is_held(desk.machine(), unit) {
@@ -160,7 +161,7 @@ impl Worker {
     /// The burst that is made next of a unit whose next instruction may stand in one, unless instructions are
     /// executed one by one here. A worker that serves all units makes short bursts in place: nobody else waits
     /// for the lock.
-    fn next_burst<P: Predict>(&mut self, desk: &mut Desk<'_, P>, unit: u32) -> Option<Then> {
+    fn next_burst<P: Predict, J: Naming>(&mut self, desk: &mut Desk<'_, P, J>, unit: u32) -> Option<Then> {
         let pace = self.pace(unit);
         let room = self.room(desk.machine());
         if pace.single > 0 {
@@ -185,7 +186,7 @@ impl Worker {
     }
 
     /// The unit executes instructions under the lock: the head at most so many, another unit one.
-    fn execute<P: Predict>(&mut self, desk: &mut Desk<'_, P>, unit: u32, most: u32) {
+    fn execute<P: Predict, J: Naming>(&mut self, desk: &mut Desk<'_, P, J>, unit: u32, most: u32) {
         let steps = match desk.machine().position(unit) {
             Some(0) => desk.run_head(most),
             Some(position) => u32::from(desk.apply(unit, Event::Exec(position)).is_ok()),
@@ -202,9 +203,9 @@ impl Worker {
     /// The head, which is the unit of this burst, executes its instructions where it is, and goes on from task
     /// to task by the events that `turn` names: so many events at most. Answers how many instructions that
     /// were.
-    pub(crate) fn run_in_place<P: Predict>(
+    pub(crate) fn run_in_place<P: Predict, J: Naming>(
         &mut self,
-        desk: &mut Desk<'_, P>,
+        desk: &mut Desk<'_, P, J>,
         next: &NextBurst,
     ) -> u32 {
         let mut steps: u32 = 0;
@@ -227,7 +228,7 @@ impl Worker {
 
     /// Applies the event that the turn of the head's unit names; answers whether it names one and the run goes
     /// on.
-    fn apply_at_head<P: Predict>(&mut self, desk: &mut Desk<'_, P>) -> bool {
+    fn apply_at_head<P: Predict, J: Naming>(&mut self, desk: &mut Desk<'_, P, J>) -> bool {
         let machine = desk.machine();
         let head = machine.head_unit();
         match turn_at_head(machine, head) {
@@ -251,7 +252,7 @@ impl Worker {
 
     /// Want of memory for an event of a unit: one that is not the head is dropped, and at the head the run
     /// must stop.
-    fn give_up<P: Predict>(&mut self, desk: &mut Desk<'_, P>, unit: u32) {
+    fn give_up<P: Predict, J: Naming>(&mut self, desk: &mut Desk<'_, P, J>, unit: u32) {
         match desk.machine().position(unit) {
             Some(position) if position > 0 => {
                 let retired = desk.machine().commits().len();
@@ -265,12 +266,14 @@ impl Worker {
     }
 
     /// Hands in the burst that was made as `next` says.
-    pub(crate) fn check_in<P: Predict>(
+    pub(crate) fn check_in<P: Predict, J: Naming>(
         &mut self,
-        desk: &mut Desk<'_, P>,
+        desk: &mut Desk<'_, P, J>,
         next: &NextBurst,
         burst: Burst<'_>,
-    ) {
+    )
+        requires { burst.accepted ≡ J.accepted }
+    {
         let steps = burst.steps();
         let answer = desk.check_in(burst);
         if let Err(Refused::OutOfMemory) = answer {

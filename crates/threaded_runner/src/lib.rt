@@ -10,6 +10,7 @@ pub mod gate;
 mod hold;
 mod known;
 pub mod laws;
+mod naming;
 mod pace;
 pub mod report;
 pub mod runner;

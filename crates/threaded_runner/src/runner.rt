@@ -10,6 +10,7 @@ use crate::bell::Bell;
 use crate::desk::Desk;
 use crate::gate::RunGate;
 use crate::hold::Worker;
+use crate::naming::Naming;
 use crate::report::{How, Report, RunFault};
 use crate::share::Share;
 use crate::worker::{ring_all, serve};
@@ -17,6 +18,7 @@ use mark_checker::accept::Accepted;
 use sequencer::machine::{MOST_UNITS, Machine};
 use sequencer::predict::Predict;
 use std::alloc::{AllocError, Global};
+use std::marker::Brand;
 use std::sync::{Mutex, Wait};
 use std::thread;
 use std::thread::Threads;
@@ -84,23 +86,50 @@ pub fn run_workers<'a, P: Predict, G: RunGate, R: Threads + Wait + Sync>(
     if budget == 0 || budget > MOST_BUDGET {
         return Err(RunFault::Budget);
     }
+    run_named::<P, Brand, G, R>(
+        rt, alloc, accepted, units, workers, budget, predictor, gate,
+    )
+}
+
+/// The run, once the numbers are as they must be, over the program and certificate that its types name.
+fn run_named<'a, P: Predict, J: Naming + Send + Sync, G: RunGate, R: Threads + Wait + Sync>(
+    rt: &R,
+    alloc: Global,
+    accepted: &'a Accepted,
+    units: u32,
+    workers: u32,
+    budget: u32,
+    predictor: P,
+    gate: &G,
+) -> Result<Report<'a>, RunFault>
+    requires named { accepted.now ≡ J.accepted }
+    requires units { (0 < units) × (units ≤ 16) }
+    requires workers { 0 < workers }
+    ensures fault { IfErr result (λ fault. (fault ≡ RunFault.OutOfMemory) ⊎ (fault ≡ RunFault.Foreign)) }
+    ensures over { IfOk result (λ report. (report.machine.accepted ≡ accepted.now) × (units_of report.machine ≡ units)) }
+    ensures replay { IfOk result (λ report. Replays report.machine.accepted.program (units_of report.machine) report.machine.history (state report.machine)) }
+    ensures counts { IfOk result (λ report. (length report.counts.items ≡ workers) × IsCounted units report.machine.history report.counts.items) }
+    ensures ended { IfOk result (λ report. (report.how ≡ How.Ended) ↔ ((state report.machine).outcome ≡ standing.Running → ⊥)) }
+    ensures spent { IfOk result (λ report. report.how ≡ How.OutOfBudget → budget ≤ length report.machine.history) }
+{
     let Ok(bells) = new_bells(alloc, workers) else {
         return Err(RunFault::OutOfMemory);
     };
-    let desk = new_desk(alloc, accepted, units, workers, predictor)?;
+    let desk: Desk<'a, P, J> = new_desk(alloc, accepted, units, workers, predictor)?;
     let shared = Mutex::new(desk);
     work(rt, &shared, bells.as_slice(), gate, units, workers, budget);
     shared.into_inner().report(accepted, units, workers, budget)
 }
 
 /// A desk with a machine at its start.
-fn new_desk<'a, P: Predict>(
+fn new_desk<'a, P: Predict, J: Naming>(
     alloc: Global,
     accepted: &'a Accepted,
     units: u32,
     workers: u32,
     predictor: P,
-) -> Result<Desk<'a, P>, RunFault>
+) -> Result<Desk<'a, P, J>, RunFault>
+    requires named { accepted.now ≡ J.accepted }
     requires units { (0 < units) × (units ≤ 16) }
     requires workers { 0 < workers }
     ensures { IfErr result (λ fault. fault ≡ RunFault.OutOfMemory) }
@@ -124,9 +153,9 @@ fn new_bells(alloc: Global, workers: u32) -> Result<Vec<Bell>, AllocError> {
 }
 
 /// One thread for each worker; returns when all have ended.
-fn work<'a, 't, P: Predict, G: RunGate, R: Threads + Wait + Sync>(
+fn work<'a, 't, P: Predict, J: Naming + Send + Sync, G: RunGate, R: Threads + Wait + Sync>(
     rt: &'t R,
-    shared: &'t Mutex<Desk<'a, P>>,
+    shared: &'t Mutex<Desk<'a, P, J>>,
     bells: &'t [Bell],
     gate: &'t G,
     units: u32,
@@ -152,7 +181,11 @@ fn work<'a, 't, P: Predict, G: RunGate, R: Threads + Wait + Sync>(
 }
 
 /// Notes that a thread could not be made, and rings for all workers.
-fn give_up<P: Predict, R: Wait>(rt: &R, shared: &Mutex<Desk<'_, P>>, bells: &[Bell]) {
+fn give_up<P: Predict, J: Naming, R: Wait>(
+    rt: &R,
+    shared: &Mutex<Desk<'_, P, J>>,
+    bells: &[Bell],
+) {
     shared.lock(rt).stop();
     ring_all(bells);
 }

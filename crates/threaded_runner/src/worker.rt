@@ -1,10 +1,13 @@
 //! A worker's thread: events under the lock, bursts away from it.
 
+ghost use Rattle.std.specs.Prelude.{◌≡◌, IfSome};
+
 use crate::bell::Bell;
 use crate::called::Called;
 use crate::desk::Desk;
 use crate::gate::RunGate;
 use crate::hold::{NextBurst, Then, Worker};
+use crate::naming::Naming;
 use sequencer::predict::Predict;
 use std::sync::{Mutex, MutexGuard, Wait};
 use std::{hint, thread};
@@ -18,9 +21,9 @@ const ROUNDS: u32 = 100;
 
 /// Serves a worker's units until the run is over. A hold of the lock that changed the machine rings for the
 /// workers that wait and now have something to do, once the lock is free; the end rings for all.
-pub(crate) fn serve<P: Predict, G: RunGate, R: Wait>(
+pub(crate) fn serve<P: Predict, J: Naming, G: RunGate, R: Wait>(
     rt: &R,
-    shared: &Mutex<Desk<'_, P>>,
+    shared: &Mutex<Desk<'_, P, J>>,
     bells: &[Bell],
     gate: &G,
     mut worker: Worker,
@@ -62,20 +65,22 @@ pub(crate) fn serve<P: Predict, G: RunGate, R: Wait>(
 }
 
 /// Lets go of the lock, and rings for the workers that now have something to do.
-fn let_go<P: Predict>(desk: MutexGuard<'_, Desk<'_, P>>, called: &Called, bells: &[Bell]) {
+fn let_go<P: Predict, J: Naming>(desk: MutexGuard<'_, Desk<'_, P, J>>, called: &Called, bells: &[Bell]) {
     drop(desk);
     called.ring(bells);
 }
 
 /// Makes a burst on a unit that was lent, and takes the lock to hand it in.
-fn burst_on<'l, 'a, P: Predict, G: RunGate, R: Wait>(
+fn burst_on<'l, 'a, P: Predict, J: Naming, G: RunGate, R: Wait>(
     rt: &R,
-    shared: &'l Mutex<Desk<'a, P>>,
+    shared: &'l Mutex<Desk<'a, P, J>>,
     gate: &G,
     worker: &mut Worker,
     next: &NextBurst,
     lease: Option<Lease<'a>>,
-) -> MutexGuard<'l, Desk<'a, P>> {
+) -> MutexGuard<'l, Desk<'a, P, J>>
+    requires { IfSome lease (λ lease. lease.accepted ≡ J.accepted) }
+{
     let number = worker.share().worker;
     let Some(lease) = lease else {
         return take_lock(rt, shared);
@@ -90,13 +95,13 @@ fn burst_on<'l, 'a, P: Predict, G: RunGate, R: Wait>(
 
 /// Makes a burst on the head itself, under the lock, which is free while the gate is called; then takes the
 /// lock again.
-fn burst_in_place<'l, 'a, P: Predict, G: RunGate, R: Wait>(
+fn burst_in_place<'l, 'a, P: Predict, J: Naming, G: RunGate, R: Wait>(
     rt: &R,
-    shared: &'l Mutex<Desk<'a, P>>,
+    shared: &'l Mutex<Desk<'a, P, J>>,
     gate: &G,
     worker: &mut Worker,
     next: &NextBurst,
-) -> MutexGuard<'l, Desk<'a, P>> {
+) -> MutexGuard<'l, Desk<'a, P, J>> {
     let number = worker.share().worker;
     gate.before(number);
     let steps = worker.run_in_place(&mut *take_lock(rt, shared), next);
@@ -105,13 +110,13 @@ fn burst_in_place<'l, 'a, P: Predict, G: RunGate, R: Wait>(
 }
 
 /// Waits until a worker's bell has rung more often than so, and takes the lock.
-fn wait_for<'l, 'a, P: Predict, R: Wait>(
+fn wait_for<'l, 'a, P: Predict, J: Naming, R: Wait>(
     bell: &Bell,
     heard: u64,
     rt: &R,
-    shared: &'l Mutex<Desk<'a, P>>,
+    shared: &'l Mutex<Desk<'a, P, J>>,
     number: u32,
-) -> MutexGuard<'l, Desk<'a, P>> {
+) -> MutexGuard<'l, Desk<'a, P, J>> {
     bell.listen(heard);
     let mut desk = take_lock(rt, shared);
     if desk.is_asleep(number) {
