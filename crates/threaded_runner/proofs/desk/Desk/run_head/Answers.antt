@@ -1,4 +1,4 @@
-use Rattle.std.proofs.Common.{◌≡◌, length, sym, vec_len}
+use Rattle.std.proofs.Common.{◌≡◌, length, sym, ◌∙◌, vec_len}
 use Rattle.std.proofs.lemmas.List.{length-replicate}
 use Rattle.std.specs.Prelude.{replicate}
 use Rattle.machine_events.specs.declared.event.Event.TheVariants.{Exec}
