@@ -98,11 +98,7 @@ impl<'a> Machine<'a> {
     }
 
     /// Hands in a burst of which it is known whether its part of the program is this machine's.
-    fn take_over<'b>(
-        &mut self,
-        burst: Burst<'b>,
-        is_own: bool,
-    ) -> Result<u32, (Burst<'b>, Refused)>
+    fn take_over<'b>(&mut self, burst: Burst<'b>, is_own: bool) -> Result<u32, (Burst<'b>, Refused)>
         requires { IsTrue is_own ↔ IsOf burst self.old.accepted.program }
         ensures running { IsOk result → (state self.old).outcome ≡ standing.Running }
         ensures taken { IfOk result (λ events. 0 < events → (events ≡ burst.entry.steps) × Takes self.old burst.entry self.new) }

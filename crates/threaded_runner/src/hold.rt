@@ -102,7 +102,12 @@ impl Worker {
 
     /// Applies an event of a unit, unless it is an Assign that has to wait; answers whether it did not
     /// have to.
-    fn apply<P: Predict, J: Naming>(&mut self, desk: &mut Desk<'_, P, J>, unit: u32, event: Event) -> bool
+    fn apply<P: Predict, J: Naming>(
+        &mut self,
+        desk: &mut Desk<'_, P, J>,
+        unit: u32,
+        event: Event,
+    ) -> bool
         requires { unit_for desk.old.machine event ≡ unit }
     {
         let assigns = matches!(&event, Event::Assign(_));
@@ -161,7 +166,11 @@ impl Worker {
     /// The burst that is made next of a unit whose next instruction may stand in one, unless instructions are
     /// executed one by one here. A worker that serves all units makes short bursts in place: nobody else waits
     /// for the lock.
-    fn next_burst<P: Predict, J: Naming>(&mut self, desk: &mut Desk<'_, P, J>, unit: u32) -> Option<Then> {
+    fn next_burst<P: Predict, J: Naming>(
+        &mut self,
+        desk: &mut Desk<'_, P, J>,
+        unit: u32,
+    ) -> Option<Then> {
         let pace = self.pace(unit);
         let room = self.room(desk.machine());
         if pace.single > 0 {

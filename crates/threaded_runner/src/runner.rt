@@ -86,9 +86,7 @@ pub fn run_workers<'a, P: Predict, G: RunGate, R: Threads + Wait + Sync>(
     if budget == 0 || budget > MOST_BUDGET {
         return Err(RunFault::Budget);
     }
-    run_named::<P, Brand, G, R>(
-        rt, alloc, accepted, units, workers, budget, predictor, gate,
-    )
+    run_named::<P, Brand, G, R>(rt, alloc, accepted, units, workers, budget, predictor, gate)
 }
 
 /// The run, once the numbers are as they must be, over the program and certificate that its types name.
@@ -181,11 +179,7 @@ fn work<'a, 't, P: Predict, J: Naming + Send + Sync, G: RunGate, R: Threads + Wa
 }
 
 /// Notes that a thread could not be made, and rings for all workers.
-fn give_up<P: Predict, J: Naming, R: Wait>(
-    rt: &R,
-    shared: &Mutex<Desk<'_, P, J>>,
-    bells: &[Bell],
-) {
+fn give_up<P: Predict, J: Naming, R: Wait>(rt: &R, shared: &Mutex<Desk<'_, P, J>>, bells: &[Bell]) {
     shared.lock(rt).stop();
     ring_all(bells);
 }

@@ -65,7 +65,11 @@ pub(crate) fn serve<P: Predict, J: Naming, G: RunGate, R: Wait>(
 }
 
 /// Lets go of the lock, and rings for the workers that now have something to do.
-fn let_go<P: Predict, J: Naming>(desk: MutexGuard<'_, Desk<'_, P, J>>, called: &Called, bells: &[Bell]) {
+fn let_go<P: Predict, J: Naming>(
+    desk: MutexGuard<'_, Desk<'_, P, J>>,
+    called: &Called,
+    bells: &[Bell],
+) {
     drop(desk);
     called.ring(bells);
 }

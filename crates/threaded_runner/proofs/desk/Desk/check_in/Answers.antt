@@ -23,9 +23,10 @@ invariant_of-self-then-events-gt0 g c =
     let found : Some unit ≡ Some (unit_at k) =
     c.in-Some.ensures ∙ ap (λ (s : ℕ). option_map unit_at (position_with (state m).queue s)) serial ∙ ap (λ (o : Option ℕ). option_map unit_at o) taken.1.owner in
     let belongs : unit_for m (Exec k) ≡ unit = cc in
-    let worker = unit % vec_len i.counts in
-    (more m c.hand_in.new.machine i.counts.items c.add.new.counts.items (replicate b.steps (Exec k)) unit b.steps (vec_len i.counts) i.is_stopped c.self.invariant.0
-    (execs_own m (length i.counts.items) unit k b.steps c.known.ensures.retired c.known.ensures.active belongs)
-    (length-replicate b.steps (Exec k)) taken.1.history c.in_ok-events.ensures.kept.units i.counts.ok.0
-    (c.add.ensures ∙ ap (λ (n : ℕ). slice_set i.counts.items worker (slice_index i.counts.items worker + n)) taken.0),
-    c.in_ok-events.ensures.kept.accepted ∙ c.self.invariant.1)
+    let worker = unit % vec_len i.counts in (
+      more m c.hand_in.new.machine i.counts.items c.add.new.counts.items (replicate b.steps (Exec k)) unit b.steps (vec_len i.counts) i.is_stopped c.self.invariant.0
+          (execs_own m (length i.counts.items) unit k b.steps c.known.ensures.retired c.known.ensures.active belongs)
+          (length-replicate b.steps (Exec k)) taken.1.history c.in_ok-events.ensures.kept.units i.counts.ok.0
+          (c.add.ensures ∙ ap (λ (n : ℕ). slice_set i.counts.items worker (slice_index i.counts.items worker + n)) taken.0),
+      c.in_ok-events.ensures.kept.accepted ∙ c.self.invariant.1,
+    )
