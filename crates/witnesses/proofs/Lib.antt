@@ -1,0 +1,2 @@
+mod Trails
+mod Searches

@@ -1,0 +1,32 @@
+use Rattle.std.proofs.Common.{◌≡◌, ℕ, true, List, [], ◌∷◌, ◌++◌, sym, ◌∙◌, ap}
+use Rattle.std.specs.declared.alloc.Global.{Global}
+use Rattle.std.specs.declared.vec.Vec.{Vec}
+use Rattle.std.proofs.lemmas.Result.{IfOk-weaker}
+use Rattle.task_graph.specs.Edges.{Path}
+use Rattle.witnesses.specs.Witnesses.{is_sought, Onward, LeadsTo, LeadsOnward}
+use Rattle.witnesses.proofs.Searches.{at_start, leads_on, none_at_all, if_some, if_none}
+use Rattle.witnesses.proofs.paths.path_to.Goals as goal
+
+pub returns-then-is_it-clause-found : goal.returns-then-is_it-clause-found
+returns-then-is_it-clause-found c =
+    at_start c.args.program.now c.args.start c.args.sought.now c.push.new.self.items
+    (c.in_ok-push.ensures.items ∙ ap (λ (xs : List ℕ). xs ++ c.args.start ∷ []) c.new-path.ensures.items)
+    (sym c.is_it.ensures ∙ c.if-is_it.true)
+
+pub returns-clause-found : goal.returns-clause-found
+returns-clause-found c =
+    IfOk-weaker c.path_onward.result _ _
+    (λ answer h. if_some answer
+    (λ (path : Vec ℕ Global). LeadsOnward c.args.program.now c.args.start c.args.sought.now path.items)
+    (λ (path : Vec ℕ Global). LeadsTo c.args.program.now c.args.start c.args.sought.now path.items)
+    (λ path l. leads_on c.args.program.now c.args.start c.args.sought.now path.items l) h)
+    c.path_onward.ensures.found
+
+pub returns-clause-none : goal.returns-clause-none
+returns-clause-none c =
+    IfOk-weaker c.path_onward.result _ _
+    (λ answer h. if_none answer
+    ((k : ℕ) → Onward c.args.program.now c.args.start k → is_sought c.args.program.now c.args.sought.now k ≡ true → ⊥)
+    ((k : ℕ) → Path c.args.program.now c.args.start k → is_sought c.args.program.now c.args.sought.now k ≡ true → ⊥)
+    (none_at_all c.args.program.now c.args.start c.args.sought.now (sym c.is_it.ensures ∙ c.if-is_it.false)) h)
+    c.path_onward.ensures.none

@@ -1,0 +1,2 @@
+pub mod Witnesses
+pub mod Visits
