@@ -3,3 +3,4 @@ mod Cuts
 mod Positions
 pub mod Steps
 mod Newlines
+mod SpanSteps

@@ -5,5 +5,6 @@ mod kind;
 pub mod line;
 mod number;
 mod register;
+pub mod span;
 pub mod token;
 mod word;

@@ -119,7 +119,7 @@ pub fn read_tokens(tokens: &mut Vec<Token>, line: &[u8]) -> Result<(), TokenFaul
 }
 
 /// The line without the CR that may end it.
-fn without_carriage_return(line: &[u8]) -> &[u8]
+pub(crate) fn without_carriage_return(line: &[u8]) -> &[u8]
     ensures { result.now ≡ strip_carriage_return line.now }
 {
     match line {
