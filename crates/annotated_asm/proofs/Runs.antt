@@ -36,7 +36,7 @@ laid_append front (x ∷ xs) ys =
     bind_same (with_item front x) (λ next. laid next (xs ++ ys)) (λ next. laid next xs >>= λ last. laid last ys) (λ next. laid_append next xs ys)
     ∙ bind_assoc (with_item front x) (λ next. laid next xs) (λ last. laid last ys)
 
-parts_append : (labels : Names) (front : Listing) (xs ys : List Item)
+pub parts_append : (labels : Names) (front : Listing) (xs ys : List Item)
     → parts labels front (xs ++ ys) ≡ (parts labels front xs >>= λ next. parts labels next ys)
 parts_append labels front [] ys = refl
 parts_append labels front (x ∷ xs) ys =

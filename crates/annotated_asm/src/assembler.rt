@@ -6,11 +6,14 @@ ghost use Rattle.annotated_asm.specs.Steps.{Answers};
 ghost use Rattle.annotated_asm.specs.ProgramText.{program_of, parse, Spells};
 
 use crate::fault::AsmFault;
-use crate::item::{Item, MOST_TEXT, items_of};
+use crate::item::{Item, items_of};
 use crate::layout::{Layout, is_beyond, laid_out};
 use crate::resolve::{check_names, parts_of};
 use std::alloc::Global;
 use task_descriptor::program::{BuildFault, Program};
+
+/// The longest text, in bytes.
+pub const MOST_TEXT: usize = 4_194_304;
 
 /// The program of items whose layout is known.
 #[tactic(auto, unfolding(crate::specs::ProgramText::program_of))]

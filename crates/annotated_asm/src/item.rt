@@ -1,22 +1,17 @@
 //! The items of a text: its labels and statements in order.
 
 ghost use Rattle.std.specs.Prelude.{◌≡◌, ◌≤◌, ◌++◌, List, map, length, Ok, OnOk, IfOk, IfErr, ◌∷◌, []};
-ghost use Rattle.program_tokens.specs.Grammar.{line_tokens};
 ghost use Rattle.program_tokens.specs.Lines.{lines};
 ghost use Rattle.annotated_asm.specs.Steps.{Answers, FailsText};
 ghost use Rattle.annotated_asm.specs.Alike.{AreAlike};
-ghost use Rattle.annotated_asm.specs.Items.{blob, labels_of, after_labels, at_line, label_item, statement_items, section_after, tokens_on_line, line_items, items_from, with_items};
+ghost use Rattle.annotated_asm.specs.Items.{blob, labels_of, after_labels, label_item, statement_items, line_items, items_from, with_items};
 
 use crate::fault::AsmFault;
-use program_statements::fault::{StatementError, StatementFault};
-use program_statements::line::statement_of;
+use crate::line::{section_after, statement_at, tokens_of};
 use program_statements::statement::{Blob, Section, Statement};
-use program_tokens::line::{first_line, read_tokens};
-use program_tokens::token::{Token, TokenFault};
+use program_tokens::line::first_line;
+use program_tokens::token::Token;
 use std::alloc::{AllocError, Global};
-
-/// The longest text, in bytes.
-pub const MOST_TEXT: usize = 4_194_304;
 
 /// A label or a statement, with its place in the text.
 #[derive(Debug, Drop)]
@@ -27,30 +22,6 @@ pub struct Item {
     pub section: Section,
     /// What stands there.
     pub statement: Statement,
-}
-
-/// A fault of a statement as one of the text.
-fn at_line(line: u32, fault: StatementFault) -> AsmFault
-    ensures { result ≡ at_line line fault }
-{
-    match fault {
-        StatementFault::Mnemonic => AsmFault::Mnemonic(line),
-        StatementFault::Operand => AsmFault::Operand(line),
-        StatementFault::Number => AsmFault::Number(line),
-        StatementFault::Mark => AsmFault::Mark(line),
-    }
-}
-
-/// Puts the tokens of a line in place of those that are there.
-fn tokens_of(tokens: &mut Vec<Token>, line: u32, text: &[u8]) -> Result<(), AsmFault>
-    ensures { Answers (λ _. tokens.new.items) result (tokens_on_line line (line_tokens text.now)) }
-{
-    match read_tokens(tokens, text) {
-        Ok(()) => Ok(()),
-        Err(TokenFault::NotAscii) => Err(AsmFault::NotAscii(line)),
-        Err(TokenFault::Token) => Err(AsmFault::Token(line)),
-        Err(TokenFault::OutOfMemory) => Err(AsmFault::OutOfMemory),
-    }
 }
 
 /// Adds the labels at the front of a line, and answers the tokens behind them.
@@ -73,16 +44,6 @@ fn add_labels<'a>(
         rest = after;
     }
     Ok(rest)
-}
-
-/// The section of the lines behind a statement.
-fn section_after(section: Section, statement: &Statement) -> Section
-    ensures { result ≡ section_after section statement.now }
-{
-    match statement {
-        Statement::Section(next) => *next,
-        _ => section,
-    }
 }
 
 /// Adds a statement, unless it is empty.
@@ -121,11 +82,7 @@ fn add_line(
 {
     tokens_of(tokens, line, text)?;
     let rest = add_labels(items, line, section, tokens)?;
-    let statement = match statement_of(alloc, section, rest) {
-        Ok(statement) => statement,
-        Err(StatementError::Fault(fault)) => return Err(at_line(line, fault)),
-        Err(StatementError::OutOfMemory) => return Err(AsmFault::OutOfMemory),
-    };
+    let statement = statement_at(alloc, line, section, rest)?;
     let next = section_after(section, &statement);
     add_statement(items, line, section, statement)?;
     Ok(next)

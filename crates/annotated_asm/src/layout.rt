@@ -2,13 +2,14 @@
 
 ghost use Rattle.std.specs.Prelude.{◌≡◌, List};
 ghost use Rattle.annotated_asm.specs.Steps.{Answers};
-ghost use Rattle.annotated_asm.specs.Layout.{instruction_count, grown, symbol_at, with_item, no_layout, laid, is_beyond};
+ghost use Rattle.annotated_asm.specs.Layout.{grown, symbol_at, with_item, no_layout, laid, is_beyond};
 
 use crate::fault::AsmFault;
 use crate::item::Item;
+use crate::line::instruction_count;
 use crate::name_key::NameKey;
 use crate::table::{Symbol, Table};
-use program_statements::statement::{Instruction, Section, Statement};
+use program_statements::statement::{Section, Statement};
 use std::alloc::Global;
 
 /// How many instructions there are, and how many bytes of data and of read-only data.
@@ -33,15 +34,6 @@ pub struct Layout {
     pub tasks: Table,
     /// Whether there was a `.start`.
     pub started: bool,
-}
-
-fn instruction_count(instruction: &Instruction) -> u64
-    ensures { result ≡ instruction_count instruction.now }
-{
-    match instruction {
-        Instruction::Two(_, _) | Instruction::LoadAddress(_, _) => 2,
-        _ => 1,
-    }
 }
 
 /// The sizes with a section grown.

@@ -7,6 +7,7 @@ pub mod fault;
 mod fault_text;
 mod item;
 mod layout;
+pub mod line;
 mod name_key;
 mod resolve;
 mod table;
