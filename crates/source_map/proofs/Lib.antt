@@ -1,0 +1,2 @@
+mod LineSteps
+mod Fitting

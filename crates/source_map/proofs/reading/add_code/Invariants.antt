@@ -1,0 +1,6 @@
+-- As many places as there were turns.
+use Rattle.std.proofs.Common.{◌≡◌, ◌++◌, replicate}
+use Rattle.source_map.proofs.reading.add_code.Given as goal
+
+abbrev pub invariant-loop : goal.invariant-loop
+invariant-loop l = l.code.items ≡ l.fn.code.items ++ replicate l.counter l.at

@@ -1,0 +1,16 @@
+-- The labels added so far, with those in front of the rest, are all labels of the line; each took two tokens.
+use Rattle.std.proofs.Common.{◌≡◌, ◌+◌, ◌*◌, ◌++◌, length}
+use Rattle.annotated_asm.specs.Items.{labels_of, after_labels}
+use Rattle.source_map.specs.Sources.{label_sources}
+use Rattle.source_map.proofs.reading.add_labels.Given as goal
+
+abbrev pub invariant-loop-rest : goal.invariant-loop-rest
+invariant-loop-rest l = record {
+  added : l.labels.items ++ label_sources l.line l.spans l.number l.rest ≡ l.fn.labels.items ++ label_sources l.line l.spans 0 l.tokens;
+  behind : after_labels l.rest ≡ after_labels l.tokens;
+  counted : l.number + 2 * length (labels_of l.rest) ≡ 2 * length (labels_of l.tokens);
+  within : l.number + length l.rest ≡ length l.tokens;
+}
+
+abbrev pub decreases-loop-rest : goal.decreases-loop-rest
+decreases-loop-rest l = length l.rest

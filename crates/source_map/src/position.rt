@@ -1,0 +1,47 @@
+//! Places in a text, and what stands at them.
+
+use program_statements::statement::Section;
+use task_descriptor::name::Name;
+
+/// A place in a text.
+#[derive(Clone, Copy, Debug, PartialEq, Eq)]
+pub struct Position {
+    /// The line, from 1 on.
+    pub line: u32,
+    /// The column, counted in bytes, from 1 on.
+    pub column: usize,
+}
+
+/// A label, and where it stands.
+#[derive(Clone, Copy, Debug, PartialEq, Eq)]
+pub struct LabelSource {
+    /// Its name.
+    pub name: Name,
+    /// Where its name begins.
+    pub position: Position,
+}
+
+/// A `.word`, `.byte` or `.space`, and where it stands.
+#[derive(Clone, Copy, Debug, PartialEq, Eq)]
+pub struct DataSource {
+    /// The section that it adds to.
+    pub section: Section,
+    /// Where the directive begins.
+    pub position: Position,
+}
+
+/// Where what a text says stands.
+#[derive(Debug, Drop)]
+pub struct SourceMap {
+    /// For each instruction of the machine, index 0 first, where the instruction of the text begins that it
+    /// is part of: the two of a pseudo-instruction stand at one place.
+    pub code: Vec<Position>,
+    /// For each task, task 0 first, where its `.task` begins.
+    pub tasks: Vec<Position>,
+    /// The labels, in the order of the text.
+    pub labels: Vec<LabelSource>,
+    /// The pieces of data, in the order of the text.
+    pub pieces: Vec<DataSource>,
+    /// Where `.start` begins, if there is one.
+    pub start: Option<Position>,
+}
