@@ -68,12 +68,12 @@ no_edge p leaving i m test there f =
     (no_end (end_of leaving m i true) test (λ j e. f j (edge_from p leaving i j m true there e)))
 
 -- a test that holds of some edge's end
-record Ends (p : Listing) (leaving : Bool) (i : ℕ) (test : ℕ → Bool) : Type 0 where
-  to : ℕ
-  edge : Edge p leaving i to
-  holds : test to ≡ true
+pub record Ends (p : Listing) (leaving : Bool) (i : ℕ) (test : ℕ → Bool) : Type 0 where
+  pub to : ℕ
+  pub edge : Edge p leaving i to
+  pub holds : test to ≡ true
 
-some_edge : (p : Listing) (leaving : Bool) (i : ℕ) (m : Marked) (test : ℕ → Bool) → slice_get p.code i ≡ Some m
+pub some_edge : (p : Listing) (leaving : Bool) (i : ℕ) (m : Marked) (test : ℕ → Bool) → slice_get p.code i ≡ Some m
     → list_any test (ends_of leaving m i) ≡ true → Ends p leaving i test
 some_edge p leaving i m test there h =
     elim (or_cases (holds_at (end_of leaving m i false) test) (holds_at (end_of leaving m i true) test) (sym (any_of test (end_of leaving m i false) (end_of leaving m i true)) ∙ h)) [
@@ -87,20 +87,22 @@ none_listed test (x ∷ xs) f =
     or_from (test x) (list_any test xs) (f x (or_left (nat_eq x x) (list_any (nat_eq x) xs) (eq-eqb x x refl)))
     (none_listed test xs (λ j h. f j (or_right (nat_eq j x) (list_any (nat_eq j) xs) h)))
 
+-- a register of a successor's least mask is written behind it
+pub next_writes : (p : Listing) (d : Descriptor) (es : List (ℕ × ℕ)) → LeastList p d es → (i r : ℕ) (m : Marked) → slice_get p.code i ≡ Some m
+    → next_has p es m i r ≡ true → (j : ℕ) × Edge p false i j × MayWrite p j r
+next_writes p d es least i r m there h =
+    let e = some_edge p false i m (λ j. nat_lt j (length p.code) && in_mask (mask_at es j) r) there h in
+    let k = mask_has (mask_at es e.to) r (and_parts (nat_lt e.to (length p.code)) (in_mask (mask_at es e.to) r) e.holds).1 in
+    (e.to, e.edge, (least.exact e.to k.0 r k.1).0 k.2)
+
 -- One task that is sound, with its least masks.
 module _ (p : Listing) (d : Descriptor) (es : List (ℕ × ℕ)) (least : LeastList p d es) (sound : SoundTask p d) where
   path_to : (i mask : ℕ) → mask_at es i ≡ Some mask → Path p d.entry i
   path_to i mask h = ((least.reached i).0 (ap (λ (o : Option ℕ). is_some o) h)).path
 
-  next_writes : (i r : ℕ) (m : Marked) → slice_get p.code i ≡ Some m → next_has p es m i r ≡ true → (j : ℕ) × Edge p false i j × MayWrite p j r
-  next_writes i r m there h =
-      let e = some_edge p false i m (λ j. nat_lt j (length p.code) && in_mask (mask_at es j) r) there h in
-      let k = mask_has (mask_at es e.to) r (and_parts (nat_lt e.to (length p.code)) (in_mask (mask_at es e.to) r) e.holds).1 in
-      (e.to, e.edge, (least.exact e.to k.0 r k.1).0 k.2)
-
   -- what it sends is in no successor's mask
   sent_apart : (i mask r : ℕ) (m : Marked) → slice_get p.code i ≡ Some m → mask_at es i ≡ Some mask → sends m r ≡ true → next_has p es m i r ≡ true → ⊥
-  sent_apart i mask r m there has_mask s h = let n = next_writes i r m there h in sound.sends_last i m (path_to i mask has_mask) there r s n.0 n.1 n.2
+  sent_apart i mask r m there has_mask s h = let n = next_writes p d es least i r m there h in sound.sends_last i m (path_to i mask has_mask) there r s n.0 n.1 n.2
 
   clean : (i mask : ℕ) (m : Marked) → slice_get p.code i ≡ Some m → mask_at es i ≡ Some mask → IsClean (conditions p d es i m (Some mask))
   clean i mask m there has_mask = record {
@@ -111,7 +113,7 @@ module _ (p : Listing) (d : Descriptor) (es : List (ℕ × ℕ)) (least : LeastL
     lacks_destination = λ r. implied (dests m.op r) (has mask r) (λ w.
         (least.exact i mask r has_mask).1 (record { place = i; comes = stay; at = m; is_there = there; writes = w }));
     lacks_next = λ r. implied (next_has p es m i r) (has mask r) (λ h.
-        let n = next_writes i r m there h in (least.exact i mask r has_mask).1 (writes_before p i n.0 r n.1 n.2));
+        let n = next_writes p d es least i r m there h in (least.exact i mask r has_mask).1 (writes_before p i n.0 r n.1 n.2));
     exceeds_create = λ r. apart (nat_eq i d.entry) (has mask r && not (has d.create r)) (λ begins wide.
         let w : MayWrite p d.entry r = subst (λ (n : ℕ). MayWrite p n r) (eqb-true i d.entry begins) ((least.exact i mask r has_mask).0 (and_parts (has mask r) (not (has d.create r)) wide).0) in
         both (not (has d.create r)) (not_true (has d.create r) (sound.writes_created r w)) (and_parts (has mask r) (not (has d.create r)) wide).1);

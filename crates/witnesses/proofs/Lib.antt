@@ -1,2 +1,2 @@
 mod Trails
-mod Searches
+pub mod Searches
