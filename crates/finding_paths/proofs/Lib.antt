@@ -1,0 +1,4 @@
+mod Among
+mod Standing
+mod Showing
+mod Refuting

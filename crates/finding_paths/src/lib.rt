@@ -1,0 +1,9 @@
+//! Findings with the paths that show them: for what the checker says against a program's marks, a path
+//! through the program on which the mark goes wrong.
+//!
+//! Nothing rests on this crate: a path is checked against its definition, whatever was found.
+#![tactic(auto)]
+
+pub mod laws;
+pub mod query;
+pub mod shown;

@@ -1,0 +1,58 @@
+//! Which path is looked for, rule by rule.
+
+ghost use Rattle.std.specs.Prelude.{◌≡◌};
+ghost use Rattle.finding_paths.specs.Queries.{to_writer, query_of};
+
+use mark_checker::finding::{Finding, Rule};
+use mips_plain::number::Reg;
+use witnesses::sought::Sought;
+
+/// A query for a path inside a task.
+#[derive(Clone, Copy, Debug, PartialEq, Eq)]
+pub struct Query {
+    /// The index of the instruction where the path begins.
+    pub start: u32,
+    /// Whether the path goes on from there by one edge at least.
+    pub onward: bool,
+    /// What it comes to.
+    pub sought: Sought,
+}
+
+/// The query for an instruction that writes the register, if there is one.
+fn to_writer(register: Option<Reg>, start: u32, onward: bool) -> Option<Query>
+    ensures { result ≡ to_writer register start onward }
+{
+    match register {
+        Some(register) => Some(Query {
+            start,
+            onward,
+            sought: Sought::Writes(register),
+        }),
+        None => None,
+    }
+}
+
+/// The query for a path that shows a finding of a task that begins at `entry`; `None` where the rule
+/// speaks of masks or of targets alone.
+pub fn query_of(entry: u32, finding: &Finding) -> Option<Query>
+    ensures { result ≡ query_of entry finding.now }
+{
+    match finding.rule {
+        Rule::ExceedsCreate => to_writer(finding.reg, entry, false),
+        Rule::ForwardedInNext | Rule::ReleasedInNext => {
+            to_writer(finding.reg, finding.index, true)
+        }
+        Rule::SentNotCreated | Rule::ExitNotListed | Rule::FallsOff | Rule::IndirectGoesOn => {
+            Some(Query {
+                start: entry,
+                onward: false,
+                sought: Sought::At(finding.index),
+            })
+        }
+        Rule::EntryWithoutMask
+        | Rule::NextWithoutMask
+        | Rule::LacksDestination
+        | Rule::LacksNext
+        | Rule::TargetNotEntry => None,
+    }
+}

@@ -1,0 +1,88 @@
+//! The findings of a program's marks, each with a path that shows it.
+
+ghost use Rattle.std.specs.Prelude.{◌≡◌, ◌<◌, ◌↔◌, [], List, length, IfOk, IfSome, IfNone};
+ghost use Rattle.task_graph.specs.Soundness.{Sound};
+ghost use Rattle.finding_paths.specs.Queries.{IsFoundBy, CanBeFound};
+ghost use Rattle.finding_paths.specs.Shown.{IsFinding, IsShown, AreShown};
+
+use crate::query::{Query, query_of};
+use annotator::certify::certify;
+use mark_checker::accept::accepts;
+use mark_checker::check::verdict;
+use mark_checker::finding::Finding;
+use std::alloc::{AllocError, Global};
+use task_descriptor::program::Program;
+use witnesses::paths::{path_onward, path_to};
+
+/// A finding, and the path that shows it.
+#[derive(Debug, Drop)]
+pub struct ShownFinding {
+    /// The finding.
+    pub finding: Finding,
+    /// The indices that the path comes to, in their order; `None` where the rule speaks of masks or of
+    /// targets alone.
+    pub path: Option<Vec<u32>>,
+}
+
+/// The path that a query finds, if there is one.
+fn found(alloc: Global, program: &Program, query: &Query) -> Result<Option<Vec<u32>>, AllocError>
+    requires { query.now.start < length program.now.code }
+    ensures found { IfOk result (λ answer. IfSome answer (λ path. IsFoundBy program.now query.now path.items)) }
+    ensures none { IfOk result (λ answer. IfNone answer (CanBeFound program.now query.now → ⊥)) }
+{
+    if query.onward {
+        path_onward(alloc, program, query.start, &query.sought)
+    } else {
+        path_to(alloc, program, query.start, &query.sought)
+    }
+}
+
+/// The path that shows a finding: `None` exactly where its rule speaks of masks or of targets alone. The
+/// finding is one that the checker has with the program's least certificate.
+///
+/// # Errors
+///
+/// `AllocError` where memory was refused.
+pub fn path_of(
+    alloc: Global,
+    program: &Program,
+    finding: &Finding,
+) -> Result<Option<Vec<u32>>, AllocError>
+    requires { IsFinding program.now finding.now }
+    ensures { IfOk result (λ answer. IsShown program.now finding.now answer) }
+{
+    let Some(descriptor) = program.tasks().get(finding.task as usize) else {
+        return Ok(None);
+    };
+    match query_of(descriptor.entry.get(), finding) {
+        Some(query) => found(alloc, program, &query),
+        None => Ok(None),
+    }
+}
+
+/// What is wrong with a program's marks, in order of task, index, rule and register, each with a path that
+/// shows it. The findings are those of the least certificate, so nothing is found exactly where the marks
+/// are sound.
+///
+/// # Errors
+///
+/// `AllocError` where memory was refused.
+pub fn shown_findings(alloc: Global, program: &Program) -> Result<Vec<ShownFinding>, AllocError>
+    ensures shown { IfOk result (λ list. AreShown program.now list.items) }
+    ensures sound { IfOk result (λ list. (list.items ≡ []) ↔ Sound program.now) }
+{
+    let cert = certify(alloc, program)?;
+    if accepts(program, &cert) {
+        return Ok(Vec::new(alloc));
+    }
+    let judged = verdict(alloc, program, &cert)?;
+    let mut list = Vec::new(alloc);
+    for finding in judged.findings.as_slice() {
+        let path = path_of(alloc, program, finding)?;
+        list.push(ShownFinding {
+            finding: *finding,
+            path,
+        })?;
+    }
+    Ok(list)
+}
