@@ -1,0 +1,101 @@
+-- The text of a finding for the author of a program text (own choice, in the form of gcc and clang): the
+-- sentence of its rule where it is wrong, the path that shows it, and what to do.
+use Rattle.std.specs.Prelude.{◌≡◌, ℕ, ◌-◌, List, [], ◌∷◌, ◌++◌, codes, flat_map, length, slice_get, Option, Some, None, Ok}
+use Rattle.std.specs.Fmt.{decimal}
+use Rattle.std.specs.declared.alloc.Global.{Global}
+use Rattle.std.specs.declared.vec.Vec.{Vec}
+use Rattle.task_descriptor.specs.Listing.{Listing}
+use Rattle.task_descriptor.specs.declared.descriptor.Descriptor.{Descriptor}
+use Rattle.annotated_asm.specs.ProgramText.{Spells}
+use Rattle.source_map.specs.declared.position.Position.{Position}
+use Rattle.source_map.specs.Sources.{Sources, sources_of}
+use Rattle.mark_checker.specs.Numbers.{number_of}
+use Rattle.mark_checker.specs.declared.finding.Rule.{Rule}
+use Rattle.mark_checker.specs.declared.finding.Rule.TheVariants.{EntryWithoutMask, ExceedsCreate, ForwardedInNext, ReleasedInNext, TargetNotEntry}
+use Rattle.mark_checker.specs.declared.finding.Finding.{Finding}
+use Rattle.finding_paths.specs.declared.shown.ShownFinding.{ShownFinding}
+use Rattle.finding_paths.specs.Shown.{AreShown}
+use Rattle.diagnostic_text.specs.Sentences.{number_in, sentence_text, help_text}
+
+-- a place; where the map has none, the text's first byte
+abbrev pub place_in : Option Position → Position
+place_in None = record { line = 1; column = 1 }
+place_in (Some at) = at
+
+-- where a finding is told: a rule on the descriptor at the task, any other at the instruction
+abbrev pub place_by : Rule → Sources → (task index : ℕ) → Position
+place_by EntryWithoutMask s task index = place_in (slice_get s.tasks task)
+place_by ExceedsCreate s task index = place_in (slice_get s.tasks task)
+place_by TargetNotEntry s task index = place_in (slice_get s.tasks task)
+place_by _ s task index = place_in (slice_get s.code index)
+
+-- the file's name, the line and the column
+abbrev pub position_text : (file : List ℕ) → Position → List ℕ
+position_text file at = file ++ (codes ":" ++ (decimal at.line ++ (codes ":" ++ (decimal at.column ++ codes ": "))))
+
+abbrev pub task_name : Option Descriptor → List ℕ
+task_name None = []
+task_name (Some d) = d.name
+
+abbrev pub error_text : (file : List ℕ) → Position → (task : List ℕ) → Finding → List ℕ
+error_text file at task f =
+    position_text file at ++ (codes "error: " ++ (sentence_text f.rule task (number_in f.reg)
+    ++ (codes " [rule " ++ (decimal (number_of f.rule) ++ (codes "]" ++ 10 ∷ [])))))
+
+abbrev pub todo_text : (file : List ℕ) → Position → (task : List ℕ) → Finding → List ℕ
+todo_text file at task f = position_text file at ++ (codes "help: " ++ (help_text f.rule task (number_in f.reg) ++ 10 ∷ []))
+
+-- a path, by the lines of its instructions
+abbrev pub line_of : Sources → (index : ℕ) → ℕ
+line_of s index = (place_in (slice_get s.code index)).line
+
+abbrev pub path_text : Sources → List ℕ → List ℕ
+path_text s [] = []
+path_text s (i ∷ is) = decimal (line_of s i) ++ flat_map (λ j. codes " -> " ++ decimal (line_of s j)) is
+
+-- where the path is told: at its end, where the register is written, or else at its beginning
+abbrev pub index_in : Option ℕ → ℕ
+index_in None = 0
+index_in (Some i) = i
+
+abbrev pub note_index : Rule → List ℕ → ℕ
+note_index ExceedsCreate path = index_in (slice_get path (length path - 1))
+note_index ForwardedInNext path = index_in (slice_get path (length path - 1))
+note_index ReleasedInNext path = index_in (slice_get path (length path - 1))
+note_index _ path = index_in (slice_get path 0)
+
+abbrev pub note_words : Rule → List ℕ
+note_words ExceedsCreate = codes "written here"
+note_words ForwardedInNext = codes "written here"
+note_words ReleasedInNext = codes "written here"
+note_words _ = codes "reached from here"
+
+abbrev pub note_text : (file : List ℕ) → Sources → Rule → List ℕ → List ℕ
+note_text file s rule path =
+    position_text file (place_in (slice_get s.code (note_index rule path)))
+    ++ (codes "note: " ++ (note_words rule ++ (codes ", on the path " ++ (path_text s path ++ 10 ∷ []))))
+
+abbrev pub path_note : (file : List ℕ) → Sources → Rule → Option (Vec ℕ Global) → List ℕ
+path_note file s rule None = []
+path_note file s rule (Some path) = note_text file s rule path.items
+
+-- all that is said of one finding
+abbrev pub finding_text : (file : List ℕ) → Listing → Sources → ShownFinding → List ℕ
+finding_text file p s shown =
+    let f = shown.finding in
+    let at = place_by f.rule s f.task f.index in
+    let task = task_name (slice_get p.tasks f.task) in
+    error_text file at task f ++ (path_note file s f.rule shown.path ++ todo_text file at task f)
+
+abbrev pub findings_text : (file : List ℕ) → Listing → Sources → List ShownFinding → List ℕ
+findings_text file p s list = flat_map (finding_text file p s) list
+
+-- The bytes say what is wrong with the marks of the program that the text spells.
+pub record IsExplained (file text bytes : List ℕ) : Type 0 where
+  pub program : Listing
+  pub spelled : Spells text program
+  pub sources : Sources
+  pub mapped : sources_of text ≡ Ok sources
+  pub list : List ShownFinding
+  pub shown : AreShown program list
+  pub said : bytes ≡ findings_text file program sources list

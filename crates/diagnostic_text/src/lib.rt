@@ -1,0 +1,7 @@
+//! What is said of findings to the author of a program text: a sentence for each rule at the line and the
+//! column that it is about, the path on which the mark goes wrong, and what to do.
+#![tactic(auto)]
+
+pub mod diagnostics;
+mod place;
+mod sentence;
