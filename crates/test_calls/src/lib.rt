@@ -16,6 +16,8 @@ mod count;
 #[cfg(test)]
 mod descriptors;
 #[cfg(test)]
+mod explanations;
+#[cfg(test)]
 mod graph;
 #[cfg(test)]
 mod memory;
@@ -29,6 +31,8 @@ mod plain_machine;
 mod proposals;
 #[cfg(test)]
 mod round_trip;
+#[cfg(test)]
+mod source_maps;
 #[cfg(test)]
 mod statements;
 #[cfg(test)]
