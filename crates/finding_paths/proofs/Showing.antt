@@ -1,9 +1,9 @@
 -- A finding of a least certificate is shown by a path: what its condition says of masks is so of paths.
-use Rattle.std.proofs.Common.{◌≡◌, ◌↔◌, ℕ, ◌<◌, List, [], map, Bool, true, false, not, ◌&&◌, nat_eq, Option, Some, None, Result, Ok, Err, IfOk, IfSome, IfNone, length, slice_get, refl, sym, ◌∙◌, ap, subst}
+use Rattle.std.proofs.Common.{◌≡◌, ◌↔◌, ℕ, ◌<◌, List, [], map, Bool, true, false, not, ◌&&◌, nat_eq, Option, Some, None, Result, Ok, Err, IfOk, IfSome, IfNone, length, get_or, slice_get, refl, sym, ◌∙◌, ap, subst}
 use Rattle.std.specs.Prelude.{is_some}
 use Rattle.std.specs.List.{list_any}
 use Rattle.std.proofs.lemmas.Bool.{and_parts, eqb-true, eq-eqb}
-use Rattle.std.proofs.lemmas.Option.{slice_get_within}
+use Rattle.std.proofs.lemmas.Option.{slice_get_within, slice_get_read}
 use Rattle.mips_plain.specs.Words.{has}
 use Rattle.mips_plain.specs.Instruction.{dests, released}
 use Rattle.std.specs.declared.alloc.Global.{Global}
@@ -146,6 +146,10 @@ pub if_ok_both : {R E : Type 0} (r : Result R E) (P Q S : R → Type 0) → ((x 
 if_ok_both (Ok x) P Q S both h k = both x h k
 if_ok_both (Err e) P Q S both h k = tt
 
+-- the task that was looked up
+pub task_there : (tasks given : List Descriptor) (t : ℕ) (d : Descriptor) → given ≡ tasks → t < length given → ((x : Descriptor) → d ≡ get_or given t x) → slice_get tasks t ≡ Some d
+task_there tasks given t d same less is = subst (λ (ds : List Descriptor). slice_get ds t ≡ Some d) same (slice_get_read given (length given) t d refl less (is d))
+
 -- what a query found shows the finding
 same_task : (p : Listing) (f : Finding) (found : Found p f) (d : Descriptor) → slice_get p.tasks f.task ≡ Some d → found.task ≡ d
 same_task p f found d there = let is = found.is_task in cc
@@ -184,9 +188,9 @@ start_inside p f d q well found there is_query =
     from : (a b : ℕ) (r s : Query) → r.start < b → (let o : Option Query = Some r in o ≡ Some s) → s.start < b
     from a b r s h same = let e : r ≡ s = cc in subst (λ (x : Query). x.start < b) e h
 
-    writer : (reg : Option ℕ) (start n : ℕ) (onward : Bool) (s : Query) → start < n → to_writer reg start onward ≡ Some s → s.start < n
-    writer None start n onward s h same = absurd (cc)
-    writer (Some r) start n onward s h same = from 0 n (record { start = start; onward = onward; sought = Writes r }) s h same
+    writer : (reg : Option ℕ) (start n : ℕ) (far : Bool) (s : Query) → start < n → to_writer reg start far ≡ Some s → s.start < n
+    writer None start n far s h same = absurd (cc)
+    writer (Some r) start n far s h same = from 0 n (record { start = start; onward = far; sought = Writes r }) s h same
 
     start_of : (rule : Rule) (reg : Option ℕ) (entry index n : ℕ) (s : Query) → entry < n → index < n → query_by rule reg entry index ≡ Some s → s.start < n
     start_of ExceedsCreate reg entry index n s h k same = writer reg entry n false s h same
