@@ -1,6 +1,5 @@
 -- A path that shows a finding is a counterexample: the marks are not sound.
-use Rattle.std.proofs.Common.{◌≡◌, ℕ, ◌<◌, ◌≤◌, List, Bool, true, false, not, ◌&&◌, nat_eq, nat_le, Option, Some, None, length, slice_get, refl, sym, ◌∙◌, ap, subst, arith}
-use Rattle.std.specs.List.{list_any}
+use Rattle.std.proofs.Common.{◌≡◌, ℕ, List, Bool, true, false, not, ◌&&◌, nat_eq, nat_le, Option, Some, None, length, slice_get, refl, sym, ap, subst, arith}
 use Rattle.std.proofs.lemmas.Bool.{and_parts, or_left, or_right, leb-true}
 use Rattle.mips_plain.specs.Words.{has}
 use Rattle.mips_plain.specs.Instruction.{dests, released}
@@ -8,15 +7,14 @@ use Rattle.task_descriptor.specs.Listing.{Listing}
 use Rattle.task_descriptor.specs.declared.descriptor.Marked.{Marked}
 use Rattle.task_descriptor.specs.declared.descriptor.Descriptor.{Descriptor}
 use Rattle.task_graph.specs.Edges.{Edge, Path, stay, onward, MayWrite, sends, is_indirect}
-use Rattle.task_graph.specs.Members.{Reaches}
 use Rattle.task_graph.specs.Soundness.{is_target, SoundTask, Sound}
 use Rattle.mark_checker.specs.declared.finding.Rule.{Rule}
 use Rattle.mark_checker.specs.declared.finding.Rule.TheVariants.{ExceedsCreate, ForwardedInNext, ReleasedInNext, SentNotCreated, ExitNotListed, FallsOff, IndirectGoesOn}
 use Rattle.mark_checker.specs.declared.finding.Finding.{Finding}
 use Rattle.mark_checker.specs.Rules.{stops_always}
-use Rattle.annotator.proofs.Decides.{Ends, some_edge}
+use Rattle.annotator.proofs.Decides.{some_edge}
 use Rattle.witnesses.specs.declared.sought.Sought.TheVariants.{Writes}
-use Rattle.witnesses.specs.Witnesses.{is_sought, is_sought_at, Onward, LeadsTo, LeadsOnward}
+use Rattle.witnesses.specs.Witnesses.{is_sought, is_sought_at, LeadsTo, LeadsOnward}
 use Rattle.finding_paths.specs.declared.query.Query.{Query}
 use Rattle.finding_paths.specs.Queries.{query_by, IsFoundBy}
 use Rattle.finding_paths.specs.Shown.{is_wrong, Shows}

@@ -1,7 +1,6 @@
 -- A finding of a least certificate is shown by a path: what its condition says of masks is so of paths.
 use Rattle.std.proofs.Common.{◌≡◌, ◌↔◌, ℕ, ◌<◌, List, [], map, Bool, true, false, not, ◌&&◌, nat_eq, Option, Some, None, Result, Ok, Err, IfOk, IfSome, IfNone, length, get_or, slice_get, refl, sym, ◌∙◌, ap, subst}
 use Rattle.std.specs.Prelude.{is_some}
-use Rattle.std.specs.List.{list_any}
 use Rattle.std.proofs.lemmas.Bool.{and_parts, eqb-true, eq-eqb}
 use Rattle.std.proofs.lemmas.Option.{slice_get_within, slice_get_read}
 use Rattle.mips_plain.specs.Words.{has}
@@ -11,26 +10,25 @@ use Rattle.std.specs.declared.vec.Vec.{Vec}
 use Rattle.task_descriptor.specs.Listing.{Listing, IsWellFormed}
 use Rattle.task_descriptor.specs.declared.descriptor.Marked.{Marked}
 use Rattle.task_descriptor.specs.declared.descriptor.Descriptor.{Descriptor}
-use Rattle.task_graph.specs.Edges.{Edge, Path, stay, onward, MayWrite, ends_of, sends, is_indirect}
+use Rattle.task_graph.specs.Edges.{Edge, Path, stay, onward, MayWrite}
 use Rattle.task_graph.specs.Members.{Reaches}
 use Rattle.task_graph.specs.Soundness.{Sound}
 use Rattle.task_graph.proofs.WellFormed.{entry_inside}
 use Rattle.mask_certificate.specs.Lists.{mask_at, list_of}
 use Rattle.mark_checker.specs.declared.finding.Rule.{Rule}
-use Rattle.mark_checker.specs.declared.finding.Rule.TheVariants.{EntryWithoutMask, NextWithoutMask, LacksDestination, LacksNext, ExceedsCreate, ForwardedInNext, ReleasedInNext, SentNotCreated, ExitNotListed, FallsOff, IndirectGoesOn, TargetNotEntry}
+use Rattle.mark_checker.specs.declared.finding.Rule.TheVariants.{ExceedsCreate, ForwardedInNext, ReleasedInNext, SentNotCreated, ExitNotListed, FallsOff, IndirectGoesOn}
 use Rattle.mark_checker.specs.declared.finding.Finding.{Finding}
 use Rattle.mark_checker.specs.Rules.{conditions, in_mask, next_has, all_rules}
 use Rattle.annotator.specs.Least.{LeastList, IsLeast}
 use Rattle.annotator.proofs.Decides.{next_writes, least_accepted}
 use Rattle.annotator.proofs.Spread.{path_before}
-use Rattle.witnesses.specs.declared.sought.Sought.{Sought}
 use Rattle.witnesses.specs.declared.sought.Sought.TheVariants.{At, Writes}
 use Rattle.witnesses.specs.Witnesses.{is_sought, is_sought_at, Onward, LeadsTo, LeadsOnward}
 use Rattle.finding_paths.specs.declared.query.Query.{Query}
 use Rattle.finding_paths.specs.declared.shown.ShownFinding.{ShownFinding}
 use Rattle.finding_paths.specs.Queries.{to_writer, to_index, query_by, query_of, leads, IsFoundBy, Comes, ComesOnward, comes, CanBeFound}
 use Rattle.finding_paths.specs.Shown.{is_wrong, IsFinding, IsShown}
-use Rattle.finding_paths.proofs.Standing.{holds, Listed, Stands, stands}
+use Rattle.finding_paths.proofs.Standing.{holds, Listed, stands}
 
 writer_sought : (p : Listing) (i r : ℕ) (w : MayWrite p i r) → is_sought p (Writes r) w.place ≡ true
 writer_sought p i r w = ap (λ (o : Option Marked). is_sought_at o (Writes r) w.place) w.is_there ∙ w.writes

@@ -1,9 +1,6 @@
 -- The checker has the finding: what its rule says is so of paths, so there is one, and the search finds it.
-use Rattle.std.proofs.Common.{◌≡◌, ℕ, Some, slice_get, sym, ◌∙◌, ap}
-use Rattle.task_descriptor.specs.declared.descriptor.Descriptor.{Descriptor}
-use Rattle.finding_paths.specs.declared.query.Query.{Query}
-use Rattle.finding_paths.specs.Queries.{query_of, IsFoundBy, CanBeFound}
-use Rattle.finding_paths.specs.Shown.{IsShown}
+use Rattle.std.proofs.Common.{◌≡◌, ℕ, Some, sym, ◌∙◌, ap}
+use Rattle.finding_paths.specs.Queries.{query_of}
 use Rattle.finding_paths.proofs.Showing.{found_by, task_there, shown_by, start_inside, if_ok_both}
 use Rattle.finding_paths.proofs.shown.path_of.Goals as goal
 
