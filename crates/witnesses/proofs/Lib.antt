@@ -1,2 +1,3 @@
 mod Trails
 pub mod Searches
+mod Nearest

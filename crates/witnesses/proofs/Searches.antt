@@ -23,13 +23,23 @@ pub record StandsAt (visits : List Visit) (number index : ℕ) : Type 0 where
   pub is_there : slice_get visits number ≡ Some visit
   pub same : visit.index ≡ index
 
+-- a visit of the index that came from the visit of the number, or from an earlier one
+pub record Came (visits : List Visit) (number index : ℕ) : Type 0 where
+  pub place : ℕ
+  pub visit : Visit
+  pub is_there : slice_get visits (suc place) ≡ Some visit
+  pub same : visit.index ≡ index
+  pub no_later : visit.from ≤ number
+
 pub record Search (p : Listing) (start : ℕ) (sought : Sought) (marks : List Bool) (visits : List Visit) (number : ℕ) : Type 0 where
   pub sized : length marks ≡ length p.code
   pub begun : StandsAt visits 0 start
   pub are : AreVisits p start visits
   pub inside : (k : ℕ) (v : Visit) → slice_get visits k ≡ Some v → v.index < length p.code
   pub listed : (j : ℕ) → is_marked marks j ≡ true → (k : ℕ) × StandsAt visits (suc k) j
-  pub closed : (k j : ℕ) (v : Visit) → k < number → slice_get visits k ≡ Some v → Follows p v.index j → is_marked marks j ≡ true
+  pub closed : (k j : ℕ) (v : Visit) → k < number → slice_get visits k ≡ Some v → Follows p v.index j → Came visits k j
+  pub in_order : (k l : ℕ) (u v : Visit) → k ≤ l → slice_get visits (suc k) ≡ Some u → slice_get visits (suc l) ≡ Some v → u.from ≤ v.from
+  pub so_far : (k : ℕ) (v : Visit) → slice_get visits (suc k) ≡ Some v → v.from ≤ number
   pub unmet : (k : ℕ) (v : Visit) → suc k < number → slice_get visits (suc k) ≡ Some v → is_sought p sought v.index ≡ false
 
 -- lists
@@ -96,8 +106,19 @@ search_begins p start sought marks visits em ev inside =
       ];
       listed = λ j m. absurd (unmarked_first (length p.code) j m);
       closed = λ k j v less. absurd (omega arith);
+      in_order = λ k l u v le h. absurd (cc);
+      so_far = λ k v h. absurd (cc);
       unmet = λ k v less. absurd (omega arith);
     }))
+
+came_on : (xs ys : List Visit) (number index : ℕ) → Came xs number index → Came (xs ++ ys) number index
+came_on xs ys number index c = record {
+  place = c.place;
+  visit = c.visit;
+  is_there = kept xs ys c.visit (suc c.place) c.is_there;
+  same = c.same;
+  no_later = c.no_later;
+}
 
 -- an inner successor of the visit at hand is visited
 fresh : (p : Listing) (start : ℕ) (sought : Sought) (marks : List Bool) (visits : List Visit) (number j : ℕ) (u : Visit)
@@ -130,7 +151,12 @@ fresh p start sought marks visits number j u there f s = record {
     | inr was ↦ let k = s.listed i was in
         (k.0, record { visit = k.1.visit; is_there = kept visits (new ∷ []) k.1.visit (suc k.0) k.1.is_there; same = k.1.same })
   ];
-  closed = λ k i v less h g. marked_kept marks j i within (s.closed k i v less (back k v (omega (arith, here)) h) g);
+  closed = λ k i v less h g. came_on visits (new ∷ []) k i (s.closed k i v less (back k v (omega (arith, here)) h) g);
+  in_order = λ k l w v le h g. elim (push_cases visits new v (suc l) g) [
+    | inl a ↦ s.in_order k l w v le (back (suc k) w (let i = slice_get_within visits (suc l) v a in omega arith) h) a
+    | inr b ↦ let from : number ≡ v.from = ap (λ (x : Visit). x.from) b.1 in let sooner = so_far k w h in omega arith
+  ];
+  so_far = so_far;
   unmet = λ k v less h. s.unmet k v less (back (suc k) v (omega (arith, here)) h);
 }
   where
@@ -140,13 +166,16 @@ fresh p start sought marks visits number j u there f s = record {
     here : number < length visits
     here = slice_get_within visits number u there
 
-    within : j < length marks
-    within = subst (λ n. j < n) (sym s.sized) f.within
-
     back : (k : ℕ) (v : Visit) → k < length visits → slice_get (visits ++ new ∷ []) k ≡ Some v → slice_get visits k ≡ Some v
     back k v less h = elim (push_cases visits new v k h) [
       | inl a ↦ a
       | inr b ↦ let e : k ≡ length visits = b.0 in absurd (omega arith)
+    ]
+
+    so_far : (k : ℕ) (v : Visit) → slice_get (visits ++ new ∷ []) (suc k) ≡ Some v → v.from ≤ number
+    so_far k v h = elim (push_cases visits new v (suc k) h) [
+      | inl a ↦ s.so_far k v a
+      | inr b ↦ let from : number ≡ v.from = ap (λ (x : Visit). x.from) b.1 in omega arith
     ]
 
     last : (i : ℕ) → j ≡ i → (n : ℕ) → n ≡ length visits → number < n → (k : ℕ) × StandsAt (visits ++ new ∷ []) (suc k) i
@@ -218,9 +247,18 @@ looked_at p start sought marks visits number u there marked unmet s = record {
   closed = λ k j v less h f. elim (cases_eq k number) [
     | inl e ↦
         let same : u ≡ v = one k v e h in
-        marked j (subst (λ (x : Visit). Follows p x.index j) (sym same) f)
+        let found = s.listed j (marked j (subst (λ (x : Visit). Follows p x.index j) (sym same) f)) in
+        subst (λ n. Came visits n j) (sym e) (record {
+          place = found.0;
+          visit = found.1.visit;
+          is_there = found.1.is_there;
+          same = found.1.same;
+          no_later = s.so_far found.0 found.1.visit found.1.is_there;
+        })
     | inr ne ↦ s.closed k j v (omega arith) h f
   ];
+  in_order = s.in_order;
+  so_far = λ k v h. let sooner = s.so_far k v h in omega arith;
   unmet = λ k v less h. elim (cases_eq (suc k) number) [
     | inl e ↦
         let same : u ≡ v = one (suc k) v e h in
@@ -240,10 +278,10 @@ reached p start sought marks visits number j all s (onward {j = i} path e) withi
     let k = reached p start sought marks visits number i all s path (slice_get_within p.code i e.at e.is_there) in
     let less = slice_get_within visits k.0 k.1.visit k.1.is_there in
     let from = subst (λ n. Edge p false n j) (sym k.1.same) e in
-    let found = s.listed j (s.closed k.0 j k.1.visit (omega arith) k.1.is_there (record { edge = from; within = within })) in
-    (suc found.0, found.1)
+    let came = s.closed k.0 j k.1.visit (omega arith) k.1.is_there (record { edge = from; within = within }) in
+    (suc came.place, record { visit = came.visit; is_there = came.is_there; same = came.same })
 
-sought_inside : (code : List Marked) (sought : Sought) (k : ℕ) (o : Option Marked) → slice_get code k ≡ o → is_sought_at o sought k ≡ true → k < length code
+pub sought_inside : (code : List Marked) (sought : Sought) (k : ℕ) (o : Option Marked) → slice_get code k ≡ o → is_sought_at o sought k ≡ true → k < length code
 sought_inside code sought k None e h = absurd (cc)
 sought_inside code sought k (Some m) e h = slice_get_within code k m e
 
@@ -255,10 +293,10 @@ search_ends p start sought marks visits number all s k o is =
     let before = reached p start sought marks visits number o.before all s o.path (slice_get_within p.code o.before o.edge.at o.edge.is_there) in
     let less = slice_get_within visits before.0 before.1.visit before.1.is_there in
     let from = subst (λ n. Edge p false n k) (sym before.1.same) o.edge in
-    let last = s.listed k (s.closed before.0 k before.1.visit (omega arith) before.1.is_there (record { edge = from; within = within })) in
-    let behind = slice_get_within visits (suc last.0) last.1.visit last.1.is_there in
-    let not_it = s.unmet last.0 last.1.visit (omega arith) last.1.is_there in
-    let it = subst (λ n. is_sought p sought n ≡ true) (sym last.1.same) is in
+    let last = s.closed before.0 k before.1.visit (omega arith) before.1.is_there (record { edge = from; within = within }) in
+    let behind = slice_get_within visits (suc last.place) last.visit last.is_there in
+    let not_it = s.unmet last.place last.visit (omega arith) last.is_there in
+    let it = subst (λ n. is_sought p sought n ≡ true) (sym last.same) is in
     wrong (sym not_it ∙ it)
   where
     wrong : false ≡ true → ⊥

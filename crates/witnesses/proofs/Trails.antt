@@ -1,11 +1,11 @@
 -- The way back lists a path: whatever path comes to the visit at hand, what was collected goes on from there.
-use Rattle.std.proofs.Common.{◌≡◌, ℕ, ◌<◌, false, Some, List, [], ◌∷◌, ◌++◌, reverse, length, slice_get, sym, ◌∙◌, ap, subst, arith, append_assoc, append-nil, zero, suc}
-use Rattle.std.proofs.lemmas.List.{reverse-append}
+use Rattle.std.proofs.Common.{◌≡◌, ℕ, ◌+◌, ◌<◌, false, Some, List, [], ◌∷◌, ◌++◌, reverse, length, slice_get, sym, ◌∙◌, ap, subst, arith, append_assoc, append-nil, length-append, zero, suc}
+use Rattle.std.proofs.lemmas.List.{reverse-append, length-reverse}
 use Rattle.task_descriptor.specs.Listing.{Listing}
 use Rattle.task_graph.specs.Edges.{Edge, Path, stay, onward}
 use Rattle.witnesses.specs.declared.visits.Visit.{Visit}
 use Rattle.witnesses.specs.Witnesses.{indices, ListsPath}
-use Rattle.witnesses.specs.Visits.{AreVisits, ComeFromEarlier}
+use Rattle.witnesses.specs.Visits.{AreVisits, ComeFromEarlier, StepsBack, first, behind, IsAsLong}
 
 -- each path to i goes on to the end along the rest
 pub record GoesOn (p : Listing) (start i to : ℕ) (rest : List ℕ) : Type 0 where
@@ -15,6 +15,7 @@ pub record WayBack (visits : List Visit) (at number : ℕ) (path : List ℕ) : T
   pub there : number < length visits
   pub walk : (p : Listing) (start : ℕ) (u v : Visit) → AreVisits p start visits → slice_get visits number ≡ Some u
       → slice_get visits at ≡ Some v → GoesOn p start u.index v.index (reverse path)
+  pub far : (n : ℕ) → StepsBack visits number n → StepsBack visits at (n + length path)
 
 at_once : (p : Listing) (start i to : ℕ) → i ≡ to → GoesOn p start i to []
 at_once p start i to e = subst (λ n. GoesOn p start i n []) e (record { on = λ q. (q, sym (append-nil (indices p start i q))) })
@@ -38,6 +39,7 @@ way_begins visits at path none there = record {
   walk = λ p start u v are one two.
       let same : u ≡ v = cc in
       subst (λ xs. GoesOn p start u.index v.index (reverse xs)) (sym none) (at_once p start u.index v.index (ap (λ (x : Visit). x.index) same));
+  far = λ n h. let empty : length path ≡ 0 = ap length none in let e : n ≡ n + length path = omega arith in subst (StepsBack visits at) e h;
 }
 
 pub earlier_number : (visits : List Visit) (number : ℕ) (x : Visit) → 0 < number → ComeFromEarlier visits → slice_get visits number ≡ Some x → x.from < number
@@ -49,6 +51,10 @@ pub step : (visits : List Visit) (number : ℕ) (x u : Visit) (p : Listing) (sta
 step visits zero x u p start some are is from = absurd (omega arith)
 step visits (suc k) x u p start some are is from = are.along k u x is from
 
+one_back : (visits : List Visit) (number n : ℕ) (x : Visit) → 0 < number → slice_get visits number ≡ Some x → StepsBack visits x.from n → StepsBack visits number (suc n)
+one_back visits zero n x some is h = absurd (omega arith)
+one_back visits (suc k) n x some is h = behind is h
+
 pub way_goes_on : (visits : List Visit) (at number : ℕ) (path more : List ℕ) (x : Visit) → 0 < number → ComeFromEarlier visits
     → slice_get visits number ≡ Some x → more ≡ path ++ x.index ∷ [] → WayBack visits at number path → WayBack visits at x.from more
 way_goes_on visits at number path more x some earlier is pushed w = record {
@@ -56,6 +62,9 @@ way_goes_on visits at number path more x some earlier is pushed w = record {
   walk = λ p start u v are one two.
       subst (λ xs. GoesOn p start u.index v.index xs) (sym (ap reverse pushed ∙ reverse_push path x.index))
       (one_more p start u.index x.index v.index (reverse path) (step visits number x u p start some are is one) (w.walk p start x v are is two));
+  far = λ n h.
+      let e : suc n + length path ≡ n + length more = omega (arith, ap length pushed, length-append path (x.index ∷ [])) in
+      subst (StepsBack visits at) e (w.far (suc n) (one_back visits number n x some is h));
 }
 
 pub way_ends : (visits : List Visit) (at number : ℕ) (path more back : List ℕ) (x : Visit) → number ≡ 0
@@ -65,3 +74,11 @@ way_ends visits at number path more back x none is pushed reversed w p start v a
     subst (ListsPath p start v.index) (sym (reversed ∙ ap reverse pushed ∙ reverse_push path x.index))
     (from_start p start x.index v.index (reverse path) (sym (are.first x is))
     (w.walk p start x v are (subst (λ n. slice_get visits n ≡ Some x) (sym none) is) two))
+
+pub way_is_long : (visits : List Visit) (at number : ℕ) (path more back : List ℕ) (x : Visit) → number ≡ 0
+    → more ≡ path ++ x.index ∷ [] → back ≡ reverse more → WayBack visits at number path → IsAsLong visits at back
+way_is_long visits at number path more back x none pushed reversed w = record {
+  steps = 0 + length path;
+  back = w.far 0 (subst (λ n. StepsBack visits n 0) (sym none) first);
+  long = omega (arith, ap length reversed, length-reverse more, ap length pushed, length-append path (x.index ∷ []));
+}

@@ -1,6 +1,6 @@
 -- Helper vocabulary of the search: its visits and its marks. No contract of a public function cites a
 -- word of this file.
-use Rattle.std.specs.Prelude.{◌≡◌, ℕ, suc, ◌≤◌, Bool, true, false, if◌then◌else◌, List, [], ◌∷◌, ◌++◌, slice_get, slice_index_or, slice_set, Option, Some, None}
+use Rattle.std.specs.Prelude.{◌≡◌, ℕ, suc, ◌≤◌, Bool, true, false, if◌then◌else◌, List, [], ◌∷◌, ◌++◌, length, slice_get, slice_index_or, slice_set, Option, Some, None}
 use Rattle.task_descriptor.specs.Listing.{Listing}
 use Rattle.task_graph.specs.Edges.{Edge}
 use Rattle.witnesses.specs.declared.visits.Visit.{Visit}
@@ -14,6 +14,17 @@ pub record AreVisits (p : Listing) (start : ℕ) (visits : List Visit) : Type 0 
   pub first : (v : Visit) → slice_get visits 0 ≡ Some v → v.index ≡ start
   pub earlier : ComeFromEarlier visits
   pub along : (k : ℕ) (u v : Visit) → slice_get visits (suc k) ≡ Some v → slice_get visits v.from ≡ Some u → Edge p false u.index v.index
+
+-- the first visit is so many steps back
+pub data StepsBack (visits : List Visit) : (at steps : ℕ) → Type 0 where
+  first : StepsBack visits 0 0
+  behind : {k n : ℕ} {v : Visit} → slice_get visits (suc k) ≡ Some v → StepsBack visits v.from n → StepsBack visits (suc k) (suc n)
+
+-- the list has an index for each visit on the way back
+pub record IsAsLong (visits : List Visit) (at : ℕ) (list : List ℕ) : Type 0 where
+  pub steps : ℕ
+  pub back : StepsBack visits at steps
+  pub long : length list ≡ suc steps
 
 -- the mark of an index
 abbrev pub is_marked : List Bool → ℕ → Bool

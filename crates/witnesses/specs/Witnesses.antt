@@ -2,7 +2,7 @@
 --
 -- Inner edges and paths are those of the task (the stop marks of Sohi, Breach, Vijaykumar,
 -- "Multiscalar Processors", ISCA 1995, section 2.2, say where it ends); witnesses are own choice.
-use Rattle.std.specs.Prelude.{◌≡◌, ℕ, Bool, true, false, nat_eq, List, [], ◌∷◌, ◌++◌, slice_get, Option, Some, None}
+use Rattle.std.specs.Prelude.{◌≡◌, ℕ, Bool, true, false, nat_eq, List, [], ◌∷◌, ◌++◌, length, ◌≤◌, slice_get, Option, Some, None}
 use Rattle.mips_plain.specs.Instruction.{dests}
 use Rattle.task_descriptor.specs.Listing.{Listing}
 use Rattle.task_descriptor.specs.declared.descriptor.Marked.{Marked}
@@ -48,3 +48,7 @@ pub record LeadsOnward (p : Listing) (start : ℕ) (sought : Sought) (list : Lis
   pub onward : Onward p start to
   pub along : list ≡ indices p start onward.before onward.path ++ to ∷ []
   pub is_it : is_sought p sought to ≡ true
+
+-- Nothing that is such a list is shorter.
+abbrev pub NoneShorter : (List ℕ → Type 0) → List ℕ → Type 0
+NoneShorter IsSuch list = (other : List ℕ) → IsSuch other → length list ≤ length other

@@ -2,7 +2,7 @@
 
 ghost use Rattle.std.specs.Prelude.{◌≡◌, ℕ, ◌<◌, ◌↔◌, true, Some, length, slice_get, IfOk, OnOk, IfSome, IfNone};
 ghost use Rattle.task_graph.specs.Edges.{Path};
-ghost use Rattle.witnesses.specs.Witnesses.{is_sought, Onward, LeadsTo, LeadsOnward};
+ghost use Rattle.witnesses.specs.Witnesses.{is_sought, Onward, LeadsTo, LeadsOnward, NoneShorter};
 ghost use Rattle.witnesses.specs.Visits.{marks_with, visits_with};
 
 use crate::sought::Sought;
@@ -12,9 +12,9 @@ use std::alloc::{AllocError, Global};
 use task_descriptor::program::Program;
 use task_graph::edges::next_inside;
 
-/// A path from the instruction at `start` along inner edges to what is sought, as the indices that it
-/// comes to, `start` first; `None` where there is no such path. It may be `start` alone. The caller sees
-/// to it that `start` is an instruction.
+/// A shortest path from the instruction at `start` along inner edges to what is sought, as the indices
+/// that it comes to, `start` first; `None` where there is no such path. It may be `start` alone. The
+/// caller sees to it that `start` is an instruction.
 ///
 /// # Errors
 ///
@@ -27,6 +27,7 @@ pub fn path_to(
 ) -> Result<Option<Vec<u32>>, AllocError>
     requires { start < length program.now.code }
     ensures found { IfOk result (λ answer. IfSome answer (λ path. LeadsTo program.now start sought.now path.items)) }
+    ensures shortest { IfOk result (λ answer. IfSome answer (λ path. NoneShorter (LeadsTo program.now start sought.now) path.items)) }
     ensures none { IfOk result
         (λ answer. IfNone answer ((k : ℕ) → Path program.now start k → is_sought program.now sought.now k ≡ true → ⊥)) }
 {
@@ -38,9 +39,9 @@ pub fn path_to(
     path_onward(alloc, program, start, sought)
 }
 
-/// A path of at least one inner edge from the instruction at `start` to what is sought, as the indices
-/// that it comes to, `start` first; `None` where there is no such path. The caller sees to it that
-/// `start` is an instruction.
+/// A shortest path of at least one inner edge from the instruction at `start` to what is sought, as the
+/// indices that it comes to, `start` first; `None` where there is no such path. The caller sees to it
+/// that `start` is an instruction.
 ///
 /// # Errors
 ///
@@ -53,6 +54,7 @@ pub fn path_onward(
 ) -> Result<Option<Vec<u32>>, AllocError>
     requires { start < length program.now.code }
     ensures found { IfOk result (λ answer. IfSome answer (λ path. LeadsOnward program.now start sought.now path.items)) }
+    ensures shortest { IfOk result (λ answer. IfSome answer (λ path. NoneShorter (LeadsOnward program.now start sought.now) path.items)) }
     ensures none { IfOk result
         (λ answer. IfNone answer ((k : ℕ) → Onward program.now start k → is_sought program.now sought.now k ≡ true → ⊥)) }
 {

@@ -4,7 +4,7 @@ ghost use Rattle.std.specs.Prelude.{◌≡◌, ℕ, ◌<◌, Some, length, slice
 ghost use Rattle.task_descriptor.specs.Listing.{Listing};
 ghost use Rattle.witnesses.specs.declared.visits.Visit.{Visit};
 ghost use Rattle.witnesses.specs.Witnesses.{ListsPath};
-ghost use Rattle.witnesses.specs.Visits.{AreVisits, ComeFromEarlier};
+ghost use Rattle.witnesses.specs.Visits.{AreVisits, ComeFromEarlier, IsAsLong};
 
 use crate::visits::Visit;
 use std::alloc::{AllocError, Global};
@@ -13,8 +13,9 @@ use std::alloc::{AllocError, Global};
 pub(crate) fn trail(alloc: Global, visits: &[Visit], at: usize) -> Result<Vec<u32>, AllocError>
     requires there { at < length visits.now }
     requires earlier { ComeFromEarlier visits.now }
-    ensures { IfOk result (λ path. (p : Listing) (start : ℕ) (v : Visit) → AreVisits p start visits.now
+    ensures path { IfOk result (λ path. (p : Listing) (start : ℕ) (v : Visit) → AreVisits p start visits.now
         → slice_get visits.now at ≡ Some v → ListsPath p start v.index path.items) }
+    ensures long { IfOk result (λ path. IsAsLong visits.now at path.items) }
 {
     let mut path = Vec::new(alloc);
     let mut number = at;

@@ -4,6 +4,7 @@ use Rattle.task_descriptor.specs.declared.descriptor.Marked.{Marked}
 use Rattle.witnesses.specs.declared.visits.Visit.{Visit}
 use Rattle.witnesses.proofs.Trails.{earlier_number}
 use Rattle.witnesses.proofs.Searches.{search_begins, goes_on, less_to_do, first_within, second_within, length_with, not_sought, found_path, search_ends}
+use Rattle.witnesses.proofs.Nearest.{none_shorter}
 use Rattle.witnesses.proofs.paths.path_onward.Goals as goal
 
 pub loop-number-init : goal.loop-number-init
@@ -37,7 +38,17 @@ returns-then-is_end-clause-found c =
     let there = slice_get_read visits (length visits) c.loop-number.number u refl less c.index-here.ensures in
     let ends = c.is_end.ensures.0 c.if-is_end.true in
     found_path c.args.program.now c.args.start c.args.sought.now visits c.deref.result.now c.loop-number.number u c.in_ok-path.path.items c.push-then-is_end.new.self.items
-    ends.0 c.loop-number.invariant.are there ends.1 c.deref.ensures.value c.in_ok-path.ensures c.in_ok-push-2.ensures.items
+    ends.0 c.loop-number.invariant.are there ends.1 c.deref.ensures.value c.in_ok-path.ensures.path c.in_ok-push-2.ensures.items
+
+pub returns-then-is_end-clause-shortest : goal.returns-then-is_end-clause-shortest
+returns-then-is_end-clause-shortest c =
+    let visits = c.loop-number.visits.items in
+    let u = c.index-here.result.now in
+    let less : c.loop-number.number < length c.loop-number.visits.items = omega (arith, c.loop-number.visits.ok.0) in
+    let there = slice_get_read visits (length visits) c.loop-number.number u refl less c.index-here.ensures in
+    none_shorter c.args.program.now c.args.start c.args.sought.now c.loop-number.marks.items visits c.deref.result.now c.loop-number.number u
+    c.in_ok-path.path.items c.push-then-is_end.new.self.items c.loop-number.invariant (c.is_end.ensures.0 c.if-is_end.true).0 there
+    c.deref.ensures.value c.in_ok-path.ensures.long c.in_ok-push-2.ensures.items
 
 pub next_inside-next-requires : goal.next_inside-next-requires
 next_inside-next-requires c =

@@ -1,7 +1,7 @@
 use Rattle.std.proofs.Common.{get_or, arith}
 use Rattle.std.proofs.lemmas.Option.{slice_get-get_or}
 use Rattle.witnesses.specs.declared.visits.Visit.{Visit}
-use Rattle.witnesses.proofs.Trails.{way_begins, way_goes_on, way_ends, earlier_number}
+use Rattle.witnesses.proofs.Trails.{way_begins, way_goes_on, way_ends, way_is_long, earlier_number}
 use Rattle.witnesses.proofs.trail.trail.Goals as goal
 
 pub loop-number-init : goal.loop-number-init
@@ -22,10 +22,16 @@ loop-number-preserved c =
     c.loop-number-test.true c.requires.earlier (slice_get-get_or c.args.visits.now n none c.loop-number.invariant.there)
     c.in_ok-push.ensures.items c.loop-number.invariant
 
-pub returns : goal.returns
-returns c =
+pub returns-clause-path : goal.returns-clause-path
+returns-clause-path c =
     let none : Visit = record { index = 0; from = 0 } in
     let inside = c.requires.there in
     way_ends c.args.visits.now c.args.at c.loop-number.number c.loop-number.path.items c.push-2.new.self.items c.reverse.new.self.items
     (get_or c.args.visits.now 0 none) (omega arith) (slice_get-get_or c.args.visits.now 0 none (omega arith))
     c.in_ok-push-2.ensures.items c.reverse.ensures.items c.loop-number.invariant
+
+pub returns-clause-long : goal.returns-clause-long
+returns-clause-long c =
+    let none : Visit = record { index = 0; from = 0 } in
+    way_is_long c.args.visits.now c.args.at c.loop-number.number c.loop-number.path.items c.push-2.new.self.items c.reverse.new.self.items
+    (get_or c.args.visits.now 0 none) (omega arith) c.in_ok-push-2.ensures.items c.reverse.ensures.items c.loop-number.invariant
