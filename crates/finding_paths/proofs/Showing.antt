@@ -23,11 +23,11 @@ use Rattle.annotator.specs.Least.{LeastList, IsLeast}
 use Rattle.annotator.proofs.Decides.{next_writes, least_accepted}
 use Rattle.annotator.proofs.Spread.{path_before}
 use Rattle.witnesses.specs.declared.sought.Sought.TheVariants.{At, Writes}
-use Rattle.witnesses.specs.Witnesses.{is_sought, is_sought_at, Onward, LeadsTo, LeadsOnward}
+use Rattle.witnesses.specs.Witnesses.{is_sought, is_sought_at, Onward, LeadsTo, LeadsOnward, NoneShorter}
 use Rattle.finding_paths.specs.declared.query.Query.{Query}
 use Rattle.finding_paths.specs.declared.shown.ShownFinding.{ShownFinding}
 use Rattle.finding_paths.specs.Queries.{to_writer, to_index, query_by, query_of, leads, IsFoundBy, Comes, ComesOnward, comes, CanBeFound}
-use Rattle.finding_paths.specs.Shown.{is_wrong, IsFinding, IsShown}
+use Rattle.finding_paths.specs.Shown.{is_wrong, Shows, IsFinding, IsShown}
 use Rattle.finding_paths.proofs.Standing.{holds, Listed, stands}
 
 writer_sought : (p : Listing) (i r : ℕ) (w : MayWrite p i r) → is_sought p (Writes r) w.place ≡ true
@@ -129,6 +129,12 @@ found_onward p q path e h = subst (λ (b : Bool). leads b p q.start q.sought pat
 pub found_from : (p : Listing) (q : Query) (path : List ℕ) → q.onward ≡ false → LeadsTo p q.start q.sought path → IsFoundBy p q path
 found_from p q path e h = subst (λ (b : Bool). leads b p q.start q.sought path) (sym e) h
 
+pub shortest_onward : (p : Listing) (q : Query) (path : List ℕ) → q.onward ≡ true → NoneShorter (LeadsOnward p q.start q.sought) path → NoneShorter (IsFoundBy p q) path
+shortest_onward p q path e h = subst (λ (b : Bool). NoneShorter (leads b p q.start q.sought) path) (sym e) h
+
+pub shortest_from : (p : Listing) (q : Query) (path : List ℕ) → q.onward ≡ false → NoneShorter (LeadsTo p q.start q.sought) path → NoneShorter (IsFoundBy p q) path
+shortest_from p q path e h = subst (λ (b : Bool). NoneShorter (leads b p q.start q.sought) path) (sym e) h
+
 pub none_onward : (p : Listing) (q : Query) → q.onward ≡ true → ((k : ℕ) → Onward p q.start k → is_sought p q.sought k ≡ true → ⊥) → CanBeFound p q → ⊥
 none_onward p q e none h =
     let there : ComesOnward p q.start q.sought = subst (λ (b : Bool). comes b p q.start q.sought) e h in
@@ -139,43 +145,51 @@ none_from p q e none h =
     let there : Comes p q.start q.sought = subst (λ (b : Bool). comes b p q.start q.sought) e h in
     none there.to there.path there.is_it
 
--- what is said of a result in two ways
-pub if_ok_both : {R E : Type 0} (r : Result R E) (P Q S : R → Type 0) → ((x : R) → P x → Q x → S x) → IfOk r P → IfOk r Q → IfOk r S
-if_ok_both (Ok x) P Q S both h k = both x h k
-if_ok_both (Err e) P Q S both h k = tt
+-- what is said of a result in three ways
+pub if_ok_all : {R E : Type 0} (r : Result R E) (P Q S T : R → Type 0) → ((x : R) → P x → Q x → S x → T x) → IfOk r P → IfOk r Q → IfOk r S → IfOk r T
+if_ok_all (Ok x) P Q S T all h k l = all x h k l
+if_ok_all (Err e) P Q S T all h k l = tt
 
 -- the task that was looked up
 pub task_there : (tasks given : List Descriptor) (t : ℕ) (d : Descriptor) → given ≡ tasks → t < length given → ((x : Descriptor) → d ≡ get_or given t x) → slice_get tasks t ≡ Some d
 task_there tasks given t d same less is = subst (λ (ds : List Descriptor). slice_get ds t ≡ Some d) same (slice_get_read given (length given) t d refl less (is d))
 
--- what a query found shows the finding
-same_task : (p : Listing) (f : Finding) (found : Found p f) (d : Descriptor) → slice_get p.tasks f.task ≡ Some d → found.task ≡ d
-same_task p f found d there = let is = found.is_task in cc
+-- what a query found shows the finding, and so does nothing shorter
+same_task : (p : Listing) (f : Finding) (a b : Descriptor) → slice_get p.tasks f.task ≡ Some a → slice_get p.tasks f.task ≡ Some b → a ≡ b
+same_task p f a b one two = cc
+
+same_query : (f : Finding) (a b : Descriptor) (q r : Query) → a ≡ b → query_of a.entry f ≡ Some q → query_of b.entry f ≡ Some r → q ≡ r
+same_query f a b q r same one two = let also : query_of a.entry f ≡ query_of b.entry f = ap (λ (x : Descriptor). query_of x.entry f) same in cc
+
+shortest_shown : (p : Listing) (f : Finding) (d : Descriptor) (q : Query) (path : List ℕ) → slice_get p.tasks f.task ≡ Some d → query_of d.entry f ≡ Some q
+    → NoneShorter (IsFoundBy p q) path → NoneShorter (Shows p f) path
+shortest_shown p f d q path there is_query shortest other shown =
+    let same = same_query f shown.task d shown.query q (same_task p f shown.task d shown.is_task there) shown.is_query is_query in
+    shortest other (subst (λ (x : Query). IsFoundBy p x other) same shown.leads)
 
 pub shown_by : (p : Listing) (f : Finding) (d : Descriptor) (q : Query) (answer : Option (Vec ℕ Global)) → Found p f → slice_get p.tasks f.task ≡ Some d
-    → query_of d.entry f ≡ Some q → IfSome answer (λ path. IsFoundBy p q path.items) → IfNone answer (CanBeFound p q → ⊥) → IsShown p f answer
-shown_by p f d q None found there is_query some none =
-    let same = same_task p f found d there in
+    → query_of d.entry f ≡ Some q → IfSome answer (λ path. IsFoundBy p q path.items) → IfSome answer (λ path. NoneShorter (IsFoundBy p q) path.items)
+    → IfNone answer (CanBeFound p q → ⊥) → IsShown p f answer
+shown_by p f d q None found there is_query some shortest none =
+    let same = same_task p f found.task d found.is_task there in
     absurd (none (found.there_is q (ap (λ (x : Descriptor). query_of x.entry f) same ∙ is_query)))
-shown_by p f d q (Some path) found there is_query some none =
-    let same = same_task p f found d there in
+shown_by p f d q (Some path) found there is_query some shortest none =
+    let same = same_task p f found.task d found.is_task there in
     let asked : query_of found.task.entry f ≡ Some q = ap (λ (x : Descriptor). query_of x.entry f) same ∙ is_query in
     record {
-      task = found.task;
-      is_task = found.is_task;
-      at = found.at;
-      is_there = found.is_there;
-      reached = found.reached;
-      wrong = found.wrong (ap (λ (o : Option Query). is_some o) asked);
-      query = q;
-      is_query = asked;
-      leads = some;
+      shows = record {
+        task = found.task;
+        is_task = found.is_task;
+        at = found.at;
+        is_there = found.is_there;
+        reached = found.reached;
+        wrong = found.wrong (ap (λ (o : Option Query). is_some o) asked);
+        query = q;
+        is_query = asked;
+        leads = some;
+      };
+      shortest = shortest_shown p f d q path.items there is_query shortest;
     }
-
-pub not_shown : (p : Listing) (f : Finding) (d : Descriptor) → slice_get p.tasks f.task ≡ Some d → query_of d.entry f ≡ None
-    → (e : Descriptor) → slice_get p.tasks f.task ≡ Some e → query_of e.entry f ≡ None
-not_shown p f d there none e also =
-    let same : d ≡ e = cc in ap (λ (x : Descriptor). query_of x.entry f) (sym same) ∙ none
 
 -- where a path is looked for there is an instruction
 pub start_inside : (p : Listing) (f : Finding) (d : Descriptor) (q : Query) → IsWellFormed p → Found p f → slice_get p.tasks f.task ≡ Some d

@@ -16,6 +16,7 @@ use Rattle.mark_checker.specs.declared.finding.Rule.{Rule}
 use Rattle.mark_checker.specs.declared.finding.Rule.TheVariants.{ExceedsCreate, ForwardedInNext, ReleasedInNext, SentNotCreated, ExitNotListed, FallsOff, IndirectGoesOn}
 use Rattle.mark_checker.specs.declared.finding.Finding.{Finding}
 use Rattle.annotator.specs.Least.{IsLeast}
+use Rattle.witnesses.specs.Witnesses.{NoneShorter}
 use Rattle.finding_paths.specs.declared.query.Query.{Query}
 use Rattle.finding_paths.specs.declared.shown.ShownFinding.{ShownFinding}
 use Rattle.finding_paths.specs.Queries.{query_of, IsFoundBy}
@@ -44,16 +45,21 @@ pub record Shows (p : Listing) (f : Finding) (path : List ℕ) : Type 0 where
   pub is_query : query_of task.entry f ≡ Some query
   pub leads : IsFoundBy p query path
 
+-- It does, and no path that does is shorter.
+pub record IsShortest (p : Listing) (f : Finding) (path : List ℕ) : Type 0 where
+  pub shows : Shows p f path
+  pub shortest : NoneShorter (Shows p f) path
+
 -- The finding is one that the checker has with a least certificate.
 pub record IsFinding (p : Listing) (f : Finding) : Type 0 where
   pub cert : List (List (ℕ × ℕ))
   pub least : IsLeast p cert
   pub found : Contains (all_rules p cert) f
 
--- a finding has a path that shows it exactly where there is a path to look for
+-- a finding has a shortest path that shows it exactly where there is a path to look for
 abbrev pub IsShown : Listing → Finding → Option (Vec ℕ Global) → Type 0
 IsShown p f None = (d : Descriptor) → slice_get p.tasks f.task ≡ Some d → query_of d.entry f ≡ None
-IsShown p f (Some path) = Shows p f path.items
+IsShown p f (Some path) = IsShortest p f path.items
 
 -- The list has the findings of a least certificate, each with what shows it.
 pub record AreShown (p : Listing) (list : List ShownFinding) : Type 0 where

@@ -2,6 +2,7 @@
 
 ghost use Rattle.std.specs.Prelude.{◌≡◌, ◌<◌, ◌↔◌, [], List, length, IfOk, IfSome, IfNone};
 ghost use Rattle.task_graph.specs.Soundness.{Sound};
+ghost use Rattle.witnesses.specs.Witnesses.{NoneShorter};
 ghost use Rattle.finding_paths.specs.Queries.{IsFoundBy, CanBeFound};
 ghost use Rattle.finding_paths.specs.Shown.{IsFinding, IsShown, AreShown};
 
@@ -24,10 +25,11 @@ pub struct ShownFinding {
     pub path: Option<Vec<u32>>,
 }
 
-/// The path that a query finds, if there is one.
+/// A shortest path of those that a query asks for, if there is one.
 fn found(alloc: Global, program: &Program, query: &Query) -> Result<Option<Vec<u32>>, AllocError>
     requires { query.now.start < length program.now.code }
     ensures found { IfOk result (λ answer. IfSome answer (λ path. IsFoundBy program.now query.now path.items)) }
+    ensures shortest { IfOk result (λ answer. IfSome answer (λ path. NoneShorter (IsFoundBy program.now query.now) path.items)) }
     ensures none { IfOk result (λ answer. IfNone answer (CanBeFound program.now query.now → ⊥)) }
 {
     if query.onward {
@@ -37,8 +39,8 @@ fn found(alloc: Global, program: &Program, query: &Query) -> Result<Option<Vec<u
     }
 }
 
-/// The path that shows a finding: `None` exactly where its rule speaks of masks or of targets alone. The
-/// finding is one that the checker has with the program's least certificate.
+/// A shortest path that shows a finding: `None` exactly where its rule speaks of masks or of targets
+/// alone. The finding is one that the checker has with the program's least certificate.
 ///
 /// # Errors
 ///
@@ -60,8 +62,8 @@ pub fn path_of(
     }
 }
 
-/// What is wrong with a program's marks, in order of task, index, rule and register, each with a path that
-/// shows it. The findings are those of the least certificate, so nothing is found exactly where the marks
+/// What is wrong with a program's marks, in order of task, index, rule and register, each with a shortest path
+/// that shows it. The findings are those of the least certificate, so nothing is found exactly where the marks
 /// are sound.
 ///
 /// # Errors

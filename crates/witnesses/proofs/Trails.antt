@@ -5,7 +5,7 @@ use Rattle.task_descriptor.specs.Listing.{Listing}
 use Rattle.task_graph.specs.Edges.{Edge, Path, stay, onward}
 use Rattle.witnesses.specs.declared.visits.Visit.{Visit}
 use Rattle.witnesses.specs.Witnesses.{indices, ListsPath}
-use Rattle.witnesses.specs.Visits.{AreVisits, ComeFromEarlier, StepsBack, first, behind, IsAsLong}
+use Rattle.witnesses.specs.Visits.{AreVisits, ComeFromEarlier, StepsBack, at_first, behind, IsAsLong}
 
 -- each path to i goes on to the end along the rest
 pub record GoesOn (p : Listing) (start i to : ℕ) (rest : List ℕ) : Type 0 where
@@ -79,6 +79,6 @@ pub way_is_long : (visits : List Visit) (at number : ℕ) (path more back : List
     → more ≡ path ++ x.index ∷ [] → back ≡ reverse more → WayBack visits at number path → IsAsLong visits at back
 way_is_long visits at number path more back x none pushed reversed w = record {
   steps = 0 + length path;
-  back = w.far 0 (subst (λ n. StepsBack visits n 0) (sym none) first);
+  back = w.far 0 (subst (λ n. StepsBack visits n 0) (sym none) at_first);
   long = omega (arith, ap length reversed, length-reverse more, ap length pushed, length-append path (x.index ∷ []));
 }

@@ -17,7 +17,7 @@ pub record AreVisits (p : Listing) (start : ℕ) (visits : List Visit) : Type 0 
 
 -- the first visit is so many steps back
 pub data StepsBack (visits : List Visit) : (at steps : ℕ) → Type 0 where
-  first : StepsBack visits 0 0
+  at_first : StepsBack visits 0 0
   behind : {k n : ℕ} {v : Visit} → slice_get visits (suc k) ≡ Some v → StepsBack visits v.from n → StepsBack visits (suc k) (suc n)
 
 -- the list has an index for each visit on the way back

@@ -51,4 +51,4 @@ pub record LeadsOnward (p : Listing) (start : ℕ) (sought : Sought) (list : Lis
 
 -- Nothing that is such a list is shorter.
 abbrev pub NoneShorter : (List ℕ → Type 0) → List ℕ → Type 0
-NoneShorter IsSuch list = (other : List ℕ) → IsSuch other → length list ≤ length other
+NoneShorter such list = (other : List ℕ) → such other → length list ≤ length other

@@ -3,10 +3,10 @@ use Rattle.std.proofs.Common.{ℕ}
 use Rattle.std.specs.declared.alloc.Global.{Global}
 use Rattle.std.specs.declared.vec.Vec.{Vec}
 use Rattle.std.proofs.lemmas.Result.{IfOk-weaker}
-use Rattle.witnesses.specs.Witnesses.{LeadsTo, LeadsOnward}
+use Rattle.witnesses.specs.Witnesses.{LeadsTo, LeadsOnward, NoneShorter}
 use Rattle.witnesses.proofs.Searches.{if_some, if_none}
 use Rattle.finding_paths.specs.Queries.{IsFoundBy}
-use Rattle.finding_paths.proofs.Showing.{found_onward, found_from, none_onward, none_from}
+use Rattle.finding_paths.proofs.Showing.{found_onward, found_from, shortest_onward, shortest_from, none_onward, none_from}
 use Rattle.finding_paths.proofs.shown.found.Goals as goal
 
 pub returns-then-query-clause-found : goal.returns-then-query-clause-found
@@ -36,3 +36,21 @@ pub returns-else-query-clause-none : goal.returns-else-query-clause-none
 returns-else-query-clause-none c =
     IfOk-weaker c.path_to.result _ _
     (λ answer h. if_none answer _ _ (none_from c.args.program.now c.args.query.now c.if-query.false) h) c.path_to.ensures.none
+
+pub returns-then-query-clause-shortest : goal.returns-then-query-clause-shortest
+returns-then-query-clause-shortest c =
+    let p = c.args.program.now in
+    let q = c.args.query.now in
+    IfOk-weaker c.path_onward.result _ _
+    (λ answer h. if_some answer (λ (path : Vec ℕ Global). NoneShorter (LeadsOnward p q.start q.sought) path.items) (λ (path : Vec ℕ Global). NoneShorter (IsFoundBy p q) path.items)
+    (λ path l. shortest_onward p q path.items c.if-query.true l) h)
+    c.path_onward.ensures.shortest
+
+pub returns-else-query-clause-shortest : goal.returns-else-query-clause-shortest
+returns-else-query-clause-shortest c =
+    let p = c.args.program.now in
+    let q = c.args.query.now in
+    IfOk-weaker c.path_to.result _ _
+    (λ answer h. if_some answer (λ (path : Vec ℕ Global). NoneShorter (LeadsTo p q.start q.sought) path.items) (λ (path : Vec ℕ Global). NoneShorter (IsFoundBy p q) path.items)
+    (λ path l. shortest_from p q path.items c.if-query.false l) h)
+    c.path_to.ensures.shortest
