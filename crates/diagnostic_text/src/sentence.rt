@@ -2,7 +2,7 @@
 
 ghost use Rattle.std.specs.Prelude.{◌≡◌, ◌++◌, OnOk};
 ghost use Rattle.std.specs.String.{string_bytes};
-ghost use Rattle.diagnostic_text.specs.Sentences.{number_in, lack_text, sentence_text, help_text};
+ghost use Rattle.diagnostic_text.specs.Sentences.{number_in, lack_text, register_text, exit_text, sentence_text, help_text};
 
 use mark_checker::finding::Rule;
 use mips_plain::number::Reg;
@@ -43,18 +43,11 @@ fn write_lack(text: &mut String, rule: Rule, task: &str, r: u8) -> Result<(), Al
     }
 }
 
-/// Adds what is wrong by a rule, of the task with this name and of the register of this number.
-pub(crate) fn write_sentence(
-    text: &mut String,
-    rule: Rule,
-    task: &str,
-    r: u8,
-) -> Result<(), AllocError>
-    ensures { OnOk result (string_bytes text.new ≡ string_bytes text.old ++ sentence_text rule task.now r) }
+/// Adds what is wrong with a register by a rule.
+fn write_register(text: &mut String, rule: Rule, task: &str, r: u8) -> Result<(), AllocError>
+    ensures { OnOk result (string_bytes text.new ≡ string_bytes text.old ++ register_text rule task.now r) }
 {
     match rule {
-        Rule::EntryWithoutMask | Rule::NextWithoutMask | Rule::LacksDestination | Rule::LacksNext =>
-            write_lack(text, rule, task, r),
         Rule::ExceedsCreate => write!(
             text,
             "task {task} may write ${r}, which its create mask lacks"
@@ -71,6 +64,15 @@ pub(crate) fn write_sentence(
             text,
             "task {task} sends ${r} here, which its create mask lacks"
         ),
+        _ => Ok(()),
+    }
+}
+
+/// Adds what is wrong with where a task goes by a rule.
+fn write_exit(text: &mut String, rule: Rule, task: &str) -> Result<(), AllocError>
+    ensures { OnOk result (string_bytes text.new ≡ string_bytes text.old ++ exit_text rule task.now) }
+{
+    match rule {
         Rule::ExitNotListed => write!(
             text,
             "task {task} can end here and go on to a place that is not one of its targets"
@@ -84,6 +86,26 @@ pub(crate) fn write_sentence(
             "task {task} goes on over a jump to an address in a register"
         ),
         Rule::TargetNotEntry => write!(text, "a target of task {task} is not where a task begins"),
+        _ => Ok(()),
+    }
+}
+
+/// Adds what is wrong by a rule, of the task with this name and of the register of this number.
+pub(crate) fn write_sentence(
+    text: &mut String,
+    rule: Rule,
+    task: &str,
+    r: u8,
+) -> Result<(), AllocError>
+    ensures { OnOk result (string_bytes text.new ≡ string_bytes text.old ++ sentence_text rule task.now r) }
+{
+    match rule {
+        Rule::EntryWithoutMask | Rule::NextWithoutMask | Rule::LacksDestination | Rule::LacksNext =>
+            write_lack(text, rule, task, r),
+        Rule::ExceedsCreate | Rule::ForwardedInNext | Rule::ReleasedInNext | Rule::SentNotCreated =>
+            write_register(text, rule, task, r),
+        Rule::ExitNotListed | Rule::FallsOff | Rule::IndirectGoesOn | Rule::TargetNotEntry =>
+            write_exit(text, rule, task),
     }
 }
 
