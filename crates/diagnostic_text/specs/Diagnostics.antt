@@ -4,8 +4,7 @@ use Rattle.std.specs.Prelude.{◌≡◌, ℕ, ◌-◌, List, [], ◌∷◌, ◌+
 use Rattle.std.specs.Fmt.{decimal}
 use Rattle.std.specs.declared.alloc.Global.{Global}
 use Rattle.std.specs.declared.vec.Vec.{Vec}
-use Rattle.task_descriptor.specs.Listing.{Listing}
-use Rattle.task_descriptor.specs.declared.descriptor.Descriptor.{Descriptor}
+use Rattle.task_descriptor.specs.Listing.{Listing, name_at}
 use Rattle.annotated_asm.specs.ProgramText.{Spells}
 use Rattle.source_map.specs.declared.position.Position.{Position}
 use Rattle.source_map.specs.Sources.{Sources, sources_of}
@@ -32,10 +31,6 @@ place_by _ s task index = place_in (slice_get s.code index)
 -- the file's name, the line and the column
 abbrev pub position_text : (file : List ℕ) → Position → List ℕ
 position_text file at = file ++ (codes ":" ++ (decimal at.line ++ (codes ":" ++ (decimal at.column ++ codes ": "))))
-
-abbrev pub task_name : Option Descriptor → List ℕ
-task_name None = []
-task_name (Some d) = d.name
 
 abbrev pub error_text : (file : List ℕ) → Position → (task : List ℕ) → Finding → List ℕ
 error_text file at task f =
@@ -84,7 +79,7 @@ abbrev pub finding_text : (file : List ℕ) → Listing → Sources → ShownFin
 finding_text file p s shown =
     let f = shown.finding in
     let at = place_by f.rule s f.task f.index in
-    let task = task_name (slice_get p.tasks f.task) in
+    let task = name_at (slice_get p.tasks f.task) in
     error_text file at task f ++ (path_note file s f.rule shown.path ++ todo_text file at task f)
 
 abbrev pub findings_text : (file : List ℕ) → Listing → Sources → List ShownFinding → List ℕ

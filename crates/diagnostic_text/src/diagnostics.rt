@@ -1,11 +1,11 @@
 //! The text of findings for the author of a program text.
 
-ghost use Rattle.std.specs.Prelude.{◌≡◌, ◌++◌, codes, slice_get, IfOk, OnOk};
+ghost use Rattle.std.specs.Prelude.{◌≡◌, ◌++◌, codes, IfOk, OnOk};
 ghost use Rattle.std.specs.List.{flat_map};
 ghost use Rattle.std.specs.Fmt.{decimal};
 ghost use Rattle.std.specs.String.{string_bytes};
 ghost use Rattle.source_map.specs.Sources.{sources_in};
-ghost use Rattle.diagnostic_text.specs.Diagnostics.{position_text, task_name, error_text, todo_text, line_of, path_text, note_text, path_note, finding_text, findings_text, IsExplained};
+ghost use Rattle.diagnostic_text.specs.Diagnostics.{position_text, error_text, todo_text, line_of, path_text, note_text, path_note, finding_text, findings_text, IsExplained};
 
 use crate::place::{line_of, note_index, note_words, place_by, place_of};
 use crate::sentence::{number_in, write_help, write_sentence};
@@ -25,16 +25,6 @@ fn write_position(text: &mut String, file: &str, at: Position) -> Result<(), All
     let line = at.line;
     let column = at.column;
     write!(text, "{file}:{line}:{column}: ")
-}
-
-/// The name of the task of this number.
-fn task_name(program: &Program, task: u32) -> &str
-    ensures { result.now ≡ task_name (slice_get program.now.tasks task) }
-{
-    match program.tasks().get(task as usize) {
-        Some(descriptor) => descriptor.name.as_str(),
-        None => "",
-    }
 }
 
 /// Adds what is wrong.
@@ -140,7 +130,7 @@ fn write_finding(
 {
     let finding = &shown.finding;
     let at = place_by(map, finding);
-    let task = task_name(program, finding.task);
+    let task = program.task_name(finding.task);
     write_error(text, file, at, task, finding)?;
     write_path_note(text, file, map, shown)?;
     write_todo(text, file, at, task, finding)

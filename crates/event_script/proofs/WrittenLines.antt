@@ -14,7 +14,7 @@ use Rattle.std.proofs.lemmas.List.Splits.{slice_split_at, slice_split_none}
 use Rattle.std.proofs.lemmas.Slice.Eq.{bytes_eq-Decides}
 use Rattle.std.proofs.lemmas.Str.Parse.{digit_from_value}
 use Rattle.task_descriptor.specs.Names.{is_name, begins, continues_name}
-use Rattle.task_descriptor.specs.Listing.{Listing, IsWellFormed, collide, has_duplicate, is_too_many, has_no_task, has_bad_entry}
+use Rattle.task_descriptor.specs.Listing.{Listing, IsWellFormed, collide, has_duplicate, is_too_many, has_no_task, has_bad_entry, name_at}
 use Rattle.task_descriptor.specs.declared.descriptor.Descriptor.{Descriptor}
 use Rattle.task_descriptor.specs.declared.program.BuildFault.{BuildFault}
 use Rattle.machine_events.specs.declared.event.Event.{Event}
@@ -23,7 +23,7 @@ use Rattle.event_script.specs.declared.fault.LineFault.{LineFault}
 use Rattle.event_script.specs.declared.fault.LineFault.TheVariants.{NoForm}
 use Rattle.event_script.specs.declared.fault.ScriptFault.{ScriptFault}
 use Rattle.event_script.specs.EventScript.{is_newline, is_space, is_number, number_in, register_in, if_register, if_task, assigned, at_position, with_two, event_of, event_in, at_line, ◌>>=◌, events_from, lines, names_in, script_of}
-use Rattle.event_script.specs.ScriptText.{name_at, event_text, script_text, IsTold, NamesRegister}
+use Rattle.event_script.specs.ScriptText.{event_text, script_text, IsTold, NamesRegister}
 use Rattle.event_script.proofs.Cuts.{lines_more}
 use Rattle.event_script.proofs.LineWords.{position_named}
 use Rattle.event_script.proofs.Numbers.{no_leading_zero}

@@ -1,14 +1,9 @@
 -- Writing the text of an event script (own choice): each event on a line of its own, as reading takes it.
-use Rattle.std.specs.Prelude.{ℕ, ◌<◌, ◌≤◌, List, [], ◌∷◌, ◌++◌, length, flat_map, slice_get, Option, Some, None, codes}
+use Rattle.std.specs.Prelude.{ℕ, ◌<◌, ◌≤◌, List, [], ◌∷◌, ◌++◌, length, flat_map, slice_get, codes}
 use Rattle.std.specs.Fmt.{decimal}
-use Rattle.task_descriptor.specs.Listing.{Listing}
-use Rattle.task_descriptor.specs.declared.descriptor.Descriptor.{Descriptor}
+use Rattle.task_descriptor.specs.Listing.{Listing, name_at}
 use Rattle.machine_events.specs.declared.event.Event.{Event}
 use Rattle.machine_events.specs.declared.event.Event.TheVariants.{Assign, Exec, Transfer, Drain, Squash, Retire, Fault, Drop}
-
-abbrev pub name_at : Option Descriptor → List ℕ
-name_at None = []
-name_at (Some task) = task.name
 
 -- an event, with the name of the task that it assigns; of no task, no name
 abbrev pub event_text : Listing → Event → List ℕ

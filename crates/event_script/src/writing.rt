@@ -1,12 +1,12 @@
 //! Writing the text of an event script.
 
-ghost use Rattle.std.specs.Prelude.{◌≡◌, ◌++◌, ◌<◌, List, length, replicate, slice_get, Ok, IfOk, OnOk};
+ghost use Rattle.std.specs.Prelude.{◌≡◌, ◌++◌, ◌<◌, List, length, replicate, Ok, IfOk, OnOk};
 ghost use Rattle.std.specs.List.{All, concat};
 ghost use Rattle.std.specs.String.{string_bytes};
 ghost use Rattle.machine_events.specs.declared.event.Event.{Event};
 ghost use Rattle.machine_events.specs.Runs.{events_of};
 ghost use Rattle.event_script.specs.EventScript.{script_of};
-ghost use Rattle.event_script.specs.ScriptText.{IsTold, NamesRegister, event_text, line_text, name_at, script_text};
+ghost use Rattle.event_script.specs.ScriptText.{IsTold, NamesRegister, event_text, line_text, script_text};
 
 use machine_events::event::{Event, EventRun};
 use std::alloc::{AllocError, Global};
@@ -21,16 +21,6 @@ pub fn written_is_read(program: &Program)
     let _ = program.tasks();
 }
 
-// The name of the task of this number.
-fn task_name(program: &Program, task: u32) -> &str
-    ensures { result.now ≡ name_at (slice_get program.now.tasks task) }
-{
-    match program.tasks().get(task as usize) {
-        Some(descriptor) => descriptor.name.as_str(),
-        None => "",
-    }
-}
-
 // Adds an event.
 fn write_event(text: &mut String, program: &Program, event: Event) -> Result<(), AllocError>
     ensures text { OnOk result (string_bytes text.new ≡ string_bytes text.old ++ event_text program.now event) }
@@ -38,7 +28,7 @@ fn write_event(text: &mut String, program: &Program, event: Event) -> Result<(),
 {
     match event {
         Event::Assign(task) => {
-            let name = task_name(program, task);
+            let name = program.task_name(task);
             write!(text, "assign {name}")
         }
         Event::Exec(k) => write!(text, "exec {k}"),

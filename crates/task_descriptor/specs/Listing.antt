@@ -49,6 +49,11 @@ if_instruction code (Some index) = if nat_lt index (length code) then Some index
 abbrev pub instruction_at : Listing → ℕ → Option ℕ
 instruction_at p at = if_instruction p.code (index_of at)
 
+-- the name of a task that was looked up; nothing where there is none
+abbrev pub name_at : Option Descriptor → List ℕ
+name_at None = []
+name_at (Some task) = task.name
+
 -- the numbers below n, rising
 abbrev pub numbers_below : ℕ → List ℕ
 numbers_below zero = []

@@ -91,7 +91,7 @@ impl Program {
     ghost use Rattle.std.specs.Prelude.{◌≡◌, ◌↔◌, ◌+◌, ◌*◌, ◌<◌, Some, IsTrue, IfOk, MatchResult, map, position, ◌==◌, option_copied, slice_get};
     ghost use Rattle.mips_plain.specs.Words.{address};
     ghost use Rattle.mips_plain.specs.PlainView.{IsAfter};
-    ghost use Rattle.task_descriptor.specs.Listing.{Listing, IsWellFormed, build_fault, listing_of, instruction_at, input};
+    ghost use Rattle.task_descriptor.specs.Listing.{Listing, IsWellFormed, build_fault, listing_of, instruction_at, input, name_at};
 
     /// The program that the parts make. A refusal gives the parts back with the first fault that
     /// holds of them.
@@ -152,6 +152,16 @@ impl Program {
         ensures well_formed { IsWellFormed self.now }
     {
         &self.tasks
+    }
+
+    /// The name of the task of this number; empty where there is no such task.
+    pub fn task_name(&self, task: u32) -> &str
+        ensures { result.now ≡ name_at (slice_get self.now.tasks task) }
+    {
+        match self.tasks.get(task as usize) {
+            Some(descriptor) => descriptor.name.as_str(),
+            None => "",
+        }
     }
 
     /// The index of the first instruction, which is a task's entry.

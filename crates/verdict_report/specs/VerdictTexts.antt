@@ -1,8 +1,7 @@
 -- The texts of a certificate that is refused, and of a verdict (own choice).
 use Rattle.std.specs.Prelude.{ℕ, List, [], ◌∷◌, ◌++◌, length, codes, flat_map, slice_get, Option, Some, None}
 use Rattle.std.specs.Fmt.{decimal}
-use Rattle.task_descriptor.specs.Listing.{Listing}
-use Rattle.task_descriptor.specs.declared.descriptor.Descriptor.{Descriptor}
+use Rattle.task_descriptor.specs.Listing.{Listing, name_at}
 use Rattle.mask_certificate.specs.declared.fault.CertFault.{CertFault}
 use Rattle.mask_certificate.specs.FaultText.{cert_fault_text}
 use Rattle.mark_checker.specs.Numbers.{number_of}
@@ -15,11 +14,6 @@ certificate_refused fault = record {
   bytes = codes "certificate refused: " ++ (cert_fault_text fault ++ 10 ∷ []);
   status = 1;
 }
-
--- the name of a task, by its number
-abbrev pub name_at : Option Descriptor → List ℕ
-name_at None = []
-name_at (Some task) = task.name
 
 -- the register of a finding, or `-` where its rule has none
 abbrev pub register_text : Option ℕ → List ℕ

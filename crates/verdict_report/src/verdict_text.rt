@@ -1,7 +1,7 @@
 //! The texts of a certificate that is refused, and of a verdict.
-ghost use Rattle.std.specs.Prelude.{◌≡◌, ◌++◌, slice_get, OnOk, IfOk};
+ghost use Rattle.std.specs.Prelude.{◌≡◌, ◌++◌, OnOk, IfOk};
 ghost use Rattle.std.specs.String.{string_bytes};
-ghost use Rattle.verdict_report.specs.VerdictTexts.{certificate_refused, finding_text, name_at, program_accepted, program_found, register_text};
+ghost use Rattle.verdict_report.specs.VerdictTexts.{certificate_refused, finding_text, program_accepted, program_found, register_text};
 ghost use Rattle.std.specs.List.{flat_map};
 
 use crate::report::Report;
@@ -18,16 +18,6 @@ pub fn refused_certificate(alloc: Global, fault: CertFault) -> Result<Report, Al
     let mut text = String::new(alloc);
     writeln!(text, "certificate refused: {fault}")?;
     Ok(Report::new(text.into_bytes(), 1))
-}
-
-// The name of the task of this number.
-fn task_name(program: &Program, task: u32) -> &str
-    ensures { result.now ≡ name_at (slice_get program.now.tasks task) }
-{
-    match program.tasks().get(task as usize) {
-        Some(descriptor) => descriptor.name.as_str(),
-        None => "",
-    }
 }
 
 // Adds the register of a finding, or `-` where its rule has none.
@@ -47,7 +37,7 @@ fn write_register(text: &mut String, register: Option<Reg>) -> Result<(), AllocE
 fn write_finding(text: &mut String, program: &Program, finding: &Finding) -> Result<(), AllocError>
     ensures { OnOk result (string_bytes text.new ≡ string_bytes text.old ++ finding_text program.now finding.now) }
 {
-    let name = task_name(program, finding.task);
+    let name = program.task_name(finding.task);
     let index = finding.index;
     let rule = finding.rule.number();
     write!(text, "{name} {index} rule {rule} ")?;
