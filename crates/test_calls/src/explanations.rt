@@ -32,7 +32,8 @@ p.s:3:4: help: remove !f here and put it at the last instruction that writes $8
 // The tab is told as a tab below the line too, and of the line break nothing is told.
 const TABBED: &[u8] = b".task A create=- targets=-\r\nA:\taddiu $8,$0,1\r\n\thalt\r\n";
 
-const SAID_OF_TABBED: &str = "p.s:1:1: error: task A may write $8, which its create mask lacks [rule 5]
+const SAID_OF_TABBED: &str =
+    "p.s:1:1: error: task A may write $8, which its create mask lacks [rule 5]
     1 | .task A create=- targets=-
       | ^
 p.s:2:4: note: written here, on the path 2
