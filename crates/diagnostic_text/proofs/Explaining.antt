@@ -2,6 +2,7 @@
 use Rattle.std.proofs.Common.{◌≡◌, ◌↔◌, ℕ, ◌<◌, List, [], ◌∷◌, ◌++◌, Ok, length, refl, sym, ◌∙◌, ap, arith, length-append}
 use Rattle.task_descriptor.specs.Listing.{Listing}
 use Rattle.task_graph.specs.Soundness.{Sound}
+use Rattle.program_tokens.specs.Lines.{lines}
 use Rattle.annotated_asm.specs.Steps.{FailsText}
 use Rattle.annotated_asm.specs.ProgramText.{parse, Spells}
 use Rattle.annotated_asm.specs.declared.fault.AsmFault.{AsmFault}
@@ -11,23 +12,23 @@ use Rattle.finding_paths.specs.declared.shown.ShownFinding.{ShownFinding}
 use Rattle.finding_paths.specs.Shown.{AreShown}
 use Rattle.diagnostic_text.specs.Diagnostics.{finding_text, findings_text, IsExplained}
 
-says_something : (file text : List ℕ) (p : Listing) (s : Sources) (shown : ShownFinding) (more : List ℕ) → 0 < length (finding_text file text p s shown ++ more)
-says_something file text p s shown more = simp length-append (omega arith)
+says_something : (file : List ℕ) (rows : List (List ℕ)) (p : Listing) (s : Sources) (shown : ShownFinding) (more : List ℕ) → 0 < length (finding_text file rows p s shown ++ more)
+says_something file rows p s shown more = simp length-append (omega arith)
 
 no_bytes : (xs : List ℕ) → 0 < length xs → xs ≡ [] → ⊥
 no_bytes xs some none = let e : length xs ≡ 0 = ap length none in absurd (omega arith)
 
-nothing_said : (file text : List ℕ) (p : Listing) (s : Sources) (list : List ShownFinding) → (findings_text file text p s list ≡ []) ↔ (list ≡ [])
-nothing_said file text p s [] = (λ e. refl, λ e. refl)
-nothing_said file text p s (x ∷ xs) = (
-  λ e. absurd (no_bytes (finding_text file text p s x ++ findings_text file text p s xs) (says_something file text p s x (findings_text file text p s xs)) e),
+nothing_said : (file : List ℕ) (rows : List (List ℕ)) (p : Listing) (s : Sources) (list : List ShownFinding) → (findings_text file rows p s list ≡ []) ↔ (list ≡ [])
+nothing_said file rows p s [] = (λ e. refl, λ e. refl)
+nothing_said file rows p s (x ∷ xs) = (
+  λ e. absurd (no_bytes (finding_text file rows p s x ++ findings_text file rows p s xs) (says_something file rows p s x (findings_text file rows p s xs)) e),
   λ e. absurd (cc),
 )
 
 pub explained : (file text bytes : List ℕ) (p : Listing) (s : Sources) (list : List ShownFinding) → Spells text p → sources_of text ≡ Ok s → AreShown p list
-    → ((list ≡ []) ↔ Sound p) → bytes ≡ findings_text file text p s list → IsExplained file text bytes
+    → ((list ≡ []) ↔ Sound p) → bytes ≡ findings_text file (lines text) p s list → IsExplained file text bytes
 explained file text bytes p s list spelled mapped shown sound said =
-    let nothing = nothing_said file text p s list in
+    let nothing = nothing_said file (lines text) p s list in
     record {
       program = p;
       spelled = spelled;

@@ -6,6 +6,7 @@ use Rattle.std.specs.declared.alloc.Global.{Global}
 use Rattle.std.specs.declared.vec.Vec.{Vec}
 use Rattle.task_descriptor.specs.Listing.{Listing}
 use Rattle.task_descriptor.specs.declared.descriptor.Descriptor.{Descriptor}
+use Rattle.program_tokens.specs.Lines.{lines}
 use Rattle.annotated_asm.specs.ProgramText.{Spells}
 use Rattle.source_map.specs.declared.position.Position.{Position}
 use Rattle.source_map.specs.Sources.{Sources, sources_of}
@@ -77,21 +78,21 @@ note_text file s rule path =
     position_text file (place_in (slice_get s.code (note_index rule path)))
     ++ (codes "note: " ++ (note_words rule ++ (codes ", on the path " ++ (path_text s path ++ 10 ∷ []))))
 
-abbrev pub path_note : (file text : List ℕ) → Sources → Rule → Option (Vec ℕ Global) → List ℕ
-path_note file text s rule None = []
-path_note file text s rule (Some path) =
-    note_text file s rule path.items ++ excerpt_text text (place_in (slice_get s.code (note_index rule path.items)))
+abbrev pub path_note : (file : List ℕ) → (rows : List (List ℕ)) → Sources → Rule → Option (Vec ℕ Global) → List ℕ
+path_note file rows s rule None = []
+path_note file rows s rule (Some path) =
+    note_text file s rule path.items ++ excerpt_text rows (place_in (slice_get s.code (note_index rule path.items)))
 
--- all that is said of one finding
-abbrev pub finding_text : (file text : List ℕ) → Listing → Sources → ShownFinding → List ℕ
-finding_text file text p s shown =
+-- all that is said of one finding, in a text of these lines
+abbrev pub finding_text : (file : List ℕ) → (rows : List (List ℕ)) → Listing → Sources → ShownFinding → List ℕ
+finding_text file rows p s shown =
     let f = shown.finding in
     let at = place_by f.rule s f.task f.index in
     let task = task_name (slice_get p.tasks f.task) in
-    error_text file at task f ++ (excerpt_text text at ++ (path_note file text s f.rule shown.path ++ todo_text file at task f))
+    error_text file at task f ++ (excerpt_text rows at ++ (path_note file rows s f.rule shown.path ++ todo_text file at task f))
 
-abbrev pub findings_text : (file text : List ℕ) → Listing → Sources → List ShownFinding → List ℕ
-findings_text file text p s list = flat_map (finding_text file text p s) list
+abbrev pub findings_text : (file : List ℕ) → (rows : List (List ℕ)) → Listing → Sources → List ShownFinding → List ℕ
+findings_text file rows p s list = flat_map (finding_text file rows p s) list
 
 -- The bytes say what is wrong with the marks of the program that the text spells.
 pub record IsExplained (file text bytes : List ℕ) : Type 0 where
@@ -101,6 +102,6 @@ pub record IsExplained (file text bytes : List ℕ) : Type 0 where
   pub mapped : sources_of text ≡ Ok sources
   pub list : List ShownFinding
   pub shown : AreShown program list
-  pub said : bytes ≡ findings_text file text program sources list
+  pub said : bytes ≡ findings_text file (lines text) program sources list
   -- nothing is said exactly where the marks are sound
   pub silent : (bytes ≡ []) ↔ Sound program

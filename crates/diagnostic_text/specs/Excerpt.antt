@@ -2,7 +2,6 @@
 use Rattle.std.specs.Prelude.{ℕ, ◌-◌, max, List, [], ◌∷◌, ◌++◌, map, take, length, replicate, codes, slice_get, Option, Some, None, nat_lt, if◌then◌else◌, ◌==◌}
 use Rattle.std.specs.Fmt.{decimal}
 use Rattle.std.specs.Str.Lines.{strip_carriage_return}
-use Rattle.program_tokens.specs.Lines.{lines}
 use Rattle.source_map.specs.declared.position.Position.{Position}
 
 -- a line without the CR that may end it; no bytes where there is no line
@@ -10,9 +9,9 @@ abbrev pub line_or_none : Option (List ℕ) → List ℕ
 line_or_none None = []
 line_or_none (Some line) = strip_carriage_return line
 
--- the line of this number, from 1
-abbrev pub line_in : (text : List ℕ) → (number : ℕ) → List ℕ
-line_in text number = line_or_none (slice_get (lines text) (number - 1))
+-- the line of this number, from 1, of some lines
+abbrev pub line_in : (rows : List (List ℕ)) → (number : ℕ) → List ℕ
+line_in rows number = line_or_none (slice_get rows (number - 1))
 
 -- A byte as it is shown: a byte that is not ASCII, which no program text has, as a question mark.
 abbrev pub shown_byte : ℕ → ℕ
@@ -30,8 +29,8 @@ line_row number line = replicate (5 - length number) 32 ++ (number ++ (codes " |
 abbrev pub caret_row : (number front : List ℕ) → List ℕ
 caret_row number front = replicate (max 5 (length number)) 32 ++ (codes " | " ++ (map below_byte front ++ (codes "^" ++ 10 ∷ [])))
 
--- the line of a place, and the caret below the place
-unfoldable pub excerpt_text : (text : List ℕ) → Position → List ℕ
-excerpt_text text at =
-    let line = line_in text at.line in
+-- the line of a place, and the caret below the place, in a text of these lines
+unfoldable pub excerpt_text : (rows : List (List ℕ)) → Position → List ℕ
+excerpt_text rows at =
+    let line = line_in rows at.line in
     line_row (decimal at.line) line ++ caret_row (decimal at.line) (take (at.column - 1) line)

@@ -1,15 +1,16 @@
 //! The text of findings for the author of a program text.
 
-ghost use Rattle.std.specs.Prelude.{◌≡◌, [], ◌∷◌, ◌++◌, codes, slice_get, IfOk, IfErr, OnOk};
+ghost use Rattle.std.specs.Prelude.{◌≡◌, [], ◌∷◌, ◌++◌, codes, map as each, slice_get, IfOk, IfErr, OnOk};
 ghost use Rattle.std.specs.List.{flat_map};
 ghost use Rattle.std.specs.Fmt.{decimal};
 ghost use Rattle.std.specs.String.{string_bytes};
+ghost use Rattle.program_tokens.specs.Lines.{lines};
 ghost use Rattle.annotated_asm.specs.Steps.{FailsText};
 ghost use Rattle.annotated_asm.specs.ProgramText.{parse};
 ghost use Rattle.source_map.specs.Sources.{sources_in};
 ghost use Rattle.diagnostic_text.specs.Diagnostics.{position_text, task_name, error_text, todo_text, line_of, path_text, note_text, path_note, finding_text, findings_text, IsExplained};
 
-use crate::excerpt::write_excerpt;
+use crate::excerpt::{lines_of, write_excerpt};
 use crate::place::{line_of, note_index, note_words, place_by, place_of};
 use crate::sentence::{number_in, write_help, write_sentence};
 use annotated_asm::assembler::assemble;
@@ -146,18 +147,18 @@ fn write_path_note(
     alloc: Global,
     text: &mut String,
     file: &str,
-    source: &[u8],
+    rows: &[&[u8]],
     map: &SourceMap,
     shown: &ShownFinding,
 ) -> Result<(), AllocError>
     ensures { OnOk result (string_bytes text.new
-        ≡ string_bytes text.old ++ path_note file.now source.now (sources_in map.now) shown.now.finding.rule shown.now.path) }
+        ≡ string_bytes text.old ++ path_note file.now (each (λ line. line.now) rows.now) (sources_in map.now) shown.now.finding.rule shown.now.path) }
 {
     match &shown.path {
         Some(path) => {
             let rule = shown.finding.rule;
             write_note(text, file, map, rule, path)?;
-            write_excerpt(alloc, text, source, place_of(map, note_index(rule, path)))
+            write_excerpt(alloc, text, rows, place_of(map, note_index(rule, path)))
         }
         None => Ok(()),
     }
@@ -168,20 +169,20 @@ fn write_finding(
     alloc: Global,
     text: &mut String,
     file: &str,
-    source: &[u8],
+    rows: &[&[u8]],
     program: &Program,
     map: &SourceMap,
     shown: &ShownFinding,
 ) -> Result<(), AllocError>
     ensures { OnOk result (string_bytes text.new
-        ≡ string_bytes text.old ++ finding_text file.now source.now program.now (sources_in map.now) shown.now) }
+        ≡ string_bytes text.old ++ finding_text file.now (each (λ line. line.now) rows.now) program.now (sources_in map.now) shown.now) }
 {
     let finding = &shown.finding;
     let at = place_by(map, finding);
     let task = task_name(program, finding.task);
     write_error(text, file, at, task, finding)?;
-    write_excerpt(alloc, text, source, at)?;
-    write_path_note(alloc, text, file, source, map, shown)?;
+    write_excerpt(alloc, text, rows, at)?;
+    write_path_note(alloc, text, file, rows, map, shown)?;
     write_todo(text, file, at, task, finding)
 }
 
@@ -200,11 +201,13 @@ pub fn findings_text(
     list: &[ShownFinding],
 ) -> Result<String, AllocError>
     ensures { IfOk result (λ text. string_bytes text
-        ≡ findings_text file.now source.now program.now (sources_in map.now) list.now) }
+        ≡ findings_text file.now (lines source.now) program.now (sources_in map.now) list.now) }
 {
+    let rows = lines_of(alloc, source)?;
+    let rows = rows.as_slice();
     let mut text = String::new(alloc);
     for shown in list {
-        write_finding(alloc, &mut text, file, source, program, map, shown)?;
+        write_finding(alloc, &mut text, file, rows, program, map, shown)?;
     }
     Ok(text)
 }

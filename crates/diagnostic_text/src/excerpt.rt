@@ -1,8 +1,9 @@
 //! The line of a text that something is said of, and a caret below the column.
 
-ghost use Rattle.std.specs.Prelude.{◌≡◌, ◌++◌, ◌-◌, ◌<◌, map, take, replicate, OnOk, IfSome};
+ghost use Rattle.std.specs.Prelude.{◌≡◌, ◌++◌, ◌-◌, ◌<◌, map, take, replicate, IfOk, OnOk};
 ghost use Rattle.std.specs.String.{string_bytes};
 ghost use Rattle.std.specs.Str.Lines.{strip_carriage_return};
+ghost use Rattle.program_tokens.specs.Lines.{lines};
 ghost use Rattle.diagnostic_text.specs.Excerpt.{line_in, shown_byte, below_byte, line_row, caret_row, excerpt_text};
 
 use program_tokens::line::first_line;
@@ -19,22 +20,30 @@ fn without_carriage_return(line: &[u8]) -> &[u8]
     }
 }
 
-/// The line of this number; empty where the text has none.
-fn line_in(text: &[u8], number: u32) -> &[u8]
-    ensures { result.now ≡ line_in text.now number }
+/// The lines of a text, each with the CR that may end it.
+pub(crate) fn lines_of(alloc: Global, text: &[u8]) -> Result<Vec<&[u8]>, AllocError>
+    ensures { IfOk result (λ list. map (λ line. line.now) list.items ≡ lines text.now) }
 {
+    let mut list = Vec::new(alloc);
     let mut rest = text;
-    let mut left = number.saturating_sub(1);
-    'lines: while left > 0 {
-        match first_line(rest).1 {
-            Some(more) => {
-                rest = more;
-                left -= 1;
-            }
-            None => return &[],
+    'lines: loop {
+        let (line, behind) = first_line(rest);
+        list.push(line)?;
+        match behind {
+            Some(more) => rest = more,
+            None => return Ok(list),
         }
     }
-    without_carriage_return(first_line(rest).0)
+}
+
+/// The line of this number; empty where there is none.
+fn line_in<'a>(rows: &[&'a [u8]], number: u32) -> &'a [u8]
+    ensures { result.now ≡ line_in (map (λ line. line.now) rows.now) number }
+{
+    match rows.get(number.saturating_sub(1) as usize) {
+        Some(line) => without_carriage_return(line),
+        None => &[],
+    }
 }
 
 /// What stands before a column.
@@ -115,18 +124,18 @@ fn write_caret_row(text: &mut String, number: &str, front: &[u8]) -> Result<(), 
     writeln!(text, "^")
 }
 
-/// Adds the line of a place in a text, and a caret below the place.
+/// Adds the line of a place in a text of these lines, and a caret below the place.
 #[tactic(auto, unfolding(crate::specs::Excerpt::excerpt_text))]
 pub(crate) fn write_excerpt(
     alloc: Global,
     text: &mut String,
-    source: &[u8],
+    rows: &[&[u8]],
     at: Position,
 ) -> Result<(), AllocError>
-    ensures { OnOk result (string_bytes text.new ≡ string_bytes text.old ++ excerpt_text source.now at) }
+    ensures { OnOk result (string_bytes text.new ≡ string_bytes text.old ++ excerpt_text (map (λ line. line.now) rows.now) at) }
 {
     let number = format!(in alloc; "{}", at.line)?;
-    let line = line_in(source, at.line);
+    let line = line_in(rows, at.line);
     write_line_row(text, number.as_str(), line)?;
     write_caret_row(text, number.as_str(), before(line, at.column))
 }
