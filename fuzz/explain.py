@@ -24,6 +24,7 @@ from model import Fault, TOK, assemble, certify, dests, exits, inner, print_prog
 R = random.Random()
 WRITTEN = {5, 6, 7}
 ON_TASK = {5, 12}
+MOST_SHOWN = 1000
 
 
 def columns(line):
@@ -134,7 +135,8 @@ def differs(program, text, name, said):
     """What is wrong with what was said; None where nothing is."""
     tasks, code = places(text)
     told = said.split("\n")[:-1]
-    for finding in verdict(program, certify(program)):
+    findings = verdict(program, certify(program))
+    for finding in findings[:MOST_SHOWN]:
         task, index, rule, register = finding
         line, column = tasks[task] if rule in ON_TASK else code[index]
         error, todo = sentence(rule, program.tasks[task][0], register)
@@ -161,6 +163,9 @@ def differs(program, text, name, said):
                 return f"the column of the note of {finding}"
         if not cut(told, [f"{at}help: {todo}"]):
             return f"the help of {finding}"
+    more = len(findings) - MOST_SHOWN
+    if more > 0 and not cut(told, [f"{name}: note: {more} more finding{'s' if more > 1 else ''}"]):
+        return f"that there are {more} more findings"
     return f"more is said: {told[0]}" if told else None
 
 

@@ -1,6 +1,6 @@
 -- The text of a finding for the author of a program text (own choice, in the form of gcc and clang): the
 -- sentence of its rule where it is wrong, the line itself, the path that shows it, and what to do.
-use Rattle.std.specs.Prelude.{◌≡◌, ◌↔◌, ℕ, ◌-◌, List, [], ◌∷◌, ◌++◌, codes, flat_map, length, slice_get, Option, Some, None, Ok}
+use Rattle.std.specs.Prelude.{◌≡◌, ◌↔◌, ℕ, ◌-◌, nat_eq, if◌then◌else◌, List, [], ◌∷◌, ◌++◌, codes, flat_map, length, slice_get, Option, Some, None, Ok}
 use Rattle.std.specs.Fmt.{decimal}
 use Rattle.std.specs.declared.alloc.Global.{Global}
 use Rattle.std.specs.declared.vec.Vec.{Vec}
@@ -91,8 +91,20 @@ finding_text file rows p s shown =
     let task = task_name (slice_get p.tasks f.task) in
     error_text file at task f ++ (excerpt_text rows at ++ (path_note file rows s f.rule shown.path ++ todo_text file at task f))
 
-abbrev pub findings_text : (file : List ℕ) → (rows : List (List ℕ)) → Listing → Sources → List ShownFinding → List ℕ
-findings_text file rows p s list = flat_map (finding_text file rows p s) list
+-- how many findings are shown of a program at most
+abbrev pub most_shown : ℕ
+most_shown = 1000
+
+-- how many more findings there are; nothing where there are no more
+abbrev pub more_text : (file : List ℕ) → (more : ℕ) → List ℕ
+more_text file more =
+    if nat_eq more 0 then []
+    else if nat_eq more 1 then file ++ (codes ": note: 1 more finding" ++ 10 ∷ [])
+    else file ++ (codes ": note: " ++ (decimal more ++ (codes " more findings" ++ 10 ∷ [])))
+
+-- what is said of the findings that are shown, and of those behind them
+abbrev pub findings_text : (file : List ℕ) → (rows : List (List ℕ)) → Listing → Sources → List ShownFinding → (more : ℕ) → List ℕ
+findings_text file rows p s list more = flat_map (finding_text file rows p s) list ++ more_text file more
 
 -- The bytes say what is wrong with the marks of the program that the text spells.
 pub record IsExplained (file text bytes : List ℕ) : Type 0 where
@@ -101,7 +113,8 @@ pub record IsExplained (file text bytes : List ℕ) : Type 0 where
   pub sources : Sources
   pub mapped : sources_of text ≡ Ok sources
   pub list : List ShownFinding
-  pub shown : AreShown program list
-  pub said : bytes ≡ findings_text file (lines text) program sources list
+  pub more : ℕ
+  pub shown : AreShown program most_shown list more
+  pub said : bytes ≡ findings_text file (lines text) program sources list more
   -- nothing is said exactly where the marks are sound
   pub silent : (bytes ≡ []) ↔ Sound program

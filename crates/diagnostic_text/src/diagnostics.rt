@@ -8,20 +8,24 @@ ghost use Rattle.program_tokens.specs.Lines.{lines};
 ghost use Rattle.annotated_asm.specs.Steps.{FailsText};
 ghost use Rattle.annotated_asm.specs.ProgramText.{parse};
 ghost use Rattle.source_map.specs.Sources.{sources_in};
-ghost use Rattle.diagnostic_text.specs.Diagnostics.{position_text, task_name, error_text, todo_text, line_of, path_text, note_text, path_note, finding_text, findings_text, IsExplained};
+ghost use Rattle.diagnostic_text.specs.Diagnostics.{position_text, task_name, error_text, todo_text, line_of, path_text, note_text, path_note, finding_text, more_text, findings_text, IsExplained};
 
 use crate::excerpt::{lines_of, write_excerpt};
 use crate::place::{line_of, note_index, note_words, place_by, place_of};
 use crate::sentence::{number_in, write_help, write_sentence};
 use annotated_asm::assembler::assemble;
 use annotated_asm::fault::AsmFault;
-use finding_paths::shown::{ShownFinding, shown_findings};
+use finding_paths::shown::{ShownFinding, ShownFindings, shown_findings};
 use mark_checker::finding::{Finding, Rule};
 use source_map::laws::map_fits;
 use source_map::position::{Position, SourceMap};
 use source_map::reading::source_map;
 use std::alloc::{AllocError, Global};
 use task_descriptor::program::Program;
+
+/// The most findings that `explain` shows of a text; of any more it says how many they are (own choice). A
+/// text of 100 KB can have 138 million findings, and each is shown with a path of up to 4,096 steps.
+pub const MOST_SHOWN: usize = 1_000;
 
 /// Adds the name of a file, the line and the column.
 fn write_position(text: &mut String, file: &str, at: Position) -> Result<(), AllocError>
@@ -186,8 +190,21 @@ fn write_finding(
     write_todo(text, file, at, task, finding)
 }
 
+/// Adds how many findings are not shown, if there are any.
+fn write_more(text: &mut String, file: &str, more: usize) -> Result<(), AllocError>
+    ensures { OnOk result (string_bytes text.new ≡ string_bytes text.old ++ more_text file.now more) }
+{
+    if more == 0 {
+        return Ok(());
+    }
+    if more == 1 {
+        return writeln!(text, "{file}: note: 1 more finding");
+    }
+    writeln!(text, "{file}: note: {more} more findings")
+}
+
 /// What is said of the findings of a program whose text, `source`, has this map and stands in a file of
-/// this name.
+/// this name: of each that is shown, and how many more there are.
 ///
 /// # Errors
 ///
@@ -198,21 +215,23 @@ pub fn findings_text(
     source: &[u8],
     program: &Program,
     map: &SourceMap,
-    list: &[ShownFinding],
+    findings: &ShownFindings,
 ) -> Result<String, AllocError>
     ensures { IfOk result (λ text. string_bytes text
-        ≡ findings_text file.now (lines source.now) program.now (sources_in map.now) list.now) }
+        ≡ findings_text file.now (lines source.now) program.now (sources_in map.now) findings.now.list.items findings.now.more) }
 {
     let rows = lines_of(alloc, source)?;
     let rows = rows.as_slice();
     let mut text = String::new(alloc);
-    for shown in list {
+    for shown in &findings.list {
         write_finding(alloc, &mut text, file, rows, program, map, shown)?;
     }
+    write_more(&mut text, file, findings.more)?;
     Ok(text)
 }
 
-/// What is said of the marks of the program that a text spells; nothing exactly where they are sound.
+/// What is said of the marks of the program that a text spells: of its first `MOST_SHOWN` findings, and how
+/// many more there are; nothing exactly where the marks are sound.
 ///
 /// # Errors
 ///
@@ -224,8 +243,8 @@ pub fn explain(alloc: Global, file: &str, text: &[u8]) -> Result<String, AsmFaul
     // A text that spells a program has a source map, so no fault is told of it.
     map_fits();
     let program = assemble(alloc, text)?;
-    let list = shown_findings(alloc, &program)?;
+    let findings = shown_findings(alloc, &program, MOST_SHOWN)?;
     let map = source_map(alloc, text)?;
-    let said = findings_text(alloc, file, text, &program, &map, &list)?;
+    let said = findings_text(alloc, file, text, &program, &map, &findings)?;
     Ok(said)
 }

@@ -2,3 +2,4 @@ mod Among
 mod Standing
 mod Showing
 mod Refuting
+mod Counting

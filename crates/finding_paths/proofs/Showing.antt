@@ -1,5 +1,5 @@
 -- A finding of a least certificate is shown by a path: what its condition says of masks is so of paths.
-use Rattle.std.proofs.Common.{◌≡◌, ◌↔◌, ℕ, ◌<◌, List, [], map, Bool, true, false, not, ◌&&◌, nat_eq, Option, Some, None, Result, Ok, Err, IfOk, IfSome, IfNone, length, get_or, slice_get, refl, sym, ◌∙◌, ap, subst}
+use Rattle.std.proofs.Common.{◌≡◌, ◌↔◌, ℕ, ◌+◌, ◌<◌, List, [], ◌∷◌, Bool, true, false, not, ◌&&◌, nat_eq, Option, Some, None, Result, Ok, Err, IfOk, IfSome, IfNone, length, get_or, slice_get, refl, sym, ◌∙◌, ap, subst, arith}
 use Rattle.std.specs.Prelude.{is_some}
 use Rattle.std.proofs.lemmas.Bool.{and_parts, eqb-true, eq-eqb}
 use Rattle.std.proofs.lemmas.Option.{slice_get_within, slice_get_read}
@@ -215,12 +215,19 @@ start_inside p f d q well found there is_query =
     start_of rule reg entry index n s h k same = absurd (cc)
 
 -- nothing is found exactly where the marks are sound
-pub none_refused : (p : Listing) (cert : List (List (ℕ × ℕ))) (list : List ShownFinding) (accepted : Bool) → ((accepted ≡ true) ↔ (all_rules p cert ≡ []))
-    → accepted ≡ false → IsWellFormed p → IsLeast p cert → map (λ (s : ShownFinding). s.finding) list ≡ all_rules p cert → (list ≡ []) ↔ Sound p
-none_refused p cert list accepted exact refused well least findings = (
-  λ e. absurd (wrong accepted (exact.1 (sym findings ∙ ap (map (λ (s : ShownFinding). s.finding)) e)) refused),
+pub none_refused : (p : Listing) (cert : List (List (ℕ × ℕ))) (list : List ShownFinding) (more : ℕ) (accepted : Bool) → ((accepted ≡ true) ↔ (all_rules p cert ≡ []))
+    → accepted ≡ false → IsWellFormed p → IsLeast p cert → length list + more ≡ length (all_rules p cert) → ((list ≡ []) × (more ≡ 0)) ↔ Sound p
+none_refused p cert list more accepted exact refused well least counted = (
+  λ none. absurd (wrong accepted (exact.1 (nothing (all_rules p cert) (sum list more (length (all_rules p cert)) none.0 none.1 counted))) refused),
   λ sound. absurd (wrong accepted (exact.1 (least_accepted p cert well least sound).nothing_found) refused),
 )
   where
     wrong : (b : Bool) → b ≡ true → b ≡ false → ⊥
     wrong b h k = cc
+
+    nothing : (xs : List Finding) → length xs ≡ 0 → xs ≡ []
+    nothing [] h = refl
+    nothing (x ∷ xs) h = absurd (omega (arith, h))
+
+    sum : (xs : List ShownFinding) (m n : ℕ) → xs ≡ [] → m ≡ 0 → length xs + m ≡ n → n ≡ 0
+    sum xs m n none zero counted = let e : length xs ≡ 0 = ap length none in omega (arith, e, zero, counted)

@@ -1,5 +1,5 @@
 -- When a path shows a finding: the marks are as the rule says, and the path leads where they go wrong.
-use Rattle.std.specs.Prelude.{◌≡◌, ℕ, Bool, true, false, not, ◌&&◌, nat_eq, nat_le, List, map, length, slice_get, Option, Some, None, Contains}
+use Rattle.std.specs.Prelude.{◌≡◌, ℕ, Bool, true, false, not, ◌&&◌, nat_eq, nat_le, ◌+◌, List, map, take, length, slice_get, Option, Some, None, Contains}
 use Rattle.std.specs.List.{list_any, All}
 use Rattle.std.specs.declared.alloc.Global.{Global}
 use Rattle.std.specs.declared.vec.Vec.{Vec}
@@ -61,9 +61,11 @@ abbrev pub IsShown : Listing → Finding → Option (Vec ℕ Global) → Type 0
 IsShown p f None = (d : Descriptor) → slice_get p.tasks f.task ≡ Some d → query_of d.entry f ≡ None
 IsShown p f (Some path) = IsShortest p f path.items
 
--- The list has the findings of a least certificate, each with what shows it.
-pub record AreShown (p : Listing) (list : List ShownFinding) : Type 0 where
+-- The list has the first findings of a least certificate, at most so many, each with what shows it, and
+-- behind it are so many more.
+pub record AreShown (p : Listing) (most : ℕ) (list : List ShownFinding) (more : ℕ) : Type 0 where
   pub cert : List (List (ℕ × ℕ))
   pub least : IsLeast p cert
-  pub findings : map (λ s. s.finding) list ≡ all_rules p cert
+  pub findings : map (λ s. s.finding) list ≡ take most (all_rules p cert)
   pub each : All (λ s. IsShown p s.finding s.path) list
+  pub counted : length list + more ≡ length (all_rules p cert)

@@ -4,6 +4,7 @@
 //! Nothing rests on this crate: a path is checked against its definition, whatever was found.
 #![tactic(auto)]
 
+mod first;
 pub mod laws;
 pub mod query;
 pub mod shown;

@@ -6,10 +6,10 @@ ghost use Rattle.witnesses.specs.Witnesses.{NoneShorter};
 ghost use Rattle.finding_paths.specs.Queries.{IsFoundBy, CanBeFound};
 ghost use Rattle.finding_paths.specs.Shown.{IsFinding, IsShown, AreShown};
 
+use crate::first::first_findings;
 use crate::query::{Query, query_of};
 use annotator::certify::certify;
 use mark_checker::accept::accepts;
-use mark_checker::check::verdict;
 use mark_checker::finding::Finding;
 use std::alloc::{AllocError, Global};
 use task_descriptor::program::Program;
@@ -23,6 +23,15 @@ pub struct ShownFinding {
     /// The indices that the path comes to, in their order; `None` where the rule speaks of masks or of
     /// targets alone.
     pub path: Option<Vec<u32>>,
+}
+
+/// The first findings of a program, each with the path that shows it, and how many more there are.
+#[derive(Debug, Drop)]
+pub struct ShownFindings {
+    /// The first findings.
+    pub list: Vec<ShownFinding>,
+    /// How many findings are behind these.
+    pub more: usize,
 }
 
 /// A shortest path of those that a query asks for, if there is one.
@@ -62,29 +71,37 @@ pub fn path_of(
     }
 }
 
-/// What is wrong with a program's marks, in order of task, index, rule and register, each with a shortest path
-/// that shows it. The findings are those of the least certificate, so nothing is found exactly where the marks
-/// are sound.
+/// What is wrong with a program's marks: the first findings in order of task, index, rule and register, at
+/// most `most` of them, each with a shortest path that shows it, and how many more there are. The findings
+/// are those of the least certificate, so there is none exactly where the marks are sound.
+///
+/// Those that are not shown are counted, task by task, and no path is looked for: the memory for them is that
+/// of one task's findings.
 ///
 /// # Errors
 ///
 /// `AllocError` where memory was refused.
-pub fn shown_findings(alloc: Global, program: &Program) -> Result<Vec<ShownFinding>, AllocError>
-    ensures shown { IfOk result (λ list. AreShown program.now list.items) }
-    ensures sound { IfOk result (λ list. (list.items ≡ []) ↔ Sound program.now) }
+pub fn shown_findings(
+    alloc: Global,
+    program: &Program,
+    most: usize,
+) -> Result<ShownFindings, AllocError>
+    ensures shown { IfOk result (λ shown. AreShown program.now most shown.list.items shown.more) }
+    ensures sound { IfOk result (λ shown. ((shown.list.items ≡ []) × (shown.more ≡ 0)) ↔ Sound program.now) }
 {
     let cert = certify(alloc, program)?;
-    if accepts(program, &cert) {
-        return Ok(Vec::new(alloc));
-    }
-    let judged = verdict(alloc, program, &cert)?;
     let mut list = Vec::new(alloc);
-    for finding in judged.findings.as_slice() {
+    if accepts(program, &cert) {
+        return Ok(ShownFindings { list, more: 0 });
+    }
+    let first = first_findings(alloc, program, &cert, most)?;
+    for finding in &first.list {
         let path = path_of(alloc, program, finding)?;
         list.push(ShownFinding {
             finding: *finding,
             path,
         })?;
     }
-    Ok(list)
+    let more = first.count - list.len();
+    Ok(ShownFindings { list, more })
 }

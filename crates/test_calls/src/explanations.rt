@@ -2,6 +2,8 @@
 
 use crate::count::COUNT;
 use diagnostic_text::diagnostics::explain;
+use std::alloc::{AllocError, Global};
+use std::process::Abort;
 
 const FORWARDED_AGAIN: &[u8] = b".task A create=$8 targets=B
 .task B create=- targets=-
@@ -61,4 +63,69 @@ fn nothing_is_said_of_right_marks(rt: HostRuntime) {
     let said = explain(rt.alloc(), "p.s", COUNT.as_bytes()).ok();
     let said = said.expect(&rt, "a program");
     assert_eq!(rt; said.as_str(), "");
+}
+
+// A program whose one task creates nothing and releases these registers so many times, each time against
+// rule 8: a finding for each register of each release, and none else, since it writes no register.
+fn releasing(alloc: Global, registers: &str, times: usize) -> Result<String, AllocError> {
+    let mut text = String::new(alloc);
+    write!(text, ".task A create=- targets=-\nA:\n")?;
+    for _ in 0..times {
+        writeln!(text, "release {registers}")?;
+    }
+    writeln!(text, "halt")?;
+    Ok(text)
+}
+
+const TEN: &str = "$1,$2,$3,$4,$5,$6,$7,$8,$9,$10";
+
+const THIRTEEN: &str = "$1,$2,$3,$4,$5,$6,$7,$8,$9,$10,$11,$12,$13";
+
+// Explains the program, and compares the number of lines and how the last one ends. Of each finding that is
+// shown there are seven lines: error, note and help, and two with the text below the error and the note.
+fn expect_lines(rt: &impl Abort, alloc: Global, program: &str, lines: usize, end: &str) {
+    let said = explain(alloc, "p.s", program.as_bytes()).ok();
+    let said = said.expect(rt, "a program");
+    let said = said.as_str();
+    let count = said
+        .as_bytes()
+        .iter()
+        .filter(|byte| **byte == b'\n')
+        .count();
+    assert_eq!(rt; count, lines);
+    assert!(rt; said.ends_with(end));
+}
+
+#[test]
+fn all_of_a_thousand_findings_are_shown(rt: HostRuntime) {
+    // 100 releases of 10 registers are 1,000 findings; the last release stands in line 102.
+    let program = releasing(rt.alloc(), TEN, 100).expect(&rt, "memory");
+    let end = "\np.s:102:1: help: add $10 to the create mask of task A\n";
+    expect_lines(&rt, rt.alloc(), program.as_str(), 7_000, end);
+}
+
+#[test]
+fn one_finding_more_is_counted(rt: HostRuntime) {
+    // 77 releases of 13 registers are 1,001 findings.
+    let program = releasing(rt.alloc(), THIRTEEN, 77).expect(&rt, "memory");
+    expect_lines(
+        &rt,
+        rt.alloc(),
+        program.as_str(),
+        7_001,
+        "\np.s: note: 1 more finding\n",
+    );
+}
+
+#[test]
+fn more_findings_are_counted(rt: HostRuntime) {
+    // 4,095 releases of 13 registers, the most before `halt`, are 53,235 findings: 1,000 and 52,235.
+    let program = releasing(rt.alloc(), THIRTEEN, 4_095).expect(&rt, "memory");
+    expect_lines(
+        &rt,
+        rt.alloc(),
+        program.as_str(),
+        7_001,
+        "\np.s: note: 52235 more findings\n",
+    );
 }

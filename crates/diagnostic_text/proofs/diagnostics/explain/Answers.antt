@@ -1,10 +1,7 @@
 -- What is told is of the program that the text spells, and its map is refused for want of memory alone.
-use Rattle.std.proofs.Common.{◌∙◌, ap}
 use Rattle.std.proofs.lemmas.Result.{err_from_is_err_and}
 use Rattle.std.specs.String.{string_bytes}
-use Rattle.program_tokens.specs.Lines.{lines}
 use Rattle.source_map.specs.Sources.{sources_in}
-use Rattle.diagnostic_text.specs.Diagnostics.{findings_text}
 use Rattle.diagnostic_text.proofs.Explaining.{explained, only_memory}
 use Rattle.diagnostic_text.proofs.diagnostics.explain.Goals as goal
 
@@ -14,9 +11,9 @@ returns-clause-said c =
     let text = c.args.text.now in
     let program = c.in_ok-program.program in
     let sources = sources_in c.in_ok-map.map in
-    let said = c.in_ok-said.ensures ∙ ap (findings_text file (lines text) program sources) c.deref.ensures.value in
-    explained file text (string_bytes c.in_ok-said.said) program sources c.in_ok-list.list.items c.in_ok-program.ensures.found
-    c.in_ok-map.ensures c.in_ok-list.ensures.shown c.in_ok-list.ensures.sound said
+    let findings = c.in_ok-findings.findings in
+    explained file text (string_bytes c.in_ok-said.said) program sources findings.list.items findings.more c.in_ok-program.ensures.found
+    c.in_ok-map.ensures c.in_ok-findings.ensures.shown c.in_ok-findings.ensures.sound c.in_ok-said.ensures
 
 pub returns-in_err-map-clause-refused : goal.returns-in_err-map-clause-refused
 returns-in_err-map-clause-refused c =
