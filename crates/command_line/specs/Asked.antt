@@ -12,12 +12,13 @@ use Rattle.clap.specs.declared.error.kind.ErrorKind.TheVariants as kind
 use Rattle.clap.specs.declared.error.Error.{Error}
 use Rattle.jobs.specs.Files.{HasFilesOf, has_certificate, has_script}
 use Rattle.jobs.specs.declared.job.Emit.{Emit}
+use Rattle.jobs.specs.declared.job.ReplayEmit.{ReplayEmit}
 use Rattle.jobs.specs.declared.job.RunEmit.{RunEmit}
 use Rattle.jobs.specs.declared.job.Prediction.{Prediction}
 use Rattle.jobs.specs.declared.job.Job.{Job}
 use Rattle.jobs.specs.declared.job.Job.TheVariants.{Seq, Print, Annotate, Explain, Check, Replay, Run}
 use Rattle.jobs.specs.declared.job.Paths.{Paths}
-use Rattle.command_line.specs.Words.{emit_of, prediction_of, run_emit_of}
+use Rattle.command_line.specs.Words.{emit_of, prediction_of, replay_emit_of, run_emit_of}
 use Rattle.command_line.specs.CommandLine.{command_line}
 use Rattle.command_line.specs.declared.words.UsageFault.{UsageFault}
 use Rattle.command_line.specs.declared.words.UsageFault.TheVariants.{Words, Predict, Emit as EmitFault, OutOfMemory}
@@ -44,6 +45,9 @@ emit_in values = option_and_then emit_of (first_of (codes "emit") values)
 abbrev pub run_emit_in : List Row → Option RunEmit
 run_emit_in values = option_and_then run_emit_of (first_of (codes "emit") values)
 
+abbrev pub replay_emit_in : List Row → Option ReplayEmit
+replay_emit_in values = option_and_then replay_emit_of (first_of (codes "emit") values)
+
 -- a subcommand of this name with these values gives the job
 abbrev pub Gives : Text → List Row → Job → Type 0
 Gives name values (Seq budget) =
@@ -54,8 +58,8 @@ Gives name values (Explain file) =
     (name ≡ codes "explain") × (first_of (codes "program") values ≡ Some (string_bytes file))
 Gives name values (Check workers) =
     (name ≡ codes "check") × (number_at (codes "workers") values ≡ Some workers)
-Gives name values (Replay units) =
-    (name ≡ codes "replay") × (number_at (codes "units") values ≡ Some units)
+Gives name values (Replay units emit) = (name ≡ codes "replay")
+    × (number_at (codes "units") values ≡ Some units) × (replay_emit_in values ≡ Some emit)
 Gives name values (Run units workers budget predict emit) = (name ≡ codes "run")
     × (number_at (codes "units") values ≡ Some units)
     × (workers ≡ unwrap_or (number_at (codes "workers") values) units)
@@ -87,6 +91,7 @@ IsNoJob fault = fault ≡ OutOfMemory
 abbrev pub Refuses : Text → List Row → UsageFault → Type 0
 Refuses name values Predict = (name ≡ codes "run") × (predict_in values ≡ None)
 Refuses name values EmitFault = ((name ≡ codes "annotate") × (emit_in values ≡ None))
+    ⊎ ((name ≡ codes "replay") × (replay_emit_in values ≡ None))
     ⊎ ((name ≡ codes "run") × IsSome (predict_in values) × (run_emit_in values ≡ None))
 Refuses name values fault = IsNoJob fault
 

@@ -70,7 +70,8 @@ abbrev pub check : Shape
 check = subcommand (codes "check") (program ∷ certificate ∷ checkers ∷ [])
 
 abbrev pub replay : Shape
-replay = subcommand (codes "replay") (program ∷ certificate ∷ script ∷ units ∷ [])
+replay = subcommand (codes "replay") (program ∷ certificate ∷ script ∷ units
+    ∷ word (codes "emit") (codes "answers") ∷ [])
 
 abbrev pub run : Shape
 run = subcommand (codes "run") (program ∷ certificate ∷ units ∷ workers ∷ budget

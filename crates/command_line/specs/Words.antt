@@ -8,6 +8,8 @@ use Rattle.jobs.specs.declared.job.Emit.{Emit}
 use Rattle.jobs.specs.declared.job.Emit.TheVariants.{Text, Cert, Keep}
 use Rattle.jobs.specs.declared.job.RunEmit.{RunEmit}
 use Rattle.jobs.specs.declared.job.RunEmit.TheVariants.{Report, Script, Summary}
+use Rattle.jobs.specs.declared.job.ReplayEmit.{ReplayEmit}
+use Rattle.jobs.specs.declared.job.ReplayEmit.TheVariants as replay
 use Rattle.jobs.specs.declared.job.Prediction.{Prediction}
 use Rattle.jobs.specs.declared.job.Prediction.TheVariants.{First, Last, List as Answers}
 
@@ -51,3 +53,9 @@ run_emit_of text =
     if bytes_eq text (codes "report") then Some Report
     else (if bytes_eq text (codes "script") then Some Script
     else (if bytes_eq text (codes "summary") then Some Summary else None))
+
+-- the value of `--emit` of `replay`
+abbrev pub replay_emit_of : List ℕ → Option ReplayEmit
+replay_emit_of text =
+    if bytes_eq text (codes "answers") then Some replay.Answers
+    else (if bytes_eq text (codes "summary") then Some replay.Summary else None)

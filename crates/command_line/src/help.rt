@@ -112,7 +112,11 @@ words that `out` sent, and
 for T retired tasks with C instructions, which with those of the oldest task are H, and how the run
 stands: running, halted, trapped K Name or unlisted ADDRESS. Of a text that is no script it writes the
 first fault and its line:
-  script refused: K Name LINE";
+  script refused: K Name LINE
+
+With `--emit summary` it writes a table instead of the answers and of how the run stands: that of
+`run --emit summary`, of the events that were allowed:
+  multiscalar replay --emit summary a.s a.cert a.events";
 
 /// `run`, in one line.
 pub const RUN: &str = "Runs a program on a machine of some units, in threads";
@@ -146,6 +150,11 @@ instructions of those that retired, `wasted` the instructions of those that were
 pub const ANNOTATE_EMIT: &str =
     "What is written: text (the proposed program), cert (its certificate) or keep (the certificate of
 the program as it stands)";
+
+/// `--emit` of `replay`.
+pub const REPLAY_EMIT: &str =
+    "What is written: answers (what the machine says of each event, and how it then stands) or summary
+(how often each task was assigned, and how that ended)";
 
 /// `--emit` of `run`.
 pub const RUN_EMIT: &str =

@@ -193,7 +193,8 @@ fn replay<'a>(alloc: Global) -> Result<Command<'a>, AllocError>
         .arg(program(alloc))?
         .arg(certificate(alloc))?
         .arg(script(alloc))?
-        .arg(units(alloc))
+        .arg(units(alloc))?
+        .arg(word(alloc, "emit", "WHAT", help::REPLAY_EMIT, "answers"))
 }
 
 fn run<'a>(alloc: Global) -> Result<Command<'a>, AllocError>

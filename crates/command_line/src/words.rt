@@ -3,15 +3,15 @@ ghost use Rattle.std.specs.Prelude.{◌≡◌, ◌≤◌, ◌==◌, IfErr, IfOk,
 ghost use Rattle.std.specs.String.{string_bytes};
 ghost use Rattle.std.specs.List.{slice_split};
 ghost use Rattle.clap.specs.Words.{first_of};
-ghost use Rattle.command_line.specs.Asked.{AskFor, IsFaultOf, IsFrom, IsNoJob, Reads, emit_in, number_at, predict_in, run_emit_in, values_in};
-ghost use Rattle.command_line.specs.Words.{answer_of, answers_of, all_there, emit_of, prediction_of, run_emit_of};
+ghost use Rattle.command_line.specs.Asked.{AskFor, IsFaultOf, IsFrom, IsNoJob, Reads, emit_in, number_at, predict_in, replay_emit_in, run_emit_in, values_in};
+ghost use Rattle.command_line.specs.Words.{answer_of, answers_of, all_there, emit_of, prediction_of, replay_emit_of, run_emit_of};
 ghost use Rattle.jobs.specs.Files.{HasFilesOf};
 ghost use Rattle.command_line.specs.declared.words.UsageFault.TheVariants.{OutOfMemory, Predict, Emit as EmitFault};
 
 use crate::subcommands::command;
 use clap::ArgMatches;
 use clap::error::ErrorKind;
-use jobs::job::{Emit, Job, Paths, Prediction, RunEmit};
+use jobs::job::{Emit, Job, Paths, Prediction, ReplayEmit, RunEmit};
 use jobs::ranges::{Answers, Budget, MOST_ANSWER, MOST_ANSWERS, Units, Workers};
 use std::alloc::{AllocError, Global};
 use thiserror::Error;
@@ -26,8 +26,8 @@ pub enum UsageFault {
     /// 2: the value of `--predict` is neither `first`, `last` nor 1 to 64 numbers 0..=15.
     #[error("2 Predict")]
     Predict,
-    /// 3: the value of `--emit` is none of `text`, `cert` and `keep`, or for `run` none of `report`,
-    /// `script` and `summary`.
+    /// 3: the value of `--emit` is none of `text`, `cert` and `keep`; for `replay` neither `answers` nor
+    /// `summary`; for `run` none of `report`, `script` and `summary`.
     #[error("3 Emit")]
     Emit,
     /// 4: memory ran out.
@@ -225,12 +225,15 @@ fn read_replay(alloc: Global, values: &ArgMatches<'_>) -> Result<(Job, Paths), U
     ensures { Reads (codes "replay") (values_in values.now) result }
 {
     let units = read_units(alloc, values)?;
+    let emit = text(values, "emit")
+        .and_then(read_replay_emit)
+        .ok_or(UsageFault::Emit)?;
     let paths = Paths {
         program: path(alloc, values, "program")?,
         certificate: path(alloc, values, "certificate")?,
         script: path(alloc, values, "script")?,
     };
-    Ok((Job::Replay { units }, paths))
+    Ok((Job::Replay { units, emit }, paths))
 }
 
 fn read_run(alloc: Global, values: &ArgMatches<'_>) -> Result<(Job, Paths), UsageFault>
@@ -335,6 +338,17 @@ fn read_emit(text: &str) -> Option<Emit>
         "text" => Some(Emit::Text),
         "cert" => Some(Emit::Cert),
         "keep" => Some(Emit::Keep),
+        _ => None,
+    }
+}
+
+// The value of `--emit` of `replay`.
+fn read_replay_emit(text: &str) -> Option<ReplayEmit>
+    ensures { result ≡ replay_emit_of text.now }
+{
+    match text {
+        "answers" => Some(ReplayEmit::Answers),
+        "summary" => Some(ReplayEmit::Summary),
         _ => None,
     }
 }

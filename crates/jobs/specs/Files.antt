@@ -8,13 +8,13 @@ use Rattle.jobs.specs.declared.job.Paths.{Paths}
 -- the job has a certificate beside its program
 abbrev pub has_certificate : Job → Bool
 has_certificate (Check workers) = true
-has_certificate (Replay units) = true
+has_certificate (Replay units emit) = true
 has_certificate (Run units workers budget predict emit) = true
 has_certificate _ = false
 
 -- the job has an event script
 abbrev pub has_script : Job → Bool
-has_script (Replay units) = true
+has_script (Replay units emit) = true
 has_script _ = false
 
 -- a file that the job does not have has no name

@@ -25,6 +25,15 @@ pub enum RunEmit {
     Summary,
 }
 
+/// What `replay` writes of a script.
+#[derive(Clone, Copy, Debug, PartialEq, Eq)]
+pub enum ReplayEmit {
+    /// What the machine answers to each event, and how it then stands.
+    Answers,
+    /// How often each task was assigned, how that ended, and how much of its work was of use.
+    Summary,
+}
+
 /// How `run` guesses the next task behind a running one (the paper, section 2.1, leaves it open).
 #[derive(Debug, Drop)]
 pub enum Prediction {
@@ -61,6 +70,7 @@ pub enum Job {
     /// Applies the events of a script to a machine of this many units.
     Replay {
         units: Units,
+        emit: ReplayEmit,
     },
     /// Runs the program on a machine of this many units, which this many threads serve, up to this many
     /// events. More threads than units are as many as units.

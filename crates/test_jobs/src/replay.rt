@@ -106,6 +106,70 @@ fn replays_wrong_paths(rt: HostRuntime) {
     }
 }
 
+// The tables of scripts: an event that is refused counts nowhere.
+const SUMMARIES: [Row<'static>; 4] = [
+    // The first A retires its 4 instructions; B is squashed before it executes one.
+    Row {
+        words: "replay --units 2 --emit summary a.s a.cert a.events",
+        script: COUNT_TAKEN_AGAIN,
+        expected: "assigned  retired  squashed  dropped  unfinished  useful  wasted  task
+       2        1         0        0           1       4       0  A
+       1        0         1        0           0       0       0  B
+       3        1         1        0           1       4       0  (all)
+",
+        ..OF_COUNT
+    },
+    // B goes round three times before it is squashed.
+    Row {
+        words: "replay --units 2 --emit summary a.s a.cert a.events",
+        program: WRONG_PATH_SPIN,
+        certificate: WRONG_PATH_SPIN_CERTIFICATE,
+        script: WRONG_PATH_SPUN,
+        expected: "assigned  retired  squashed  dropped  unfinished  useful  wasted  task
+       1        1         0        0           0       1       0  A
+       1        0         1        0           0       0       3  B
+       1        0         0        0           1       0       0  C
+       3        1         1        0           1       1       3  (all)
+",
+        status: 0,
+    },
+    // The second A and B are dropped, and a third A comes behind the first.
+    Row {
+        words: "replay --units 3 --emit summary a.s a.cert a.events",
+        script: COUNT_DROPPED,
+        expected: "assigned  retired  squashed  dropped  unfinished  useful  wasted  task
+       3        0         0        1           2       0       0  A
+       1        0         0        1           0       0       0  B
+       4        0         0        2           2       0       0  (all)
+",
+        ..OF_COUNT
+    },
+    // The status is that of the answers.
+    Row {
+        words: "replay --units 1 --emit summary a.s a.cert a.events",
+        program: UNLISTED_JUMP,
+        certificate: UNLISTED_JUMP_CERTIFICATE,
+        script: JUMP_UNLISTED,
+        expected: "assigned  retired  squashed  dropped  unfinished  useful  wasted  task
+       1        0         0        0           1       0       0  A
+       1        0         0        0           1       0       0  (all)
+",
+        status: 1,
+    },
+];
+
+#[test]
+fn sums_up_scripts(rt: HostRuntime) {
+    for row in &SUMMARIES {
+        let script = events_of(&rt, rt.alloc(), row.script);
+        let row = Row {
+            script: script.as_str(),
+            ..*row
+        };
+        row.runs(&rt, rt.alloc());
+    }
+}
+
 // Scripts of no event, of one that no machine has, and of none.
 const ODD_SCRIPTS: [(&str, &str, u8); 7] = [
     ("", "retired 0 c 0 h 0\nrunning\n", 0),
@@ -157,13 +221,16 @@ const JUDGED_BEFORE: [(&str, &str, &str); 4] = [
 #[test]
 fn judges_before_the_script(rt: HostRuntime) {
     for &(certificate, script, expected) in &JUDGED_BEFORE {
-        let row = Row {
-            certificate,
-            script,
-            expected,
-            status: 1,
-            ..OF_COUNT
-        };
-        row.runs(&rt, rt.alloc());
+        for words in [ON_TWO_UNITS.words, SUMMARIES[0].words] {
+            let row = Row {
+                words,
+                certificate,
+                script,
+                expected,
+                status: 1,
+                ..OF_COUNT
+            };
+            row.runs(&rt, rt.alloc());
+        }
     }
 }

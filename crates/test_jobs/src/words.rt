@@ -2,7 +2,7 @@
 
 use crate::answers::words_of;
 use command_line::words::{UsageFault, job_of};
-use jobs::job::{Emit, Job, Paths, Prediction, RunEmit};
+use jobs::job::{Emit, Job, Paths, Prediction, ReplayEmit, RunEmit};
 use std::alloc::Global;
 use std::process::Abort;
 
@@ -14,7 +14,7 @@ enum Wanted {
     Annotate(Emit),
     Explain(bool),
     Check(u32),
-    Replay(u32),
+    Replay(u32, ReplayEmit),
     Run(WantedRun),
 }
 
@@ -68,7 +68,7 @@ impl Wanted {
             Job::Annotate { emit } => Wanted::Annotate(*emit),
             Job::Explain { name } => Wanted::Explain(name.as_str() == "a.s"),
             Job::Check { workers } => Wanted::Check(workers.get()),
-            Job::Replay { units } => Wanted::Replay(units.get()),
+            Job::Replay { units, emit } => Wanted::Replay(units.get(), *emit),
             Job::Run {
                 units,
                 workers,
@@ -88,7 +88,7 @@ impl Wanted {
     // The names of the certificate and of the script; one that the job does not have is empty.
     fn files(self) -> (&'static str, &'static str) {
         match self {
-            Wanted::Replay(_) => ("a.cert", "a.events"),
+            Wanted::Replay(..) => ("a.cert", "a.events"),
             Wanted::Check(_) | Wanted::Run(_) => ("a.cert", ""),
             _ => ("", ""),
         }
@@ -96,7 +96,7 @@ impl Wanted {
 }
 
 // Words that give a job of the program `a.s`.
-const JOBS: [(&str, Wanted); 14] = [
+const JOBS: [(&str, Wanted); 16] = [
     ("seq a.s", Wanted::Seq(1_000_000)),
     ("seq --budget 17 a.s", Wanted::Seq(17)),
     ("print a.s", Wanted::Print),
@@ -104,9 +104,23 @@ const JOBS: [(&str, Wanted); 14] = [
     ("check a.s a.cert", Wanted::Check(1)),
     ("check a.s a.cert --workers 16", Wanted::Check(16)),
     ("check --workers 3 a.s a.cert", Wanted::Check(3)),
-    ("replay a.s a.cert a.events", Wanted::Replay(4)),
-    ("replay a.s a.cert a.events --units 16", Wanted::Replay(16)),
-    ("replay --units 1 a.s a.cert a.events", Wanted::Replay(1)),
+    ("replay a.s a.cert a.events", Wanted::Replay(4, ReplayEmit::Answers)),
+    (
+        "replay a.s a.cert a.events --units 16",
+        Wanted::Replay(16, ReplayEmit::Answers),
+    ),
+    (
+        "replay --units 1 a.s a.cert a.events --emit answers",
+        Wanted::Replay(1, ReplayEmit::Answers),
+    ),
+    (
+        "replay --emit summary a.s a.cert a.events",
+        Wanted::Replay(4, ReplayEmit::Summary),
+    ),
+    (
+        "replay a.s a.cert --units 2 a.events --emit summary",
+        Wanted::Replay(2, ReplayEmit::Summary),
+    ),
     ("annotate a.s", Wanted::Annotate(Emit::Text)),
     ("annotate --emit text a.s", Wanted::Annotate(Emit::Text)),
     ("annotate a.s --emit cert", Wanted::Annotate(Emit::Cert)),
@@ -240,10 +254,12 @@ fn refuses_words(rt: HostRuntime) {
     }
 }
 
-const NO_EMIT: [&str; 5] = [
+const NO_EMIT: [&str; 7] = [
     "annotate a.s --emit xml",
     "annotate a.s --emit Text",
     "annotate a.s --emit script",
+    "replay a.s a.cert a.events --emit report",
+    "replay a.s a.cert a.events --emit Summary",
     "run a.s a.cert --emit xml",
     "run a.s a.cert --emit text",
 ];

@@ -1,9 +1,9 @@
--- A machine in the middle of a script: it is what `play` says of the events so far. An event more is
--- one step of the fold, and one line more of the text.
-use Rattle.std.proofs.Common.{◌≡◌, ℕ, suc, ◌+◌, ◌<◌, List, [], ◌∷◌, ◌++◌, inl, inr, length, take, get_or, Option, Some, None, Result, Ok, Err, OnOk, OnErr, sym, ap, ◌∙◌, subst, arith, add-one, length-append}
+-- A machine in the middle of a script: it is what `play` says of the events so far, and its history is
+-- what was allowed of them. An event more is one step of the fold.
+use Rattle.std.proofs.Common.{◌≡◌, ℕ, suc, ◌+◌, ◌<◌, List, [], ◌∷◌, ◌++◌, inl, inr, length, take, get_or, Option, Some, None, Result, Ok, Err, OnOk, OnErr, sym, ap, ◌∙◌, subst, arith, add-one, length-append, length-take-le}
 use Rattle.std.specs.List.{enumerate_from}
 use Rattle.std.specs.Prelude.{flat_map}
-use Rattle.std.proofs.lemmas.List.{flat_map_more}
+use Rattle.std.proofs.lemmas.List.{flat_map_more, take_more}
 use Rattle.std.proofs.lemmas.List.Sums.{fold_more}
 use Rattle.task_descriptor.specs.Listing.{Listing}
 use Rattle.mark_checker.specs.Places.{Checked}
@@ -15,7 +15,7 @@ use Rattle.machine_events.specs.declared.event.Refused.{Refused}
 use Rattle.machine_events.specs.declared.event.Refused.TheVariants as refused
 use Rattle.sequencer.specs.Seen.{MachineView, Applies, IsAnswered, SameRing, state, units_of}
 use Rattle.verdict_report.specs.Playing.{played_so_far}
-use Rattle.verdict_report.specs.ReplayText.{answer_line, answers_text}
+use Rattle.verdict_report.specs.ReplayText.{allowed, answer_line, answers_text}
 
 -- an answer as `answered` takes it: what it leaves where the event is allowed, and else what was before
 pub answered_by : (result : Result (Unit {0}) Refused) (refusal : Option Refused) (taken old new : State) (count more : ℕ) (answers : List (Result (Unit {0}) Refused))
@@ -58,29 +58,27 @@ answers_more before answers said number is =
     flat_map_more answer_line before (enumerate_from 1 answers) (number, said)
     ∙ ap (λ lines. before ++ flat_map answer_line lines) (enumerated_more 1 number answers said (omega (arith, is)))
 
--- behind one more event: the machine, the text and the number of answers
-pub record IsPlaying (m : MachineView) (before text : List ℕ) (i : ℕ) (played : Played) : Type 0 where
-  pub plays : played_so_far m played.answers ≡ played
-  pub written : text ≡ before ++ answers_text played.answers
-  pub counted : length played.answers ≡ i
+-- one more event with its answer
+allowed_more : (events : List Event) (answers : List (Result (Unit {0}) Refused)) (e : Event) (said : Result (Unit {0}) Refused)
+    → length answers ≡ length events → allowed (events ++ e ∷ []) (answers ++ said ∷ []) ≡ allowed events answers ++ allowed (e ∷ []) (said ∷ [])
+allowed_more [] [] e said h = refl
+allowed_more [] (a ∷ answers) e said h = absurd (omega (arith, h))
+allowed_more (x ∷ events) [] e said h = absurd (omega (arith, h))
+allowed_more (x ∷ events) (Ok done ∷ answers) e said h = ap (λ t. x ∷ t) (allowed_more events answers e said (omega (arith, h)))
+allowed_more (x ∷ events) (Err why ∷ answers) e said h = allowed_more events answers e said (omega (arith, h))
 
-pub plays_on : (m m' : MachineView) (before text text' : List ℕ) (i : ℕ) (played played' : Played) (said : Result (Unit {0}) Refused)
-    → IsPlaying m before text i played → played_so_far m' (played.answers ++ said ∷ []) ≡ played' → text' ≡ text ++ answer_line (i + 1, said)
-    → IsPlaying m' before text' (i + 1) played'
-plays_on m m' before text text' i played played' said h step line =
-    let more : played.answers ++ said ∷ [] ≡ played'.answers = ap (λ (x : Played). x.answers) step in
-    let longer : length (played.answers ++ said ∷ []) ≡ length played.answers + 1 = length-append played.answers (said ∷ []) in
-    record {
-      plays = subst (λ (answers : List (Result (Unit {0}) Refused)). played_so_far m' answers ≡ played') more step;
-      written = line ∙ ap (λ (t : List ℕ). t ++ answer_line (i + 1, said)) h.written ∙ answers_more before played.answers said (i + 1) (ap (λ (n : ℕ). n + 1) (sym h.counted))
-          ∙ ap (λ (answers : List (Result (Unit {0}) Refused)). before ++ answers_text answers) more;
-      counted = sym (ap length more) ∙ longer ∙ ap (λ (n : ℕ). n + 1) h.counted;
-    }
+pub allowed_so_far : (events : List Event) (i : ℕ) (d : Event) (answers : List (Result (Unit {0}) Refused)) (said : Result (Unit {0}) Refused)
+    → i < length events → length answers ≡ i
+    → allowed (take (i + 1) events) (answers ++ said ∷ []) ≡ allowed (take i events) answers ++ allowed (get_or events i d ∷ []) (said ∷ [])
+allowed_so_far events i d answers said within counted =
+    let taken : length (take i events) ≡ i = length-take-le i events (omega (arith, within)) in
+    ap (λ (es : List Event). allowed es (answers ++ said ∷ [])) (take_more events i d within)
+    ∙ allowed_more (take i events) answers (get_or events i d) said (counted ∙ sym taken)
 
 -- the step of an event from a machine with the program and the units of the one at the start
-pub steps_on : (start m : MachineView) (played : Played) (e : Event) → SameRing start m → played_so_far m played.answers ≡ played
-    → play_event m.accepted.program (units_of m) (played_so_far m played.answers) e ≡ play_event start.accepted.program (units_of start) played e
-steps_on start m played e ring is =
-    ap (λ (a : Checked). play_event a.program (units_of m) (played_so_far m played.answers) e) ring.accepted
-    ∙ ap (λ (n : ℕ). play_event start.accepted.program n (played_so_far m played.answers) e) ring.units
+pub steps_on : (start m : MachineView) (answers : List (Result (Unit {0}) Refused)) (played : Played) (e : Event) → SameRing start m → played_so_far m answers ≡ played
+    → play_event m.accepted.program (units_of m) (played_so_far m answers) e ≡ play_event start.accepted.program (units_of start) played e
+steps_on start m answers played e ring is =
+    ap (λ (a : Checked). play_event a.program (units_of m) (played_so_far m answers) e) ring.accepted
+    ∙ ap (λ (n : ℕ). play_event start.accepted.program n (played_so_far m answers) e) ring.units
     ∙ ap (λ (x : Played). play_event start.accepted.program (units_of start) x e) is

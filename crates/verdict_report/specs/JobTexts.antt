@@ -32,7 +32,7 @@ IsReportOf Print texts report = report ≡ print_text texts.program.items
 IsReportOf (Annotate emit) texts report = IsAnnotateReport emit texts.program.items report
 IsReportOf (Explain name) texts report = IsExplainReport (string_bytes name) texts.program.items report
 IsReportOf (Check workers) texts report = report ≡ check_text texts.program.items texts.certificate
-IsReportOf (Replay units) texts report = report ≡ replay_text units texts.program.items texts.certificate texts.script.items
+IsReportOf (Replay units emit) texts report = report ≡ replay_text emit units texts.program.items texts.certificate texts.script.items
 IsReportOf (Run units workers budget predict emit) texts report = IsRunText units budget emit texts.program.items texts.certificate report
 
 -- a job is done: a report of it was added to what the writer holds, and the status is its

@@ -1,16 +1,20 @@
--- The text of `replay`: what a machine answers to each event of a script, and how it then stands (own
--- choice).
+-- The text of `replay`: what a machine answers to each event of a script, and how it then stands; or what
+-- the tasks came to that the script assigned (own choice).
 use Rattle.std.specs.Prelude.{ℕ, List, [], ◌∷◌, ◌++◌, Option, Some, None, Result, Ok, Err, codes, flat_map}
 use Rattle.std.specs.List.{enumerate_from}
 use Rattle.std.specs.Fmt.{decimal}
 use Rattle.task_descriptor.specs.Listing.{Listing}
-use Rattle.machine_model.specs.Answer.{play}
+use Rattle.machine_model.specs.Answer.{Played, play}
 use Rattle.machine_events.specs.declared.event.Event.{Event}
 use Rattle.machine_events.specs.declared.event.Refused.{Refused}
 use Rattle.machine_events.specs.RefusedText.{refusal_text}
 use Rattle.event_script.specs.declared.fault.ScriptFault.{ScriptFault}
 use Rattle.event_script.specs.FaultText.{script_fault_text}
 use Rattle.event_script.specs.EventScript.{script_of}
+use Rattle.task_lives.specs.Lives.{lives_of}
+use Rattle.run_summary.specs.SummaryText.{summary_text}
+use Rattle.jobs.specs.declared.job.ReplayEmit.{ReplayEmit}
+use Rattle.jobs.specs.declared.job.ReplayEmit.TheVariants as emit
 use Rattle.verdict_report.specs.OutputTexts.{Report}
 use Rattle.verdict_report.specs.JudgedTexts.{judged}
 use Rattle.verdict_report.specs.MachineText.{machine_text, standing_status}
@@ -33,23 +37,36 @@ answer_line numbered = decimal numbered.0 ++ (codes " " ++ (answer_text numbered
 abbrev pub answers_text : List (Result (Unit {0}) Refused) → List ℕ
 answers_text answers = flat_map answer_line (enumerate_from 1 answers)
 
+-- the events that were allowed, by their answers
+abbrev pub allowed : List Event → List (Result (Unit {0}) Refused) → List Event
+allowed [] answers = []
+allowed (event ∷ events) [] = []
+allowed (event ∷ events) (Ok done ∷ answers) = event ∷ allowed events answers
+allowed (event ∷ events) (Err refusal ∷ answers) = allowed events answers
+
+-- what is written of events that were played: the answers, and how the machine stands; or what the tasks
+-- came to that the allowed events assigned, as `run` sums them up
+abbrev pub played_text : ReplayEmit → (units : ℕ) → Listing → List Event → Played → List ℕ
+played_text emit.Answers units p events played = answers_text played.answers ++ machine_text played.state
+played_text emit.Summary units p events played = summary_text p (lives_of units (allowed events played.answers))
+
 -- what `replay` writes of the events of a script, where an event that is refused changes nothing
-abbrev pub events_report : (units : ℕ) → Listing → List Event → Report
-events_report units p events =
+abbrev pub events_report : ReplayEmit → (units : ℕ) → Listing → List Event → Report
+events_report emitted units p events =
     let played = play p units events in
     record {
-      bytes = answers_text played.answers ++ machine_text played.state;
+      bytes = played_text emitted units p events played;
       status = standing_status played.state.outcome;
     }
 
-abbrev pub script_read : (units : ℕ) → Listing → Result (List Event) ScriptFault → Report
-script_read units p (Ok events) = events_report units p events
-script_read units p (Err fault) = script_refused fault
+abbrev pub script_read : ReplayEmit → (units : ℕ) → Listing → Result (List Event) ScriptFault → Report
+script_read emitted units p (Ok events) = events_report emitted units p events
+script_read emitted units p (Err fault) = script_refused fault
 
 -- what `replay` writes of a program in which nothing is found, and the text of a script
-abbrev pub script_report : (units : ℕ) → (script : List ℕ) → Listing → Report
-script_report units script p = script_read units p (script_of p script)
+abbrev pub script_report : ReplayEmit → (units : ℕ) → (script : List ℕ) → Listing → Report
+script_report emitted units script p = script_read emitted units p (script_of p script)
 
 -- what `replay` writes of a program text, the text of its certificate and the text of a script
-abbrev pub replay_text : (units : ℕ) → (program certificate script : List ℕ) → Report
-replay_text units program certificate script = judged (script_report units script) program certificate
+abbrev pub replay_text : ReplayEmit → (units : ℕ) → (program certificate script : List ℕ) → Report
+replay_text emitted units program certificate script = judged (script_report emitted units script) program certificate

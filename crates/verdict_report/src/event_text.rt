@@ -1,7 +1,7 @@
 //! The texts of a script that is refused, and of what a machine answers to events.
 ghost use Rattle.std.specs.Prelude.{◌≡◌, ◌++◌, OnOk, IfOk};
 ghost use Rattle.std.specs.String.{string_bytes};
-ghost use Rattle.verdict_report.specs.ReplayText.{answer_line, script_refused};
+ghost use Rattle.verdict_report.specs.ReplayText.{answer_line, answers_text, script_refused};
 
 use crate::report::Report;
 use event_script::fault::ScriptFault;
@@ -17,8 +17,18 @@ pub fn refused_script(alloc: Global, fault: ScriptFault) -> Result<Report, Alloc
     Ok(Report::new(text.into_bytes(), 1))
 }
 
-/// Adds what a machine answers to the event of this number.
-pub fn write_answer(
+/// Adds what a machine answers to each event of a script, the first first.
+pub fn write_answers(text: &mut String, answers: &[Result<(), Refused>]) -> Result<(), AllocError>
+    ensures { OnOk result (string_bytes text.new ≡ string_bytes text.old ++ answers_text answers.now) }
+{
+    for (index, answer) in answers.iter().enumerate() {
+        write_answer(text, index + 1, *answer)?;
+    }
+    Ok(())
+}
+
+// Adds what a machine answers to the event of this number.
+fn write_answer(
     text: &mut String,
     number: usize,
     answer: Result<(), Refused>,

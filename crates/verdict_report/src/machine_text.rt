@@ -1,13 +1,19 @@
 //! The text of how a machine of units stands.
-ghost use Rattle.std.specs.Prelude.{◌≡◌, ◌++◌, OnOk};
+ghost use Rattle.std.specs.Prelude.{◌≡◌, ◌++◌, IfOk, OnOk};
 ghost use Rattle.std.specs.String.{string_bytes};
-ghost use Rattle.sequencer.specs.Seen.{state};
+ghost use Rattle.sequencer.specs.Seen.{state, units_of};
+ghost use Rattle.task_lives.specs.Lives.{lives_of};
+ghost use Rattle.run_summary.specs.SummaryText.{summary_text};
 ghost use Rattle.verdict_report.specs.MachineText.{machine_text, retired_text, standing_status, standing_text};
 
 use crate::plain_text::write_words;
+use jobs::ranges::Units;
 use machine_events::event::Standing;
 use sequencer::machine::Machine;
-use std::alloc::AllocError;
+use std::alloc::{AllocError, Global};
+use task_descriptor::program::Program;
+use task_lives::laws::histories_fit;
+use task_lives::lives::lives_of_runs;
 
 // Adds how a run stands.
 fn write_standing(text: &mut String, standing: Standing) -> Result<(), AllocError>
@@ -39,6 +45,22 @@ pub fn write_machine(text: &mut String, machine: &Machine<'_>) -> Result<(), All
     write_retired(text, machine)?;
     write_standing(text, machine.outcome())?;
     writeln!(text, "")
+}
+
+/// What the tasks came to that a machine of so many units assigned, which runs this program.
+pub fn summary_of(
+    alloc: Global,
+    units: Units,
+    machine: &Machine<'_>,
+    program: &Program,
+) -> Result<Vec<u8>, AllocError>
+    requires over { machine.now.accepted.program ≡ program.now }
+    requires units { units_of machine.now ≡ units }
+    ensures { IfOk result (λ bytes. bytes.items ≡ summary_text program.now (lives_of units machine.now.history)) }
+{
+    histories_fit();
+    let lives = lives_of_runs(alloc, machine.history(), units.get())?;
+    run_summary::summary::write(alloc, program, &lives)
 }
 
 /// The status of a run that stands so.

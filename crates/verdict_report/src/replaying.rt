@@ -1,18 +1,19 @@
 //! The job `replay`.
-ghost use Rattle.std.specs.Prelude.{◌≡◌, ◌++◌, List, [], ◌∷◌, Result, IfOk, OnOk};
-ghost use Rattle.std.specs.String.{string_bytes};
+ghost use Rattle.std.specs.Prelude.{◌≡◌, ◌++◌, List, [], ◌∷◌, Result, IfOk};
 ghost use Rattle.machine_model.specs.Answer.{play, play_event};
 ghost use Rattle.machine_events.specs.declared.event.Refused.{Refused};
 ghost use Rattle.sequencer.specs.Seen.{SameRing, state, units_of};
+ghost use Rattle.verdict_report.specs.MachineText.{machine_text};
 ghost use Rattle.verdict_report.specs.Playing.{played_so_far};
-ghost use Rattle.verdict_report.specs.ReplayText.{answers_text, events_report, replay_text, script_report};
+ghost use Rattle.verdict_report.specs.ReplayText.{allowed, answers_text, events_report, replay_text, script_report};
 
-use crate::event_text::{refused_script, write_answer};
+use crate::event_text::{refused_script, write_answers};
 use crate::judging::{Judged, judge};
-use crate::machine_text::{standing_status_of, write_machine};
+use crate::machine_text::{standing_status_of, summary_of, write_machine};
 use crate::report::Report;
 use event_script::fault::ScriptFault;
 use event_script::reading::read;
+use jobs::job::ReplayEmit;
 use jobs::ranges::Units;
 use machine_events::event::{Event, Refused};
 use machine_model::laws::next_is_after;
@@ -26,15 +27,16 @@ use text_pieces::text::Text;
 pub fn replay(
     alloc: Global,
     units: Units,
+    emit: ReplayEmit,
     program: &[u8],
     certificate: &Text,
     script: &[u8],
 ) -> Result<Report, AllocError>
-    ensures { IfOk result (λ report. report ≡ replay_text units program.now certificate.now script.now) }
+    ensures { IfOk result (λ report. report ≡ replay_text emit units program.now certificate.now script.now) }
 {
     match judge(alloc, program, certificate)? {
         Judged::Refused(report) => Ok(report),
-        Judged::Accepted(accepted) => replay_script(alloc, units, &accepted, script),
+        Judged::Accepted(accepted) => replay_script(alloc, units, emit, &accepted, script),
     }
 }
 
@@ -42,13 +44,14 @@ pub fn replay(
 fn replay_script(
     alloc: Global,
     units: Units,
+    emit: ReplayEmit,
     accepted: &Accepted,
     script: &[u8],
 ) -> Result<Report, AllocError>
-    ensures { IfOk result (λ report. report ≡ script_report units script.now accepted.now.program) }
+    ensures { IfOk result (λ report. report ≡ script_report emit units script.now accepted.now.program) }
 {
     match read(alloc, script, accepted.program()) {
-        Ok(events) => replay_events(alloc, units, accepted, events.as_slice()),
+        Ok(events) => replay_events(alloc, units, emit, accepted, events.as_slice()),
         Err(ScriptFault::OutOfMemory) => Err(AllocError),
         Err(fault) => refused_script(alloc, fault),
     }
@@ -58,34 +61,53 @@ fn replay_script(
 fn replay_events(
     alloc: Global,
     units: Units,
+    emit: ReplayEmit,
     accepted: &Accepted,
     events: &[Event],
 ) -> Result<Report, AllocError>
-    ensures { IfOk result (λ report. report ≡ events_report units accepted.now.program events.now) }
+    ensures { IfOk result (λ report. report ≡ events_report emit units accepted.now.program events.now) }
 {
     let mut machine = Machine::new(alloc, accepted, units.get()).map_err(|_| AllocError)?;
-    let mut text = String::new(alloc);
-    play_events(&mut text, &mut machine, events)?;
-    write_machine(&mut text, &machine)?;
-    Ok(Report::new(text.into_bytes(), standing_status_of(machine.outcome())))
+    let answers = play_events(alloc, &mut machine, events)?;
+    let bytes = match emit {
+        ReplayEmit::Answers => answers_of(alloc, &answers, &machine)?,
+        ReplayEmit::Summary => summary_of(alloc, units, &machine, accepted.program())?,
+    };
+    Ok(Report::new(bytes, standing_status_of(machine.outcome())))
 }
 
-// Applies the events to a machine at its start, and adds its answers.
+// The answers, and how the machine then stands.
+fn answers_of(
+    alloc: Global,
+    answers: &[Result<(), Refused>],
+    machine: &Machine<'_>,
+) -> Result<Vec<u8>, AllocError>
+    ensures { IfOk result (λ bytes. bytes.items ≡ answers_text answers.now ++ machine_text (state machine.now)) }
+{
+    let mut text = String::new(alloc);
+    write_answers(&mut text, answers)?;
+    write_machine(&mut text, machine)?;
+    Ok(text.into_bytes())
+}
+
+// Applies the events to a machine at its start. What it answers to each.
 fn play_events(
-    text: &mut String,
+    alloc: Global,
     machine: &mut Machine<'_>,
     events: &[Event],
-) -> Result<(), AllocError>
-    requires { played_so_far machine.old [] ≡ play machine.old.accepted.program (units_of machine.old) [] }
-    ensures text { OnOk result (string_bytes text.new ≡ string_bytes text.old
-        ++ answers_text (play machine.old.accepted.program (units_of machine.old) events.now).answers) }
-    ensures machine { OnOk result (state machine.new ≡ (play machine.old.accepted.program (units_of machine.old) events.now).state) }
+) -> Result<Vec<Result<(), Refused>>, AllocError>
+    requires start { played_so_far machine.old [] ≡ play machine.old.accepted.program (units_of machine.old) [] }
+    requires history { machine.old.history ≡ [] }
+    ensures answers { IfOk result (λ answers.
+        played_so_far machine.new answers.items ≡ play machine.old.accepted.program (units_of machine.old) events.now) }
+    ensures history { IfOk result (λ answers. machine.new.history ≡ allowed events.now answers.items) }
+    ensures kept { SameRing machine.old machine.new }
 {
-    for (index, event) in events.iter().enumerate() {
-        let answer = play_event_of(machine, *event)?;
-        write_answer(text, index + 1, answer)?;
+    let mut answers = Vec::with_capacity(alloc, events.len())?;
+    for event in events {
+        answers.push(play_event_of(machine, *event)?)?;
     }
-    Ok(())
+    Ok(answers)
 }
 
 // Applies an event to a machine, and answers what the machine says of it.
@@ -93,6 +115,7 @@ fn play_event_of(machine: &mut Machine<'_>, event: Event) -> Result<Result<(), R
     ensures answer { IfOk result (λ said. (answers : List (Result (Unit {0}) Refused)) →
         played_so_far machine.new (answers ++ said ∷ [])
         ≡ play_event machine.old.accepted.program (units_of machine.old) (played_so_far machine.old answers) event) }
+    ensures history { IfOk result (λ said. machine.new.history ≡ machine.old.history ++ allowed (event ∷ []) (said ∷ [])) }
     ensures kept { SameRing machine.old machine.new }
 {
     next_is_after();

@@ -6,12 +6,10 @@ ghost use Rattle.verdict_report.specs.Runs.{run_of};
 ghost use Rattle.machine_model.specs.Replay.{Replays};
 ghost use Rattle.event_script.specs.EventScript.{script_of};
 ghost use Rattle.event_script.specs.ScriptText.{script_text};
-ghost use Rattle.task_lives.specs.Lives.{lives_of};
-ghost use Rattle.run_summary.specs.SummaryText.{summary_text};
 
 use crate::fault::ServeFault;
 use crate::judging::{Judged, judge};
-use crate::machine_text::{standing_status_of, write_machine};
+use crate::machine_text::{standing_status_of, summary_of, write_machine};
 use crate::plain_text::write_words;
 use crate::report::Report;
 use event_script::writing::write;
@@ -22,8 +20,6 @@ use sequencer::predict::{First, Last, Predict, Script};
 use std::alloc::{AllocError, Global};
 use std::sync::Wait;
 use std::thread::Threads;
-use task_lives::laws::histories_fit;
-use task_lives::lives::lives_of_runs;
 use text_pieces::text::Text;
 use threaded_runner::gate::Open;
 use threaded_runner::report;
@@ -139,14 +135,13 @@ fn report_of_run(
 ) -> Result<Report, AllocError>
     requires over { ran.now.machine.accepted ≡ accepted.now }
     requires units { (units_of ran.now.machine ≤ 16) × (units_of ran.now.machine ≡ units) }
-    requires replay { Replays accepted.now.program units ran.now.machine.history (state ran.now.machine) }
     ensures bytes { IfOk result (λ report. IsWrittenOf emit units accepted.now.program (run_of ran.now) report.bytes) }
     ensures status { IfOk result (λ report. report.status ≡ ending_status ran.now.how (state ran.now.machine)) }
 {
     let bytes = match emit {
         RunEmit::Report => ending(alloc, ran)?,
         RunEmit::Script => script(alloc, ran, accepted)?,
-        RunEmit::Summary => summary(alloc, units, ran, accepted)?,
+        RunEmit::Summary => summary_of(alloc, units, &ran.machine, accepted.program())?,
     };
     Ok(Report::new(bytes, ending_status_of(ran)))
 }
@@ -177,23 +172,6 @@ fn script(
     ensures { IfOk result (λ bytes. (bytes.items ≡ script_text accepted.now.program ran.now.machine.history) × (script_of accepted.now.program bytes.items ≡ Ok ran.now.machine.history)) }
 {
     write(alloc, ran.machine.history(), accepted.program())
-}
-
-// What the tasks came to that the run assigned.
-fn summary(
-    alloc: Global,
-    units: Units,
-    ran: &report::Report<'_>,
-    accepted: &Accepted,
-) -> Result<Vec<u8>, AllocError>
-    requires over { ran.now.machine.accepted ≡ accepted.now }
-    requires units { units_of ran.now.machine ≡ units }
-    requires replay { Replays accepted.now.program units ran.now.machine.history (state ran.now.machine) }
-    ensures { IfOk result (λ bytes. bytes.items ≡ summary_text accepted.now.program (lives_of units ran.now.machine.history)) }
-{
-    histories_fit();
-    let lives = lives_of_runs(alloc, ran.machine.history(), units.get())?;
-    run_summary::summary::write(alloc, accepted.program(), &lives)
 }
 
 // The status of a run.

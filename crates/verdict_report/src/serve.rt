@@ -58,9 +58,9 @@ fn report_of<R: Threads + Wait + Sync>(
         Job::Annotate { emit } => Ok(annotate(alloc, *emit, program)?),
         Job::Explain { name } => Ok(explain(alloc, name, program)?),
         Job::Check { workers } => Ok(check(rt, alloc, *workers, program, certificate)?),
-        Job::Replay { units } => {
+        Job::Replay { units, emit } => {
             let script = texts.script.as_slice();
-            Ok(replay(alloc, *units, program, certificate, script)?)
+            Ok(replay(alloc, *units, *emit, program, certificate, script)?)
         }
         Job::Run {
             units,

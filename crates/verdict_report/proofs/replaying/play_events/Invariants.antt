@@ -1,18 +1,16 @@
--- The machine is what the events so far leave, their answers are written, and there is one for each.
-use Rattle.std.proofs.Common.{◌≡◌, ◌++◌, take, length}
-use Rattle.std.specs.String.{string_bytes}
+-- The machine is what the events so far leave, with their answers, and its history is what was allowed.
+use Rattle.std.proofs.Common.{◌≡◌, take, length}
 use Rattle.machine_model.specs.Answer.{play}
 use Rattle.sequencer.specs.Seen.{SameRing, units_of}
 use Rattle.verdict_report.specs.Playing.{played_so_far}
-use Rattle.verdict_report.specs.ReplayText.{answers_text}
+use Rattle.verdict_report.specs.ReplayText.{allowed}
 use Rattle.verdict_report.proofs.replaying.play_events.Given as goal
 
-abbrev pub invariant-loop-index : goal.invariant-loop-index
-invariant-loop-index l =
-    let p = l.initial.machine.accepted.program in
-    let units = units_of l.initial.machine in
-    let played = play p units (take l.index l.events) in
-    (played_so_far l.machine played.answers ≡ played)
-    × SameRing l.initial.machine l.machine
-    × (string_bytes l.text ≡ string_bytes l.initial.text ++ answers_text played.answers)
-    × (length played.answers ≡ l.index)
+abbrev pub invariant-loop-event : goal.invariant-loop-event
+invariant-loop-event l =
+    let start = l.initial.machine in
+    let so_far = take l.event-index l.events in
+    (played_so_far l.machine l.answers.items ≡ play start.accepted.program (units_of start) so_far)
+    × SameRing start l.machine
+    × (l.machine.history ≡ allowed so_far l.answers.items)
+    × (length l.answers.items ≡ l.event-index)
