@@ -80,13 +80,13 @@ def maximal_program():
     return "\n".join(lines) + "\n"
 
 
-def ring_program():
-    """200 instructions in a ring of 50 tasks, each of which reaches four of them."""
+def ring_program(tasks, create="$8,$9", last="xor $9,$9,$8 !f"):
+    """A ring of tasks, each of which reaches four instructions."""
     lines = []
-    for task in range(RING):
-        lines.append(f".task T{task} create=$8,$9 targets=T{(task + 1) % RING}")
-    for task in range(RING):
-        lines += [f"T{task}:", "addiu $8,$8,1 !f", "addu $9,$9,$8", "xor $9,$9,$8 !f", f"j T{(task + 1) % RING} !s"]
+    for task in range(tasks):
+        lines.append(f".task T{task} create={create} targets=T{(task + 1) % tasks}")
+    for task in range(tasks):
+        lines += [f"T{task}:", "addiu $8,$8,1 !f", "addu $9,$9,$8", last, f"j T{(task + 1) % tasks} !s"]
     return "\n".join(lines) + "\n"
 
 
@@ -246,7 +246,8 @@ def write_texts(folder, with_certificate):
     """All texts that are generated, in the folder."""
     for name, text in [("maximal", maximal_program()), ("comments", comment_text()), ("labels", label_text()),
                        ("statements", statement_text()), ("late_fault", late_fault_text()), ("nest", loop_nest()),
-                       ("zigzag", zigzag()), ("steady", STEADY), ("ring", ring_program())]:
+                       ("zigzag", zigzag()), ("steady", STEADY), ("ring", ring_program(RING)), ("long_ring", ring_program(TASKS)),
+                       ("wrong_ring", ring_program(TASKS, "$8", "xor $9,$9,$8"))]:
         write(folder, f"{name}.s", text)
     write(folder, "steady.cert2", STEADY_CERTIFICATE)
     write(folder, "long.cert2", LONG_TASK_CERTIFICATE)
@@ -293,6 +294,11 @@ def cases(program, folder, known):
     for file, name, size in [("maximal", "maximal program", CODE * TASKS), ("nest", "loop nest", 4002), ("zigzag", "zigzag path", CODE)]:
         words = ["annotate", "--emit", "keep", folder / f"{file}.s"]
         out.append(Case(f"annotate --emit keep of the {name}", words, "entry", size))
+    # the same program, right, and wrong in one register of each task
+    long_ring = folder / "long_ring.s"
+    out.append(Case(f"annotate --emit keep of {TASKS} tasks", ["annotate", "--emit", "keep", long_ring]))
+    out.append(Case(f"explain of {TASKS} tasks, right", ["explain", long_ring]))
+    out.append(Case(f"explain of {TASKS} tasks, {TASKS} findings", ["explain", folder / "wrong_ring.s"], wanted=1))
     steady, steady_certificate = folder / "steady.s", folder / "steady.cert2"
     for units in (1, 4, 16):
         script = folder / f"steady{units}.events"

@@ -87,8 +87,10 @@ def sentence(rule, task, register):
 
 
 def excerpt(text, line, column):
-    """The two rows that show a line and a column of a text."""
+    """The two rows that show a line and a column of a text; none of a line that is too long."""
     shown, number = text.split("\n")[line - 1], str(line)
+    if len(shown.removesuffix("\r")) > 1000:
+        return []
     below = "".join("\t" if c == "\t" else " " for c in shown[:column - 1])
     return [f"{number:>5} | {shown}", f"{' ' * max(5, len(number))} | {below}^"]
 

@@ -13,6 +13,7 @@ import argparse
 import errno
 import os
 import random
+import re
 import resource
 import subprocess
 import sys
@@ -86,12 +87,18 @@ def named(path):
     return 2, b"", f"multiscalar: file {path}\n".encode()
 
 
+def unnamed(words, out):
+    """What was written, without the name of the file that `explain` puts before a diagnostic."""
+    return re.sub(rb"(?m)^\S+?:(?=\d+:| )", b"FILE:", out) if words[0] == "explain" else out
+
+
 def cases(bench):
-    """Each subcommand over the examples; what `run` prints must be known."""
+    """Each subcommand over the examples; what `run` prints must be known, and of right marks `explain` says nothing."""
     for folder in sorted(p for p in (TOP / "examples").iterdir() if (p / "program.s").exists()):
         program, certificate = str(folder / "program.s"), str(folder / "certificate.cert2")
         words = [["seq", program], ["print", program], ["annotate", "--emit", "cert", program]]
         if (folder / "certificate.cert2").exists():
+            words += [["explain", program]]
             words += [["check", program, certificate], ["check", "--workers", "4", program, certificate]]
             words += [["replay", program, certificate, str(script)] for script in sorted(folder.glob("*.events"))]
             words += [["run", program, certificate, *(["--budget", "2000"] if folder.name == "spin" else [])]]
@@ -133,7 +140,8 @@ class Part:
 
     def expect(self, words, what, ended, wanted):
         """`wanted` is status, output and what is told; None in its place is anything."""
-        given = (ended.status, ended.out, ended.told)
+        given = (ended.status, unnamed(words, ended.out), ended.told)
+        wanted = (wanted[0], wanted[1] and unnamed(words, wanted[1]), wanted[2])
         is_right = all(w is None or w == g for w, g in zip(wanted, given))
         if ended.counts and ended.counts[-1]:
             is_right, what = False, f"{what}, {ended.counts[-1]} files opened for writing"
@@ -182,7 +190,9 @@ def prefix_answer(case, which, size, more=b""):
     path = case.bench.folder / "prefix"
     with open(case.files[which], "rb") as file:
         path.write_bytes(file.read()[:size] + more)
-    return case.bench.run(case.with_file(which, path))[:2] + (None,)
+    words = case.with_file(which, path)
+    ended = case.bench.run(words)
+    return ended.status, unnamed(words, ended.out), None
 
 
 def early_end(part, every, draw):
@@ -267,7 +277,7 @@ def bad_outputs(part, every, draw):
             done = subprocess.run([part.bench.program, *case.words], stdin=subprocess.DEVNULL, stdout=outputs[name],
                                   stderr=subprocess.PIPE, timeout=60, **closing)
             ended = faults.Ended(done.returncode, b"", done.stderr, None, None)
-            part.expect(case.words, name, ended, (2, b"", WRITE_FAILED if case.files else b""))
+            part.expect(case.words, name, ended, (2, b"", WRITE_FAILED if case.files else b"") if case.right.out else case.right[:3])
     os.close(closed)
 
 
@@ -335,7 +345,8 @@ def endless(part, every, draw):
     most = 0
     for (case, which), path in part.each([(one, path) for one in inputs(chosen) for path in ("/dev/zero", "/dev/full")], draw):
         ended, memory = measured(part, case.with_file(which, path))
-        part.expect(case.words, f"{path} for file {which}", ended, named(path) if which else (1, b"program refused: 1 TooLong\n", b""))
+        refused = None if case.words[0] == "explain" else b"program refused: 1 TooLong\n"
+        part.expect(case.words, f"{path} for file {which}", ended, named(path) if which else (1, refused, b""))
         limit = FILE_LIMIT if which else PROGRAM_LIMIT
         most = max(most, memory - limit)
         if memory > limit + 16e6:

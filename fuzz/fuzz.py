@@ -30,7 +30,7 @@ def model(words, files):
     if w == 'print': return print_text(f[0])
     if w == 'check': return check_text(*f)
     if w == 'annotate': return annotate_text(f[0], opt.get('--emit', 'text'))
-    if w == 'replay': return replay_text(*f, int(opt.get('--units', 4)))
+    if w == 'replay': return replay_text(*f, int(opt.get('--units', 4)), opt.get('--emit', 'answers'))
     if w == 'run': return run_text(f[0], f[1])
 found = collections.Counter(); nfound = 0
 def differs(words, files):
@@ -135,6 +135,6 @@ def one():
     ev = '\n'.join(events_for(Machine(p, u), R.choice([5, 30, 100, 300]))) + R.choice(['', '\n'])
     if R.random() < .1:
         k = R.randrange(len(ev) + 1); ev = ev[:k] + R.choice(['\n', ' ', 'x', '0', '-', '\r', '$', '34']) + ev[k + R.choice([0, 1]):]
-    return case(['replay', '--units', str(u)], [t, c, ev])
+    return case(['replay', '--units', str(u)] + (['--emit', 'summary'] if R.random() < .3 else []), [t, c, ev])
 while time.time() < end and SUBS: one()
 finish()

@@ -27,16 +27,17 @@ import time
 
 HERE = pathlib.Path(__file__).resolve().parent
 sys.path.insert(0, str(HERE / "entry"))
+import explain
 import seeds
-from model import CertFault, Fault, annotate_text, assemble, cert_parse, check_text, print_text, replay_text, run_text, seq_text
+from model import CertFault, Fault, annotate_text, assemble, cert_parse, certify, check_text, print_text, replay_text, run_text, seq_text, verdict
 
 UNITS, BUDGETS = (1, 2, 3, 4, 16), (1, 7, 60, 400, 3000)
 EMITS, PREDICTS = ("text", "cert", "keep"), ("first", "last", "1,0", "3,1,2,0,15")
-FILES = {"seq": 1, "print": 1, "annotate": 1, "check": 2, "run": 2, "replay": 3}
+FILES = {"seq": 1, "print": 1, "annotate": 1, "explain": 1, "check": 2, "run": 2, "replay": 3}
 NUMBERS = {"budget": 1000000, "units": 16, "workers": 16}
-OPTIONS = {"seq": ("budget",), "print": (), "annotate": ("emit",), "check": ("workers",), "replay": ("units",),
+OPTIONS = {"seq": ("budget",), "print": (), "annotate": ("emit",), "explain": (), "check": ("workers",), "replay": ("units", "emit"),
            "run": ("units", "workers", "budget", "predict", "emit")}
-CHOICES = {"annotate": EMITS, "run": ("report", "script")}
+CHOICES = {"annotate": EMITS, "replay": ("answers", "summary"), "run": ("report", "script", "summary")}
 
 
 def parts_of(case):
@@ -68,7 +69,7 @@ def jobs_of(case):
              ["run", "--units", units, "--workers", "1", "--budget", budget, "--predict", PREDICTS[options % 4],
               "--emit", "script" if options & 16 else "report", "p", "c"]]
     if job == 7:
-        return [[w.encode() for w in call] for call in (["seq", "--budget", "1500", "p"], words[1], ["annotate", "--emit", "keep", "p"])], texts
+        return [[w.encode() for w in call] for call in (["seq", "--budget", "1500", "p"], words[1], ["annotate", "--emit", "keep", "p"], ["explain", "p"])], texts
     return [[w.encode() for w in words[job]]], texts
 
 
@@ -143,9 +144,25 @@ def wanted(words, texts):
         return annotate_text(given[0], options.get("emit", "text"))
     if name == "check":
         return check_text(*given)
+    if name == "explain":
+        return wanted_explanation(files[0], given[0])
     if name == "replay":
-        return replay_text(*given, int(options.get("units", 4)))
+        return replay_text(*given, int(options.get("units", 4)), options.get("emit", "answers"))
     return wanted_run(options, given)
+
+
+def wanted_explanation(name, text):
+    """The model's findings, told as explain.py has it; of a refused text its first fault."""
+    try:
+        program = assemble(text)
+    except Fault as fault:
+        return lambda out, status: status == 1 and explain.refused_so(fault, text.decode("latin-1"), name, out)
+    findings = len(verdict(program, certify(program)))
+
+    def fits(out, status):
+        return status == min(findings, 1) and bool(out) == bool(findings) and not explain.differs(program, text.decode("latin-1"), name, out)
+
+    return fits
 
 
 def wanted_run(options, given):
@@ -157,6 +174,8 @@ def wanted_run(options, given):
         return one
 
     def fits(out, status):
+        if options.get("emit") == "summary":
+            return status in (one[1], 3) and out.startswith("assigned  retired ")
         if script:
             closing = replay_text(*given, out.encode(), int(options.get("units", 4)))
             return "refused" not in closing[0] and (status in (0, 1, 3))

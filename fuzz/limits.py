@@ -26,7 +26,7 @@ COUNT = TOP / "examples" / "count"
 PROGRAM_LIMIT, FILE_LIMIT = 4_194_304, 134_217_728
 
 # The most memory of a subcommand, in millions of bytes: README.md, "How much memory".
-BOUNDS = {"seq": 410, "print": 410, "annotate": 410, "check": 545, "run": 545, "replay": 1760}
+BOUNDS = {"seq": 410, "print": 410, "annotate": 410, "explain": 410, "check": 545, "run": 545, "replay": 1760}
 # How much more than the limit a file without end may take.
 ENDLESS = (FILE_LIMIT + 16_000_000) / 1e6
 
@@ -96,6 +96,8 @@ def programs(folder):
         path.write_bytes(text)
         for subcommand in ("seq", "print", "annotate"):
             yield name, [subcommand, path], 1, b"program refused: " + refusal + b"\n", BOUNDS[subcommand]
+        line = b":1: " if b" line " in refusal else b": "
+        yield name, ["explain", path], 1, bytes(path) + line + b"error: ", BOUNDS["explain"]
 
 
 def certificates(folder):

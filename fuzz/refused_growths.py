@@ -62,6 +62,7 @@ def example_cases():
                 yield words
         yield ["seq", program]
         yield ["print", program]
+        yield ["explain", program]
         for emit in ("text", "cert", "keep"):
             yield ["annotate", program, "--emit", emit]
         if not (folder / "certificate.cert2").exists():
@@ -74,6 +75,8 @@ def example_cases():
                 words += ["--budget", "2000"]
             yield words
             yield [*words, "--emit", "script"]
+            if units == 1:
+                yield [*words, "--emit", "summary"]
     for workers in ("1", "2", "3", "4", "16"):
         yield ["check", str(SHARED / "large.s"), str(SHARED / "large.cert2"), "--workers", workers]
 
@@ -90,6 +93,8 @@ def refused_cases(folder):
     yield ["run", program, certificate, "--predict", "1,,0"]
     yield ["seq", str(folder / "program.s")]
     yield ["print", str(folder / "no-task.s")]
+    yield ["explain", str(folder / "program.s")]
+    yield ["explain", str(folder / "no-task.s")]
     yield ["check", program, str(folder / "no.cert2")]
     yield ["replay", program, certificate, str(folder / "no.events")]
     yield ["seq", str(folder / "missing.s")]
@@ -104,6 +109,7 @@ def limit_cases(folder):
 
     for name in ("maximal.s", "labels.s", "statements.s", "late_fault.s"):
         yield ["print", *of(name)]
+        yield ["explain", *of(name)]
     yield ["seq", *of("maximal.s")]
     for name in ("maximal.s", "nest.s", "zigzag.s"):
         yield ["annotate", *of(name), "--emit", "keep"]

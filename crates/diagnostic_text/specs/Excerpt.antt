@@ -29,8 +29,13 @@ line_row number line = replicate (5 - length number) 32 ++ (number ++ (codes " |
 abbrev pub caret_row : (number front : List ℕ) → List ℕ
 caret_row number front = replicate (max 5 (length number)) 32 ++ (codes " | " ++ (map below_byte front ++ (codes "^" ++ 10 ∷ [])))
 
--- the line of a place, and the caret below the place, in a text of these lines
+-- how many bytes the longest line has that is shown
+abbrev pub longest_shown : ℕ
+longest_shown = 1000
+
+-- the line of a place, and the caret below the place, in a text of these lines; nothing of a longer line
 unfoldable pub excerpt_text : (rows : List (List ℕ)) → Position → List ℕ
 excerpt_text rows at =
     let line = line_in rows at.line in
-    line_row (decimal at.line) line ++ caret_row (decimal at.line) (take (at.column - 1) line)
+    if nat_lt longest_shown (length line) then []
+    else line_row (decimal at.line) line ++ caret_row (decimal at.line) (take (at.column - 1) line)

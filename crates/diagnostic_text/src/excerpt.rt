@@ -10,6 +10,10 @@ use program_tokens::line::first_line;
 use source_map::position::Position;
 use std::alloc::{AllocError, Global};
 
+/// How many bytes the longest line has that is shown (own choice): a line of a text can have nearly all of its
+/// 4,194,304 bytes, and may be meant by each finding.
+const LONGEST_SHOWN: usize = 1_000;
+
 /// The line without the CR that may end it.
 fn without_carriage_return(line: &[u8]) -> &[u8]
     ensures { result.now ≡ strip_carriage_return line.now }
@@ -124,7 +128,8 @@ fn write_caret_row(text: &mut String, number: &str, front: &[u8]) -> Result<(), 
     writeln!(text, "^")
 }
 
-/// Adds the line of a place in a text of these lines, and a caret below the place.
+/// Adds the line of a place in a text of these lines, and a caret below the place; nothing where the line is
+/// longer than the longest that is shown.
 #[tactic(auto, unfolding(crate::specs::Excerpt::excerpt_text))]
 pub(crate) fn write_excerpt(
     alloc: Global,
@@ -134,8 +139,11 @@ pub(crate) fn write_excerpt(
 ) -> Result<(), AllocError>
     ensures { OnOk result (string_bytes text.new ≡ string_bytes text.old ++ excerpt_text (map (λ line. line.now) rows.now) at) }
 {
-    let number = format!(in alloc; "{}", at.line)?;
     let line = line_in(rows, at.line);
+    if line.len() > LONGEST_SHOWN {
+        return Ok(());
+    }
+    let number = format!(in alloc; "{}", at.line)?;
     write_line_row(text, number.as_str(), line)?;
     write_caret_row(text, number.as_str(), before(line, at.column))
 }

@@ -129,3 +129,28 @@ fn more_findings_are_counted(rt: HostRuntime) {
         "\np.s: note: 52235 more findings\n",
     );
 }
+
+// A program with one finding, in a line of 13 bytes and as many blanks.
+fn behind_blanks(alloc: Global, blanks: usize) -> Result<String, AllocError> {
+    let mut text = String::new(alloc);
+    write!(text, ".task A create=- targets=-\nA: release $8")?;
+    for _ in 0..blanks {
+        write!(text, " ")?;
+    }
+    write!(text, "\nhalt\n")?;
+    Ok(text)
+}
+
+#[test]
+fn lines_of_a_thousand_bytes_are_shown(rt: HostRuntime) {
+    let program = behind_blanks(rt.alloc(), 987).expect(&rt, "memory");
+    let end = "  |    ^\np.s:2:4: help: add $8 to the create mask of task A\n";
+    expect_lines(&rt, rt.alloc(), program.as_str(), 7, end);
+}
+
+#[test]
+fn longer_lines_are_not_shown(rt: HostRuntime) {
+    let program = behind_blanks(rt.alloc(), 988).expect(&rt, "memory");
+    let end = "path 2\np.s:2:4: help: add $8 to the create mask of task A\n";
+    expect_lines(&rt, rt.alloc(), program.as_str(), 3, end);
+}
