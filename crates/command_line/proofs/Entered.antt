@@ -41,7 +41,7 @@ entered m name rows is_name are_rows =
 fault_there : (words : List Text) (name : Text) (rows : List Row) (fault : UsageFault) →
     fault_of command_line words ≡ [] → subcommand_of command_line words ≡ Some (name, rows) → Refuses name rows fault →
     IsFaultOf words fault
-fault_there words name rows (Words error) right e h = inr (right, h)
+fault_there words name rows (Words error) right e h = inr (inr (right, subst (λ (o : Option (Text × List Row)). IsSomeAnd o (λ p. Refuses p.0 p.1 (Words error))) (sym e) h))
 fault_there words name rows OutOfMemory right e h = tt
 fault_there words name rows Predict right e h =
     (right, subst (λ (o : Option (Text × List Row)). IsSomeAnd o (λ p. Refuses p.0 p.1 Predict)) (sym e) h)

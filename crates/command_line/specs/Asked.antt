@@ -1,16 +1,21 @@
 -- Which job the words of a command line ask for, over which files, or why none (own choice). Which
 -- subcommand the words name, and with which values, is what `clap` makes of them.
-use Rattle.std.specs.Prelude.{◌≡◌, ◌≢◌, ◌⊎◌, ℕ, true, List, [], Option, Some, None, Result, IsSome, IsSomeAnd, ⊤, if◌then◌else◌, codes, option_and_then, MatchResult, unwrap_or}
+use Rattle.std.specs.Prelude.{◌≡◌, ◌≢◌, ◌⊎◌, ℕ, Bool, true, false, List, [], Option, is_none, Some, None, Result, IsSome, IsSomeAnd, ⊤, if◌then◌else◌, codes, option_and_then, MatchResult, unwrap_or}
 use Rattle.std.specs.String.{string_bytes}
+use Rattle.std.specs.Option.{option_map_or}
+use Rattle.std.specs.Str.{bytes_eq}
 use Rattle.std.specs.Str.Parse.{digits_value, without_leading_plus}
 use Rattle.clap.specs.Words.{Row, Text, first_of, found_of, kind_of, one_of, rows_of, subcommand_of}
 use Rattle.clap.specs.Faults.{fault_of}
 use Rattle.clap.specs.Kinds.{IsAmong}
 use Rattle.clap.specs.ValueTests.{is_unsigned_in}
 use Rattle.clap.specs.declared.parser.matches.ArgMatches.{ArgMatches}
+use Rattle.clap.specs.declared.error.kind.ErrorKind.{ErrorKind}
 use Rattle.clap.specs.declared.error.kind.ErrorKind.TheVariants as kind
 use Rattle.clap.specs.declared.error.Error.{Error}
 use Rattle.jobs.specs.Files.{HasFilesOf, has_certificate, has_script}
+use Rattle.jobs.specs.declared.job.CertificateSource.{CertificateSource}
+use Rattle.jobs.specs.declared.job.CertificateSource.TheVariants.{File, Least}
 use Rattle.jobs.specs.declared.job.Emit.{Emit}
 use Rattle.jobs.specs.declared.job.ReplayEmit.{ReplayEmit}
 use Rattle.jobs.specs.declared.job.RunEmit.{RunEmit}
@@ -48,6 +53,27 @@ run_emit_in values = option_and_then run_emit_of (first_of (codes "emit") values
 abbrev pub replay_emit_in : List Row → Option ReplayEmit
 replay_emit_in values = option_and_then replay_emit_of (first_of (codes "emit") values)
 
+-- `--least` is given
+abbrev pub is_least : List Row → Bool
+is_least values = option_map_or (λ word. bytes_eq word (codes "true")) (first_of (codes "least") values) false
+
+-- where the certificate comes from, of a subcommand whose last file is this one: with `--least` there is a
+-- file less, and so no last one
+abbrev pub IsSource : Text → List Row → CertificateSource → Type 0
+IsSource last values File = (is_least values ≡ false) × IsSome (first_of last values)
+IsSource last values Least = (is_least values ≡ true) × (first_of last values ≡ None)
+
+-- a fault of this kind of `clap`'s, or memory ran out
+abbrev pub IsOfKind : ErrorKind → UsageFault → Type 0
+IsOfKind wanted (Words error) = kind_of error ≡ wanted
+IsOfKind wanted fault = fault ≡ OutOfMemory
+
+-- there is a file too few, or one too many
+abbrev pub IsMisfit : Text → List Row → UsageFault → Type 0
+IsMisfit last values fault =
+    (IsOfKind kind.MissingRequiredArgument fault × (is_least values ≡ false) × (first_of last values ≡ None))
+    ⊎ (IsOfKind kind.ArgumentConflict fault × (is_least values ≡ true) × IsSome (first_of last values))
+
 -- a subcommand of this name with these values gives the job
 abbrev pub Gives : Text → List Row → Job → Type 0
 Gives name values (Seq budget) =
@@ -56,21 +82,25 @@ Gives name values Print = name ≡ codes "print"
 Gives name values (Annotate emit) = (name ≡ codes "annotate") × (emit_in values ≡ Some emit)
 Gives name values (Explain file) =
     (name ≡ codes "explain") × (first_of (codes "program") values ≡ Some (string_bytes file))
-Gives name values (Check workers) =
-    (name ≡ codes "check") × (number_at (codes "workers") values ≡ Some workers)
-Gives name values (Replay units emit) = (name ≡ codes "replay")
+Gives name values (Check source workers) = (name ≡ codes "check")
+    × IsSource (codes "certificate") values source × (number_at (codes "workers") values ≡ Some workers)
+Gives name values (Replay source units emit) = (name ≡ codes "replay") × IsSource (codes "script") values source
     × (number_at (codes "units") values ≡ Some units) × (replay_emit_in values ≡ Some emit)
-Gives name values (Run units workers budget predict emit) = (name ≡ codes "run")
-    × (number_at (codes "units") values ≡ Some units)
+Gives name values (Run source units workers budget predict emit) = (name ≡ codes "run")
+    × IsSource (codes "certificate") values source × (number_at (codes "units") values ≡ Some units)
     × (workers ≡ unwrap_or (number_at (codes "workers") values) units)
     × (number_at (codes "budget") values ≡ Some budget)
     × (predict_in values ≡ Some predict) × (run_emit_in values ≡ Some emit)
+
+-- where the script stands: without a certificate, in its place
+abbrev pub place_of_script : Job → Text
+place_of_script job = if has_certificate job then codes "script" else codes "certificate"
 
 -- each file of the job has the name that stands in its place
 abbrev pub Names : List Row → Job → Paths → Type 0
 Names values job paths = (first_of (codes "program") values ≡ Some (string_bytes paths.program))
     × (has_certificate job ≡ true → first_of (codes "certificate") values ≡ Some (string_bytes paths.certificate))
-    × (has_script job ≡ true → first_of (codes "script") values ≡ Some (string_bytes paths.script))
+    × (has_script job ≡ true → first_of (place_of_script job) values ≡ Some (string_bytes paths.script))
 
 -- the job and its files, of a subcommand with these values
 abbrev pub IsAsked : Text → List Row → Job → Paths → Type 0
@@ -84,16 +114,23 @@ AskFor words job paths = (fault_of command_line words ≡ [])
 
 -- the fault where the matches give no job; no words are known for which `clap` makes such matches
 abbrev pub IsNoJob : UsageFault → Type 0
-IsNoJob (Words error) = kind_of error ≡ kind.MissingSubcommand
-IsNoJob fault = fault ≡ OutOfMemory
+IsNoJob fault = IsOfKind kind.MissingSubcommand fault
+
+-- the files are as many as `--least` asks for
+abbrev pub Fits : Text → List Row → Type 0
+Fits last values = is_none (first_of last values) ≡ is_least values
 
 -- why a subcommand with these values gives no job
 abbrev pub Refuses : Text → List Row → UsageFault → Type 0
-Refuses name values Predict = (name ≡ codes "run") × (predict_in values ≡ None)
+Refuses name values Predict =
+    (name ≡ codes "run") × Fits (codes "certificate") values × (predict_in values ≡ None)
 Refuses name values EmitFault = ((name ≡ codes "annotate") × (emit_in values ≡ None))
-    ⊎ ((name ≡ codes "replay") × (replay_emit_in values ≡ None))
-    ⊎ ((name ≡ codes "run") × IsSome (predict_in values) × (run_emit_in values ≡ None))
+    ⊎ ((name ≡ codes "replay") × Fits (codes "script") values × (replay_emit_in values ≡ None))
+    ⊎ ((name ≡ codes "run") × Fits (codes "certificate") values × IsSome (predict_in values) × (run_emit_in values ≡ None))
 Refuses name values fault = IsNoJob fault
+    ⊎ ((name ≡ codes "check") × IsMisfit (codes "certificate") values fault)
+    ⊎ ((name ≡ codes "replay") × IsMisfit (codes "script") values fault)
+    ⊎ ((name ≡ codes "run") × IsMisfit (codes "certificate") values fault)
 
 -- what reading a subcommand with these values comes to
 abbrev pub Reads : Text → List Row → Result (Job × Paths) UsageFault → Type 0
@@ -104,11 +141,16 @@ abbrev pub IsFrom : Error → UsageFault → Type 0
 IsFrom error (Words same) = (same ≡ error) × (kind_of error ≢ kind.OutOfMemory)
 IsFrom error fault = (fault ≡ OutOfMemory) × (kind_of error ≡ kind.OutOfMemory)
 
+-- `clap` has no fault for the words, and the subcommand that it makes of them gives no job
+abbrev pub IsRefused : List Text → UsageFault → Type 0
+IsRefused words fault = (fault_of command_line words ≡ [])
+    × IsSomeAnd (subcommand_of command_line words) (λ p. Refuses p.0 p.1 fault)
+
 -- why the words ask for no job: `clap`'s fault has one of the kinds that it has for them; or it has none,
--- and the subcommand that it makes of them gives no job
+-- and the subcommand gives no job
 abbrev pub IsFaultOf : List Text → UsageFault → Type 0
 IsFaultOf words (Words error) = IsAmong (kind_of error) (fault_of command_line words)
     ⊎ ((fault_of command_line words ≡ []) × (kind_of error ≡ kind.MissingSubcommand))
+    ⊎ IsRefused words (Words error)
 IsFaultOf words OutOfMemory = ⊤
-IsFaultOf words fault = (fault_of command_line words ≡ [])
-    × IsSomeAnd (subcommand_of command_line words) (λ p. Refuses p.0 p.1 fault)
+IsFaultOf words fault = IsRefused words fault

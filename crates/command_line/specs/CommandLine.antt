@@ -3,13 +3,21 @@ use Rattle.std.specs.Prelude.{◌≡◌, ℕ, pos, true, false, List, [], ◌∷
 use Rattle.clap.specs.Words.{App, Rule, Shape, Text, app_of, new_rule}
 use Rattle.clap.specs.declared.builder.command.Command.TheViews.{out-Command as fields_of}
 use Rattle.clap.specs.Simple.{new_shape}
-use Rattle.clap.specs.declared.builder.ArgAction.TheVariants.{Set}
+use Rattle.clap.specs.declared.builder.ArgAction.TheVariants.{Set, SetTrue}
 use Rattle.clap.specs.declared.builder.Command.{Command}
 use Rattle.clap.specs.declared.builder.ValueParser.TheVariants.{Signed}
 
 -- a file, which has to be named
 abbrev pub file : Text → Rule
 file id = record (new_rule id) { action = Some Set; value_names = 1; required = true }
+
+-- a file that need not be named
+abbrev pub free_file : Text → Rule
+free_file id = record (new_rule id) { action = Some Set; value_names = 1 }
+
+-- an option `--id` without a value
+abbrev pub flag : Text → Rule
+flag id = record (new_rule id) { long = Some id; action = Some SetTrue }
 
 -- an option `--id` with a word for its value, and the word that it has where it is not given
 abbrev pub word : Text → Text → Rule
@@ -35,8 +43,16 @@ program = file (codes "program")
 abbrev pub certificate : Rule
 certificate = file (codes "certificate")
 
-abbrev pub script : Rule
-script = file (codes "script")
+-- a certificate, and a script behind one, that need not be named
+abbrev pub free_certificate : Rule
+free_certificate = free_file (codes "certificate")
+
+abbrev pub free_script : Rule
+free_script = free_file (codes "script")
+
+-- the least certificate in place of one that is named
+abbrev pub least : Rule
+least = flag (codes "least")
 
 abbrev pub budget : Rule
 budget = number (codes "budget") 1000000 (codes "1000000")
@@ -67,14 +83,14 @@ abbrev pub explain : Shape
 explain = subcommand (codes "explain") (program ∷ [])
 
 abbrev pub check : Shape
-check = subcommand (codes "check") (program ∷ certificate ∷ checkers ∷ [])
+check = subcommand (codes "check") (program ∷ free_certificate ∷ least ∷ checkers ∷ [])
 
 abbrev pub replay : Shape
-replay = subcommand (codes "replay") (program ∷ certificate ∷ script ∷ units
+replay = subcommand (codes "replay") (program ∷ certificate ∷ free_script ∷ least ∷ units
     ∷ word (codes "emit") (codes "answers") ∷ [])
 
 abbrev pub run : Shape
-run = subcommand (codes "run") (program ∷ certificate ∷ units ∷ workers ∷ budget
+run = subcommand (codes "run") (program ∷ free_certificate ∷ least ∷ units ∷ workers ∷ budget
     ∷ word (codes "predict") (codes "first") ∷ word (codes "emit") (codes "report") ∷ [])
 
 -- the program, which has a version, and of which a subcommand is wanted

@@ -76,6 +76,10 @@ The exit status is 0 where nothing is wrong, and 1 where something is or the tex
 /// `check`, in one line.
 pub const CHECK: &str = "Checks a program with its certificate";
 
+/// The usage of `check`.
+pub const CHECK_USAGE: &str = "multiscalar check [OPTIONS] PROGRAM CERT
+       multiscalar check [OPTIONS] --least PROGRAM";
+
 /// `check`.
 pub const CHECK_LONG: &str =
     "Checks that a program's annotations are right, with its certificate. Writes
@@ -85,10 +89,17 @@ or one line for each finding, and then their number:
   refused COUNT
 A finding that is of no register has `-`. Of a text that is no certificate it writes the first fault,
 and for the faults 2 and 3 the line:
-  certificate refused: K Name LINE";
+  certificate refused: K Name LINE
+
+With `--least` it makes the certificate itself, that of `annotate --emit keep`:
+  multiscalar check --least a.s";
 
 /// `replay`, in one line.
 pub const REPLAY: &str = "Applies a script of events to a machine of some units";
+
+/// The usage of `replay`.
+pub const REPLAY_USAGE: &str = "multiscalar replay [OPTIONS] PROGRAM CERT SCRIPT
+       multiscalar replay [OPTIONS] --least PROGRAM SCRIPT";
 
 /// `replay`.
 pub const REPLAY_LONG: &str =
@@ -116,10 +127,17 @@ first fault and its line:
 
 With `--emit summary` it writes a table instead of the answers and of how the run stands: that of
 `run --emit summary`, of the events that were allowed:
-  multiscalar replay --emit summary a.s a.cert a.events";
+  multiscalar replay --emit summary a.s a.cert a.events
+
+With `--least` it makes the certificate itself, that of `annotate --emit keep`:
+  multiscalar replay --least a.s a.events";
 
 /// `run`, in one line.
 pub const RUN: &str = "Runs a program on a machine of some units, in threads";
+
+/// The usage of `run`.
+pub const RUN_USAGE: &str = "multiscalar run [OPTIONS] PROGRAM CERT
+       multiscalar run [OPTIONS] --least PROGRAM";
 
 /// `run`.
 pub const RUN_LONG: &str =
@@ -144,7 +162,10 @@ With `--emit summary` it writes a table instead, with a row for each task and on
   assigned  retired  squashed  dropped  unfinished  useful  wasted  task
 `assigned` counts how often the task was assigned, and the next four how that ended; `useful` counts the
 instructions of those that retired, `wasted` the instructions of those that were squashed or dropped:
-  multiscalar run --units 8 --predict last --emit summary a.s a.cert";
+  multiscalar run --units 8 --predict last --emit summary a.s a.cert
+
+With `--least` it makes the certificate itself, that of `annotate --emit keep`:
+  multiscalar run --least a.s";
 
 /// `--emit` of `annotate`.
 pub const ANNOTATE_EMIT: &str =
@@ -160,6 +181,15 @@ pub const REPLAY_EMIT: &str =
 pub const RUN_EMIT: &str =
     "What is written: report (the words that were put out, and how the run ended), script (the events
 of the run) or summary (how often each task was assigned, and how that ended)";
+
+/// `--least`.
+pub const LEAST: &str = "Makes the least certificate of the program as it stands, in place of CERT";
+
+/// Why words with neither a certificate nor `--least` give no job.
+pub const FILE_MISSING: &str = "a file is missing: give CERT, or --least in its place";
+
+/// Why words with both give none.
+pub const FILE_TOO_MANY: &str = "there is a file too many: with --least there is no CERT";
 
 /// `--workers` of `run`.
 pub const RUN_WORKERS: &str = "How many threads serve the units, 1 to 16; never more than units

@@ -2,9 +2,9 @@
 ghost use Rattle.std.specs.Prelude.{◌≡◌, ◌≤◌, IfOk, false};
 ghost use Rattle.clap.specs.Words.{app_of, new_app, rule_of};
 ghost use Rattle.clap.specs.declared.builder.command.Command.TheViews.{out-Command as fields_of};
-ghost use Rattle.command_line.specs.CommandLine.{IsSubcommand, command_line, program_name as program_name_shape, file as file_rule, word as word_rule};
+ghost use Rattle.command_line.specs.CommandLine.{IsSubcommand, command_line, program_name as program_name_shape, file as file_rule, flag as flag_rule, free_file as free_file_rule, word as word_rule};
 ghost use Rattle.command_line.specs.CommandLine.{free_number as free_number_rule, number as number_rule};
-ghost use Rattle.command_line.specs.CommandLine.{program as program_rule, certificate as certificate_rule, script as script_rule};
+ghost use Rattle.command_line.specs.CommandLine.{program as program_rule, certificate as certificate_rule, free_certificate as free_certificate_rule, free_script as free_script_rule, least as least_rule};
 ghost use Rattle.command_line.specs.CommandLine.{budget as budget_rule, units as units_rule, checkers as checkers_rule, workers as workers_rule};
 ghost use Rattle.command_line.specs.CommandLine.{seq as seq_shape, print as print_shape, annotate as annotate_shape, explain as explain_shape, check as check_shape, replay as replay_shape, run as run_shape};
 
@@ -37,16 +37,34 @@ fn program_name<'a>(alloc: Global) -> Command<'a>
         .subcommand_required(true)
 }
 
-// A file that the command line has to name.
-fn file<'a>(alloc: Global, id: &'a str, name: &'a str, text: &'a str) -> Arg<'a>
-    ensures rule { rule_of result ≡ file_rule id.entry.now }
+// A file that the command line need not name.
+fn free_file<'a>(alloc: Global, id: &'a str, name: &'a str, text: &'a str) -> Arg<'a>
+    ensures rule { rule_of result ≡ free_file_rule id.entry.now }
     ensures local { result.global ≡ false }
 {
     Arg::new(alloc, id)
         .value_name(name)
         .help(text)
-        .required(true)
         .action(ArgAction::Set)
+}
+
+// A file that the command line has to name.
+fn file<'a>(alloc: Global, id: &'a str, name: &'a str, text: &'a str) -> Arg<'a>
+    ensures rule { rule_of result ≡ file_rule id.entry.now }
+    ensures local { result.global ≡ false }
+{
+    free_file(alloc, id, name, text).required(true)
+}
+
+// An option without a value.
+fn flag<'a>(alloc: Global, id: &'a str, text: &'a str) -> Arg<'a>
+    ensures rule { rule_of result ≡ flag_rule id.entry.now }
+    ensures local { result.global ≡ false }
+{
+    Arg::new(alloc, id)
+        .long(id)
+        .help(text)
+        .action(ArgAction::SetTrue)
 }
 
 // An option with a word for its value, and the word that it has where it is not given.
@@ -91,23 +109,35 @@ fn program<'a>(alloc: Global) -> Arg<'a>
     file(alloc, "program", "PROGRAM", "The program text")
 }
 
+// The certificate of a job with a script: with `--least` the script stands there.
 fn certificate<'a>(alloc: Global) -> Arg<'a>
     ensures rule { rule_of result ≡ certificate_rule }
     ensures local { result.global ≡ false }
 {
-    file(
-        alloc,
-        "certificate",
-        "CERT",
-        "The certificate of the program",
-    )
+    let text = "The certificate of the program; with --least the script stands here";
+    file(alloc, "certificate", "CERT", text)
 }
 
-fn script<'a>(alloc: Global) -> Arg<'a>
-    ensures rule { rule_of result ≡ script_rule }
+fn free_certificate<'a>(alloc: Global) -> Arg<'a>
+    ensures rule { rule_of result ≡ free_certificate_rule }
     ensures local { result.global ≡ false }
 {
-    file(alloc, "script", "SCRIPT", "The events, one on a line")
+    let text = "The certificate of the program; none with --least";
+    free_file(alloc, "certificate", "CERT", text)
+}
+
+fn free_script<'a>(alloc: Global) -> Arg<'a>
+    ensures rule { rule_of result ≡ free_script_rule }
+    ensures local { result.global ≡ false }
+{
+    free_file(alloc, "script", "SCRIPT", "The events, one on a line")
+}
+
+fn least<'a>(alloc: Global) -> Arg<'a>
+    ensures rule { rule_of result ≡ least_rule }
+    ensures local { result.global ≡ false }
+{
+    flag(alloc, "least", help::LEAST)
 }
 
 fn budget<'a>(alloc: Global, text: &'a str) -> Arg<'a>
@@ -148,6 +178,14 @@ fn subcommand<'a>(alloc: Global, name: &'a str, text: &'a str, long: &'a str) ->
     Command::new(alloc, name).about(text).long_about(long)
 }
 
+// The subcommand with these lines for its usage.
+fn with_usage<'a>(command: Command<'a>, usage: &'a str) -> Command<'a>
+    ensures app { app_of result ≡ app_of command.entry }
+    ensures local { (fields_of result).has_globals ≡ (fields_of command.entry).has_globals }
+{
+    command.override_usage(usage)
+}
+
 fn seq<'a>(alloc: Global) -> Result<Command<'a>, AllocError>
     ensures { IfOk result (IsSubcommand seq_shape) }
 {
@@ -180,19 +218,23 @@ fn explain<'a>(alloc: Global) -> Result<Command<'a>, AllocError>
 fn check<'a>(alloc: Global) -> Result<Command<'a>, AllocError>
     ensures { IfOk result (IsSubcommand check_shape) }
 {
-    subcommand(alloc, "check", help::CHECK, help::CHECK_LONG)
+    let command = subcommand(alloc, "check", help::CHECK, help::CHECK_LONG);
+    with_usage(command, help::CHECK_USAGE)
         .arg(program(alloc))?
-        .arg(certificate(alloc))?
+        .arg(free_certificate(alloc))?
+        .arg(least(alloc))?
         .arg(checkers(alloc))
 }
 
 fn replay<'a>(alloc: Global) -> Result<Command<'a>, AllocError>
     ensures { IfOk result (IsSubcommand replay_shape) }
 {
-    subcommand(alloc, "replay", help::REPLAY, help::REPLAY_LONG)
+    let command = subcommand(alloc, "replay", help::REPLAY, help::REPLAY_LONG);
+    with_usage(command, help::REPLAY_USAGE)
         .arg(program(alloc))?
         .arg(certificate(alloc))?
-        .arg(script(alloc))?
+        .arg(free_script(alloc))?
+        .arg(least(alloc))?
         .arg(units(alloc))?
         .arg(word(alloc, "emit", "WHAT", help::REPLAY_EMIT, "answers"))
 }
@@ -200,9 +242,11 @@ fn replay<'a>(alloc: Global) -> Result<Command<'a>, AllocError>
 fn run<'a>(alloc: Global) -> Result<Command<'a>, AllocError>
     ensures { IfOk result (IsSubcommand run_shape) }
 {
-    subcommand(alloc, "run", help::RUN, help::RUN_LONG)
+    let command = subcommand(alloc, "run", help::RUN, help::RUN_LONG);
+    with_usage(command, help::RUN_USAGE)
         .arg(program(alloc))?
-        .arg(certificate(alloc))?
+        .arg(free_certificate(alloc))?
+        .arg(least(alloc))?
         .arg(units(alloc))?
         .arg(workers(alloc))?
         .arg(budget(alloc, help::RUN_BUDGET))?

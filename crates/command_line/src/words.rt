@@ -1,17 +1,18 @@
 //! From the words of a command line to a job.
-ghost use Rattle.std.specs.Prelude.{◌≡◌, ◌≤◌, ◌==◌, IfErr, IfOk, IfSome, MatchOption, MatchResult, All, Some, None, map, length, option_map, option_and_then, unwrap_or, vec_len, [], codes};
+ghost use Rattle.std.specs.Prelude.{◌≡◌, ◌≤◌, ◌==◌, IfErr, IfOk, IfSome, MatchOption, MatchResult, All, Some, None, true, false, if◌then◌else◌, map, length, option_map, option_and_then, unwrap_or, vec_len, [], codes};
 ghost use Rattle.std.specs.String.{string_bytes};
 ghost use Rattle.std.specs.List.{slice_split};
 ghost use Rattle.clap.specs.Words.{first_of};
-ghost use Rattle.command_line.specs.Asked.{AskFor, IsFaultOf, IsFrom, IsNoJob, Reads, emit_in, number_at, predict_in, replay_emit_in, run_emit_in, values_in};
+ghost use Rattle.command_line.specs.Asked.{AskFor, IsFaultOf, IsFrom, IsMisfit, IsNoJob, IsOfKind, IsSource, Reads, is_least, emit_in, number_at, predict_in, replay_emit_in, run_emit_in, values_in};
 ghost use Rattle.command_line.specs.Words.{answer_of, answers_of, all_there, emit_of, prediction_of, replay_emit_of, run_emit_of};
-ghost use Rattle.jobs.specs.Files.{HasFilesOf};
+ghost use Rattle.jobs.specs.Files.{HasFilesOf, is_in_file};
 ghost use Rattle.command_line.specs.declared.words.UsageFault.TheVariants.{OutOfMemory, Predict, Emit as EmitFault};
 
+use crate::help;
 use crate::subcommands::command;
 use clap::ArgMatches;
 use clap::error::ErrorKind;
-use jobs::job::{Emit, Job, Paths, Prediction, ReplayEmit, RunEmit};
+use jobs::job::{CertificateSource, Emit, Job, Paths, Prediction, ReplayEmit, RunEmit};
 use jobs::ranges::{Answers, Budget, MOST_ANSWER, MOST_ANSWERS, Units, Workers};
 use std::alloc::{AllocError, Global};
 use thiserror::Error;
@@ -19,8 +20,8 @@ use thiserror::Error;
 /// Why a command line gives no job.
 #[derive(Debug, Drop, Error)]
 pub enum UsageFault {
-    /// 1: the words are none of the program's, or ask for help or for the version. The fault is `clap`'s,
-    /// with its text.
+    /// 1: the words are none of the program's, or ask for help or for the version; or there is neither a
+    /// certificate nor `--least`, or both. The fault is `clap`'s, with its text.
     #[error("1 Words")]
     Words(clap::Error),
     /// 2: the value of `--predict` is neither `first`, `last` nor 1 to 64 numbers 0..=15.
@@ -55,7 +56,8 @@ impl From<clap::Error> for UsageFault {
 }
 
 /// The job that a command line asks for, and the names of its files. The first word is the program's
-/// own name. What `clap` decides comes first, then the value of `--predict`, then that of `--emit`.
+/// own name. What `clap` decides comes first, then whether there are as many files as `--least` asks for,
+/// then the value of `--predict`, then that of `--emit`.
 /// (own choice)
 pub fn job_of(alloc: Global, words: &[String]) -> Result<(Job, Paths), UsageFault>
     ensures files { IfOk result (λ r. HasFilesOf r.0 r.1) }
@@ -73,8 +75,15 @@ pub fn job_of(alloc: Global, words: &[String]) -> Result<(Job, Paths), UsageFaul
 fn no_job(alloc: Global) -> UsageFault
     ensures { IsNoJob result }
 {
+    fault_of_kind(alloc, ErrorKind::MissingSubcommand, "no job")
+}
+
+// A fault of `clap`'s.
+fn fault_of_kind(alloc: Global, kind: ErrorKind, message: &str) -> UsageFault
+    ensures { IsOfKind kind result }
+{
     match command(alloc) {
-        Ok(mut command) => match command.error(ErrorKind::MissingSubcommand, "no job") {
+        Ok(mut command) => match command.error(kind, message) {
             Ok(error) => UsageFault::Words(error),
             Err(_) => UsageFault::OutOfMemory,
         },
@@ -110,17 +119,86 @@ fn program_path(alloc: Global, values: &ArgMatches<'_>) -> Result<Paths, UsageFa
     })
 }
 
-// The program and its certificate.
-fn certified_paths(alloc: Global, values: &ArgMatches<'_>) -> Result<Paths, UsageFault>
+// The program, and its certificate where that is in a file.
+fn certified_paths(
+    alloc: Global,
+    values: &ArgMatches<'_>,
+    source: CertificateSource,
+) -> Result<Paths, UsageFault>
     ensures { MatchResult result (λ p. (first_of (codes "program") (values_in values.now) ≡ Some (string_bytes p.program))
-        × (first_of (codes "certificate") (values_in values.now) ≡ Some (string_bytes p.certificate))
+        × (is_in_file source ≡ true → first_of (codes "certificate") (values_in values.now) ≡ Some (string_bytes p.certificate))
+        × (is_in_file source ≡ false → string_bytes p.certificate ≡ [])
         × (string_bytes p.script ≡ [])) IsNoJob }
 {
     Ok(Paths {
         program: path(alloc, values, "program")?,
-        certificate: path(alloc, values, "certificate")?,
+        certificate: match source {
+            CertificateSource::File => path(alloc, values, "certificate")?,
+            CertificateSource::Least => String::new(alloc),
+        },
         script: String::new(alloc),
     })
+}
+
+// The program, its certificate where that is in a file, and the script.
+fn replayed_paths(
+    alloc: Global,
+    values: &ArgMatches<'_>,
+    source: CertificateSource,
+) -> Result<Paths, UsageFault>
+    ensures { MatchResult result (λ p. (first_of (codes "program") (values_in values.now) ≡ Some (string_bytes p.program))
+        × (is_in_file source ≡ true → first_of (codes "certificate") (values_in values.now) ≡ Some (string_bytes p.certificate))
+        × (is_in_file source ≡ false → string_bytes p.certificate ≡ [])
+        × (first_of (if is_in_file source then codes "script" else codes "certificate") (values_in values.now) ≡ Some (string_bytes p.script))) IsNoJob }
+{
+    let program = path(alloc, values, "program")?;
+    match source {
+        CertificateSource::File => Ok(Paths {
+            program,
+            certificate: path(alloc, values, "certificate")?,
+            script: path(alloc, values, "script")?,
+        }),
+        CertificateSource::Least => Ok(Paths {
+            program,
+            certificate: String::new(alloc),
+            script: path(alloc, values, "certificate")?,
+        }),
+    }
+}
+
+// Whether `--least` is given.
+fn has_least(values: &ArgMatches<'_>) -> bool
+    ensures { result ≡ is_least (values_in values.now) }
+{
+    match text(values, "least") {
+        Some(word) => word == "true",
+        None => false,
+    }
+}
+
+// Where the certificate comes from, of a subcommand whose last file has this id.
+fn read_source(
+    alloc: Global,
+    values: &ArgMatches<'_>,
+    last: &str,
+) -> Result<CertificateSource, UsageFault>
+    ensures { MatchResult result (IsSource last.now (values_in values.now)) (IsMisfit last.now (values_in values.now)) }
+{
+    let least = has_least(values);
+    match text(values, last) {
+        Some(_) if least => Err(fault_of_kind(
+            alloc,
+            ErrorKind::ArgumentConflict,
+            help::FILE_TOO_MANY,
+        )),
+        Some(_) => Ok(CertificateSource::File),
+        None if least => Ok(CertificateSource::Least),
+        None => Err(fault_of_kind(
+            alloc,
+            ErrorKind::MissingRequiredArgument,
+            help::FILE_MISSING,
+        )),
+    }
 }
 
 fn path(alloc: Global, values: &ArgMatches<'_>, id: &str) -> Result<String, UsageFault>
@@ -217,28 +295,35 @@ fn read_explain(alloc: Global, values: &ArgMatches<'_>) -> Result<(Job, Paths), 
 fn read_check(alloc: Global, values: &ArgMatches<'_>) -> Result<(Job, Paths), UsageFault>
     ensures { Reads (codes "check") (values_in values.now) result }
 {
+    let certificate = read_source(alloc, values, "certificate")?;
     let workers = read_checkers(alloc, values)?;
-    Ok((Job::Check { workers }, certified_paths(alloc, values)?))
+    let job = Job::Check {
+        certificate,
+        workers,
+    };
+    Ok((job, certified_paths(alloc, values, certificate)?))
 }
 
 fn read_replay(alloc: Global, values: &ArgMatches<'_>) -> Result<(Job, Paths), UsageFault>
     ensures { Reads (codes "replay") (values_in values.now) result }
 {
+    let certificate = read_source(alloc, values, "script")?;
     let units = read_units(alloc, values)?;
     let emit = text(values, "emit")
         .and_then(read_replay_emit)
         .ok_or(UsageFault::Emit)?;
-    let paths = Paths {
-        program: path(alloc, values, "program")?,
-        certificate: path(alloc, values, "certificate")?,
-        script: path(alloc, values, "script")?,
+    let job = Job::Replay {
+        certificate,
+        units,
+        emit,
     };
-    Ok((Job::Replay { units, emit }, paths))
+    Ok((job, replayed_paths(alloc, values, certificate)?))
 }
 
 fn read_run(alloc: Global, values: &ArgMatches<'_>) -> Result<(Job, Paths), UsageFault>
     ensures { Reads (codes "run") (values_in values.now) result }
 {
+    let certificate = read_source(alloc, values, "certificate")?;
     let units = read_units(alloc, values)?;
     let workers = read_workers(alloc, values, units)?;
     let budget = read_budget(alloc, values)?;
@@ -247,13 +332,14 @@ fn read_run(alloc: Global, values: &ArgMatches<'_>) -> Result<(Job, Paths), Usag
         .and_then(read_run_emit)
         .ok_or(UsageFault::Emit)?;
     let job = Job::Run {
+        certificate,
         units,
         workers,
         budget,
         predict,
         emit,
     };
-    Ok((job, certified_paths(alloc, values)?))
+    Ok((job, certified_paths(alloc, values, certificate)?))
 }
 
 // What the value of `--predict` stands for.

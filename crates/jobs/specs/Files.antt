@@ -1,20 +1,27 @@
 -- Which files a job has (own choice).
 use Rattle.std.specs.Prelude.{◌≡◌, Bool, true, false, []}
 use Rattle.std.specs.String.{string_bytes}
+use Rattle.jobs.specs.declared.job.CertificateSource.{CertificateSource}
+use Rattle.jobs.specs.declared.job.CertificateSource.TheVariants.{File, Least}
 use Rattle.jobs.specs.declared.job.Job.{Job}
 use Rattle.jobs.specs.declared.job.Job.TheVariants.{Check, Replay, Run}
 use Rattle.jobs.specs.declared.job.Paths.{Paths}
 
--- the job has a certificate beside its program
+-- the certificate is in a file
+abbrev pub is_in_file : CertificateSource → Bool
+is_in_file File = true
+is_in_file Least = false
+
+-- the job has a file with a certificate beside its program
 abbrev pub has_certificate : Job → Bool
-has_certificate (Check workers) = true
-has_certificate (Replay units emit) = true
-has_certificate (Run units workers budget predict emit) = true
+has_certificate (Check source workers) = is_in_file source
+has_certificate (Replay source units emit) = is_in_file source
+has_certificate (Run source units workers budget predict emit) = is_in_file source
 has_certificate _ = false
 
 -- the job has an event script
 abbrev pub has_script : Job → Bool
-has_script (Replay units emit) = true
+has_script (Replay source units emit) = true
 has_script _ = false
 
 -- a file that the job does not have has no name

@@ -3,6 +3,15 @@
 use crate::ranges::{Answers, Budget, Units, Workers};
 use text_pieces::text::Text;
 
+/// Where a job takes the certificate of its program from.
+#[derive(Clone, Copy, Debug, PartialEq, Eq)]
+pub enum CertificateSource {
+    /// From a file.
+    File,
+    /// From no file: the job makes the least certificate of the program as it stands.
+    Least,
+}
+
 /// What `annotate` writes.
 #[derive(Clone, Copy, Debug, PartialEq, Eq)]
 pub enum Emit {
@@ -65,16 +74,19 @@ pub enum Job {
     },
     /// Checks the program against its certificate.
     Check {
+        certificate: CertificateSource,
         workers: Workers,
     },
     /// Applies the events of a script to a machine of this many units.
     Replay {
+        certificate: CertificateSource,
         units: Units,
         emit: ReplayEmit,
     },
     /// Runs the program on a machine of this many units, which this many threads serve, up to this many
     /// events. More threads than units are as many as units.
     Run {
+        certificate: CertificateSource,
         units: Units,
         workers: Workers,
         budget: Budget,
@@ -87,14 +99,16 @@ impl Job {
     ghost use Rattle.std.specs.Prelude.{◌≡◌};
     ghost use Rattle.jobs.specs.Files.{has_certificate, has_script};
 
-    /// Whether the job has a certificate beside its program.
+    /// Whether the job has a file with a certificate beside its program.
     pub fn has_certificate(&self) -> bool
         ensures { result ≡ has_certificate self.now }
     {
-        matches!(
-            self,
-            Job::Check { .. } | Job::Replay { .. } | Job::Run { .. }
-        )
+        match self {
+            Job::Check { certificate, .. } => matches!(certificate, CertificateSource::File),
+            Job::Replay { certificate, .. } => matches!(certificate, CertificateSource::File),
+            Job::Run { certificate, .. } => matches!(certificate, CertificateSource::File),
+            _ => false,
+        }
     }
 
     /// Whether the job has an event script.
@@ -110,7 +124,7 @@ impl Job {
 pub struct Paths {
     /// The program text.
     pub program: String,
-    /// The certificate: of `check`, `replay` and `run`.
+    /// The certificate: of `check`, `replay` and `run`, where it is in a file.
     pub certificate: String,
     /// The event script: of `replay`.
     pub script: String,
@@ -121,7 +135,7 @@ pub struct Paths {
 pub struct Texts {
     /// The program text.
     pub program: Vec<u8>,
-    /// The certificate: of `check`, `replay` and `run`.
+    /// The certificate: of `check`, `replay` and `run`, where it is in a file.
     pub certificate: Text,
     /// The event script: of `replay`.
     pub script: Vec<u8>,

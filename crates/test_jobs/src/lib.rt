@@ -18,6 +18,8 @@ mod explain;
 #[cfg(test)]
 mod files;
 #[cfg(test)]
+mod least;
+#[cfg(test)]
 mod limits;
 #[cfg(test)]
 mod print;

@@ -1,8 +1,9 @@
 //! Which words give which job, and which are refused.
 
 use crate::answers::words_of;
+use clap::error::ErrorKind;
 use command_line::words::{UsageFault, job_of};
-use jobs::job::{Emit, Job, Paths, Prediction, ReplayEmit, RunEmit};
+use jobs::job::{CertificateSource, Emit, Job, Paths, Prediction, ReplayEmit, RunEmit};
 use std::alloc::Global;
 use std::process::Abort;
 
@@ -13,14 +14,17 @@ enum Wanted {
     Print,
     Annotate(Emit),
     Explain(bool),
-    Check(u32),
-    Replay(u32, ReplayEmit),
+    Check(CertificateSource, u32),
+    Replay(CertificateSource, u32, ReplayEmit),
     Run(WantedRun),
 }
+
+use CertificateSource::{File, Least};
 
 // What `run` takes.
 #[derive(Clone, Copy, PartialEq)]
 struct WantedRun {
+    certificate: CertificateSource,
     units: u32,
     workers: u32,
     budget: u32,
@@ -52,6 +56,7 @@ impl Wanting {
 
 // `run` with nothing but its files.
 const PLAIN_RUN: WantedRun = WantedRun {
+    certificate: File,
     units: 4,
     workers: 4,
     budget: 1_000_000,
@@ -67,15 +72,24 @@ impl Wanted {
             Job::Print => Wanted::Print,
             Job::Annotate { emit } => Wanted::Annotate(*emit),
             Job::Explain { name } => Wanted::Explain(name.as_str() == "a.s"),
-            Job::Check { workers } => Wanted::Check(workers.get()),
-            Job::Replay { units, emit } => Wanted::Replay(units.get(), *emit),
+            Job::Check {
+                certificate,
+                workers,
+            } => Wanted::Check(*certificate, workers.get()),
+            Job::Replay {
+                certificate,
+                units,
+                emit,
+            } => Wanted::Replay(*certificate, units.get(), *emit),
             Job::Run {
+                certificate,
                 units,
                 workers,
                 budget,
                 predict,
                 emit,
             } => Wanted::Run(WantedRun {
+                certificate: *certificate,
                 units: units.get(),
                 workers: workers.get(),
                 budget: budget.get(),
@@ -88,38 +102,53 @@ impl Wanted {
     // The names of the certificate and of the script; one that the job does not have is empty.
     fn files(self) -> (&'static str, &'static str) {
         match self {
-            Wanted::Replay(..) => ("a.cert", "a.events"),
-            Wanted::Check(_) | Wanted::Run(_) => ("a.cert", ""),
+            Wanted::Replay(Least, ..) => ("", "a.events"),
+            Wanted::Replay(File, ..) => ("a.cert", "a.events"),
+            Wanted::Check(File, _) => ("a.cert", ""),
+            Wanted::Run(run) if run.certificate == File => ("a.cert", ""),
             _ => ("", ""),
         }
     }
 }
 
 // Words that give a job of the program `a.s`.
-const JOBS: [(&str, Wanted); 16] = [
+const JOBS: [(&str, Wanted); 20] = [
     ("seq a.s", Wanted::Seq(1_000_000)),
     ("seq --budget 17 a.s", Wanted::Seq(17)),
     ("print a.s", Wanted::Print),
     ("explain a.s", Wanted::Explain(true)),
-    ("check a.s a.cert", Wanted::Check(1)),
-    ("check a.s a.cert --workers 16", Wanted::Check(16)),
-    ("check --workers 3 a.s a.cert", Wanted::Check(3)),
-    ("replay a.s a.cert a.events", Wanted::Replay(4, ReplayEmit::Answers)),
+    ("check a.s a.cert", Wanted::Check(File, 1)),
+    ("check a.s a.cert --workers 16", Wanted::Check(File, 16)),
+    ("check --workers 3 a.s a.cert", Wanted::Check(File, 3)),
+    ("check --least a.s", Wanted::Check(Least, 1)),
+    ("check a.s --workers 2 --least", Wanted::Check(Least, 2)),
+    (
+        "replay a.s a.cert a.events",
+        Wanted::Replay(File, 4, ReplayEmit::Answers),
+    ),
     (
         "replay a.s a.cert a.events --units 16",
-        Wanted::Replay(16, ReplayEmit::Answers),
+        Wanted::Replay(File, 16, ReplayEmit::Answers),
     ),
     (
         "replay --units 1 a.s a.cert a.events --emit answers",
-        Wanted::Replay(1, ReplayEmit::Answers),
+        Wanted::Replay(File, 1, ReplayEmit::Answers),
     ),
     (
         "replay --emit summary a.s a.cert a.events",
-        Wanted::Replay(4, ReplayEmit::Summary),
+        Wanted::Replay(File, 4, ReplayEmit::Summary),
     ),
     (
         "replay a.s a.cert --units 2 a.events --emit summary",
-        Wanted::Replay(2, ReplayEmit::Summary),
+        Wanted::Replay(File, 2, ReplayEmit::Summary),
+    ),
+    (
+        "replay --least a.s a.events",
+        Wanted::Replay(Least, 4, ReplayEmit::Answers),
+    ),
+    (
+        "replay a.s --least --units 3 --emit summary a.events",
+        Wanted::Replay(Least, 3, ReplayEmit::Summary),
     ),
     ("annotate a.s", Wanted::Annotate(Emit::Text)),
     ("annotate --emit text a.s", Wanted::Annotate(Emit::Text)),
@@ -128,8 +157,23 @@ const JOBS: [(&str, Wanted); 16] = [
 ];
 
 // Words of `run`.
-const RUNS: [(&str, WantedRun); 8] = [
+const RUNS: [(&str, WantedRun); 10] = [
     ("run a.s a.cert", PLAIN_RUN),
+    (
+        "run --least a.s",
+        WantedRun {
+            certificate: Least,
+            ..PLAIN_RUN
+        },
+    ),
+    (
+        "run a.s --least --emit script",
+        WantedRun {
+            certificate: Least,
+            emit: RunEmit::Script,
+            ..PLAIN_RUN
+        },
+    ),
     (
         "run --units 16 a.s a.cert",
         WantedRun {
@@ -219,7 +263,7 @@ fn expect_path(rt: &impl Abort, line: &str, path: &String, expected: &str) {
     assert!(rt; path.as_str() == expected, "{line}");
 }
 
-const NO_JOBS: [&str; 24] = [
+const NO_JOBS: [&str; 28] = [
     "seq",
     "seq a.s b.s",
     "seq a.s --budget 0",
@@ -231,6 +275,10 @@ const NO_JOBS: [&str; 24] = [
     "check a.s a.cert --workers 0",
     "check a.s a.cert --workers 17",
     "check a.s a.cert --units 2",
+    "check --least",
+    "check --least=yes a.s",
+    "check --least --least a.s",
+    "explain --least a.s",
     "replay a.s a.cert",
     "replay a.s a.cert a.events b.events",
     "replay a.s a.cert a.events --units 0",
@@ -251,6 +299,32 @@ fn refuses_words(rt: HostRuntime) {
     for &line in &NO_JOBS {
         let refused = read(&rt, rt.alloc(), line);
         assert!(rt; matches!(refused, Err(UsageFault::Words(_))), "{line}");
+    }
+}
+
+// Files that do not fit `--least`, with the kind of the fault.
+const MISFITS: [(&str, ErrorKind); 6] = [
+    ("check a.s", ErrorKind::MissingRequiredArgument),
+    ("check --least a.s a.cert", ErrorKind::ArgumentConflict),
+    ("replay a.s a.events", ErrorKind::MissingRequiredArgument),
+    (
+        "replay --least a.s a.cert a.events",
+        ErrorKind::ArgumentConflict,
+    ),
+    (
+        "run a.s --predict 16 --emit xml",
+        ErrorKind::MissingRequiredArgument,
+    ),
+    ("run --least a.s a.cert", ErrorKind::ArgumentConflict),
+];
+
+#[test]
+fn refuses_files_that_do_not_fit(rt: HostRuntime) {
+    for &(line, kind) in &MISFITS {
+        match read(&rt, rt.alloc(), line) {
+            Err(UsageFault::Words(error)) => assert!(rt; error.kind() == kind, "{line}"),
+            _ => assert!(rt; false, "{line}"),
+        }
     }
 }
 

@@ -1,3 +1,4 @@
 mod Addresses
+mod Kept
 mod PlainRuns
 mod Plays

@@ -12,6 +12,7 @@ use Rattle.verdict_report.specs.CheckText.{check_text}
 use Rattle.verdict_report.specs.ReplayText.{replay_text}
 use Rattle.verdict_report.specs.RunText.{IsRunText}
 use Rattle.verdict_report.specs.AnnotateText.{IsAnnotateReport}
+use Rattle.verdict_report.specs.CertificateTexts.{OfCertificate}
 use Rattle.verdict_report.specs.ExplainText.{IsExplainReport}
 use Rattle.jobs.specs.declared.job.Job.{Job}
 use Rattle.jobs.specs.declared.job.Job.TheVariants.{Seq, Print, Annotate, Explain, Check, Replay, Run}
@@ -25,15 +26,19 @@ print_read (Err fault) = program_refused fault
 abbrev pub print_text : List ℕ → Report
 print_text text = print_read (parse text)
 
--- what a job may write of its texts; how many threads there are does not matter
+-- what a job may write of its texts; how many threads there are does not matter. With the least certificate
+-- it is what the job writes with the text of `annotate --emit keep` in its place
 abbrev pub IsReportOf : Job → Texts → Report → Type 0
 IsReportOf (Seq budget) texts report = report ≡ seq_text budget texts.program.items
 IsReportOf Print texts report = report ≡ print_text texts.program.items
 IsReportOf (Annotate emit) texts report = IsAnnotateReport emit texts.program.items report
 IsReportOf (Explain name) texts report = IsExplainReport (string_bytes name) texts.program.items report
-IsReportOf (Check workers) texts report = report ≡ check_text texts.program.items texts.certificate
-IsReportOf (Replay units emit) texts report = report ≡ replay_text emit units texts.program.items texts.certificate texts.script.items
-IsReportOf (Run units workers budget predict emit) texts report = IsRunText units budget emit texts.program.items texts.certificate report
+IsReportOf (Check source workers) texts report =
+    OfCertificate source texts.program.items texts.certificate (λ certificate. report ≡ check_text texts.program.items certificate)
+IsReportOf (Replay source units emit) texts report =
+    OfCertificate source texts.program.items texts.certificate (λ certificate. report ≡ replay_text emit units texts.program.items certificate texts.script.items)
+IsReportOf (Run source units workers budget predict emit) texts report =
+    OfCertificate source texts.program.items texts.certificate (λ certificate. IsRunText units budget emit texts.program.items certificate report)
 
 -- a job is done: a report of it was added to what the writer holds, and the status is its
 pub record IsDone (job : Job) (texts : Texts) (status : ℕ) (old new : Option (List ℕ)) : Type 0 where

@@ -4,6 +4,7 @@ pub mod VerdictTexts
 pub mod JudgedTexts
 pub mod CheckText
 pub mod AnnotateText
+pub mod CertificateTexts
 pub mod ExplainText
 pub mod MachineText
 pub mod ReplayText

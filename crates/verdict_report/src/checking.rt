@@ -1,18 +1,21 @@
 //! The job `check`.
-ghost use Rattle.std.specs.Prelude.{◌≡◌, map, IfOk};
+ghost use Rattle.std.specs.Prelude.{◌≡◌, [], map, IfOk};
 ghost use Rattle.text_pieces.specs.Pieces.{joined, AreCut};
 ghost use Rattle.annotated_asm.specs.Steps.{Answers};
 ghost use Rattle.annotated_asm.specs.ProgramText.{parse};
 ghost use Rattle.mask_certificate.specs.CertificateReading.{cert_parse, names_of};
 ghost use Rattle.mark_checker.specs.Rules.{all_rules};
+ghost use Rattle.verdict_report.specs.CertificateTexts.{OfCertificate};
 ghost use Rattle.verdict_report.specs.CheckText.{check_text};
 ghost use Rattle.verdict_report.specs.JudgedTexts.{certificate_judged, findings_judged, goes_on};
 ghost use Rattle.verdict_report.specs.VerdictTexts.{program_accepted};
 
+use crate::judging::keep;
 use crate::report::{Report, refused_program};
 use crate::verdict_text::{accepted_program, found_program, refused_certificate};
 use annotated_asm::assembler::assemble;
 use annotated_asm::fault::AsmFault;
+use jobs::job::{CertificateSource, Texts};
 use jobs::ranges::Workers;
 use mask_certificate::certificate::Cert;
 use mask_certificate::fault::CertFault;
@@ -26,8 +29,47 @@ use task_descriptor::program::Program;
 use text_pieces::text::Text;
 
 /// What `check` writes of a program text and the text of its certificate. This many threads share the
-/// work, and it is the same for any number of them.
+/// work, and it is the same for any number of them. One thread alone makes the least certificate.
 pub fn check<R: Threads + Sync>(
+    rt: &R,
+    alloc: Global,
+    source: CertificateSource,
+    workers: Workers,
+    texts: &Texts,
+) -> Result<Report, AllocError>
+    ensures { IfOk result (λ report. OfCertificate source texts.now.program.items texts.now.certificate (λ certificate.
+        report ≡ check_text texts.now.program.items certificate)) }
+{
+    match source {
+        CertificateSource::File => {
+            check_by_text(rt, alloc, workers, &texts.program, &texts.certificate)
+        }
+        CertificateSource::Least => check_by_least(rt, alloc, workers, &texts.program),
+    }
+}
+
+// Checks a program with its least certificate.
+fn check_by_least<R: Threads + Sync>(
+    rt: &R,
+    alloc: Global,
+    workers: Workers,
+    program: &[u8],
+) -> Result<Report, AllocError>
+    ensures { IfOk result (λ report. OfCertificate CertificateSource.Least program.now [] (λ certificate.
+        report ≡ check_text program.now certificate)) }
+{
+    match assemble(alloc, program) {
+        Ok(program) => {
+            let cert = keep(alloc, &program)?;
+            check_marks(rt, alloc, workers, &program, &cert)
+        }
+        Err(AsmFault::OutOfMemory) => Err(AllocError),
+        Err(fault) => refused_program(alloc, fault),
+    }
+}
+
+// Checks a program with the text of its certificate.
+fn check_by_text<R: Threads + Sync>(
     rt: &R,
     alloc: Global,
     workers: Workers,
@@ -74,7 +116,7 @@ fn read_texts<'a, R: Threads + Sync>(
     )
 }
 
-// Checks a program with the text of its certificate.
+// Checks a program with a certificate that was read ahead.
 fn check_certificate<R: Threads + Sync>(
     rt: &R,
     alloc: Global,

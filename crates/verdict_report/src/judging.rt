@@ -4,18 +4,22 @@ ghost use Rattle.mask_certificate.specs.CertificateReading.{cert_parse, names_of
 ghost use Rattle.mark_checker.specs.Rules.{all_rules};
 ghost use Rattle.verdict_report.specs.VerdictTexts.{program_found};
 ghost use Rattle.verdict_report.specs.JudgedTexts.{certificate_judged, findings_judged, judgement};
-ghost use Rattle.verdict_report.specs.Judging.{as_judgement};
+ghost use Rattle.verdict_report.specs.Judging.{IsKept, IsLeastJudged, as_judgement};
+ghost use Rattle.verdict_report.specs.CertificateTexts.{OfCertificate};
 
 use crate::report::{Report, refused_program};
 use crate::verdict_text::{found_program, refused_certificate};
 use annotated_asm::assembler::assemble;
 use annotated_asm::fault::AsmFault;
+use annotator::certify::certify;
+use jobs::job::{CertificateSource, Texts};
 use mark_checker::accept;
 use mark_checker::check::verdict;
 use mask_certificate::certificate::Cert;
 use mask_certificate::fault::CertFault;
 use mask_certificate::part::Part;
 use mask_certificate::reading::read_parts;
+use mask_certificate::writing::written_is_read;
 use std::alloc::{AllocError, Global};
 use task_descriptor::program::Program;
 use text_pieces::text::Text;
@@ -29,15 +33,36 @@ pub enum Judged {
     Accepted(accept::Accepted),
 }
 
-/// Judges a program text, then the text of its certificate, and then the one by the other.
-pub fn judge(alloc: Global, program: &[u8], certificate: &Text) -> Result<Judged, AllocError>
-    ensures { IfOk result (λ judged. as_judgement judged ≡ judgement program.now certificate.now) }
+/// Judges a program text, then the text of its certificate, and then the one by the other. With the least
+/// certificate it comes to what it comes to with the text that `annotate --emit keep` writes.
+pub fn judge(alloc: Global, source: CertificateSource, texts: &Texts) -> Result<Judged, AllocError>
+    ensures { IfOk result (λ judged. OfCertificate source texts.now.program.items texts.now.certificate (λ certificate.
+        as_judgement judged ≡ judgement texts.now.program.items certificate)) }
 {
-    match assemble(alloc, program) {
-        Ok(program) => judge_program(alloc, program, certificate),
+    match assemble(alloc, &texts.program) {
+        Ok(program) => match source {
+            CertificateSource::File => judge_program(alloc, program, &texts.certificate),
+            CertificateSource::Least => judge_by_least(alloc, program),
+        },
         Err(AsmFault::OutOfMemory) => Err(AllocError),
         Err(fault) => Ok(Judged::Refused(refused_program(alloc, fault)?)),
     }
+}
+
+/// The least certificate of a program, whose text would be read as it.
+pub(crate) fn keep(alloc: Global, program: &Program) -> Result<Cert, AllocError>
+    ensures { IfOk result (IsKept program.now) }
+{
+    written_is_read();
+    certify(alloc, program)
+}
+
+// Judges a program by its least certificate.
+fn judge_by_least(alloc: Global, program: Program) -> Result<Judged, AllocError>
+    ensures { IfOk result (λ judged. IsLeastJudged program (as_judgement judged)) }
+{
+    let cert = keep(alloc, &program)?;
+    judge_marks(alloc, program, cert)
 }
 
 // Judges the text of a program's certificate.

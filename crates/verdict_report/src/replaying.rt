@@ -3,6 +3,7 @@ ghost use Rattle.std.specs.Prelude.{◌≡◌, ◌++◌, List, [], ◌∷◌, Re
 ghost use Rattle.machine_model.specs.Answer.{play, play_event};
 ghost use Rattle.machine_events.specs.declared.event.Refused.{Refused};
 ghost use Rattle.sequencer.specs.Seen.{SameRing, state, units_of};
+ghost use Rattle.verdict_report.specs.CertificateTexts.{OfCertificate};
 ghost use Rattle.verdict_report.specs.MachineText.{machine_text};
 ghost use Rattle.verdict_report.specs.Playing.{played_so_far};
 ghost use Rattle.verdict_report.specs.ReplayText.{allowed, answers_text, events_report, replay_text, script_report};
@@ -13,30 +14,29 @@ use crate::machine_text::{standing_status_of, summary_of, write_machine};
 use crate::report::Report;
 use event_script::fault::ScriptFault;
 use event_script::reading::read;
-use jobs::job::ReplayEmit;
+use jobs::job::{CertificateSource, ReplayEmit, Texts};
 use jobs::ranges::Units;
 use machine_events::event::{Event, Refused};
 use machine_model::laws::next_is_after;
 use mark_checker::accept::Accepted;
 use sequencer::machine::Machine;
 use std::alloc::{AllocError, Global};
-use text_pieces::text::Text;
 
 /// What `replay` writes of a program text, the text of its certificate and the text of a script, on a
 /// machine of so many units.
 pub fn replay(
     alloc: Global,
+    source: CertificateSource,
     units: Units,
     emit: ReplayEmit,
-    program: &[u8],
-    certificate: &Text,
-    script: &[u8],
+    texts: &Texts,
 ) -> Result<Report, AllocError>
-    ensures { IfOk result (λ report. report ≡ replay_text emit units program.now certificate.now script.now) }
+    ensures { IfOk result (λ report. OfCertificate source texts.now.program.items texts.now.certificate (λ certificate.
+        report ≡ replay_text emit units texts.now.program.items certificate texts.now.script.items)) }
 {
-    match judge(alloc, program, certificate)? {
+    match judge(alloc, source, texts)? {
         Judged::Refused(report) => Ok(report),
-        Judged::Accepted(accepted) => replay_script(alloc, units, emit, &accepted, script),
+        Judged::Accepted(accepted) => replay_script(alloc, units, emit, &accepted, &texts.script),
     }
 }
 

@@ -2,6 +2,7 @@
 ghost use Rattle.std.specs.Prelude.{◌≡◌, ◌≢◌, ◌≤◌, Err, Ok, IfOk};
 ghost use Rattle.sequencer.specs.Seen.{state, units_of};
 ghost use Rattle.verdict_report.specs.RunText.{IsRunOf, IsRunReport, IsRunText, IsWrittenOf, ending_status, ending_text};
+ghost use Rattle.verdict_report.specs.CertificateTexts.{OfCertificate};
 ghost use Rattle.verdict_report.specs.Runs.{run_of};
 ghost use Rattle.machine_model.specs.Replay.{Replays};
 ghost use Rattle.event_script.specs.EventScript.{script_of};
@@ -13,14 +14,13 @@ use crate::machine_text::{standing_status_of, summary_of, write_machine};
 use crate::plain_text::write_words;
 use crate::report::Report;
 use event_script::writing::write;
-use jobs::job::{Prediction, RunEmit};
+use jobs::job::{CertificateSource, Prediction, RunEmit, Texts};
 use jobs::ranges::{Budget, Units, Workers};
 use mark_checker::accept::Accepted;
 use sequencer::predict::{First, Last, Predict, Script};
 use std::alloc::{AllocError, Global};
 use std::sync::Wait;
 use std::thread::Threads;
-use text_pieces::text::Text;
 use threaded_runner::gate::Open;
 use threaded_runner::report;
 use threaded_runner::report::How;
@@ -48,14 +48,15 @@ pub fn run<R: Threads + Wait + Sync>(
     extent: Extent,
     predict: &Prediction,
     emit: RunEmit,
-    program: &[u8],
-    certificate: &Text,
+    source: CertificateSource,
+    texts: &Texts,
 ) -> Result<Report, ServeFault>
-    ensures report { IfOk result (λ report. IsRunText extent.units extent.budget emit program.now certificate.now report) }
+    ensures report { IfOk result (λ report. OfCertificate source texts.now.program.items texts.now.certificate (λ certificate.
+        IsRunText extent.units extent.budget emit texts.now.program.items certificate report)) }
     ensures fault { result ≢ Err ServeFault.Write }
     ensures own { result ≢ Err ServeFault.Foreign }
 {
-    match judge(alloc, program, certificate)? {
+    match judge(alloc, source, texts)? {
         Judged::Refused(report) => Ok(report),
         Judged::Accepted(accepted) => run_accepted(rt, alloc, extent, predict, emit, &accepted),
     }

@@ -51,18 +51,22 @@ fn report_of<R: Threads + Wait + Sync>(
     ensures own { result ≢ Err ServeFault.Foreign }
 {
     let program = texts.program.as_slice();
-    let certificate = &texts.certificate;
     match job {
         Job::Seq { budget } => Ok(seq(alloc, *budget, program)?),
         Job::Print => Ok(print(alloc, program)?),
         Job::Annotate { emit } => Ok(annotate(alloc, *emit, program)?),
         Job::Explain { name } => Ok(explain(alloc, name, program)?),
-        Job::Check { workers } => Ok(check(rt, alloc, *workers, program, certificate)?),
-        Job::Replay { units, emit } => {
-            let script = texts.script.as_slice();
-            Ok(replay(alloc, *units, *emit, program, certificate, script)?)
-        }
+        Job::Check {
+            certificate,
+            workers,
+        } => Ok(check(rt, alloc, *certificate, *workers, texts)?),
+        Job::Replay {
+            certificate,
+            units,
+            emit,
+        } => Ok(replay(alloc, *certificate, *units, *emit, texts)?),
         Job::Run {
+            certificate,
             units,
             workers,
             budget,
@@ -74,7 +78,7 @@ fn report_of<R: Threads + Wait + Sync>(
                 workers: *workers,
                 budget: *budget,
             };
-            run(rt, alloc, extent, predict, *emit, program, certificate)
+            run(rt, alloc, extent, predict, *emit, *certificate, texts)
         }
     }
 }
