@@ -8,4 +8,4 @@ use Rattle.diagnostic_text.proofs.diagnostics.findings_text.Given as goal
 
 abbrev pub invariant-loop-shown : goal.invariant-loop-shown
 invariant-loop-shown l =
-    string_bytes l.text ≡ flat_map (finding_text l.file (map (λ line. line.now) l.rows) l.program (sources_in l.map)) (take l.shown-index l.shown-items)
+    string_bytes l.text ≡ flat_map (finding_text l.file (map (λ line. line.now) l.rows) l.program (sources_in l.map)) (take l.shown-index l.findings.list.items)
