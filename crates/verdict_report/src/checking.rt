@@ -63,8 +63,10 @@ fn check_by_least<R: Threads + Sync>(
             let cert = keep(alloc, &program)?;
             check_marks(rt, alloc, workers, &program, &cert)
         }
-        Err(AsmFault::OutOfMemory) => Err(AllocError),
-        Err(fault) => refused_program(alloc, fault),
+        Err(fault) => match fault {
+            AsmFault::OutOfMemory => Err(AllocError),
+            _ => refused_program(alloc, fault),
+        },
     }
 }
 

@@ -54,7 +54,10 @@ pub(crate) fn keep(alloc: Global, program: &Program) -> Result<Cert, AllocError>
     ensures { IfOk result (IsKept program.now) }
 {
     written_is_read();
-    certify(alloc, program)
+    let cert = certify(alloc, program)?;
+    // That its lists are those of a certificate is what any of them says.
+    cert.list(0);
+    Ok(cert)
 }
 
 // Judges a program by its least certificate.

@@ -29,8 +29,7 @@ loop-event-preserved c =
     ∙ ap (λ (h : List Event). h ++ allowed (e ∷ []) (said ∷ [])) c.loop-event.invariant.2
     ∙ ap (λ (x : Event). allowed (take i events) answers ++ allowed (x ∷ []) (said ∷ [])) c.event-item.is
     ∙ sym (allowed_so_far events i e answers said there c.loop-event.invariant.3)
-    ∙ ap (λ (told : List (Result (Unit {0}) Refused)). allowed (take (i + 1) events) told) (sym pushed) in
-    (
+    ∙ ap (λ (told : List (Result (Unit {0}) Refused)). allowed (take (i + 1) events) told) (sym pushed) in (
       ap (λ (told : List (Result (Unit {0}) Refused)). played_so_far c.play_event_of.new.machine told) pushed ∙ step,
       record { accepted = c.play_event_of.ensures.kept.accepted ∙ c.loop-event.invariant.1.accepted; units = c.play_event_of.ensures.kept.units ∙ c.loop-event.invariant.1.units },
       history,
