@@ -100,7 +100,7 @@ fn read_certificate<F: NamedFiles, R: Threads + Sync>(
 // How many threads fetch the certificate: those of `check`, and else one.
 fn fetchers(job: &Job) -> u32 {
     match job {
-        Job::Check { workers } => workers.get(),
+        Job::Check { workers, .. } => workers.get(),
         _ => 1,
     }
 }
