@@ -8,6 +8,8 @@ use crate::marking::{write_arrows, write_squashes, write_ticks};
 use crate::marks::{Mark, marks_of};
 use crate::pixels::Pixels;
 use crate::scale::fitting;
+use crate::stretches::length;
+use crate::summing::write_areas;
 use machine_events::event::EventRun;
 use std::alloc::{AllocError, Global};
 use task_descriptor::descriptor::Descriptor;
@@ -128,13 +130,49 @@ pub fn draw(
     let events = count_events(runs);
     let mut text = String::new(alloc);
     write_frame(&mut text, units, events, lives)?;
-    let bars = bars(alloc, events, lives)?;
-    let marks = marks_of(alloc, units, runs)?;
-    write_bars(&mut text, &bars, program.tasks())?;
-    write_marks(&mut text, units, events, &marks)?;
-    write_names(&mut text, &bars, program.tasks())?;
+    if events <= MOST_SINGLE {
+        write_singly(alloc, &mut text, program, units, runs, lives)?;
+    } else {
+        write_summed(alloc, &mut text, units, events, lives)?;
+    }
     text.push_str("</svg>\n")?;
     Ok(text)
+}
+
+/// Writes the bar of each life, and the marks of single events.
+fn write_singly(
+    alloc: Global,
+    text: &mut String,
+    program: &Program,
+    units: u32,
+    runs: &[EventRun],
+    lives: &[Life],
+) -> Result<(), AllocError> {
+    let events = count_events(runs);
+    let bars = bars(alloc, events, lives)?;
+    let marks = marks_of(alloc, units, runs)?;
+    write_bars(text, &bars, program.tasks())?;
+    write_marks(text, units, events, &marks)?;
+    write_names(text, &bars, program.tasks())?;
+    write_note(text, units, RING_NOTE)
+}
+
+/// Writes the lanes summed by stretches, and how long a stretch is.
+fn write_summed(
+    alloc: Global,
+    text: &mut String,
+    units: u32,
+    events: u32,
+    lives: &[Life],
+) -> Result<(), AllocError> {
+    write_areas(alloc, text, units, events, lives)?;
+    let mut note = String::new(alloc);
+    let events = length(events);
+    write!(
+        note,
+        "Summed by stretches of {events} events: how much of each stretch a unit spent on tasks that ended so."
+    )?;
+    write_note(text, units, &note)
 }
 
 /// Writes what stands round the bars.
@@ -146,10 +184,9 @@ fn write_frame(
 ) -> Result<(), AllocError> {
     write_head(text, units, events)?;
     write_title(text, units, events, lives)?;
-    write_legend(text, true)?;
+    write_legend(text, events <= MOST_SINGLE)?;
     write_lanes(text, units)?;
-    write_axis(text, units, events)?;
-    write_note(text, units, RING_NOTE)
+    write_axis(text, units, events)
 }
 
 /// Writes the marks of single events.

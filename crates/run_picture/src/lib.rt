@@ -9,4 +9,6 @@ mod marking;
 pub mod marks;
 mod pixels;
 pub mod scale;
+pub mod stretches;
+mod summing;
 mod svg;
