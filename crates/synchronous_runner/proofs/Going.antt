@@ -1,0 +1,75 @@
+-- A run on its way: an event is one more in its list, and a turn that ends the run has one.
+use Rattle.std.proofs.Common.{◌≡◌, ℕ, zero, suc, ◌+◌, ◌-◌, ◌<◌, ◌≤◌, inl, inr, Bool, true, false, cond, List, [], ◌∷◌, ◌++◌, length, Option, Some, None, Ok, Err, refl, sym, ap, ◌∙◌, subst, arith, true≢false, length-append}
+use Rattle.std.specs.Prelude.{nat_lt, Result}
+use Rattle.std.proofs.lemmas.Bool.{cases_Bool}
+use Rattle.task_descriptor.specs.Listing.{Listing}
+use Rattle.machine_model.specs.Machine.{State}
+use Rattle.machine_model.specs.Answer.{after}
+use Rattle.machine_model.specs.HeadEvent.{head_event}
+use Rattle.machine_model.specs.Laws.{NextIsAfter}
+use Rattle.machine_events.specs.declared.event.Event.{Event}
+use Rattle.machine_events.specs.declared.event.Refused.{Refused}
+use Rattle.machine_events.specs.declared.event.Refused.TheVariants.{OutOfMemory}
+use Rattle.sequencer.specs.Choices.{choices_of, choice_of}
+use Rattle.sequencer.specs.Seen.{MachineView, Applies, IsAnswered, answer_to, SameRing, state, units_of}
+use Rattle.synchronous_runner.specs.declared.predictor.Predictor.{Predictor}
+use Rattle.synchronous_runner.specs.Predictions.{answer_for, asked}
+use Rattle.synchronous_runner.specs.Steps.{Course, goes_on, with_event, with_targets, with_task, turn_of, turn, turns, step, after_steps, tries, first_allowed, Takes}
+use Rattle.synchronous_runner.specs.Courses.{course}
+
+-- an event that is applied
+
+pub applied : NextIsAfter → (old new : MachineView) (predictor : Predictor) (e : Event) → Applies old e new → course new predictor ≡ with_event old.accepted.program (course old predictor) (Some e)
+applied law old new predictor e h =
+    ap (λ (s : State). record { state = s; events = new.history; predictor = predictor }) (law old.accepted.program (units_of old) (state old) (state new) e h.next)
+    ∙ ap (λ (es : List Event). record { state = after old.accepted.program (state old) e; events = es; predictor = predictor }) h.history
+
+pub refused_by : (m : MachineView) (e : Event) (result : Result (Unit {0}) Refused) (why : Refused) → IsAnswered m e result → answer_to m e ≡ Ok tt → result ≡ Err why → why ≡ OutOfMemory
+refused_by m e result why (inl same) ok is = absurd (cc)
+refused_by m e result why (inr memory) ok is = cc
+
+-- a run and a later one: the events grow, and where the later one is over they have grown
+
+abbrev pub goes : ℕ → Course → Bool
+goes budget c = goes_on budget c.state (length c.events)
+
+pub record Grows (budget : ℕ) (c c' : Course) : Type 0 where
+  pub longer : length c.events ≤ length c'.events
+  pub ended : goes budget c ≡ true → goes budget c' ≡ false → length c.events < length c'.events
+
+pub grows_not : (budget : ℕ) (c : Course) → Grows budget c c
+grows_not budget c = record { longer = omega arith; ended = λ on off. absurd (true≢false (sym on ∙ off)) }
+
+pub grows_on : (budget : ℕ) (c d e : Course) → Grows budget c d → Grows budget d e → Grows budget c e
+grows_on budget c d e one two = record {
+  longer = (let x : length c.events ≤ length d.events = one.longer in let y : length d.events ≤ length e.events = two.longer in omega arith);
+  ended = λ on off. elim (cases_Bool (goes budget d)) [
+    | inl goes_there ↦ (let x : length c.events ≤ length d.events = one.longer in let y : length d.events < length e.events = two.ended goes_there off in omega arith)
+    | inr over ↦ (let x : length c.events < length d.events = one.ended on over in let y : length d.events ≤ length e.events = two.longer in omega arith)
+  ];
+}
+
+module _ (p : Listing) (budget : ℕ) where
+  by_event : (c : Course) (other : Predictor) (e : Option Event) → Grows budget c (with_event p (record c { predictor = other }) e)
+  by_event c other None = record { longer = omega arith; ended = λ on off. absurd (true≢false (sym on ∙ off)) }
+  by_event c other (Some e) =
+      let more : length (c.events ++ e ∷ []) ≡ length c.events + 1 = length-append c.events (e ∷ []) in
+      record { longer = omega arith; ended = λ on off. omega arith }
+
+  by_targets : (c : Course) (targets : List ℕ) → Grows budget c (with_targets p c targets)
+  by_targets c [] = by_event c c.predictor (choice_of p c.state 0)
+  by_targets c (t ∷ ts) = by_event c (asked c.predictor) (choice_of p c.state (answer_for c.predictor (t ∷ ts)))
+
+  by_either : (b : Bool) (c d e : Course) → Grows budget c d → Grows budget c e → Grows budget c (cond b d e)
+  by_either true c d e one two = one
+  by_either false c d e one two = two
+
+  by_turn_of : (units k : ℕ) (c : Course) → Grows budget c (turn_of p units k c)
+  by_turn_of units zero c = by_event c c.predictor (head_event p c.state)
+  by_turn_of units (suc k) c =
+      by_either (nat_lt (suc k) (length c.state.queue)) c _ _
+      (by_event c c.predictor (first_allowed p units c.state (tries (suc k))))
+      (by_either (nat_lt k (length c.state.queue)) c _ _ (by_targets c (choices_of p c.state)) (grows_not budget c))
+
+  pub by_turn : (units k : ℕ) (c : Course) → Grows budget c (turn p units budget k c)
+  by_turn units k c = by_either (goes budget c) c _ _ (by_turn_of units k c) (grows_not budget c)

@@ -1,0 +1,4 @@
+pub mod Tries
+pub mod Going
+pub mod Looping
+pub mod Assigning

@@ -1,0 +1,3 @@
+pub mod Predictions
+pub mod Steps
+pub mod Courses
