@@ -18,4 +18,3 @@ assign_allowed p units s t free may =
     passes (nat_lt (length s.queue) units) _ _ (lt-ltb (length s.queue) units free)
     ∙ passes (nat_lt t (length p.tasks)) _ _ (lt-ltb t (length p.tasks) may.0)
     ∙ passes _ _ _ may.1
-

@@ -1,15 +1,19 @@
 -- A run on its way: an event is one more in its list, and a turn that ends the run has one.
 use Rattle.std.proofs.Common.{◌≡◌, ℕ, zero, suc, ◌+◌, ◌-◌, ◌<◌, ◌≤◌, inl, inr, Bool, true, false, cond, List, [], ◌∷◌, ◌++◌, length, Option, Some, None, Ok, Err, refl, sym, ap, ◌∙◌, subst, arith, true≢false, length-append}
-use Rattle.std.specs.Prelude.{nat_lt, Result}
-use Rattle.std.proofs.lemmas.Bool.{cases_Bool}
+use Rattle.std.specs.Prelude.{nat_lt, is_some, IsSome, slice_get, Result, OnOk}
+use Rattle.std.specs.Option.{option_map}
+use Rattle.std.proofs.lemmas.Bool.{cases_Bool, and_parts}
 use Rattle.task_descriptor.specs.Listing.{Listing}
-use Rattle.machine_model.specs.Machine.{State}
-use Rattle.machine_model.specs.Answer.{after}
+use Rattle.machine_model.specs.Machine.{Active, State}
+use Rattle.machine_model.specs.Answer.{after, is_running}
 use Rattle.machine_model.specs.HeadEvent.{head_event}
 use Rattle.machine_model.specs.Laws.{NextIsAfter}
 use Rattle.machine_events.specs.declared.event.Event.{Event}
 use Rattle.machine_events.specs.declared.event.Refused.{Refused}
 use Rattle.machine_events.specs.declared.event.Refused.TheVariants.{OutOfMemory}
+use Rattle.machine_events.specs.declared.event.Spot.{Spot}
+use Rattle.machine_events.specs.declared.event.Standing.{Standing}
+use Rattle.machine_events.specs.declared.event.Standing.TheVariants.{Running, Halted, Trapped, Unlisted}
 use Rattle.sequencer.specs.Choices.{choices_of, choice_of}
 use Rattle.sequencer.specs.Seen.{MachineView, Applies, IsAnswered, answer_to, SameRing, state, units_of}
 use Rattle.synchronous_runner.specs.declared.predictor.Predictor.{Predictor}
@@ -27,6 +31,60 @@ applied law old new predictor e h =
 pub refused_by : (m : MachineView) (e : Event) (result : Result (Unit {0}) Refused) (why : Refused) → IsAnswered m e result → answer_to m e ≡ Ok tt → result ≡ Err why → why ≡ OutOfMemory
 refused_by m e result why (inl same) ok is = absurd (cc)
 refused_by m e result why (inr memory) ok is = cc
+
+-- what follows of a call's answer
+
+pub on_ok : {P Q : Type 0} (r : Result (Unit {0}) Refused) → (P → Q) → OnOk r P → OnOk r Q
+on_ok (Ok x) f h = f h
+on_ok (Err why) f h = h
+
+-- an event that is done is one more
+
+pub one_more : (p : Listing) (old new : MachineView) (predictor : Predictor) (e : Option Event) → IsSome e → course new predictor ≡ with_event p (course old predictor) e → length new.history ≡ length old.history + 1
+one_more p old new predictor None some is = absurd (cc)
+one_more p old new predictor (Some e) some is = ap (λ (c : Course). length c.events) is ∙ length-append old.history (e ∷ [])
+
+is_running_is : (o : Standing) → is_running o ≡ true → o ≡ Running
+is_running_is Running e = refl
+is_running_is Halted e = absurd (true≢false (sym e))
+is_running_is (Trapped trap) e = absurd (true≢false (sym e))
+is_running_is (Unlisted at) e = absurd (true≢false (sym e))
+
+pub runs_on : (budget : ℕ) (s : State) (n : ℕ) → goes_on budget s n ≡ true → s.outcome ≡ Running
+runs_on budget s n e = is_running_is s.outcome (and_parts (is_running s.outcome) (nat_lt n budget) e).0
+
+-- whether a unit is at a position, by its spot
+
+pub spot_there : (us : List Active) (k : ℕ) (o : Option Spot) → o ≡ option_map (λ (u : Active). u.place) (slice_get us k) → nat_lt k (length us) ≡ is_some o
+spot_there [] k None e = refl
+spot_there [] k (Some x) e = absurd (cc)
+spot_there (u ∷ us) zero None e = absurd (cc)
+spot_there (u ∷ us) zero (Some x) e = refl
+spot_there (u ∷ us) (suc k) o e = spot_there us k o e
+
+-- the turn of a position behind the head, where no unit is at work
+
+either_false : (b : Bool) (c d : Course) → b ≡ false → cond b c d ≡ d
+either_false true c d e = absurd (true≢false e)
+either_false false c d e = refl
+
+either_true : (b : Bool) (c d : Course) → b ≡ true → cond b c d ≡ c
+either_true true c d e = refl
+either_true false c d e = absurd (true≢false (sym e))
+
+pub free_turn : (p : Listing) (units budget k : ℕ) (c : Course) → 0 < k → goes_on budget c.state (length c.events) ≡ true → nat_lt k (length c.state.queue) ≡ false → nat_lt (k - 1) (length c.state.queue) ≡ true → turn p units budget k c ≡ with_task p c
+free_turn p units budget zero c behind on not_there there = absurd (omega arith)
+free_turn p units budget (suc k) c behind on not_there there =
+    either_true (goes_on budget c.state (length c.events)) _ c on
+    ∙ either_false (nat_lt (suc k) (length c.state.queue)) _ _ not_there
+    ∙ either_true (nat_lt k (length c.state.queue)) _ c there
+
+pub no_turn : (p : Listing) (units budget k : ℕ) (c : Course) → 0 < k → goes_on budget c.state (length c.events) ≡ true → nat_lt k (length c.state.queue) ≡ false → nat_lt (k - 1) (length c.state.queue) ≡ false → turn p units budget k c ≡ c
+no_turn p units budget zero c behind on not_there there = absurd (omega arith)
+no_turn p units budget (suc k) c behind on not_there there =
+    either_true (goes_on budget c.state (length c.events)) _ c on
+    ∙ either_false (nat_lt (suc k) (length c.state.queue)) _ _ not_there
+    ∙ either_false (nat_lt k (length c.state.queue)) _ c there
 
 -- a run and a later one: the events grow, and where the later one is over they have grown
 

@@ -99,6 +99,6 @@ module _ (p : Listing) (units : ℕ) (s : State) (k : ℕ) where
       ∙ skip (is_none (refusal p units s (Exec k))) (Exec k) _ (is_there _ exec)
       ∙ find-append (λ e. is_none (refusal p units s e)) (map (Transfer k) registers) (map (Drain k) registers)
       ∙ ap (λ (o : Option Event). option_or o (find (λ e. is_none (refusal p units s e)) (map (Drain k) registers)))
-        (find_map (λ e. is_none (refusal p units s e)) (Transfer k) registers ∙ ap (option_map (Transfer k)) t)
+      (find_map (λ e. is_none (refusal p units s e)) (Transfer k) registers ∙ ap (option_map (Transfer k)) t)
       ∙ ap (option_or (option_map (Transfer k) taken))
-        (find_map (λ e. is_none (refusal p units s e)) (Drain k) registers ∙ ap (option_map (Drain k)) d)
+      (find_map (λ e. is_none (refusal p units s e)) (Drain k) registers ∙ ap (option_map (Drain k)) d)

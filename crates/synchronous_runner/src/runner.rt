@@ -36,10 +36,10 @@ pub fn run_in_steps<'a>(
     ensures units { (result ≡ Err StepFault.Units) ↔ ((units ≡ 0) ⊎ (16 < units)) }
     ensures budget { (result ≡ Err StepFault.Budget) ↔ ((0 < units) × (units ≤ 16) × ((budget ≡ 0) ⊎ (1000000 < budget))) }
     ensures over { IfOk result (λ report. (report.machine.accepted ≡ accepted.now) × (units_of report.machine ≡ units)) }
-    ensures replay { IfOk result (λ report. Replays accepted.now.program units report.machine.history (state report.machine)) }
-    ensures steps { IfOk result (λ report. Takes accepted.now.program units budget (beginning accepted.now.program predictor.entry) report.steps) }
-    ensures state { IfOk result (λ report. state report.machine ≡ (after_steps accepted.now.program units budget report.steps (beginning accepted.now.program predictor.entry)).state) }
-    ensures events { IfOk result (λ report. report.machine.history ≡ (after_steps accepted.now.program units budget report.steps (beginning accepted.now.program predictor.entry)).events) }
+    ensures replay { IfOk result (λ report. Replays report.machine.accepted.program (units_of report.machine) report.machine.history (state report.machine)) }
+    ensures steps { IfOk result (λ report. Takes accepted.now.program units budget (beginning accepted.now.program predictor) report.steps) }
+    ensures state { IfOk result (λ report. state report.machine ≡ (after_steps accepted.now.program units budget report.steps (beginning accepted.now.program predictor)).state) }
+    ensures events { IfOk result (λ report. report.machine.history ≡ (after_steps accepted.now.program units budget report.steps (beginning accepted.now.program predictor)).events) }
 {
     if units == 0 || units > MOST_UNITS {
         return Err(StepFault::Units);
@@ -51,7 +51,11 @@ pub fn run_in_steps<'a>(
         return Err(StepFault::OutOfMemory);
     };
     match run(&mut machine, &mut predictor, units, budget) {
-        Ok(steps) => Ok(Report { machine, steps }),
+        Ok(steps) => {
+            // A machine is the replay of its history, which is known where that is read.
+            let _ = machine.history();
+            Ok(Report { machine, steps })
+        }
         Err(_) => Err(StepFault::OutOfMemory),
     }
 }

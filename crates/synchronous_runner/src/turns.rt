@@ -90,11 +90,16 @@ fn event_of(machine: &Machine<'_>, position: u32) -> Option<Event>
     if machine.enabled(Event::Exec(position)) {
         return Some(Event::Exec(position));
     }
+    // A register is below 34, which is known where its number is read.
     if let Some(register) = machine.register_to_take(position) {
+        let _ = register.get();
         return Some(Event::Transfer(position, register));
     }
     match machine.register_to_send(position) {
-        Some(register) => Some(Event::Drain(position, register)),
+        Some(register) => {
+            let _ = register.get();
+            Some(Event::Drain(position, register))
+        }
         None => None,
     }
 }

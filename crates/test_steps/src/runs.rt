@@ -130,6 +130,9 @@ fn faults(rt: HostRuntime) {
     assert_eq!(&rt; fault(alloc, &accepted, 0, 0), Some(StepFault::Units));
     assert_eq!(&rt; fault(alloc, &accepted, 17, 1), Some(StepFault::Units));
     assert_eq!(&rt; fault(alloc, &accepted, 16, 0), Some(StepFault::Budget));
-    assert_eq!(&rt; fault(alloc, &accepted, 1, 1_000_001), Some(StepFault::Budget));
+    assert_eq!(&rt;
+        fault(alloc, &accepted, 1, 1_000_001),
+        Some(StepFault::Budget)
+    );
     assert_eq!(&rt; fault(alloc, &accepted, 16, 1), None);
 }
