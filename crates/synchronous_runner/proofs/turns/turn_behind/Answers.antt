@@ -17,9 +17,9 @@ returns-then-is_some-2-clause-done c =
     let on : goes_on c.args.budget (state m) (length m.history) ≡ true = sym c.goes_on.ensures ∙ c.if-not-goes_on.false in
     on_ok c.apply-then-is_some-2.result
     (λ done.
-        done c.task_for_free-event.new.predictor
-        ∙ c.task_for_free-event.ensures.event
-        ∙ sym (free_turn m.accepted.program (units_of m) c.args.budget c.args.position (course m c.args.predictor.now) c.requires.behind on not_there there))
+    done c.task_for_free-event.new.predictor
+    ∙ c.task_for_free-event.ensures.event
+    ∙ sym (free_turn m.accepted.program (units_of m) c.args.budget c.args.position (course m c.args.predictor.now) c.requires.behind on not_there there))
     c.apply-then-is_some-2.ensures.done
 
 pub returns-clause-done : goal.returns-clause-done
