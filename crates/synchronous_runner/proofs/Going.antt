@@ -2,7 +2,8 @@
 use Rattle.std.proofs.Common.{◌≡◌, ℕ, zero, suc, ◌+◌, ◌-◌, ◌<◌, ◌≤◌, inl, inr, Bool, true, false, cond, List, [], ◌∷◌, ◌++◌, length, Option, Some, None, Ok, Err, refl, sym, ap, ◌∙◌, subst, arith, true≢false, length-append}
 use Rattle.std.specs.Prelude.{nat_lt, is_some, IsSome, slice_get, Result, OnOk}
 use Rattle.std.specs.Option.{option_map}
-use Rattle.std.proofs.lemmas.Bool.{cases_Bool, and_parts}
+use Rattle.std.proofs.lemmas.Bool.{cases_Bool, and_parts, lt-ltb, le-ltb}
+use Rattle.std.proofs.lemmas.Option.{slice_get_cases}
 use Rattle.task_descriptor.specs.Listing.{Listing}
 use Rattle.machine_model.specs.Machine.{Active, State}
 use Rattle.machine_model.specs.Answer.{after, is_running}
@@ -56,11 +57,11 @@ runs_on budget s n e = is_running_is s.outcome (and_parts (is_running s.outcome)
 -- whether a unit is at a position, by its spot
 
 pub spot_there : (us : List Active) (k : ℕ) (o : Option Spot) → o ≡ option_map (λ (u : Active). u.place) (slice_get us k) → nat_lt k (length us) ≡ is_some o
-spot_there [] k None e = refl
-spot_there [] k (Some x) e = absurd (cc)
-spot_there (u ∷ us) zero None e = absurd (cc)
-spot_there (u ∷ us) zero (Some x) e = refl
-spot_there (u ∷ us) (suc k) o e = spot_there us k o e
+spot_there us k o e =
+    elim (slice_get_cases us k).1 [
+      | inl there ↦ lt-ltb k (length us) there.2.0 ∙ sym (ap is_some (e ∙ ap (option_map (λ (u : Active). u.place)) there.2.1))
+      | inr none ↦ le-ltb k (length us) none.0 ∙ sym (ap is_some (e ∙ ap (option_map (λ (u : Active). u.place)) none.1))
+    ]
 
 -- the turn of a position behind the head, where no unit is at work
 
@@ -75,16 +76,18 @@ either_true false c d e = absurd (true≢false (sym e))
 pub free_turn : (p : Listing) (units budget k : ℕ) (c : Course) → 0 < k → goes_on budget c.state (length c.events) ≡ true → nat_lt k (length c.state.queue) ≡ false → nat_lt (k - 1) (length c.state.queue) ≡ true → turn p units budget k c ≡ with_task p c
 free_turn p units budget zero c behind on not_there there = absurd (omega arith)
 free_turn p units budget (suc k) c behind on not_there there =
+    let one : suc k - 1 ≡ k = omega arith in
     either_true (goes_on budget c.state (length c.events)) _ c on
     ∙ either_false (nat_lt (suc k) (length c.state.queue)) _ _ not_there
-    ∙ either_true (nat_lt k (length c.state.queue)) _ c there
+    ∙ either_true (nat_lt k (length c.state.queue)) _ c (ap (λ (n : ℕ). nat_lt n (length c.state.queue)) (sym one) ∙ there)
 
 pub no_turn : (p : Listing) (units budget k : ℕ) (c : Course) → 0 < k → goes_on budget c.state (length c.events) ≡ true → nat_lt k (length c.state.queue) ≡ false → nat_lt (k - 1) (length c.state.queue) ≡ false → turn p units budget k c ≡ c
 no_turn p units budget zero c behind on not_there there = absurd (omega arith)
 no_turn p units budget (suc k) c behind on not_there there =
+    let one : suc k - 1 ≡ k = omega arith in
     either_true (goes_on budget c.state (length c.events)) _ c on
     ∙ either_false (nat_lt (suc k) (length c.state.queue)) _ _ not_there
-    ∙ either_false (nat_lt k (length c.state.queue)) _ c there
+    ∙ either_false (nat_lt k (length c.state.queue)) _ c (ap (λ (n : ℕ). nat_lt n (length c.state.queue)) (sym one) ∙ there)
 
 -- a run and a later one: the events grow, and where the later one is over they have grown
 
