@@ -1,7 +1,8 @@
 //! `--least`: the jobs with the least certificate write what they write with that certificate's text.
 
 use crate::answers::{EMPTY, Row};
-use crate::scripts::{COUNT_WAITS, answers_of, events_of};
+use crate::replay::replays;
+use crate::scripts::COUNT_WAITS;
 use test_programs::programs::{COUNT, COUNT_CREATES_LESS};
 
 const LEAST: Row<'static> = Row {
@@ -56,16 +57,13 @@ fn accepts_right_marks(rt: HostRuntime) {
 
 #[test]
 fn replays_a_script(rt: HostRuntime) {
-    let script = events_of(&rt, rt.alloc(), COUNT_WAITS);
-    let closing = "retired 0 c 0 h 1\nrunning\n";
-    let expected = answers_of(&rt, rt.alloc(), COUNT_WAITS, closing);
     let row = Row {
         words: "replay --least --units 2 a.s a.events",
-        script: script.as_str(),
-        expected: expected.as_str(),
+        script: COUNT_WAITS,
+        expected: "retired 0 c 0 h 1\nrunning\n",
         ..LEAST
     };
-    row.runs(&rt, rt.alloc());
+    replays(&rt, rt.alloc(), &row);
 }
 
 const JOBS: [&str; 4] = [

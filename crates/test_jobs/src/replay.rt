@@ -12,8 +12,8 @@ use test_programs::certificates::{
 };
 use test_programs::programs::{COUNT, READ_ONLY, UNLISTED_JUMP, WRONG_PATH_LOAD, WRONG_PATH_SPIN};
 
-// Asserts a row whose script stands with its answers; what it expects is written behind these.
-fn replays(rt: &impl Bench, alloc: Global, row: &Row<'_>) {
+/// Asserts a row whose script stands with its answers; what it expects is written behind these.
+pub fn replays(rt: &impl Bench, alloc: Global, row: &Row<'_>) {
     let script = events_of(rt, alloc, row.script);
     let expected = answers_of(rt, alloc, row.script, row.expected);
     let row = Row {

@@ -1,7 +1,6 @@
 //! Which words give which job, and which are refused.
 
 use crate::answers::words_of;
-use clap::error::ErrorKind;
 use command_line::words::{UsageFault, job_of};
 use jobs::job::{CertificateSource, Emit, Job, Paths, Prediction, ReplayEmit, RunEmit};
 use std::alloc::Global;
@@ -302,29 +301,21 @@ fn refuses_words(rt: HostRuntime) {
     }
 }
 
-// Files that do not fit `--least`, with the kind of the fault.
-const MISFITS: [(&str, ErrorKind); 6] = [
-    ("check a.s", ErrorKind::MissingRequiredArgument),
-    ("check --least a.s a.cert", ErrorKind::ArgumentConflict),
-    ("replay a.s a.events", ErrorKind::MissingRequiredArgument),
-    (
-        "replay --least a.s a.cert a.events",
-        ErrorKind::ArgumentConflict,
-    ),
-    (
-        "run a.s --predict 16 --emit xml",
-        ErrorKind::MissingRequiredArgument,
-    ),
-    ("run --least a.s a.cert", ErrorKind::ArgumentConflict),
+// Files that do not fit `--least`, or its absence.
+const MISFITS: [&str; 6] = [
+    "check a.s",
+    "check --least a.s a.cert",
+    "replay a.s a.events",
+    "replay --least a.s a.cert a.events",
+    "run a.s --predict 16 --emit xml",
+    "run --least a.s a.cert",
 ];
 
 #[test]
 fn refuses_files_that_do_not_fit(rt: HostRuntime) {
-    for &(line, kind) in &MISFITS {
-        match read(&rt, rt.alloc(), line) {
-            Err(UsageFault::Words(error)) => assert!(rt; error.kind() == kind, "{line}"),
-            _ => assert!(rt; false, "{line}"),
-        }
+    for &line in &MISFITS {
+        let refused = read(&rt, rt.alloc(), line);
+        assert!(rt; matches!(refused, Err(UsageFault::Words(_))), "{line}");
     }
 }
 
