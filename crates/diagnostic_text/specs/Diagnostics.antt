@@ -18,7 +18,7 @@ use Rattle.mark_checker.specs.declared.finding.Finding.{Finding}
 use Rattle.finding_paths.specs.declared.shown.ShownFinding.{ShownFinding}
 use Rattle.finding_paths.specs.Shown.{AreShown}
 use Rattle.diagnostic_text.specs.Sentences.{number_in, sentence_text, help_text}
-use Rattle.diagnostic_text.specs.Excerpt.{excerpt_text}
+use Rattle.source_excerpt.specs.Excerpt.{position_text, excerpt_text}
 
 -- a place; where the map has none, the text's first byte
 abbrev pub place_in : Option Position → Position
@@ -31,10 +31,6 @@ place_by EntryWithoutMask s task index = place_in (slice_get s.tasks task)
 place_by ExceedsCreate s task index = place_in (slice_get s.tasks task)
 place_by TargetNotEntry s task index = place_in (slice_get s.tasks task)
 place_by _ s task index = place_in (slice_get s.code index)
-
--- the file's name, the line and the column
-abbrev pub position_text : (file : List ℕ) → Position → List ℕ
-position_text file at = file ++ (codes ":" ++ (decimal at.line ++ (codes ":" ++ (decimal at.column ++ codes ": "))))
 
 abbrev pub task_name : Option Descriptor → List ℕ
 task_name None = []
@@ -81,7 +77,7 @@ note_text file s rule path =
 abbrev pub path_note : (file : List ℕ) → (rows : List (List ℕ)) → Sources → Rule → Option (Vec ℕ Global) → List ℕ
 path_note file rows s rule None = []
 path_note file rows s rule (Some path) =
-    note_text file s rule path.items ++ excerpt_text rows (place_in (slice_get s.code (note_index rule path.items)))
+    note_text file s rule path.items ++ excerpt_text rows (place_in (slice_get s.code (note_index rule path.items))) 1
 
 -- all that is said of one finding, in a text of these lines
 abbrev pub finding_text : (file : List ℕ) → (rows : List (List ℕ)) → Listing → Sources → ShownFinding → List ℕ
@@ -89,7 +85,7 @@ finding_text file rows p s shown =
     let f = shown.finding in
     let at = place_by f.rule s f.task f.index in
     let task = task_name (slice_get p.tasks f.task) in
-    error_text file at task f ++ (excerpt_text rows at ++ (path_note file rows s f.rule shown.path ++ todo_text file at task f))
+    error_text file at task f ++ (excerpt_text rows at 1 ++ (path_note file rows s f.rule shown.path ++ todo_text file at task f))
 
 -- how many findings are shown of a program at most
 abbrev pub most_shown : ℕ

@@ -8,15 +8,16 @@ ghost use Rattle.program_tokens.specs.Lines.{lines};
 ghost use Rattle.annotated_asm.specs.Steps.{FailsText};
 ghost use Rattle.annotated_asm.specs.ProgramText.{parse};
 ghost use Rattle.source_map.specs.Sources.{sources_in};
-ghost use Rattle.diagnostic_text.specs.Diagnostics.{position_text, task_name, error_text, todo_text, line_of, path_text, note_text, path_note, finding_text, more_text, findings_text, IsExplained};
+ghost use Rattle.source_excerpt.specs.Excerpt.{position_text};
+ghost use Rattle.diagnostic_text.specs.Diagnostics.{task_name, error_text, todo_text, line_of, path_text, note_text, path_note, finding_text, more_text, findings_text, IsExplained};
 
-use crate::excerpt::{lines_of, write_excerpt};
 use crate::place::{line_of, note_index, note_words, place_by, place_of};
 use crate::sentence::{number_in, write_help, write_sentence};
 use annotated_asm::assembler::assemble;
 use annotated_asm::fault::AsmFault;
 use finding_paths::shown::{ShownFinding, ShownFindings, shown_findings};
 use mark_checker::finding::{Finding, Rule};
+use source_excerpt::excerpt::{lines_of, write_excerpt, write_position};
 use source_map::laws::map_fits;
 use source_map::position::{Position, SourceMap};
 use source_map::reading::source_map;
@@ -26,15 +27,6 @@ use task_descriptor::program::Program;
 /// The most findings that `explain` shows of a text; of any more it says how many they are (own choice). A
 /// text of 100 KB can have 138 million findings, and each is shown with a path of up to 4,096 steps.
 pub const MOST_SHOWN: usize = 1_000;
-
-/// Adds the name of a file, the line and the column.
-fn write_position(text: &mut String, file: &str, at: Position) -> Result<(), AllocError>
-    ensures { OnOk result (string_bytes text.new ≡ string_bytes text.old ++ position_text file.now at) }
-{
-    let line = at.line;
-    let column = at.column;
-    write!(text, "{file}:{line}:{column}: ")
-}
 
 /// The name of the task of this number.
 fn task_name(program: &Program, task: u32) -> &str
@@ -162,7 +154,7 @@ fn write_path_note(
         Some(path) => {
             let rule = shown.finding.rule;
             write_note(text, file, map, rule, path)?;
-            write_excerpt(alloc, text, rows, place_of(map, note_index(rule, path)))
+            write_excerpt(alloc, text, rows, place_of(map, note_index(rule, path)), 1)
         }
         None => Ok(()),
     }
@@ -185,7 +177,7 @@ fn write_finding(
     let at = place_by(map, finding);
     let task = task_name(program, finding.task);
     write_error(text, file, at, task, finding)?;
-    write_excerpt(alloc, text, rows, at)?;
+    write_excerpt(alloc, text, rows, at, 1)?;
     write_path_note(alloc, text, file, rows, map, shown)?;
     write_todo(text, file, at, task, finding)
 }

@@ -3,6 +3,5 @@
 #![tactic(auto)]
 
 pub mod diagnostics;
-mod excerpt;
 mod place;
 mod sentence;

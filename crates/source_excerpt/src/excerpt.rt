@@ -1,10 +1,10 @@
-//! The line of a text that something is said of, and a caret below the column.
+//! How a place of a text is named, and its line shown with a caret below the column.
 
 ghost use Rattle.std.specs.Prelude.{◌≡◌, ◌++◌, ◌-◌, ◌<◌, map, take, replicate, IfOk, OnOk};
 ghost use Rattle.std.specs.String.{string_bytes};
 ghost use Rattle.std.specs.Str.Lines.{strip_carriage_return};
 ghost use Rattle.program_tokens.specs.Lines.{lines};
-ghost use Rattle.diagnostic_text.specs.Excerpt.{line_in, shown_byte, below_byte, line_row, caret_row, excerpt_text};
+ghost use Rattle.source_excerpt.specs.Excerpt.{position_text, line_in, shown_byte, below_byte, line_row, caret_row, further_bytes, excerpt_text};
 
 use program_tokens::line::first_line;
 use source_map::position::Position;
@@ -25,7 +25,11 @@ fn without_carriage_return(line: &[u8]) -> &[u8]
 }
 
 /// The lines of a text, each with the CR that may end it.
-pub(crate) fn lines_of(alloc: Global, text: &[u8]) -> Result<Vec<&[u8]>, AllocError>
+///
+/// # Errors
+///
+/// `AllocError` where memory was refused.
+pub fn lines_of(alloc: Global, text: &[u8]) -> Result<Vec<&[u8]>, AllocError>
     ensures { IfOk result (λ list. map (λ line. line.now) list.items ≡ lines text.now) }
 {
     let mut list = Vec::new(alloc);
@@ -118,26 +122,70 @@ fn write_line_row(text: &mut String, number: &str, line: &[u8]) -> Result<(), Al
     writeln!(text, "")
 }
 
-/// Adds the caret behind what stands before its column.
-fn write_caret_row(text: &mut String, number: &str, front: &[u8]) -> Result<(), AllocError>
-    ensures { OnOk result (string_bytes text.new ≡ string_bytes text.old ++ caret_row number.now front.now) }
+/// Adds as many tildes.
+fn write_tildes(text: &mut String, count: usize) -> Result<(), AllocError>
+    ensures { OnOk result (string_bytes text.new ≡ string_bytes text.old ++ replicate count 126) }
+{
+    for place in 0..count {
+        text.push('~')?;
+    }
+    Ok(())
+}
+
+/// Adds the caret behind what stands before its column, and a tilde below each further byte that is meant.
+fn write_caret_row(
+    text: &mut String,
+    number: &str,
+    front: &[u8],
+    further: usize,
+) -> Result<(), AllocError>
+    ensures { OnOk result (string_bytes text.new ≡ string_bytes text.old ++ caret_row number.now front.now further) }
 {
     write_spaces(text, 5usize.max(number.len()))?;
     write!(text, " | ")?;
     write_below(text, front)?;
-    writeln!(text, "^")
+    write!(text, "^")?;
+    write_tildes(text, further)?;
+    writeln!(text, "")
 }
 
-/// Adds the line of a place in a text of these lines, and a caret below the place; nothing where the line is
-/// longer than the longest that is shown.
+/// How many bytes behind the first are meant and stand in the line.
+fn further_bytes(line: &[u8], column: usize, width: usize) -> usize
+    ensures { result ≡ further_bytes line.now column width }
+{
+    width
+        .saturating_sub(1)
+        .min(line.len().saturating_sub(column))
+}
+
+/// Adds the name of a file, and the line and the column of a place in it. (own choice, in the form of gcc)
+///
+/// # Errors
+///
+/// `AllocError` where memory was refused.
+pub fn write_position(text: &mut String, file: &str, at: Position) -> Result<(), AllocError>
+    ensures { OnOk result (string_bytes text.new ≡ string_bytes text.old ++ position_text file.now at) }
+{
+    let line = at.line;
+    let column = at.column;
+    write!(text, "{file}:{line}:{column}: ")
+}
+
+/// Adds the line of a place in a text of these lines, a caret below the place, and tildes below the bytes
+/// behind it, of which `width` are meant; nothing where the line has more than 1,000 bytes. (own choice)
+///
+/// # Errors
+///
+/// `AllocError` where memory was refused.
 #[tactic(auto, unfolding(crate::specs::Excerpt::excerpt_text))]
-pub(crate) fn write_excerpt(
+pub fn write_excerpt(
     alloc: Global,
     text: &mut String,
     rows: &[&[u8]],
     at: Position,
+    width: usize,
 ) -> Result<(), AllocError>
-    ensures { OnOk result (string_bytes text.new ≡ string_bytes text.old ++ excerpt_text (map (λ line. line.now) rows.now) at) }
+    ensures { OnOk result (string_bytes text.new ≡ string_bytes text.old ++ excerpt_text (map (λ line. line.now) rows.now) at width) }
 {
     let line = line_in(rows, at.line);
     if line.len() > LONGEST_SHOWN {
@@ -145,5 +193,6 @@ pub(crate) fn write_excerpt(
     }
     let number = format!(in alloc; "{}", at.line)?;
     write_line_row(text, number.as_str(), line)?;
-    write_caret_row(text, number.as_str(), before(line, at.column))
+    let further = further_bytes(line, at.column, width);
+    write_caret_row(text, number.as_str(), before(line, at.column), further)
 }

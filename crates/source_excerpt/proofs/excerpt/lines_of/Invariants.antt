@@ -1,7 +1,7 @@
 -- The lines so far, with those of what is left, are all lines.
 use Rattle.std.proofs.Common.{◌≡◌, ◌++◌, map, length}
 use Rattle.program_tokens.specs.Lines.{lines}
-use Rattle.diagnostic_text.proofs.excerpt.lines_of.Given as goal
+use Rattle.source_excerpt.proofs.excerpt.lines_of.Given as goal
 
 abbrev pub invariant-lines : goal.invariant-lines
 invariant-lines l = map (λ line. line.now) l.list.items ++ lines l.rest ≡ lines l.text
