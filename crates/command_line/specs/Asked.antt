@@ -1,6 +1,6 @@
 -- Which job the words of a command line ask for, over which files, or why none (own choice). Which
 -- subcommand the words name, and with which values, is what `clap` makes of them.
-use Rattle.std.specs.Prelude.{◌≡◌, ◌≢◌, ◌⊎◌, ℕ, Bool, true, false, List, [], Option, is_none, Some, None, Result, IsSome, IsSomeAnd, ⊤, if◌then◌else◌, codes, option_and_then, MatchResult, unwrap_or}
+use Rattle.std.specs.Prelude.{◌≡◌, ◌≢◌, ◌⊎◌, ℕ, Bool, true, false, not, List, [], Option, is_none, Some, None, Result, IsSome, IsSomeAnd, ⊤, if◌then◌else◌, codes, option_and_then, MatchResult, unwrap_or}
 use Rattle.std.specs.String.{string_bytes}
 use Rattle.std.specs.Option.{option_map_or}
 use Rattle.std.specs.Str.{bytes_eq}
@@ -53,9 +53,13 @@ run_emit_in values = option_and_then run_emit_of (first_of (codes "emit") values
 abbrev pub replay_emit_in : List Row → Option ReplayEmit
 replay_emit_in values = option_and_then replay_emit_of (first_of (codes "emit") values)
 
+-- an option without a value is given
+abbrev pub is_given : Text → List Row → Bool
+is_given id values = option_map_or (λ word. bytes_eq word (codes "true")) (first_of id values) false
+
 -- `--least` is given
 abbrev pub is_least : List Row → Bool
-is_least values = option_map_or (λ word. bytes_eq word (codes "true")) (first_of (codes "least") values) false
+is_least values = is_given (codes "least") values
 
 -- where the certificate comes from, of a subcommand whose last file is this one: with `--least` there is a
 -- file less, and so no last one
@@ -80,8 +84,8 @@ Gives name values (Seq budget) =
     (name ≡ codes "seq") × (number_at (codes "budget") values ≡ Some budget)
 Gives name values Print = name ≡ codes "print"
 Gives name values (Annotate emit) = (name ≡ codes "annotate") × (emit_in values ≡ Some emit)
-Gives name values (Explain file) =
-    (name ≡ codes "explain") × (first_of (codes "program") values ≡ Some (string_bytes file))
+Gives name values (Explain file warnings) = (name ≡ codes "explain")
+    × (first_of (codes "program") values ≡ Some (string_bytes file)) × (warnings ≡ not (is_given (codes "no-warnings") values))
 Gives name values (Check source workers) = (name ≡ codes "check")
     × IsSource (codes "certificate") values source × (number_at (codes "workers") values ≡ Some workers)
 Gives name values (Replay source units emit) = (name ≡ codes "replay") × IsSource (codes "script") values source

@@ -185,6 +185,9 @@ of the run) or summary (how often each task was assigned, and how that ended)";
 /// `--least`.
 pub const LEAST: &str = "Makes the least certificate of the program as it stands, in place of CERT";
 
+/// `--no-warnings`.
+pub const NO_WARNINGS: &str = "Says nothing of annotations that are right but cost time";
+
 /// Why words with neither a certificate nor `--least` give no job.
 pub const FILE_MISSING: &str = "a file is missing: give CERT, or --least in its place";
 

@@ -3,7 +3,7 @@ ghost use Rattle.std.specs.Prelude.{◌≡◌, ◌≤◌, ◌==◌, IfErr, IfOk,
 ghost use Rattle.std.specs.String.{string_bytes};
 ghost use Rattle.std.specs.List.{slice_split};
 ghost use Rattle.clap.specs.Words.{first_of};
-ghost use Rattle.command_line.specs.Asked.{AskFor, IsFaultOf, IsFrom, IsMisfit, IsNoJob, IsOfKind, IsSource, Reads, is_least, emit_in, number_at, predict_in, replay_emit_in, run_emit_in, values_in};
+ghost use Rattle.command_line.specs.Asked.{AskFor, IsFaultOf, IsFrom, IsMisfit, IsNoJob, IsOfKind, IsSource, Reads, is_given, emit_in, number_at, predict_in, replay_emit_in, run_emit_in, values_in};
 ghost use Rattle.command_line.specs.Words.{answer_of, answers_of, all_there, emit_of, prediction_of, replay_emit_of, run_emit_of};
 ghost use Rattle.jobs.specs.Files.{HasFilesOf, is_in_file};
 ghost use Rattle.command_line.specs.declared.words.UsageFault.TheVariants.{OutOfMemory, Predict, Emit as EmitFault};
@@ -166,11 +166,11 @@ fn replayed_paths(
     }
 }
 
-// Whether `--least` is given.
-fn has_least(values: &ArgMatches<'_>) -> bool
-    ensures { result ≡ is_least (values_in values.now) }
+// Whether an option without a value is given.
+fn is_given(values: &ArgMatches<'_>, id: &str) -> bool
+    ensures { result ≡ is_given id.now (values_in values.now) }
 {
-    match text(values, "least") {
+    match text(values, id) {
         Some(word) => word == "true",
         None => false,
     }
@@ -184,7 +184,7 @@ fn read_source(
 ) -> Result<CertificateSource, UsageFault>
     ensures { MatchResult result (IsSource last.now (values_in values.now)) (IsMisfit last.now (values_in values.now)) }
 {
-    let least = has_least(values);
+    let least = is_given(values, "least");
     match text(values, last) {
         Some(_) if least => Err(fault_of_kind(
             alloc,
@@ -289,7 +289,9 @@ fn read_explain(alloc: Global, values: &ArgMatches<'_>) -> Result<(Job, Paths), 
     ensures { Reads (codes "explain") (values_in values.now) result }
 {
     let name = path(alloc, values, "program")?;
-    Ok((Job::Explain { name }, program_path(alloc, values)?))
+    let warnings = !is_given(values, "no-warnings");
+    let job = Job::Explain { name, warnings };
+    Ok((job, program_path(alloc, values)?))
 }
 
 fn read_check(alloc: Global, values: &ArgMatches<'_>) -> Result<(Job, Paths), UsageFault>

@@ -71,6 +71,8 @@ pub enum Job {
     Explain {
         /// The program's file as the words have it, for the diagnostics.
         name: String,
+        /// Whether marks that are right but cost time are told, too.
+        warnings: bool,
     },
     /// Checks the program against its certificate.
     Check {
