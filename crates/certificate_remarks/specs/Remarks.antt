@@ -60,8 +60,8 @@ finds_more found least = list_any is_of_certificate found || nat_lt (length leas
 
 abbrev pub unfit_text : (program file : List ℕ) → (found least : ℕ) → List ℕ
 unfit_text program file found least =
-    file ++ (codes ": error: this is not a certificate of " ++ (program ++ (codes " as it stands: check has " ++ (decimal found
-    ++ (codes " findings with it, and " ++ (decimal least ++ (codes " with the least certificate" ++ 10 ∷ [])))))))
+    file ++ (codes ": error: this is not a certificate of " ++ (program ++ (codes " as it stands; findings with it: " ++ (decimal found
+    ++ (codes ", with the least certificate: " ++ (decimal least ++ 10 ∷ []))))))
     ++ anew_text program file
 
 -- What is said of a certificate that could be read: nothing, or that it does not fit, by what the checker finds

@@ -67,7 +67,7 @@ fn unfit(
     let mut said = String::new(alloc);
     writeln!(
         said,
-        "{file}: error: this is not a certificate of {program} as it stands: check has {found} findings with it, and {least} with the least certificate"
+        "{file}: error: this is not a certificate of {program} as it stands; findings with it: {found}, with the least certificate: {least}"
     )?;
     write_anew(&mut said, program, file)?;
     Ok(said)

@@ -70,8 +70,12 @@ use; a finding that no path shows has no note:
 Of a text that is no program it writes the first fault, and what would be right:
   FILE:LINE: error: .. [K Name line N]
   FILE:LINE: help: ..
-The exit status is 0 where nothing is wrong, and 1 where something is or the text is refused:
-  multiscalar explain a.s";
+With CERT it says, too, why that text is no certificate, or that it is none of the program as it stands,
+and how to make it anew.
+
+The exit status is 0 where nothing is wrong, and 1 where something is or a text is refused:
+  multiscalar explain a.s
+  multiscalar explain a.s a.cert";
 
 /// `check`, in one line.
 pub const CHECK: &str = "Checks a program with its certificate";
@@ -184,6 +188,12 @@ of the run) or summary (how often each task was assigned, and how that ended)";
 
 /// `--least`.
 pub const LEAST: &str = "Makes the least certificate of the program as it stands, in place of CERT";
+
+/// CERT, where `--least` may stand in its place.
+pub const CERTIFICATE: &str = "The certificate of the program; none with --least";
+
+/// CERT of `explain`.
+pub const EXPLAIN_CERTIFICATE: &str = "A certificate of the program, which is explained, too";
 
 /// `--no-warnings`.
 pub const NO_WARNINGS: &str = "Says nothing of annotations that are right but cost time";
