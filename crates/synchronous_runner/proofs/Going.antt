@@ -1,13 +1,13 @@
 -- A run on its way: an event is one more in its list, and a turn that ends the run has one.
 use Rattle.std.proofs.Common.{◌≡◌, ℕ, zero, suc, ◌+◌, ◌-◌, ◌<◌, ◌≤◌, inl, inr, Bool, true, false, cond, List, [], ◌∷◌, ◌++◌, length, Option, Some, None, Ok, Err, refl, sym, ap, ◌∙◌, subst, arith, true≢false, length-append}
-use Rattle.std.specs.Prelude.{map, nat_lt, not, is_none, is_some, IsSome, IfSome, slice_get, Result, OnOk}
+use Rattle.std.specs.Prelude.{map, nat_lt, not, is_none, IsSome, IfSome, Result, OnOk}
 use Rattle.std.specs.List.{All, find, last_or}
 use Rattle.std.specs.Option.{option_map}
 use Rattle.std.proofs.lemmas.List.Elements.{All-cons, All-append, All-map, All-head, All-tail}
-use Rattle.std.proofs.lemmas.Bool.{cases_Bool, and_parts, lt-ltb, le-ltb, ltb-true, ltb-false}
-use Rattle.std.proofs.lemmas.Option.{slice_get_cases}
+use Rattle.std.proofs.lemmas.Bool.{cases_Bool, and_parts, ltb-true, ltb-false}
 use Rattle.task_descriptor.specs.Listing.{Listing}
-use Rattle.machine_model.specs.Machine.{Active, State, creates}
+use Rattle.mark_checker.specs.Places.{Checked}
+use Rattle.machine_model.specs.Machine.{Active, State, opening, creates}
 use Rattle.machine_model.specs.Step.{is_listed, next_begins}
 use Rattle.machine_model.specs.Answer.{after, is_running, least, refusal}
 use Rattle.machine_model.specs.HeadEvent.{head_event, event_of_head, event_of_queue, task_beginning, drain_or_retire}
@@ -22,10 +22,10 @@ use Rattle.processor_steps.specs.Choices.{task_behind}
 use Rattle.machine_events.specs.declared.event.Standing.{Standing}
 use Rattle.machine_events.specs.declared.event.Standing.TheVariants.{Running, Halted, Trapped, Unlisted}
 use Rattle.sequencer.specs.Choices.{choices_of, choice_of}
-use Rattle.sequencer.specs.Seen.{MachineView, Applies, IsAnswered, answer_to, SameRing, state, units_of}
+use Rattle.sequencer.specs.Seen.{MachineView, Applies, IsAnswered, answer_to, state, units_of}
 use Rattle.synchronous_runner.specs.declared.predictor.Predictor.{Predictor}
 use Rattle.synchronous_runner.specs.Predictions.{answer_for, asked}
-use Rattle.synchronous_runner.specs.Steps.{Course, beginning, goes_on, with_event, with_targets, with_task, turn_of, turn, turns, step, after_steps, registers, tries, first_allowed}
+use Rattle.synchronous_runner.specs.Steps.{Course, beginning, goes_on, with_event, with_targets, with_task, turn_of, turn, turns, step, after_steps, registers, tries, first_allowed, Takes}
 use Rattle.synchronous_runner.specs.Courses.{course}
 
 -- an event that is applied
@@ -34,6 +34,25 @@ pub applied : NextIsAfter → (old new : MachineView) (predictor : Predictor) (e
 applied law old new predictor e h =
     ap (λ (s : State). record { state = s; events = new.history; predictor = predictor }) (law old.accepted.program (units_of old) (state old) (state new) e h.next)
     ∙ ap (λ (es : List Event). record { state = after old.accepted.program (state old) e; events = es; predictor = predictor }) h.history
+
+-- a machine at its start, and one that has made some steps from it
+
+opened : (m : MachineView) (p : Listing) (predictor : Predictor) → state m ≡ opening p → m.history ≡ [] → course m predictor ≡ beginning p predictor
+opened m p predictor at_start none =
+    ap (λ (s : State). record { state = s; events = m.history; predictor = predictor }) at_start
+    ∙ ap (λ (es : List Event). record { state = opening p; events = es; predictor = predictor }) none
+
+pub ran : (m now : MachineView) (accepted : Checked) (units budget steps : ℕ) (from to : Predictor) → m.accepted ≡ accepted → state m ≡ opening accepted.program → m.history ≡ [] → course now to ≡ after_steps m.accepted.program units budget steps (course m from) → course now to ≡ after_steps accepted.program units budget steps (beginning accepted.program from)
+ran m now accepted units budget steps from to over at_start none is =
+    is
+    ∙ ap (λ (a : Checked). after_steps a.program units budget steps (course m from)) over
+    ∙ ap (after_steps accepted.program units budget steps) (opened m accepted.program from at_start none)
+
+pub takes_from_start : (m : MachineView) (accepted : Checked) (units budget steps : ℕ) (from : Predictor) → m.accepted ≡ accepted → state m ≡ opening accepted.program → m.history ≡ [] → Takes m.accepted.program units budget (course m from) steps → Takes accepted.program units budget (beginning accepted.program from) steps
+takes_from_start m accepted units budget steps from over at_start none takes =
+    let P : Checked → Type 0 = λ a. Takes a.program units budget (course m from) steps in
+    let Q : Course → Type 0 = λ c. Takes accepted.program units budget c steps in
+    subst Q (opened m accepted.program from at_start none) (subst P over takes)
 
 pub refused_by : (m : MachineView) (e : Event) (result : Result (Unit {0}) Refused) (why : Refused) → IsAnswered m e result → answer_to m e ≡ Ok tt → result ≡ Err why → why ≡ OutOfMemory
 refused_by m e result why (inl same) ok is = absurd (cc)
@@ -59,15 +78,6 @@ is_running_is (Unlisted at) e = absurd (true≢false (sym e))
 
 pub runs_on : (budget : ℕ) (s : State) (n : ℕ) → goes_on budget s n ≡ true → s.outcome ≡ Running
 runs_on budget s n e = is_running_is s.outcome (and_parts (is_running s.outcome) (nat_lt n budget) e).0
-
--- whether a unit is at a position, by its spot
-
-pub spot_there : (us : List Active) (k : ℕ) (o : Option Spot) → o ≡ option_map (λ (u : Active). u.place) (slice_get us k) → nat_lt k (length us) ≡ is_some o
-spot_there us k o e =
-    elim (slice_get_cases us k).1 [
-      | inl there ↦ lt-ltb k (length us) there.2.0 ∙ sym (ap is_some (e ∙ ap (option_map (λ (u : Active). u.place)) there.2.1))
-      | inr none ↦ le-ltb k (length us) none.0 ∙ sym (ap is_some (e ∙ ap (option_map (λ (u : Active). u.place)) none.1))
-    ]
 
 -- the turn of a position behind the head
 
@@ -143,7 +153,8 @@ at_assign active k (Some t) e = e
 
 at_tries : (active k : ℕ) → All (IsAt active k) (tries k)
 at_tries active k =
-    All-cons (IsAt active k) (Squash k) _ refl (All-cons (IsAt active k) (Exec k) _ refl
+    All-cons (IsAt active k) (Squash k) (Exec k ∷ (map (Transfer k) registers ++ map (Drain k) registers)) refl
+    (All-cons (IsAt active k) (Exec k) (map (Transfer k) registers ++ map (Drain k) registers) refl
     (All-append (IsAt active k) (map (Transfer k) registers) (map (Drain k) registers)
     (All-map (IsAt active k) (Transfer k) registers (λ i d l. refl))
     (All-map (IsAt active k) (Drain k) registers (λ i d l. refl))))

@@ -1,9 +1,9 @@
 -- The loops: the turns that are left lead to the step's end, and the steps so far to the run's.
-use Rattle.std.proofs.Common.{◌≡◌, ℕ, zero, suc, ◌+◌, ◌-◌, ◌<◌, ◌≤◌, inl, inr, true, false, List, length, refl, sym, ap, ◌∙◌, subst, arith, add-one}
+use Rattle.std.proofs.Common.{◌≡◌, ℕ, suc, ◌+◌, ◌<◌, ◌≤◌, inl, inr, true, false, length, refl, sym, ap, ◌∙◌, subst, arith}
 use Rattle.std.proofs.lemmas.Bool.{cases_Bool, cases_lt}
 use Rattle.mark_checker.specs.Places.{Checked}
 use Rattle.task_descriptor.specs.Listing.{Listing}
-use Rattle.sequencer.specs.Seen.{MachineView, SameRing, state, units_of}
+use Rattle.sequencer.specs.Seen.{MachineView, SameRing, units_of}
 use Rattle.synchronous_runner.specs.declared.predictor.Predictor.{Predictor}
 use Rattle.synchronous_runner.specs.Steps.{Course, turn, turns, step, after_steps, Takes}
 use Rattle.synchronous_runner.specs.Courses.{course}

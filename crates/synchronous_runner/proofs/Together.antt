@@ -1,7 +1,7 @@
 -- The events of a step are allowed where it begins: a turn changes the queue only at its own position and
 -- behind it, and the turns that are left look only at their own positions, at those before them, and at which
 -- task is next behind.
-use Rattle.std.proofs.Common.{◌≡◌, ℕ, zero, suc, ◌+◌, ◌-◌, ◌<◌, ◌≤◌, ◌⊎◌, inl, inr, Bool, true, false, cond, List, [], ◌∷◌, ◌++◌, length, take, drop, Option, Some, None, refl, sym, ap, ◌∙◌, subst, arith, true≢false, length-append, append_assoc}
+use Rattle.std.proofs.Common.{◌≡◌, ℕ, zero, suc, ◌-◌, ◌<◌, ◌≤◌, ◌⊎◌, inl, inr, true, List, [], ◌∷◌, ◌++◌, length, take, Option, Some, None, refl, sym, ap, ◌∙◌, subst, arith, true≢false, append_assoc}
 use Rattle.std.specs.Prelude.{slice_get, slice_set, nat_eq, IfSome}
 use Rattle.std.specs.List.{All, last_or}
 use Rattle.std.proofs.lemmas.Bool.{cases_Bool, cases_lt, and_parts}
@@ -14,8 +14,8 @@ use Rattle.mips_plain.specs.declared.outcome.Outcome.{Outcome}
 use Rattle.mips_plain.specs.declared.outcome.Outcome.TheVariants as plain
 use Rattle.mips_plain.specs.Effect.{outcome_after}
 use Rattle.machine_model.specs.Machine.{Active, State, opening, begins}
-use Rattle.machine_model.specs.Step.{Next, Assigns, Execs, Transfers, Drains, Squashes, Retires, Faults, Drops, executed, after_exec, exec_leaves, put, follows, follows_at, started, is_listed, next_begins, retire_leaves}
-use Rattle.machine_model.specs.Answer.{after, with_queue, is_running}
+use Rattle.machine_model.specs.Step.{Next, Assigns, Execs, Transfers, Drains, Squashes, Retires, Faults, executed, after_exec, exec_leaves, put, follows, follows_at, started, is_listed, next_begins, retire_leaves}
+use Rattle.machine_model.specs.Answer.{after, with_queue}
 use Rattle.machine_model.specs.Replay.{ReplaysFrom, Replays}
 use Rattle.machine_model.specs.Laws.{NextIsAfter, ReplayCut}
 use Rattle.machine_model.specs.HeadEvent.{position_of}
@@ -24,11 +24,14 @@ use Rattle.machine_events.specs.declared.event.Event.TheVariants.{Assign, Exec, 
 use Rattle.machine_events.specs.declared.event.Spot.{Spot}
 use Rattle.machine_events.specs.declared.event.Spot.TheVariants.{Stopped}
 use Rattle.machine_events.specs.declared.event.Standing.TheVariants as standing
+use Rattle.mark_checker.specs.Places.{Checked}
+use Rattle.sequencer.specs.Seen.{MachineView, SameRing, state, units_of}
 use Rattle.processor_steps.proofs.Queues.{last_is}
 use Rattle.synchronous_runner.specs.declared.predictor.Predictor.{Predictor}
-use Rattle.synchronous_runner.specs.Steps.{Course, beginning, with_event, turn_of, turn, turns, after_steps}
-use Rattle.synchronous_runner.specs.Lockstep.{IsAllowed, FromLast, IsStep}
-use Rattle.synchronous_runner.proofs.Going.{goes, runs_on, on_turn, off_turn, IsAt, HasOne, has_none, of_turn}
+use Rattle.synchronous_runner.specs.Steps.{Course, beginning, with_event, turn_of, turn, turns, after_steps, Takes}
+use Rattle.synchronous_runner.specs.Courses.{course}
+use Rattle.synchronous_runner.specs.Lockstep.{IsAllowed, FromLast, IsStep, AreSteps}
+use Rattle.synchronous_runner.proofs.Going.{goes, ran, takes_from_start, runs_on, on_turn, off_turn, IsAt, HasOne, of_turn}
 
 -- lists that are changed at one place
 
@@ -135,64 +138,70 @@ module _ (p : Listing) (units k : ℕ) (s0 s : State) (h : Untouched p (suc k) s
     allowed (Assign t) d long place next = absurd (omega arith)
     allowed (Exec j) d long place next =
         let x : Execs p s j d = next.does in
-        let less : j < suc k = omega arith in
-        (exec_leaves p s0 j x.unit x.at x.index x.a x.b, record {
-          runs = running;
-          does = record {
-            unit = x.unit;
-            is_unit = there j x.unit less x.is_unit;
-            index = x.index;
-            is_inside = x.is_inside;
-            at = x.at;
-            is_there = x.is_there;
-            a = x.a;
-            has_a = x.has_a;
-            b = x.b;
-            has_b = x.has_b;
-            has_released = x.has_released;
-            may = x.may;
-            is = refl;
-          };
-        })
+        let less : j < suc k = omega arith in (
+          exec_leaves p s0 j x.unit x.at x.index x.a x.b,
+          record {
+            runs = running;
+            does = record {
+              unit = x.unit;
+              is_unit = there j x.unit less x.is_unit;
+              index = x.index;
+              is_inside = x.is_inside;
+              at = x.at;
+              is_there = x.is_there;
+              a = x.a;
+              has_a = x.has_a;
+              b = x.b;
+              has_b = x.has_b;
+              has_released = x.has_released;
+              may = x.may;
+              is = refl;
+            };
+          },
+        )
     allowed (Transfer j r) d long place next =
         let x : Transfers p s j r d = next.does in
         let unit : Active = x.unit in
         let less : j < suc k = omega arith in
         let ahead : j ≡ suc x.ahead = x.is_ahead in
-        let less_ahead : x.ahead < suc k = omega arith in
-        (with_queue s0 (slice_set s0.queue j (record unit { arrived = put r x.word unit.arrived })), record {
-          runs = running;
-          does = record {
-            ahead = x.ahead;
-            is_ahead = x.is_ahead;
-            giver = x.giver;
-            is_giver = there x.ahead x.giver less_ahead x.is_giver;
-            unit = x.unit;
-            is_unit = there j x.unit less x.is_unit;
-            is_missing = x.is_missing;
-            word = x.word;
-            has_word = x.has_word;
-            is = refl;
-          };
-        })
+        let less_ahead : x.ahead < suc k = omega arith in (
+          with_queue s0 (slice_set s0.queue j (record unit { arrived = put r x.word unit.arrived })),
+          record {
+            runs = running;
+            does = record {
+              ahead = x.ahead;
+              is_ahead = x.is_ahead;
+              giver = x.giver;
+              is_giver = there x.ahead x.giver less_ahead x.is_giver;
+              unit = x.unit;
+              is_unit = there j x.unit less x.is_unit;
+              is_missing = x.is_missing;
+              word = x.word;
+              has_word = x.has_word;
+              is = refl;
+            };
+          },
+        )
     allowed (Drain j r) d long place next =
         let x : Drains p s j r d = next.does in
         let unit : Active = x.unit in
-        let less : j < suc k = omega arith in
-        (with_queue s0 (slice_set s0.queue j (record unit { sent = put r x.word unit.sent })), record {
-          runs = running;
-          does = record {
-            unit = x.unit;
-            is_unit = there j x.unit less x.is_unit;
-            is_created = x.is_created;
-            exit = x.exit;
-            has_stopped = x.has_stopped;
-            is_unsent = x.is_unsent;
-            word = x.word;
-            has_word = x.has_word;
-            is = refl;
-          };
-        })
+        let less : j < suc k = omega arith in (
+          with_queue s0 (slice_set s0.queue j (record unit { sent = put r x.word unit.sent })),
+          record {
+            runs = running;
+            does = record {
+              unit = x.unit;
+              is_unit = there j x.unit less x.is_unit;
+              is_created = x.is_created;
+              exit = x.exit;
+              has_stopped = x.has_stopped;
+              is_unsent = x.is_unsent;
+              word = x.word;
+              has_word = x.has_word;
+              is = refl;
+            };
+          },
+        )
     allowed (Squash j) d long place next =
         let x : Squashes p s j d = next.does in
         let less : j < suc k = omega arith in
@@ -200,19 +209,22 @@ module _ (p : Listing) (units k : ℕ) (s0 s : State) (h : Untouched p (suc k) s
         let unit_there : slice_get s0.queue j ≡ Some x.unit = there j x.unit less x.is_unit in
         let after_there : slice_get s.queue (suc k) ≡ Some x.after = ap (λ (n : ℕ). slice_get s.queue (suc n)) (sym same) ∙ x.is_after in
         elim (h.behind x.after after_there) [
-          | inl old ↦ (with_queue s0 (take (suc j) s0.queue), record {
-            runs = running;
-            does = record {
-              unit = x.unit;
-              is_unit = unit_there;
-              exit = x.exit;
-              is_stopped = x.is_stopped;
-              after = old.0;
-              is_after = ap (λ (n : ℕ). slice_get s0.queue (suc n)) same ∙ old.1;
-              is_elsewhere = ap (λ (t : ℕ). nat_eq (begins p t) x.exit) (sym old.2) ∙ x.is_elsewhere;
-              is = refl;
-            };
-          })
+          | inl old ↦ (
+            with_queue s0 (take (suc j) s0.queue),
+            record {
+              runs = running;
+              does = record {
+                unit = x.unit;
+                is_unit = unit_there;
+                exit = x.exit;
+                is_stopped = x.is_stopped;
+                after = old.0;
+                is_after = ap (λ (n : ℕ). slice_get s0.queue (suc n)) same ∙ old.1;
+                is_elsewhere = ap (λ (t : ℕ). nat_eq (begins p t) x.exit) (sym old.2) ∙ x.is_elsewhere;
+                is = refl;
+              };
+            },
+          )
           | inr fresh ↦ absurd (true≢false (sym (elsewhere p x.unit.task x.after.task x.exit x.unit.place x.is_stopped (fresh.1 j x.unit (ap suc (sym same)) unit_there)) ∙ x.is_elsewhere))
         ]
     allowed Retire d long place next =
@@ -220,35 +232,39 @@ module _ (p : Listing) (units k : ℕ) (s0 s : State) (h : Untouched p (suc k) s
         let first : 0 ≡ k = place in
         let head_there : slice_get s0.queue 0 ≡ Some x.head = there 0 x.head (omega arith) (ap (λ (us : List Active). slice_get us 0) x.is_queue) in
         let queue0 = begins_with s0.queue x.head head_there in
-        let rest_some : 0 < length x.rest = (let n : length s.queue ≡ length (x.head ∷ x.rest) = ap length x.is_queue in omega arith) in
-        (retire_leaves p s0 x.head queue0.0 x.exit, record {
-          runs = running;
-          does = record {
-            head = x.head;
-            rest = queue0.0;
-            is_queue = queue0.1;
-            exit = x.exit;
-            is_stopped = x.is_stopped;
-            is_listed = x.is_listed;
-            all_sent = x.all_sent;
-            next_begins = rest_begins p x.exit x.rest queue0.0 rest_some x.next_begins (λ u v at at0. same_rest x.rest queue0.0 x.head u v first x.is_queue queue0.1 at at0);
-            is = refl;
-          };
-        })
+        let rest_some : 0 < length x.rest = (let n : length s.queue ≡ length (x.head ∷ x.rest) = ap length x.is_queue in omega arith) in (
+          retire_leaves p s0 x.head queue0.0 x.exit,
+          record {
+            runs = running;
+            does = record {
+              head = x.head;
+              rest = queue0.0;
+              is_queue = queue0.1;
+              exit = x.exit;
+              is_stopped = x.is_stopped;
+              is_listed = x.is_listed;
+              all_sent = x.all_sent;
+              next_begins = rest_begins p x.exit x.rest queue0.0 rest_some x.next_begins (λ u v at at0. same_rest x.rest queue0.0 x.head u v first x.is_queue queue0.1 at at0);
+              is = refl;
+            };
+          },
+        )
     allowed Fault d long place next =
         let x : Faults p s d = next.does in
-        let less : 0 < suc k = omega arith in
-        (record s0 { outcome = standing.Unlisted x.exit }, record {
-          runs = running;
-          does = record {
-            head = x.head;
-            is_head = there 0 x.head less x.is_head;
-            exit = x.exit;
-            is_stopped = x.is_stopped;
-            is_unlisted = x.is_unlisted;
-            is = refl;
-          };
-        })
+        let less : 0 < suc k = omega arith in (
+          record s0 { outcome = standing.Unlisted x.exit },
+          record {
+            runs = running;
+            does = record {
+              head = x.head;
+              is_head = there 0 x.head less x.is_head;
+              exit = x.exit;
+              is_stopped = x.is_stopped;
+              is_unlisted = x.is_unlisted;
+              is = refl;
+            };
+          },
+        )
     allowed (Drop j) d long place next = absurd place
 
     pub allowed_before : (e : Event) (d : State) → IsAt (length s.queue) k e → Next p units s e d → IsAllowed p units s0 e
@@ -342,10 +358,10 @@ module _ (law : NextIsAfter) (p : Listing) (units budget : ℕ) (s0 : State) (ru
     events = r.events;
     added = ap (λ (x : Course). (turns p units budget k x).events) is ∙ r.added ∙ ap (λ (es : List Event). es ++ r.events) same_events;
     together = λ h s' replay.
-      (let from : Untouched p k s0 d.state = subst (Untouched p k s0) (sym same_state) (no_event p k s0 c.state (h (omega arith))) in
-      let P : State → Type 0 = λ x. ReplaysFrom p units x r.events s' in
-      let t : All (IsAllowed p units s0) r.events × FromLast (length s0.queue) k r.events = r.together (λ some. from) s' (subst P (sym same_state) replay) in
-      (t.0, wider (length s0.queue) k (suc k) r.events (omega arith) t.1));
+        (let from : Untouched p k s0 d.state = subst (Untouched p k s0) (sym same_state) (no_event p k s0 c.state (h (omega arith))) in
+        let P : State → Type 0 = λ x. ReplaysFrom p units x r.events s' in
+        let t : All (IsAllowed p units s0) r.events × FromLast (length s0.queue) k r.events = r.together (λ some. from) s' (subst P (sym same_state) replay) in
+        (t.0, wider (length s0.queue) k (suc k) r.events (omega arith) t.1));
   }
 
   with_one : (k : ℕ) (c d : Course) (e : Event) → turn p units budget k c ≡ d → d.events ≡ c.events ++ e ∷ [] → d.state ≡ after p c.state e → IsAt (length c.state.queue) k e → Rest p units budget k s0 d → Rest p units budget (suc k) s0 c
@@ -353,14 +369,14 @@ module _ (law : NextIsAfter) (p : Listing) (units budget : ℕ) (s0 : State) (ru
     events = e ∷ r.events;
     added = ap (λ (x : Course). (turns p units budget k x).events) is ∙ r.added ∙ ap (λ (es : List Event). es ++ r.events) more ∙ append_assoc c.events (e ∷ []) r.events;
     together = λ h s' replay.
-      (let from : Untouched p (suc k) s0 c.state = h (omega arith) in
-      let is_mid : d.state ≡ replay.0 = state_is ∙ sym (law p units c.state replay.0 e replay.1) in
-      let P : State → Type 0 = λ x. ReplaysFrom p units x r.events s' in
-      let at_k : position_of (length s0.queue) e ≡ k = at_start p units k s0 c.state from e place in
-      let t : All (IsAllowed p units s0) r.events × FromLast (length s0.queue) k r.events =
-      r.together (λ some. subst (Untouched p k s0) (sym is_mid) (touched p units k s0 c.state from e replay.0 some place replay.1)) s' (subst P (sym is_mid) replay.2) in
-      let Q : ℕ → Type 0 = λ n. FromLast (length s0.queue) n r.events in
-      (All-cons (IsAllowed p units s0) e r.events (allowed_before p units k s0 c.state from running e replay.0 place replay.1) t.0, (omega arith, subst Q (sym at_k) t.1)));
+        (let from : Untouched p (suc k) s0 c.state = h (omega arith) in
+        let is_mid : d.state ≡ replay.0 = state_is ∙ sym (law p units c.state replay.0 e replay.1) in
+        let P : State → Type 0 = λ x. ReplaysFrom p units x r.events s' in
+        let at_k : position_of (length s0.queue) e ≡ k = at_start p units k s0 c.state from e place in
+        let t : All (IsAllowed p units s0) r.events × FromLast (length s0.queue) k r.events =
+        r.together (λ some. subst (Untouched p k s0) (sym is_mid) (touched p units k s0 c.state from e replay.0 some place replay.1)) s' (subst P (sym is_mid) replay.2) in
+        let Q : ℕ → Type 0 = λ n. FromLast (length s0.queue) n r.events in
+        (All-cons (IsAllowed p units s0) e r.events (allowed_before p units k s0 c.state from running e replay.0 place replay.1) t.0, (omega arith, subst Q (sym at_k) t.1)));
   }
 
   by_option : (k : ℕ) (c d : Course) (o : Option Event) (other : Predictor) → turn p units budget k c ≡ d → d ≡ with_event p (record c { predictor = other }) o → IfSome o (IsAt (length c.state.queue) k) → Rest p units budget k s0 d → Rest p units budget (suc k) s0 c
@@ -375,7 +391,7 @@ module _ (law : NextIsAfter) (p : Listing) (units budget : ℕ) (s0 : State) (ru
   }
   rest (suc k) c = elim (cases_Bool (goes budget c)) [
     | inl on ↦ (let one : HasOne p k c (turn_of p units k c) = of_turn p units k c in
-    by_option k c (turn_of p units k c) one.event one.predictor (on_turn p units budget k c on) one.is one.is_at (rest k (turn_of p units k c)))
+        by_option k c (turn_of p units k c) one.event one.predictor (on_turn p units budget k c on) one.is one.is_at (rest k (turn_of p units k c)))
     | inr off ↦ skip k c c (off_turn p units budget k c off) refl refl (rest k c)
   ]
 
@@ -396,7 +412,7 @@ module _ (cut : ReplayCut) (law : NextIsAfter) (p : Listing) (units budget : ℕ
   traced_turn : (k : ℕ) (c : Course) → Traced p units c → Traced p units (turn p units budget k c)
   traced_turn k c h = elim (cases_Bool (goes budget c)) [
     | inl on ↦ (let one : HasOne p k c (turn_of p units k c) = of_turn p units k c in
-    subst (Traced p units) (sym (on_turn p units budget k c on ∙ one.is)) (traced_event c one.predictor one.event h))
+        subst (Traced p units) (sym (on_turn p units budget k c on ∙ one.is)) (traced_event c one.predictor one.event h))
     | inr off ↦ subst (Traced p units) (sym (off_turn p units budget k c off)) h
   ]
 
@@ -423,6 +439,18 @@ module _ (cut : ReplayCut) (law : NextIsAfter) (p : Listing) (units budget : ℕ
       elim (cases_lt n m) [
         | inl less ↦ all_steps predictor m parts.0 (λ j l. on j (omega arith)) parts.1 n less
         | inr there_now ↦ (let same : m ≡ n = omega arith in
-        let S : ℕ → Type 0 = λ k. IsStep p units (after_steps p units budget k (beginning p predictor)) (after_steps p units budget (suc k) (beginning p predictor)) in
-        subst S same (record { events = r.events; added = r.added; at_once = t.0; one_each = t.1 }))
+            let S : ℕ → Type 0 = λ k. IsStep p units (after_steps p units budget k (beginning p predictor)) (after_steps p units budget (suc k) (beginning p predictor)) in
+            subst S same (record { events = r.events; added = r.added; at_once = t.0; one_each = t.1 }))
       ]
+
+-- the same of the machine that a run leaves
+pub machine_in_steps : ReplayCut → NextIsAfter → (m now : MachineView) (accepted : Checked) (units budget steps : ℕ) (from to : Predictor) → m.accepted ≡ accepted → units_of m ≡ units → state m ≡ opening accepted.program → m.history ≡ [] → SameRing m now → course now to ≡ after_steps m.accepted.program units budget steps (course m from) → Takes m.accepted.program units budget (course m from) steps → Replays now.accepted.program (units_of now) now.history (state now) → AreSteps accepted.program units budget from steps
+machine_in_steps cut law m now accepted units budget steps from to over places at_start none kept is takes replay =
+    let events : now.history ≡ (after_steps accepted.program units budget steps (beginning accepted.program from)).events =
+    ap (λ (c : Course). c.events) (ran m now accepted units budget steps from to over at_start none is) in
+    let P : Checked → Type 0 = λ a. Replays a.program (units_of now) now.history (state now) in
+    let Q : ℕ → Type 0 = λ n. Replays accepted.program n now.history (state now) in
+    let R : List Event → Type 0 = λ es. Replays accepted.program units es (state now) in
+    all_steps cut law accepted.program units budget from steps (state now)
+    (takes_from_start m accepted units budget steps from over at_start none takes).went_on
+    (subst R events (subst Q (kept.units ∙ places) (subst P (kept.accepted ∙ over) replay)))

@@ -1,4 +1,4 @@
-use Rattle.std.proofs.Common.{◌≡◌, ℕ, ◌<◌, length, Some, None, true≢false, refl, sym, ◌∙◌, arith}
+use Rattle.std.proofs.Common.{length, Some, None, true≢false, refl, sym, ◌∙◌, arith}
 use Rattle.std.specs.Prelude.{is_none}
 use Rattle.std.specs.List.{find}
 use Rattle.machine_model.specs.Answer.{refusal}

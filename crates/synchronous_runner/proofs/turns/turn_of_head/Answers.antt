@@ -1,4 +1,4 @@
-use Rattle.std.proofs.Common.{◌≡◌, sym, ◌∙◌, length}
+use Rattle.std.proofs.Common.{length}
 use Rattle.sequencer.specs.Seen.{state}
 use Rattle.synchronous_runner.specs.declared.predictor.Predictor.TheVariants.{First}
 use Rattle.synchronous_runner.proofs.Going.{on_ok, one_more, runs_on}
