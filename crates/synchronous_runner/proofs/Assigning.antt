@@ -1,0 +1,20 @@
+-- What may follow the tail may be assigned to a free unit, test by test.
+use Rattle.std.proofs.Common.{◌≡◌, ℕ, ◌<◌, length, None, Bool, true, false, Option, refl, sym, ◌∙◌, true≢false}
+use Rattle.std.specs.Prelude.{nat_lt}
+use Rattle.std.proofs.lemmas.Bool.{lt-ltb}
+use Rattle.task_descriptor.specs.Listing.{Listing}
+use Rattle.machine_model.specs.Machine.{State}
+use Rattle.machine_model.specs.Answer.{unless, refusal}
+use Rattle.machine_events.specs.declared.event.Event.TheVariants.{Assign}
+use Rattle.machine_events.specs.declared.event.Refused.{Refused}
+use Rattle.sequencer.specs.Choices.{MayFollow}
+
+passes : (b : Bool) (why : Refused) (behind : Option Refused) → b ≡ true → unless b why behind ≡ behind
+passes true why behind e = refl
+passes false why behind e = absurd (true≢false (sym e))
+
+pub assign_allowed : (p : Listing) (units : ℕ) (s : State) (t : ℕ) → length s.queue < units → MayFollow p s t → refusal p units s (Assign t) ≡ None
+assign_allowed p units s t free may =
+    passes (nat_lt (length s.queue) units) _ _ (lt-ltb (length s.queue) units free)
+    ∙ passes (nat_lt t (length p.tasks)) _ _ (lt-ltb t (length p.tasks) may.0)
+    ∙ passes _ _ _ may.1

@@ -1,0 +1,5 @@
+pub mod Tries
+pub mod Going
+pub mod Looping
+pub mod Assigning
+pub mod Together

@@ -1,0 +1,5 @@
+pub mod Predictions
+pub mod Steps
+pub mod Courses
+pub mod Lockstep
+pub mod Examples

@@ -1,0 +1,34 @@
+//! What a run in steps leaves.
+
+use sequencer::machine::Machine;
+
+/// Why there is no report of a run.
+#[derive(Clone, Copy, Debug, PartialEq, Eq)]
+pub enum StepsFault {
+    /// 1: not 1 to 16 units.
+    Units,
+    /// 2: not a budget of 1 to 1,000,000 events.
+    Budget,
+    /// 3: want of memory.
+    OutOfMemory,
+}
+
+/// How a run ended.
+#[derive(Clone, Copy, Debug, PartialEq, Eq)]
+pub enum How {
+    /// The machine ended: it halted, trapped or went on at an address that is not listed.
+    Ended,
+    /// The machine goes on, and its history has as many events as the budget.
+    OutOfBudget,
+}
+
+/// What a run in steps leaves.
+#[derive(Drop)]
+pub struct StepsReport<'a> {
+    /// The machine after the last step.
+    pub machine: Machine<'a>,
+    /// How the run ended.
+    pub how: How,
+    /// How many steps the run took. The budget may have cut the last one short.
+    pub steps: u32,
+}
