@@ -19,11 +19,12 @@ use Rattle.jobs.specs.declared.job.CertificateSource.TheVariants.{File, Least}
 use Rattle.jobs.specs.declared.job.Emit.{Emit}
 use Rattle.jobs.specs.declared.job.ReplayEmit.{ReplayEmit}
 use Rattle.jobs.specs.declared.job.RunEmit.{RunEmit}
+use Rattle.jobs.specs.declared.job.Schedule.{Schedule}
 use Rattle.jobs.specs.declared.job.Prediction.{Prediction}
 use Rattle.jobs.specs.declared.job.Job.{Job}
 use Rattle.jobs.specs.declared.job.Job.TheVariants.{Seq, Print, Annotate, Explain, Check, Replay, Run}
 use Rattle.jobs.specs.declared.job.Paths.{Paths}
-use Rattle.command_line.specs.Words.{emit_of, prediction_of, replay_emit_of, run_emit_of}
+use Rattle.command_line.specs.Words.{emit_of, prediction_of, replay_emit_of, run_emit_of, schedule_of}
 use Rattle.command_line.specs.CommandLine.{command_line}
 use Rattle.command_line.specs.declared.words.UsageFault.{UsageFault}
 use Rattle.command_line.specs.declared.words.UsageFault.TheVariants.{Words, Predict, Emit as EmitFault, OutOfMemory}
@@ -37,12 +38,15 @@ abbrev pub number_of : Text → Option ℕ
 number_of text =
     if is_unsigned_in 0 4294967295 text then Some (digits_value 10 (without_leading_plus text)) else None
 
--- the values of an option with a number, of `--predict` and of `--emit`
+-- the values of an option with a number, of `--predict`, of `--schedule` and of `--emit`
 abbrev pub number_at : Text → List Row → Option ℕ
 number_at id values = option_and_then number_of (one_of id values)
 
 abbrev pub predict_in : List Row → Option Prediction
 predict_in values = option_and_then prediction_of (first_of (codes "predict") values)
+
+abbrev pub schedule_in : List Row → Option Schedule
+schedule_in values = option_and_then schedule_of (first_of (codes "schedule") values)
 
 abbrev pub emit_in : List Row → Option Emit
 emit_in values = option_and_then emit_of (first_of (codes "emit") values)
@@ -78,6 +82,10 @@ IsMisfit last values fault =
     (IsOfKind kind.MissingRequiredArgument fault × (is_least values ≡ false) × (first_of last values ≡ None))
     ⊎ (IsOfKind kind.ArgumentConflict fault × (is_least values ≡ true) × IsSome (first_of last values))
 
+-- the value of `--schedule` stands for nothing
+abbrev pub IsNoSchedule : List Row → UsageFault → Type 0
+IsNoSchedule values fault = IsOfKind kind.InvalidValue fault × (schedule_in values ≡ None)
+
 -- a subcommand of this name with these values gives the job
 abbrev pub Gives : Text → List Row → Job → Type 0
 Gives name values (Seq budget) =
@@ -92,8 +100,9 @@ Gives name values (Check source workers) = (name ≡ codes "check")
     × IsSource (codes "certificate") values source × (number_at (codes "workers") values ≡ Some workers)
 Gives name values (Replay source units emit) = (name ≡ codes "replay") × IsSource (codes "script") values source
     × (number_at (codes "units") values ≡ Some units) × (replay_emit_in values ≡ Some emit)
-Gives name values (Run source units workers budget predict emit) = (name ≡ codes "run")
-    × IsSource (codes "certificate") values source × (number_at (codes "units") values ≡ Some units)
+Gives name values (Run source schedule units workers budget predict emit) = (name ≡ codes "run")
+    × IsSource (codes "certificate") values source × (schedule_in values ≡ Some schedule)
+    × (number_at (codes "units") values ≡ Some units)
     × (workers ≡ unwrap_or (number_at (codes "workers") values) units)
     × (number_at (codes "budget") values ≡ Some budget)
     × (predict_in values ≡ Some predict) × (run_emit_in values ≡ Some emit)
@@ -129,14 +138,15 @@ Fits last values = is_none (first_of last values) ≡ is_least values
 -- why a subcommand with these values gives no job
 abbrev pub Refuses : Text → List Row → UsageFault → Type 0
 Refuses name values Predict =
-    (name ≡ codes "run") × Fits (codes "certificate") values × (predict_in values ≡ None)
+    (name ≡ codes "run") × Fits (codes "certificate") values × IsSome (schedule_in values) × (predict_in values ≡ None)
 Refuses name values EmitFault = ((name ≡ codes "annotate") × (emit_in values ≡ None))
     ⊎ ((name ≡ codes "replay") × Fits (codes "script") values × (replay_emit_in values ≡ None))
-    ⊎ ((name ≡ codes "run") × Fits (codes "certificate") values × IsSome (predict_in values) × (run_emit_in values ≡ None))
+    ⊎ ((name ≡ codes "run") × Fits (codes "certificate") values × IsSome (schedule_in values) × IsSome (predict_in values) × (run_emit_in values ≡ None))
 Refuses name values fault = IsNoJob fault
     ⊎ ((name ≡ codes "check") × IsMisfit (codes "certificate") values fault)
     ⊎ ((name ≡ codes "replay") × IsMisfit (codes "script") values fault)
     ⊎ ((name ≡ codes "run") × IsMisfit (codes "certificate") values fault)
+    ⊎ ((name ≡ codes "run") × Fits (codes "certificate") values × IsNoSchedule values fault)
 
 -- what reading a subcommand with these values comes to
 abbrev pub Reads : Text → List Row → Result (Job × Paths) UsageFault → Type 0

@@ -71,6 +71,10 @@ checkers = number (codes "workers") 16 (codes "1")
 abbrev pub workers : Rule
 workers = free_number (codes "workers") 16
 
+-- how the units of a run take turns
+abbrev pub schedule : Rule
+schedule = word (codes "schedule") (codes "threads")
+
 abbrev pub subcommand : Text → List Rule → Shape
 subcommand name rules = record (new_shape name) { rules = rules }
 
@@ -94,7 +98,7 @@ replay = subcommand (codes "replay") (program ∷ certificate ∷ free_script �
     ∷ word (codes "emit") (codes "answers") ∷ [])
 
 abbrev pub run : Shape
-run = subcommand (codes "run") (program ∷ free_certificate ∷ least ∷ units ∷ workers ∷ budget
+run = subcommand (codes "run") (program ∷ free_certificate ∷ least ∷ schedule ∷ units ∷ workers ∷ budget
     ∷ word (codes "predict") (codes "first") ∷ word (codes "emit") (codes "report") ∷ [])
 
 -- the program, which has a version, and of which a subcommand is wanted

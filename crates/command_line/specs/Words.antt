@@ -1,4 +1,4 @@
--- What the values of `--predict` and `--emit` stand for (own choice).
+-- What the values of `--predict`, `--schedule` and `--emit` stand for (own choice).
 use Rattle.std.specs.Prelude.{ℕ, ◌+◌, ◌-◌, ◌*◌, ◌==◌, ◌&&◌, nat_le, if◌then◌else◌, List, [], ◌∷◌, length, map, Option, Some, None, codes}
 use Rattle.std.specs.Char.{is_ascii_digit}
 use Rattle.std.specs.Option.{option_map}
@@ -10,6 +10,8 @@ use Rattle.jobs.specs.declared.job.RunEmit.{RunEmit}
 use Rattle.jobs.specs.declared.job.RunEmit.TheVariants.{Report, Script, Summary}
 use Rattle.jobs.specs.declared.job.ReplayEmit.{ReplayEmit}
 use Rattle.jobs.specs.declared.job.ReplayEmit.TheVariants as replay
+use Rattle.jobs.specs.declared.job.Schedule.{Schedule}
+use Rattle.jobs.specs.declared.job.Schedule.TheVariants.{Threads, Steps}
 use Rattle.jobs.specs.declared.job.Prediction.{Prediction}
 use Rattle.jobs.specs.declared.job.Prediction.TheVariants.{First, Last, List as Answers}
 
@@ -39,6 +41,12 @@ prediction_of text =
     if bytes_eq text (codes "first") then Some First
     else (if bytes_eq text (codes "last") then Some Last
     else option_map (λ answers. Answers answers) (answers_of text))
+
+-- the value of `--schedule`
+abbrev pub schedule_of : List ℕ → Option Schedule
+schedule_of text =
+    if bytes_eq text (codes "threads") then Some Threads
+    else (if bytes_eq text (codes "steps") then Some Steps else None)
 
 -- the value of `--emit` of `annotate`
 abbrev pub emit_of : List ℕ → Option Emit

@@ -150,7 +150,7 @@ For example:
   ./multiscalar replay --least --units 2 examples/count/program.s examples/count/script.events";
 
 /// `run`, in one line.
-pub const RUN: &str = "Runs a program on a machine of some units, in threads";
+pub const RUN: &str = "Runs a program on a machine of some units, in threads or in steps";
 
 /// The usage of `run`.
 pub const RUN_USAGE: &str = "multiscalar run [OPTIONS] PROGRAM CERT
@@ -180,10 +180,16 @@ With `--emit summary` it writes a table instead, with a row for each task and on
 `assigned` counts how often the task was assigned, and the next four how that ended; `useful` counts the
 instructions of those that retired, `wasted` the instructions of those that were squashed or dropped.
 
+With `--schedule steps` it makes no threads: in each step every unit does at most one event, and only
+one that the machine allows before the step. So the same words give the same run. The summary then ends
+with how many steps the run took and how many instructions retired in them: how far the annotations let
+tasks overlap. It is no model of the time of a processor.
+
 With `--least` it makes the certificate itself, that of `annotate --emit keep`.
 
 For example:
   ./multiscalar run --least examples/count/program.s
+  ./multiscalar run --least --schedule steps --emit summary examples/count/program.s
   ./multiscalar run --least --units 8 --predict last --emit summary examples/diamond/program.s";
 
 /// `--emit` of `annotate`.
@@ -218,6 +224,14 @@ pub const FILE_MISSING: &str = "a file is missing: give CERT, or --least in its 
 
 /// Why words with both give none.
 pub const FILE_TOO_MANY: &str = "there is a file too many: with --least there is no CERT";
+
+/// `--schedule`.
+pub const SCHEDULE: &str =
+    "How the units take turns: threads (in any order) or steps (on one thread, in steps in which each unit
+does at most one event: the same run every time)";
+
+/// Why another value of `--schedule` gives no job.
+pub const NO_SCHEDULE: &str = "the value of --schedule is threads or steps";
 
 /// `--workers` of `run`.
 pub const RUN_WORKERS: &str = "How many threads serve the units, 1 to 16; never more than units

@@ -3,8 +3,8 @@ ghost use Rattle.std.specs.Prelude.{◌≡◌, ◌≤◌, ◌==◌, IfErr, IfOk,
 ghost use Rattle.std.specs.String.{string_bytes};
 ghost use Rattle.std.specs.List.{slice_split};
 ghost use Rattle.clap.specs.Words.{first_of};
-ghost use Rattle.command_line.specs.Asked.{AskFor, IsFaultOf, IsFrom, IsMisfit, IsNoJob, IsOfKind, IsSource, Reads, is_given, emit_in, number_at, predict_in, replay_emit_in, run_emit_in, values_in};
-ghost use Rattle.command_line.specs.Words.{answer_of, answers_of, all_there, emit_of, prediction_of, replay_emit_of, run_emit_of};
+ghost use Rattle.command_line.specs.Asked.{AskFor, IsFaultOf, IsFrom, IsMisfit, IsNoJob, IsNoSchedule, IsOfKind, IsSource, Reads, is_given, emit_in, number_at, predict_in, replay_emit_in, run_emit_in, schedule_in, values_in};
+ghost use Rattle.command_line.specs.Words.{answer_of, answers_of, all_there, emit_of, prediction_of, replay_emit_of, run_emit_of, schedule_of};
 ghost use Rattle.jobs.specs.Files.{HasFilesOf, is_in_file};
 ghost use Rattle.command_line.specs.declared.words.UsageFault.TheVariants.{OutOfMemory, Predict, Emit as EmitFault};
 
@@ -12,7 +12,7 @@ use crate::help;
 use crate::subcommands::command;
 use clap::ArgMatches;
 use clap::error::ErrorKind;
-use jobs::job::{CertificateSource, Emit, Job, Paths, Prediction, ReplayEmit, RunEmit};
+use jobs::job::{CertificateSource, Emit, Job, Paths, Prediction, ReplayEmit, RunEmit, Schedule};
 use jobs::ranges::{Answers, Budget, MOST_ANSWER, MOST_ANSWERS, Units, Workers};
 use std::alloc::{AllocError, Global};
 use thiserror::Error;
@@ -21,7 +21,8 @@ use thiserror::Error;
 #[derive(Debug, Drop, Error)]
 pub enum UsageFault {
     /// 1: the words are none of the program's, or ask for help or for the version; or there is neither a
-    /// certificate nor `--least`, or both. The fault is `clap`'s, with its text.
+    /// certificate nor `--least`, or both; or the value of `--schedule` is neither `threads` nor `steps`. The
+    /// fault is `clap`'s, with its text.
     #[error("1 Words")]
     Words(clap::Error),
     /// 2: the value of `--predict` is neither `first`, `last` nor 1 to 64 numbers 0..=15.
@@ -57,7 +58,7 @@ impl From<clap::Error> for UsageFault {
 
 /// The job that a command line asks for, and the names of its files. The first word is the program's
 /// own name. What `clap` decides comes first, then whether there are as many files as `--least` asks for,
-/// then the value of `--predict`, then that of `--emit`.
+/// then the value of `--schedule`, then that of `--predict`, then that of `--emit`.
 /// (own choice)
 pub fn job_of(alloc: Global, words: &[String]) -> Result<(Job, Paths), UsageFault>
     ensures files { IfOk result (λ r. HasFilesOf r.0 r.1) }
@@ -352,6 +353,7 @@ fn read_run(alloc: Global, values: &ArgMatches<'_>) -> Result<(Job, Paths), Usag
     ensures { Reads (codes "run") (values_in values.now) result }
 {
     let certificate = read_source(alloc, values, "certificate")?;
+    let schedule = read_schedule(alloc, values)?;
     let units = read_units(alloc, values)?;
     let workers = read_workers(alloc, values, units)?;
     let budget = read_budget(alloc, values)?;
@@ -361,6 +363,7 @@ fn read_run(alloc: Global, values: &ArgMatches<'_>) -> Result<(Job, Paths), Usag
         .ok_or(UsageFault::Emit)?;
     let job = Job::Run {
         certificate,
+        schedule,
         units,
         workers,
         budget,
@@ -368,6 +371,27 @@ fn read_run(alloc: Global, values: &ArgMatches<'_>) -> Result<(Job, Paths), Usag
         emit,
     };
     Ok((job, certified_paths(alloc, values, certificate)?))
+}
+
+// What the value of `--schedule` stands for.
+fn read_schedule(alloc: Global, values: &ArgMatches<'_>) -> Result<Schedule, UsageFault>
+    ensures { MatchResult result (λ s. schedule_in (values_in values.now) ≡ Some s) (IsNoSchedule (values_in values.now)) }
+{
+    match text(values, "schedule").and_then(schedule_named) {
+        Some(schedule) => Ok(schedule),
+        None => Err(fault_of_kind(alloc, ErrorKind::InvalidValue, help::NO_SCHEDULE)),
+    }
+}
+
+// The schedule of this name.
+fn schedule_named(text: &str) -> Option<Schedule>
+    ensures { result ≡ schedule_of text.now }
+{
+    match text {
+        "threads" => Some(Schedule::Threads),
+        "steps" => Some(Schedule::Steps),
+        _ => None,
+    }
 }
 
 // What the value of `--predict` stands for.

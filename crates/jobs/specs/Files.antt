@@ -17,7 +17,7 @@ abbrev pub has_certificate : Job → Bool
 has_certificate (Explain name certificate warnings) = is_some certificate
 has_certificate (Check source workers) = is_in_file source
 has_certificate (Replay source units emit) = is_in_file source
-has_certificate (Run source units workers budget predict emit) = is_in_file source
+has_certificate (Run source schedule units workers budget predict emit) = is_in_file source
 has_certificate _ = false
 
 -- the job has an event script

@@ -54,6 +54,15 @@ pub enum Prediction {
     List(Answers),
 }
 
+/// How the units of a run take turns.
+#[derive(Clone, Copy, Debug, PartialEq, Eq)]
+pub enum Schedule {
+    /// By threads, in any order.
+    Threads,
+    /// On one thread, in steps in which each unit does at most one event: the same run every time.
+    Steps,
+}
+
 /// One job of the program.
 #[derive(Debug, Drop)]
 pub enum Job {
@@ -88,9 +97,10 @@ pub enum Job {
         emit: ReplayEmit,
     },
     /// Runs the program on a machine of this many units, which this many threads serve, up to this many
-    /// events. More threads than units are as many as units.
+    /// events. More threads than units are as many as units; a run in steps has one thread.
     Run {
         certificate: CertificateSource,
+        schedule: Schedule,
         units: Units,
         workers: Workers,
         budget: Budget,
