@@ -39,8 +39,9 @@ IsReportOf (Check source workers) texts report =
     OfCertificate source texts.program.items texts.certificate (λ certificate. report ≡ check_text texts.program.items certificate)
 IsReportOf (Replay source units emit) texts report =
     OfCertificate source texts.program.items texts.certificate (λ certificate. report ≡ replay_text emit units texts.program.items certificate texts.script.items)
-IsReportOf (Run source units workers budget predict emit) texts report =
-    OfCertificate source texts.program.items texts.certificate (λ certificate. IsRunText units budget emit texts.program.items certificate report)
+IsReportOf (Run source schedule units workers budget predict emit) texts report =
+    OfCertificate source texts.program.items texts.certificate (λ certificate.
+    IsRunText schedule units budget predict emit texts.program.items certificate report)
 
 -- a job is done: a report of it was added to what the writer holds, and the status is its
 pub record IsDone (job : Job) (texts : Texts) (status : ℕ) (old new : Option (List ℕ)) : Type 0 where

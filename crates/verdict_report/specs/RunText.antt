@@ -1,9 +1,11 @@
--- The text of `run`: what a run by threads comes to (own choice). Which run it is depends on the threads;
--- each is a list of allowed events.
-use Rattle.std.specs.Prelude.{◌≡◌, ◌↔◌, ◌≤◌, ℕ, List, [], ◌∷◌, ◌++◌, Ok, length, codes}
+-- The text of `run`: what a run by threads or in steps comes to (own choice). Which run by threads it is
+-- depends on the threads; each is a list of allowed events. A run in steps is that of the schedule.
+use Rattle.std.specs.Prelude.{◌≡◌, ◌↔◌, ◌≤◌, ℕ, List, [], ◌∷◌, ◌++◌, Option, Some, None, Ok, length, codes}
+use Rattle.std.specs.Fmt.{decimal}
 use Rattle.task_descriptor.specs.Listing.{Listing}
 use Rattle.machine_model.specs.Machine.{State}
 use Rattle.machine_model.specs.Replay.{Replays}
+use Rattle.machine_model.specs.Claims.{count_c}
 use Rattle.machine_events.specs.declared.event.Event.{Event}
 use Rattle.machine_events.specs.declared.event.Standing.TheVariants.{Running}
 use Rattle.event_script.specs.EventScript.{script_of}
@@ -12,24 +14,51 @@ use Rattle.task_lives.specs.Lives.{lives_of}
 use Rattle.run_summary.specs.SummaryText.{summary_text}
 use Rattle.threaded_runner.specs.declared.report.How.{How}
 use Rattle.threaded_runner.specs.declared.report.How.TheVariants.{Ended, OutOfBudget}
+use Rattle.synchronous_runner.specs.Steps.{beginning, after_steps, Takes}
+use Rattle.synchronous_runner.specs.declared.predictor.Predictor.{Predictor}
+use Rattle.synchronous_runner.specs.declared.predictor.Predictor.TheVariants as predictor
+use Rattle.jobs.specs.declared.job.Schedule.{Schedule}
+use Rattle.jobs.specs.declared.job.Schedule.TheVariants.{Threads, Steps}
+use Rattle.jobs.specs.declared.job.Prediction.{Prediction}
+use Rattle.jobs.specs.declared.job.Prediction.TheVariants as prediction
 use Rattle.jobs.specs.declared.job.RunEmit.{RunEmit}
 use Rattle.jobs.specs.declared.job.RunEmit.TheVariants as emit
 use Rattle.verdict_report.specs.OutputTexts.{Report, words_text}
 use Rattle.verdict_report.specs.JudgedTexts.{Judgement, refused, accepted, judgement}
 use Rattle.verdict_report.specs.MachineText.{machine_text, standing_status}
 
--- a run: the events that were applied, what they left, and how it ended
+-- a run: the events that were applied, what they left, how it ended, and in how many steps, if it went in
+-- steps
 pub record Run : Type 0 where
   pub history : List Event
   pub state : State
   pub how : How
+  pub steps : Option ℕ
 
--- a run of a program by threads: each event is allowed where it comes; it has ended exactly where the
+-- a run of a program: each event is allowed where it comes; it has ended exactly where the
 -- machine does not go on, and was out of budget only with as many events
 pub record IsRunOf (p : Listing) (units budget : ℕ) (run : Run) : Type 0 where
   pub replay : Replays p units run.history run.state
   pub ended : (run.how ≡ Ended) ↔ (run.state.outcome ≡ Running → ⊥)
   pub spent : run.how ≡ OutOfBudget → budget ≤ length run.history
+
+-- the predictor of a run in steps
+abbrev pub predictor_of : Prediction → Predictor
+predictor_of prediction.First = predictor.First
+predictor_of prediction.Last = predictor.Last
+predictor_of (prediction.List answers) = predictor.Script (record { list = answers; at = 0 })
+
+-- the run went in so many steps, and its events are theirs
+pub record IsInSteps (p : Listing) (units budget : ℕ) (predict : Prediction) (run : Run) : Type 0 where
+  pub count : ℕ
+  pub steps : run.steps ≡ Some count
+  pub takes : Takes p units budget (beginning p (predictor_of predict)) count
+  pub events : run.history ≡ (after_steps p units budget count (beginning p (predictor_of predict))).events
+
+-- the run is one of the schedule
+abbrev pub IsScheduled : Schedule → Listing → (units budget : ℕ) → Prediction → Run → Type 0
+IsScheduled Threads p units budget predict run = run.steps ≡ None
+IsScheduled Steps p units budget predict run = IsInSteps p units budget predict run
 
 -- the output words, and how the run ended
 abbrev pub ending_text : How → State → List ℕ
@@ -40,24 +69,31 @@ abbrev pub ending_status : How → State → ℕ
 ending_status Ended s = standing_status s.outcome
 ending_status OutOfBudget s = 3
 
+-- how many steps a run took, if it went in steps, and how many instructions retired in them
+abbrev pub steps_text : Option ℕ → State → List ℕ
+steps_text None s = []
+steps_text (Some count) s = codes "steps " ++ (decimal count ++ (codes ", retired instructions " ++ (decimal (count_c s) ++ 10 ∷ [])))
+
 -- what is written of a run: its end; its history as a script, which is read as that history; or what the
--- tasks that it assigned came to
+-- tasks that it assigned came to, and its steps
 abbrev pub IsWrittenOf : RunEmit → (units : ℕ) → Listing → Run → List ℕ → Type 0
 IsWrittenOf emit.Report units p run bytes = bytes ≡ ending_text run.how run.state
 IsWrittenOf emit.Script units p run bytes = (bytes ≡ script_text p run.history) × (script_of p bytes ≡ Ok run.history)
-IsWrittenOf emit.Summary units p run bytes = bytes ≡ summary_text p (lives_of units run.history)
+IsWrittenOf emit.Summary units p run bytes = bytes ≡ summary_text p (lives_of units run.history) ++ steps_text run.steps run.state
 
 -- the report of some run of a program in which nothing is found
-pub record IsRunReport (units budget : ℕ) (emitted : RunEmit) (p : Listing) (report : Report) : Type 0 where
+pub record IsRunReport (schedule : Schedule) (units budget : ℕ) (predict : Prediction) (emitted : RunEmit) (p : Listing) (report : Report) : Type 0 where
   pub run : Run
   pub right : IsRunOf p units budget run
+  pub scheduled : IsScheduled schedule p units budget predict run
   pub written : IsWrittenOf emitted units p run report.bytes
   pub answered : report.status ≡ ending_status run.how run.state
 
-abbrev pub IsRunJudged : (units budget : ℕ) → RunEmit → Judgement → Report → Type 0
-IsRunJudged units budget emitted (refused said) report = report ≡ said
-IsRunJudged units budget emitted (accepted p) report = IsRunReport units budget emitted p report
+abbrev pub IsRunJudged : Schedule → (units budget : ℕ) → Prediction → RunEmit → Judgement → Report → Type 0
+IsRunJudged schedule units budget predict emitted (refused said) report = report ≡ said
+IsRunJudged schedule units budget predict emitted (accepted p) report = IsRunReport schedule units budget predict emitted p report
 
 -- what `run` may write of a program text and the text of its certificate
-abbrev pub IsRunText : (units budget : ℕ) → RunEmit → (program certificate : List ℕ) → Report → Type 0
-IsRunText units budget emitted program certificate report = IsRunJudged units budget emitted (judgement program certificate) report
+abbrev pub IsRunText : Schedule → (units budget : ℕ) → Prediction → RunEmit → (program certificate : List ℕ) → Report → Type 0
+IsRunText schedule units budget predict emitted program certificate report =
+    IsRunJudged schedule units budget predict emitted (judgement program certificate) report

@@ -1,8 +1,17 @@
--- A run as the runner reports it. No public contract cites it.
+-- A run as the runners report it. No public contract cites it.
 use Rattle.sequencer.specs.Seen.{state}
-use Rattle.threaded_runner.specs.declared.report.Report.{Report}
+use Rattle.threaded_runner.specs.declared.report.How.{How}
+use Rattle.threaded_runner.specs.declared.report.How.TheVariants.{Ended, OutOfBudget}
+use Rattle.synchronous_runner.specs.declared.report.How.{How as StepsHow}
+use Rattle.synchronous_runner.specs.declared.report.How.TheVariants as steps
+use Rattle.verdict_report.specs.declared.ran.Ran.{Ran}
 use Rattle.verdict_report.specs.RunText.{Run}
 
--- the history of its machine, what that left, and how it ended
-abbrev pub run_of : Report → Run
-run_of report = record { history = report.machine.history; state = state report.machine; how = report.how }
+-- the history of its machine, what that left, how it ended, and its steps
+abbrev pub run_of : Ran → Run
+run_of ran = record { history = ran.machine.history; state = state ran.machine; how = ran.how; steps = ran.steps }
+
+-- how a run in steps ended
+abbrev pub ended_as : StepsHow → How
+ended_as steps.Ended = Ended
+ended_as steps.OutOfBudget = OutOfBudget

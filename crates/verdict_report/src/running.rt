@@ -1,10 +1,12 @@
 //! The job `run`.
-ghost use Rattle.std.specs.Prelude.{◌≡◌, ◌≢◌, ◌≤◌, Err, Ok, IfOk};
+ghost use Rattle.std.specs.Prelude.{◌≡◌, ◌≢◌, ◌≤◌, ◌++◌, Err, Ok, IfOk};
+ghost use Rattle.std.specs.String.{string_bytes};
 ghost use Rattle.sequencer.specs.Seen.{state, units_of};
-ghost use Rattle.verdict_report.specs.RunText.{IsRunOf, IsRunReport, IsRunText, IsWrittenOf, ending_status, ending_text};
+ghost use Rattle.verdict_report.specs.RunText.{IsRunReport, IsRunText, IsWrittenOf, ending_status, ending_text, steps_text};
 ghost use Rattle.verdict_report.specs.CertificateTexts.{OfCertificate};
 ghost use Rattle.verdict_report.specs.Runs.{run_of};
-ghost use Rattle.machine_model.specs.Replay.{Replays};
+ghost use Rattle.task_lives.specs.Lives.{lives_of};
+ghost use Rattle.run_summary.specs.SummaryText.{summary_text};
 ghost use Rattle.event_script.specs.EventScript.{script_of};
 ghost use Rattle.event_script.specs.ScriptText.{script_text};
 
@@ -12,30 +14,17 @@ use crate::fault::ServeFault;
 use crate::judging::{Judged, judge};
 use crate::machine_text::{standing_status_of, summary_of, write_machine};
 use crate::plain_text::write_words;
+use crate::ran::{Extent, Ran};
 use crate::report::Report;
+use crate::scheduled::run_scheduled;
 use event_script::writing::write;
 use jobs::job::{CertificateSource, Prediction, RunEmit, Texts};
-use jobs::ranges::{Budget, Units, Workers};
+use jobs::ranges::Units;
 use mark_checker::accept::Accepted;
-use sequencer::predict::{First, Last, Predict, Script};
 use std::alloc::{AllocError, Global};
 use std::sync::Wait;
 use std::thread::Threads;
-use threaded_runner::gate::Open;
-use threaded_runner::report;
 use threaded_runner::report::How;
-use threaded_runner::runner::run_workers;
-
-/// How a program is run.
-#[derive(Clone, Copy, Debug, PartialEq, Eq)]
-pub struct Extent {
-    /// How many units the machine has.
-    pub units: Units,
-    /// How many threads serve them; more than units are as many as units.
-    pub workers: Workers,
-    /// How many events end the run.
-    pub budget: Budget,
-}
 
 /// What `run` writes of a program text and the text of its certificate.
 ///
@@ -52,7 +41,7 @@ pub fn run<R: Threads + Wait + Sync>(
     texts: &Texts,
 ) -> Result<Report, ServeFault>
     ensures report { IfOk result (λ report. OfCertificate source texts.now.program.items texts.now.certificate (λ certificate.
-        IsRunText extent.units extent.budget emit texts.now.program.items certificate report)) }
+        IsRunText extent.schedule extent.units extent.budget predict.now emit texts.now.program.items certificate report)) }
     ensures fault { result ≢ Err ServeFault.Write }
     ensures own { result ≢ Err ServeFault.Foreign }
 {
@@ -71,59 +60,12 @@ fn run_accepted<R: Threads + Wait + Sync>(
     emit: RunEmit,
     accepted: &Accepted,
 ) -> Result<Report, ServeFault>
-    ensures report { IfOk result (λ report. IsRunReport extent.units extent.budget emit accepted.now.program report) }
+    ensures report { IfOk result (λ report. IsRunReport extent.schedule extent.units extent.budget predict.now emit accepted.now.program report) }
     ensures fault { result ≢ Err ServeFault.Write }
     ensures own { result ≢ Err ServeFault.Foreign }
 {
-    let ran = run_predicting(rt, alloc, extent, predict, accepted)?;
+    let ran = run_scheduled(rt, alloc, extent, predict, accepted)?;
     Ok(report_of_run(alloc, emit, extent.units, &ran, accepted)?)
-}
-
-// Runs an accepted program, with the predictor that is asked for.
-fn run_predicting<'a, R: Threads + Wait + Sync>(
-    rt: &R,
-    alloc: Global,
-    extent: Extent,
-    predict: &Prediction,
-    accepted: &'a Accepted,
-) -> Result<report::Report<'a>, ServeFault>
-    ensures over { IfOk result (λ ran. (ran.machine.accepted ≡ accepted.now) × (units_of ran.machine ≤ 16) × (units_of ran.machine ≡ extent.units)) }
-    ensures run { IfOk result (λ ran. IsRunOf accepted.now.program extent.units extent.budget (run_of ran)) }
-    ensures fault { result ≢ Err ServeFault.Write }
-    ensures own { result ≢ Err ServeFault.Foreign }
-{
-    match predict {
-        Prediction::First => run_with(rt, alloc, extent, accepted, First),
-        Prediction::Last => run_with(rt, alloc, extent, accepted, Last),
-        Prediction::List(answers) => {
-            let answers = answers.as_slice().to_vec(alloc)?;
-            run_with(rt, alloc, extent, accepted, Script::new(answers))
-        }
-    }
-}
-
-// Runs an accepted program with a predictor.
-fn run_with<'a, P: Predict, R: Threads + Wait + Sync>(
-    rt: &R,
-    alloc: Global,
-    extent: Extent,
-    accepted: &'a Accepted,
-    predictor: P,
-) -> Result<report::Report<'a>, ServeFault>
-    ensures over { IfOk result (λ ran. (ran.machine.accepted ≡ accepted.now) × (units_of ran.machine ≤ 16) × (units_of ran.machine ≡ extent.units)) }
-    ensures run { IfOk result (λ ran. IsRunOf accepted.now.program extent.units extent.budget (run_of ran)) }
-    ensures fault { result ≢ Err ServeFault.Write }
-    ensures own { result ≢ Err ServeFault.Foreign }
-{
-    let units = extent.units.get();
-    let workers = extent.workers.get().min(units);
-    let budget = extent.budget.get();
-    match run_workers(
-        rt, alloc, accepted, units, workers, budget, predictor, &Open,
-    ) {
-        Ok(ran) => Ok(ran),
-        Err(_) => Err(ServeFault::OutOfMemory),
-    }
 }
 
 // What is written of a run, and the status.
@@ -131,7 +73,7 @@ fn report_of_run(
     alloc: Global,
     emit: RunEmit,
     units: Units,
-    ran: &report::Report<'_>,
+    ran: &Ran<'_>,
     accepted: &Accepted,
 ) -> Result<Report, AllocError>
     requires over { ran.now.machine.accepted ≡ accepted.now }
@@ -142,13 +84,13 @@ fn report_of_run(
     let bytes = match emit {
         RunEmit::Report => ending(alloc, ran)?,
         RunEmit::Script => script(alloc, ran, accepted)?,
-        RunEmit::Summary => summary_of(alloc, units, &ran.machine, accepted.program())?,
+        RunEmit::Summary => summary(alloc, units, ran, accepted)?,
     };
     Ok(Report::new(bytes, ending_status_of(ran)))
 }
 
 // The output words, and how the run ended.
-fn ending(alloc: Global, ran: &report::Report<'_>) -> Result<Vec<u8>, AllocError>
+fn ending(alloc: Global, ran: &Ran<'_>) -> Result<Vec<u8>, AllocError>
     ensures { IfOk result (λ bytes. bytes.items ≡ ending_text ran.now.how (state ran.now.machine)) }
 {
     let mut text = String::new(alloc);
@@ -162,12 +104,38 @@ fn ending(alloc: Global, ran: &report::Report<'_>) -> Result<Vec<u8>, AllocError
     Ok(text.into_bytes())
 }
 
-// The history of the run, as a script.
-fn script(
+// What the tasks came to, and the steps of the run.
+fn summary(
     alloc: Global,
-    ran: &report::Report<'_>,
+    units: Units,
+    ran: &Ran<'_>,
     accepted: &Accepted,
 ) -> Result<Vec<u8>, AllocError>
+    requires over { ran.now.machine.accepted ≡ accepted.now }
+    requires units { units_of ran.now.machine ≡ units }
+    ensures { IfOk result (λ bytes. bytes.items
+        ≡ summary_text accepted.now.program (lives_of units ran.now.machine.history) ++ steps_text ran.now.steps (state ran.now.machine)) }
+{
+    let mut bytes = summary_of(alloc, units, &ran.machine, accepted.program())?;
+    let steps = steps_of(alloc, ran)?;
+    bytes.extend_from_slice(steps.as_bytes())?;
+    Ok(bytes)
+}
+
+// How many steps the run took, if it went in steps, and how many instructions retired in them.
+fn steps_of(alloc: Global, ran: &Ran<'_>) -> Result<String, AllocError>
+    ensures { IfOk result (λ text. string_bytes text ≡ steps_text ran.now.steps (state ran.now.machine)) }
+{
+    let mut text = String::new(alloc);
+    if let Some(steps) = ran.steps {
+        let (committed, _) = ran.machine.counts();
+        writeln!(text, "steps {steps}, retired instructions {committed}")?;
+    }
+    Ok(text)
+}
+
+// The history of the run, as a script.
+fn script(alloc: Global, ran: &Ran<'_>, accepted: &Accepted) -> Result<Vec<u8>, AllocError>
     requires over { ran.now.machine.accepted ≡ accepted.now }
     requires units { units_of ran.now.machine ≤ 16 }
     ensures { IfOk result (λ bytes. (bytes.items ≡ script_text accepted.now.program ran.now.machine.history) × (script_of accepted.now.program bytes.items ≡ Ok ran.now.machine.history)) }
@@ -176,7 +144,7 @@ fn script(
 }
 
 // The status of a run.
-fn ending_status_of(ran: &report::Report<'_>) -> u8
+fn ending_status_of(ran: &Ran<'_>) -> u8
     ensures { result ≡ ending_status ran.now.how (state ran.now.machine) }
 {
     match ran.how {

@@ -7,9 +7,10 @@ use crate::annotating::annotate;
 use crate::checking::check;
 use crate::explaining::explain;
 use crate::fault::ServeFault;
+use crate::ran::Extent;
 use crate::replaying::replay;
 use crate::report::{Report, refused_program};
-use crate::running::{Extent, run};
+use crate::running::run;
 use crate::sequential::seq;
 use annotated_asm::assembler::assemble;
 use annotated_asm::fault::AsmFault;
@@ -71,6 +72,7 @@ fn report_of<R: Threads + Wait + Sync>(
         } => Ok(replay(alloc, *certificate, *units, *emit, texts)?),
         Job::Run {
             certificate,
+            schedule,
             units,
             workers,
             budget,
@@ -78,6 +80,7 @@ fn report_of<R: Threads + Wait + Sync>(
             emit,
         } => {
             let extent = Extent {
+                schedule: *schedule,
                 units: *units,
                 workers: *workers,
                 budget: *budget,
