@@ -131,15 +131,16 @@ fn explain_fitting(
     ensures { IfOk result (λ said. IsFittingSaid name.now file.now program.now cert.now (string_bytes said)) }
 {
     let least = certify(alloc, program)?;
-    let least = verdict(alloc, program, &least)?;
+    let wanted = verdict(alloc, program, &least)?;
     let found = verdict(alloc, program, cert)?;
-    fitting(
+    let said = fitting(
         alloc,
         name,
         file,
         found.findings.as_slice(),
-        least.findings.as_slice(),
-    )
+        wanted.findings.as_slice(),
+    )?;
+    Ok(said)
 }
 
 // The status of what is said: 0 where it is nothing.
