@@ -228,3 +228,22 @@ const SUMMARY: &str = "assigned  retired  squashed  dropped  unfinished  useful 
        1        0         0        0           1       0       0  B
        5        4         0        0           1      16       0  (all)
 ";
+
+// The same run in steps: each unit does one event a step, and there is one unit.
+#[test]
+fn counts_the_steps_of_count(rt: HostRuntime) {
+    let row = Row {
+        words: "run --units 1 --schedule steps --emit summary a.s a.cert",
+        expected: SUMMARY_IN_STEPS,
+        ..COUNTED
+    };
+    row.runs(&rt, rt.alloc());
+}
+
+const SUMMARY_IN_STEPS: &str =
+    "assigned  retired  squashed  dropped  unfinished  useful  wasted  task
+       4        4         0        0           0      16       0  A
+       1        0         0        0           1       0       0  B
+       5        4         0        0           1      16       0  (all)
+steps 31, retired instructions 16
+";

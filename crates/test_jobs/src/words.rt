@@ -2,7 +2,7 @@
 
 use crate::answers::words_of;
 use command_line::words::{UsageFault, job_of};
-use jobs::job::{CertificateSource, Emit, Job, Paths, Prediction, ReplayEmit, RunEmit};
+use jobs::job::{CertificateSource, Emit, Job, Paths, Prediction, ReplayEmit, RunEmit, Schedule};
 use std::alloc::Global;
 use std::process::Abort;
 
@@ -39,6 +39,7 @@ const PLAIN_EXPLAIN: WantedExplain = WantedExplain {
 #[derive(Clone, Copy, PartialEq)]
 struct WantedRun {
     certificate: CertificateSource,
+    schedule: Schedule,
     units: u32,
     workers: u32,
     budget: u32,
@@ -71,6 +72,7 @@ impl Wanting {
 // `run` with nothing but its files.
 const PLAIN_RUN: WantedRun = WantedRun {
     certificate: File,
+    schedule: Schedule::Threads,
     units: 4,
     workers: 4,
     budget: 1_000_000,
@@ -105,6 +107,7 @@ impl Wanted {
             } => Wanted::Replay(*certificate, units.get(), *emit),
             Job::Run {
                 certificate,
+                schedule,
                 units,
                 workers,
                 budget,
@@ -112,6 +115,7 @@ impl Wanted {
                 emit,
             } => Wanted::Run(WantedRun {
                 certificate: *certificate,
+                schedule: *schedule,
                 units: units.get(),
                 workers: workers.get(),
                 budget: budget.get(),
@@ -202,7 +206,7 @@ const JOBS: [(&str, Wanted); 22] = [
 ];
 
 // Words of `run`.
-const RUNS: [(&str, WantedRun); 10] = [
+const RUNS: [(&str, WantedRun); 12] = [
     ("run a.s a.cert", PLAIN_RUN),
     (
         "run --least a.s",
@@ -216,6 +220,14 @@ const RUNS: [(&str, WantedRun); 10] = [
         WantedRun {
             certificate: Least,
             emit: RunEmit::Script,
+            ..PLAIN_RUN
+        },
+    ),
+    ("run a.s a.cert --schedule threads", PLAIN_RUN),
+    (
+        "run --schedule steps a.s a.cert",
+        WantedRun {
+            schedule: Schedule::Steps,
             ..PLAIN_RUN
         },
     ),
@@ -308,7 +320,7 @@ fn expect_path(rt: &impl Abort, line: &str, path: &String, expected: &str) {
     assert!(rt; path.as_str() == expected, "{line}");
 }
 
-const NO_JOBS: [&str; 29] = [
+const NO_JOBS: [&str; 31] = [
     "seq",
     "seq a.s b.s",
     "seq a.s --budget 0",
@@ -337,6 +349,8 @@ const NO_JOBS: [&str; 29] = [
     "run a.s a.cert --workers 0",
     "run a.s a.cert --workers 17",
     "run a.s a.cert --budget 0",
+    "run a.s a.cert --schedule Steps",
+    "replay a.s a.cert a.events --schedule steps",
     "foo",
 ];
 
