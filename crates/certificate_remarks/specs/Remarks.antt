@@ -66,6 +66,6 @@ unfit_text program file found least =
 
 -- What is said of a certificate that could be read: nothing, or that it does not fit, by what the checker finds
 -- with it and with the least one.
-abbrev pub fitting_text : (program file : List ℕ) → (found least : List Finding) → List ℕ
+unfoldable pub fitting_text : (program file : List ℕ) → (found least : List Finding) → List ℕ
 fitting_text program file found least =
     if finds_more found least then unfit_text program file (length found) (length least) else []

@@ -38,6 +38,7 @@ fn finds_more(found: &[Finding], least: &[Finding]) -> bool
 /// # Errors
 ///
 /// `AllocError` where memory was refused.
+#[tactic(auto, unfolding(crate::specs::Remarks::fitting_text))]
 pub fn fitting(
     alloc: Global,
     program: &str,

@@ -5,6 +5,8 @@ ghost use Rattle.std.specs.String.{string_bytes};
 ghost use Rattle.annotated_asm.specs.ProgramText.{parse};
 ghost use Rattle.diagnostic_text.specs.Diagnostics.{IsExplained};
 ghost use Rattle.mask_certificate.specs.CertificateReading.{cert_parse, names_of};
+ghost use Rattle.mark_checker.specs.Rules.{all_rules};
+ghost use Rattle.certificate_remarks.specs.Remarks.{fitting_text};
 ghost use Rattle.verdict_report.specs.ExplainText.{IsCertificateSaid, IsExplainReport, IsFittingSaid, IsProgramExplained, IsReadSaid, said_status};
 
 use crate::judging::read;
@@ -131,16 +133,26 @@ fn explain_fitting(
     ensures { IfOk result (λ said. IsFittingSaid name.now file.now program.now cert.now (string_bytes said)) }
 {
     let least = certify(alloc, program)?;
-    let wanted = verdict(alloc, program, &least)?;
-    let found = verdict(alloc, program, cert)?;
-    let said = fitting(
-        alloc,
-        name,
-        file,
-        found.findings.as_slice(),
-        wanted.findings.as_slice(),
-    )?;
+    let said = compare(alloc, name, file, program, cert, &least)?;
     Ok(said)
+}
+
+// What is said of a certificate beside another one.
+fn compare(
+    alloc: Global,
+    name: &str,
+    file: &str,
+    program: &Program,
+    cert: &Cert,
+    least: &Cert,
+) -> Result<String, AllocError>
+    ensures { IfOk result (λ said. string_bytes said
+        ≡ fitting_text name.now file.now (all_rules program.now cert.now) (all_rules program.now least.now)) }
+{
+    let found = verdict(alloc, program, cert)?;
+    let wanted = verdict(alloc, program, least)?;
+    let found = found.findings.as_slice();
+    fitting(alloc, name, file, found, wanted.findings.as_slice())
 }
 
 // The status of what is said: 0 where it is nothing.
