@@ -54,10 +54,6 @@ free_script = free_file (codes "script")
 abbrev pub least : Rule
 least = flag (codes "least")
 
--- no warnings of marks that are right but cost time
-abbrev pub no_warnings : Rule
-no_warnings = flag (codes "no-warnings")
-
 abbrev pub budget : Rule
 budget = number (codes "budget") 1000000 (codes "1000000")
 
@@ -88,7 +84,7 @@ abbrev pub annotate : Shape
 annotate = subcommand (codes "annotate") (program ∷ word (codes "emit") (codes "text") ∷ [])
 
 abbrev pub explain : Shape
-explain = subcommand (codes "explain") (program ∷ free_certificate ∷ no_warnings ∷ [])
+explain = subcommand (codes "explain") (program ∷ free_certificate ∷ [])
 
 abbrev pub check : Shape
 check = subcommand (codes "check") (program ∷ free_certificate ∷ least ∷ checkers ∷ [])

@@ -216,9 +216,6 @@ pub const CERTIFICATE: &str = "The certificate of the program; none with --least
 /// CERT of `explain`.
 pub const EXPLAIN_CERTIFICATE: &str = "A certificate of the program, which is explained, too";
 
-/// `--no-warnings`.
-pub const NO_WARNINGS: &str = "Says nothing of annotations that are right but cost time";
-
 /// Why words with neither a certificate nor `--least` give no job.
 pub const FILE_MISSING: &str = "a file is missing: give CERT, or --least in its place";
 

@@ -4,7 +4,7 @@ ghost use Rattle.clap.specs.Words.{app_of, new_app, rule_of};
 ghost use Rattle.clap.specs.declared.builder.command.Command.TheViews.{out-Command as fields_of};
 ghost use Rattle.command_line.specs.CommandLine.{IsSubcommand, command_line, program_name as program_name_shape, file as file_rule, flag as flag_rule, free_file as free_file_rule, word as word_rule};
 ghost use Rattle.command_line.specs.CommandLine.{free_number as free_number_rule, number as number_rule};
-ghost use Rattle.command_line.specs.CommandLine.{program as program_rule, certificate as certificate_rule, free_certificate as free_certificate_rule, free_script as free_script_rule, least as least_rule, no_warnings as no_warnings_rule, schedule as schedule_rule};
+ghost use Rattle.command_line.specs.CommandLine.{program as program_rule, certificate as certificate_rule, free_certificate as free_certificate_rule, free_script as free_script_rule, least as least_rule, schedule as schedule_rule};
 ghost use Rattle.command_line.specs.CommandLine.{budget as budget_rule, units as units_rule, checkers as checkers_rule, workers as workers_rule};
 ghost use Rattle.command_line.specs.CommandLine.{seq as seq_shape, print as print_shape, annotate as annotate_shape, explain as explain_shape, check as check_shape, replay as replay_shape, run as run_shape};
 
@@ -139,13 +139,6 @@ fn least<'a>(alloc: Global) -> Arg<'a>
     flag(alloc, "least", help::LEAST)
 }
 
-fn no_warnings<'a>(alloc: Global) -> Arg<'a>
-    ensures rule { rule_of result ≡ no_warnings_rule }
-    ensures local { result.global ≡ false }
-{
-    flag(alloc, "no-warnings", help::NO_WARNINGS)
-}
-
 fn schedule<'a>(alloc: Global) -> Arg<'a>
     ensures rule { rule_of result ≡ schedule_rule }
     ensures local { result.global ≡ false }
@@ -227,8 +220,7 @@ fn explain<'a>(alloc: Global) -> Result<Command<'a>, AllocError>
 {
     subcommand(alloc, "explain", help::EXPLAIN, help::EXPLAIN_LONG)
         .arg(program(alloc))?
-        .arg(free_certificate(alloc, help::EXPLAIN_CERTIFICATE))?
-        .arg(no_warnings(alloc))
+        .arg(free_certificate(alloc, help::EXPLAIN_CERTIFICATE))
 }
 
 fn check<'a>(alloc: Global) -> Result<Command<'a>, AllocError>

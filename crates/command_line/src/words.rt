@@ -316,7 +316,6 @@ fn read_explain(alloc: Global, values: &ArgMatches<'_>) -> Result<(Job, Paths), 
     let job = Job::Explain {
         name: path(alloc, values, "program")?,
         certificate: free_path(alloc, values, "certificate")?,
-        warnings: !is_given(values, "no-warnings"),
     };
     Ok((job, paths))
 }

@@ -14,7 +14,7 @@ is_in_file Least = false
 
 -- the job has a file with a certificate beside its program
 abbrev pub has_certificate : Job → Bool
-has_certificate (Explain name certificate warnings) = is_some certificate
+has_certificate (Explain name certificate) = is_some certificate
 has_certificate (Check source workers) = is_in_file source
 has_certificate (Replay source units emit) = is_in_file source
 has_certificate (Run source schedule units workers budget predict emit) = is_in_file source

@@ -82,8 +82,6 @@ pub enum Job {
         name: String,
         /// The certificate's file as the words have it, where one is to be explained, too.
         certificate: Option<String>,
-        /// Whether marks that are right but cost time are told, too.
-        warnings: bool,
     },
     /// Checks the program against its certificate.
     Check {

@@ -25,14 +25,12 @@ use CertificateSource::{File, Least};
 struct WantedExplain {
     names_program: bool,
     names_certificate: bool,
-    warnings: bool,
 }
 
 // `explain` with nothing but its program.
 const PLAIN_EXPLAIN: WantedExplain = WantedExplain {
     names_program: true,
     names_certificate: false,
-    warnings: true,
 };
 
 // What `run` takes.
@@ -87,14 +85,9 @@ impl Wanted {
             Job::Seq { budget } => Wanted::Seq(budget.get()),
             Job::Print => Wanted::Print,
             Job::Annotate { emit } => Wanted::Annotate(*emit),
-            Job::Explain {
-                name,
-                certificate,
-                warnings,
-            } => Wanted::Explain(WantedExplain {
+            Job::Explain { name, certificate } => Wanted::Explain(WantedExplain {
                 names_program: name.as_str() == "a.s",
                 names_certificate: is_named(certificate, "a.cert"),
-                warnings: *warnings,
             }),
             Job::Check {
                 certificate,
@@ -147,7 +140,7 @@ fn is_named(file: &Option<String>, name: &str) -> bool {
 }
 
 // Words that give a job of the program `a.s`.
-const JOBS: [(&str, Wanted); 22] = [
+const JOBS: [(&str, Wanted); 21] = [
     ("seq a.s", Wanted::Seq(1_000_000)),
     ("seq --budget 17 a.s", Wanted::Seq(17)),
     ("print a.s", Wanted::Print),
@@ -156,13 +149,6 @@ const JOBS: [(&str, Wanted); 22] = [
         "explain a.s a.cert",
         Wanted::Explain(WantedExplain {
             names_certificate: true,
-            ..PLAIN_EXPLAIN
-        }),
-    ),
-    (
-        "explain --no-warnings a.s",
-        Wanted::Explain(WantedExplain {
-            warnings: false,
             ..PLAIN_EXPLAIN
         }),
     ),

@@ -33,7 +33,7 @@ abbrev pub IsReportOf : Job → Texts → Report → Type 0
 IsReportOf (Seq budget) texts report = report ≡ seq_text budget texts.program.items
 IsReportOf Print texts report = report ≡ print_text texts.program.items
 IsReportOf (Annotate emit) texts report = IsAnnotateReport emit texts.program.items report
-IsReportOf (Explain name certificate warnings) texts report =
+IsReportOf (Explain name certificate) texts report =
     IsExplainReport (string_bytes name) (option_map string_bytes certificate) texts.program.items texts.certificate report
 IsReportOf (Check source workers) texts report =
     OfCertificate source texts.program.items texts.certificate (λ certificate. report ≡ check_text texts.program.items certificate)
