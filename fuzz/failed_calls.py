@@ -27,12 +27,12 @@ EXPECTED = {
     "reads of 1, 7 or 4,096 bytes": "the answer of whole reads",
     "a read interrupted": "the answer as ever, for one interruption at any read and for one read in some",
     "reads of a file interrupted 1,000 times": "the answer as ever",
-    "reads of a file interrupted 1,001 times": "status 2, nothing on standard output, `multiscalar: file PATH` of that file",
-    "a read fails": "status 2, nothing on standard output, `multiscalar: file PATH` of the file that was read",
+    "reads of a file interrupted 1,001 times": "status 2, nothing on standard output, `multiscalar: file PATH` of that file, for `explain` with the reason",
+    "a read fails": "status 2, nothing on standard output, `multiscalar: file PATH` of the file that was read, for `explain` with the reason",
     "a read finds the end too early": "the answer for the bytes that were read",
     "a file is cut while it is read": "the answer for the bytes that were read",
     "a file grows while it is read": "the answer for the longer file",
-    "an open fails": "status 2, nothing on standard output, `multiscalar: file PATH` of that file",
+    "an open fails": "status 2, nothing on standard output, `multiscalar: file PATH` of that file, for `explain` with the reason",
     "an open interrupted": "the answer as ever, once or 1,000 times",
     "writes of 1, 7 or 100 bytes": "the answer as ever",
     "a write interrupted": "the answer as ever, for one interruption, 1,000, and one in two",
@@ -41,15 +41,16 @@ EXPECTED = {
     "standard output full or closed": "/dev/full, closed, a closed pipe: status 2, `multiscalar: 2 Write`; for help status 2 alone",
     "the other streams closed": "the status and the bytes of standard output as ever",
     "slow pipes, FIFOs as inputs": "the answer as ever",
+    "standard input for a file": "a file of the name `-`, from a file or a pipe: the answer as ever; for two files status 2, nothing on standard output, `multiscalar: 5 InputTwice`",
     "inputs without end": "of /dev/zero and /dev/full: program: `1 TooLong`, status 1; other files: status 2, the file named; in memory at most 16 MB above the limit",
     "empty inputs": "the answer for an empty file, of /dev/null and of an empty FIFO",
-    "a missing file, a folder, a bad path": "status 2, nothing on standard output, `multiscalar: file PATH`",
-    "a file of another user, as nobody": "status 2, nothing on standard output, `multiscalar: file PATH`",
+    "a missing file, a folder, a bad path": "status 2, nothing on standard output, `multiscalar: file PATH`, for `explain` with the reason",
+    "a file of another user, as nobody": "status 2, nothing on standard output, `multiscalar: file PATH`, for `explain` with the reason",
     "files at the limit, and one byte above": "program: judged, and `1 TooLong`; other files: judged, and status 2 with the file named",
     "words that are not UTF-8": "status 2, nothing on standard output, `multiscalar: 1 Words`",
     "reads by places: short": "of 1, 7, 100 or 4,096 bytes: the answer of one worker",
     "reads by places: failed or interrupted": "one, all from one on, or one in some: the answer of one worker, since one thread then reads the file from its beginning",
-    "reads by places: one fails, then a read": "status 2, nothing on standard output, `multiscalar: file PATH` of that file",
+    "reads by places: one fails, then a read": "status 2, nothing on standard output, `multiscalar: file PATH` of that file, for `explain` with the reason",
     "reads by places: the end too early": "in a part: the answer of one worker, as before; behind the parts: the answer for the bytes that were read",
     "reads by places: the file is cut": "the answer for the bytes that were read: those that are left, where a part was short; else all parts and what was read behind them",
     "reads by places: the file grows": "the answer for the longer file",
@@ -63,8 +64,12 @@ READ_ERRORS = [errno.EIO, errno.EAGAIN, errno.EISDIR, errno.EBADF, errno.ENOMEM,
 OPEN_ERRORS = [errno.EACCES, errno.ENOENT, errno.EMFILE, errno.ENFILE, errno.ENOMEM, errno.ELOOP, errno.EIO, errno.EPERM, errno.ENXIO]
 WRITE_ERRORS = [errno.EIO, errno.ENOSPC, errno.EPIPE, errno.EBADF, errno.EAGAIN, errno.EFBIG, errno.EDQUOT, 0]
 INTERRUPTED = errno.EINTR
+OTHER_REASON = "cannot be read"
+REASONS = {errno.ENOENT: "no such file", errno.EISDIR: "is a directory", errno.EACCES: "no permission", errno.EPERM: "no permission",
+           errno.ENOMEM: "out of memory"}
 PROGRAM_LIMIT, FILE_LIMIT = 4194304, 134217728
 WRITE_FAILED, NO_TEXT = b"multiscalar: 2 Write\n", b"multiscalar: 1 Words\n"
+INPUT_TWICE = b"multiscalar: 5 InputTwice: only one file can be - (standard input)\n"
 
 
 class Case:
@@ -83,8 +88,11 @@ class Case:
         return words
 
 
-def named(path):
-    return 2, b"", f"multiscalar: file {path}\n".encode()
+def named(words, path, why):
+    """The answer where a file cannot be read; only `explain` says why: `why` is the system's error, or 0."""
+    if words[0] != "explain":
+        return 2, b"", f"multiscalar: file {path}\n".encode()
+    return 2, b"", f"multiscalar: file {path}: {REASONS.get(why, OTHER_REASON)}\n".encode()
 
 
 def unnamed(words, out):
@@ -108,7 +116,7 @@ def cases(bench):
 def name_of(wanted):
     """What is said in the table of an answer that was wanted."""
     status, _, told = wanted
-    if told in (WRITE_FAILED, NO_TEXT):
+    if told in (WRITE_FAILED, NO_TEXT, INPUT_TWICE):
         return told.decode().split(": ")[1].strip()
     if told and told.startswith(b"multiscalar: file"):
         return "file named"
@@ -169,7 +177,7 @@ def interrupted_reads(count):
     def runs(part, every, draw):
         for case, which in part.each(inputs(every), draw):
             first = case.right.read_of.index(which + 1) + 1
-            wanted = case.right[:3] if count == 1000 else named(case.files[which])
+            wanted = case.right[:3] if count == 1000 else named(case.words, case.files[which], INTERRUPTED)
             part.run(case, "", wanted, fault(READ, first, first + count - 1, "e", INTERRUPTED))
     return runs
 
@@ -182,7 +190,7 @@ def reads_of(case, size):
 def failing_read(part, every, draw):
     jobs = [(case, n, error, file) for case in every for n, file in enumerate(reads_of(case, 200), 1) for error in READ_ERRORS]
     for case, n, error, file in part.each(jobs, draw):
-        part.run(case, "", named(case.files[file - 1]), fault(READ, 1, EVERY, "s", 200), fault(READ, n, n, "e", error))
+        part.run(case, "", named(case.words, case.files[file - 1], error), fault(READ, 1, EVERY, "s", 200), fault(READ, n, n, "e", error))
 
 
 def prefix_answer(case, which, size, more=b""):
@@ -226,7 +234,7 @@ def changed_while_read(how, more):
 def failing_open(part, every, draw):
     jobs = [(case, which, error) for case, which in inputs(every) for error in OPEN_ERRORS]
     for case, which, error in part.each(jobs, draw):
-        part.run(case, "", named(case.files[which]), fault(OPEN, which + 1, which + 1, "e", error))
+        part.run(case, "", named(case.words, case.files[which], error), fault(OPEN, which + 1, which + 1, "e", error))
 
 
 def interrupted_open(part, every, draw):
@@ -329,6 +337,23 @@ def pipes(part, every, draw):
         child.stderr.close()
 
 
+def from_input(part, words, text):
+    """A run that has this text on standard input, from a pipe, or from this open file."""
+    given = {"input": text} if isinstance(text, bytes) else {"stdin": text}
+    done = subprocess.run([part.bench.program, *words], capture_output=True, timeout=60, **given)
+    return faults.Ended(done.returncode, done.stdout, done.stderr, None, None)
+
+
+def standard_input(part, every, draw):
+    for (case, which), is_pipe in part.each([(one, is_pipe) for one in inputs(every) for is_pipe in (False, True)], draw):
+        words = case.with_file(which, "-")
+        with open(case.files[which], "rb") as file:
+            part.expect(words, f"- for file {which}", from_input(part, words, file.read() if is_pipe else file), case.right[:3])
+            if which:
+                words[case.places[which - 1]] = "-"
+                part.expect(words, f"- for files {which - 1} and {which}", from_input(part, words, file), (2, b"", INPUT_TWICE))
+
+
 def measured(part, words):
     """How a run ends, and the most memory that it had, in bytes. A script that stays small starts it: what a
     child has touched counts from where its parent stood when it began."""
@@ -346,7 +371,7 @@ def endless(part, every, draw):
     for (case, which), path in part.each([(one, path) for one in inputs(chosen) for path in ("/dev/zero", "/dev/full")], draw):
         ended, memory = measured(part, case.with_file(which, path))
         refused = None if case.words[0] == "explain" else b"program refused: 1 TooLong\n"
-        part.expect(case.words, f"{path} for file {which}", ended, named(path) if which else (1, refused, b""))
+        part.expect(case.words, f"{path} for file {which}", ended, named(case.words, path, 0) if which else (1, refused, b""))
         limit = FILE_LIMIT if which else PROGRAM_LIMIT
         most = max(most, memory - limit)
         if memory > limit + 16e6:
@@ -362,17 +387,18 @@ def empty(part, every, draw):
 
 
 def no_files(bench):
-    """Paths of which none can be read."""
+    """Paths of which none can be read, and the error of each."""
     folder = bench.folder
     loop = folder / "loop"
     if not loop.is_symlink():
         loop.symlink_to(loop)
-    return [folder / "missing", folder, loop, folder / "counts" / "below", "", folder / ("n" * 300), "/" + "d/" * 3000, "/proc/self/mem"]
+    return [(folder / "missing", errno.ENOENT), (folder, errno.EISDIR), (loop, errno.ELOOP), (folder / "counts" / "below", errno.ENOTDIR),
+            ("", errno.ENOENT), (folder / ("n" * 300), errno.ENAMETOOLONG), ("/" + "d/" * 3000, errno.ENAMETOOLONG), ("/proc/self/mem", errno.EIO)]
 
 
 def unreadable(part, every, draw):
-    for (case, which), path in part.each([(one, path) for one in inputs(every) for path in no_files(part.bench)], draw):
-        part.expect(case.words, f"{str(path)[:80]} for file {which}", part.bench.run(case.with_file(which, path)), named(path))
+    for (case, which), (path, error) in part.each([(one, path) for one in inputs(every) for path in no_files(part.bench)], draw):
+        part.expect(case.words, f"{str(path)[:80]} for file {which}", part.bench.run(case.with_file(which, path)), named(case.words, path, error))
 
 
 def forbidden(part, every, draw):
@@ -395,7 +421,7 @@ def forbidden(part, every, draw):
             copy.chmod(0o644)
             words[place] = str(copy)
         done = subprocess.run([program, *words], stdin=subprocess.DEVNULL, capture_output=True, timeout=60, cwd="/", **as_nobody)
-        part.expect(case.words, f"forbidden file {which}", faults.Ended(done.returncode, done.stdout, done.stderr, None, None), named(path))
+        part.expect(case.words, f"forbidden file {which}", faults.Ended(done.returncode, done.stdout, done.stderr, None, None), named(case.words, path, errno.EACCES))
 
 
 def limits(part, every, draw):
@@ -406,7 +432,7 @@ def limits(part, every, draw):
     for which, above in part.each([(which, above) for which in range(3) for above in (0, 1)], draw):
         with open(path, "wb") as file:
             file.truncate((FILE_LIMIT if which else PROGRAM_LIMIT) + above)
-        wanted = named(path) if which and above else (1, b"program refused: 1 TooLong\n" if above else judged[which], b"")
+        wanted = named(three.words, path, 0) if which and above else (1, b"program refused: 1 TooLong\n" if above else judged[which], b"")
         part.expect(three.words, f"zeros for file {which}, {above} above", part.bench.run(three.with_file(which, path)), wanted)
 
 
@@ -469,7 +495,7 @@ def failing_place_and_read(part, every, draw):
     jobs = [(case, n, error) for case in shared_cases(part.bench) for n in range(1, 12) for error in READ_ERRORS]
     for case, n, error in part.each(jobs, draw):
         first = case.right.read_of.index(2) + draw.randrange(1, 20)
-        placed(part, case, named(case.files[1]), fault(PLACE, n, n, "e", draw.choice([INTERRUPTED, *READ_ERRORS])), fault(READ, first, EVERY, "e", error))
+        placed(part, case, named(case.words, case.files[1], 0), fault(PLACE, n, n, "e", draw.choice([INTERRUPTED, *READ_ERRORS])), fault(READ, first, EVERY, "e", error))
 
 
 def told_sizes(case):
@@ -547,7 +573,7 @@ def wrong_size(part, every, draw):
 
 RUNS = [short_reads, interrupted_read, interrupted_reads(1000), interrupted_reads(1001), failing_read, early_end,
         changed_while_read("t", ""), changed_while_read("a", "# more\n"), failing_open, interrupted_open, short_writes, interrupted_write,
-        failing_write, failing_telling, bad_outputs, bad_streams, pipes, endless, empty, unreadable, forbidden, limits, not_text,
+        failing_write, failing_telling, bad_outputs, bad_streams, pipes, standard_input, endless, empty, unreadable, forbidden, limits, not_text,
         short_places, failing_place, failing_place_and_read, early_place, changed_places("t", ""), changed_places("a", "# more\n"), least_shared,
         no_size, wrong_size]
 

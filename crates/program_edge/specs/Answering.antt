@@ -1,8 +1,6 @@
 -- How the program ends, for what it was asked and what its files hold (own choice).
 use Rattle.std.specs.Prelude.{◌≡◌, ◌≢◌, ◌⊎◌, ℕ, true, List, Option, Result, Ok, Err}
 use Rattle.std.specs.Io.KnownBytes.{Keeps}
-use Rattle.std.specs.declared.string.String.{String}
-use Rattle.std.specs.declared.alloc.Global.{Global}
 use Rattle.jobs.specs.declared.job.Job.{Job}
 use Rattle.jobs.specs.declared.job.Paths.{Paths}
 use Rattle.jobs.specs.declared.job.Texts.{Texts}
@@ -10,10 +8,11 @@ use Rattle.verdict_report.specs.declared.fault.ServeFault.{ServeFault}
 use Rattle.verdict_report.specs.declared.fault.ServeFault.TheVariants as serve
 use Rattle.verdict_report.specs.JobTexts.{IsDone}
 use Rattle.program_edge.specs.declared.fault.Fault.{Fault}
-use Rattle.program_edge.specs.declared.fault.Fault.TheVariants.{File, Serve}
+use Rattle.program_edge.specs.declared.fault.Fault.TheVariants.{Serve}
+use Rattle.program_edge.specs.declared.unread.Unread.{Unread}
 use Rattle.program_edge.specs.declared.told.Ending.{Ending}
 use Rattle.program_edge.specs.FileTexts.{Known, Unknown, AreTextsOf}
-use Rattle.program_edge.specs.Telling.{IsTold}
+use Rattle.program_edge.specs.Telling.{IsTold, unread_fault}
 
 -- what the two streams hold, where that is known
 pub record Streams : Type 0 where
@@ -33,13 +32,13 @@ pub record IsJobDone (job : Job) (texts : Texts) (ending : Ending) (old new : St
   pub silent : Keeps old.errors new.errors
   pub told : ending.is_told ≡ true
 
-abbrev pub IsServed : Job → Result Texts (String Global) → Ending → Streams → Streams → Type 0
+abbrev pub IsServed : Job → Result Texts Unread → Ending → Streams → Streams → Type 0
 IsServed job (Ok texts) ending old new = IsJobDone job texts ending old new ⊎ IsNotDone ending old new
-IsServed job (Err path) ending old new = IsTold (File path) ending.status ending.is_told old.output new.output old.errors new.errors
+IsServed job (Err unread) ending old new = IsTold (unread_fault job unread) ending.status ending.is_told old.output new.output old.errors new.errors
 
 -- the texts of the job were read, and the job served
 pub record IsRead (known : List ℕ → Known) (job : Job) (paths : Paths) (ending : Ending) (old new : Streams) : Type 0 where
-  pub read : Result Texts (String Global)
+  pub read : Result Texts Unread
   pub texts : AreTextsOf known job paths read
   pub served : IsServed job read ending old new
 

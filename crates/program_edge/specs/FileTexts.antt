@@ -1,28 +1,55 @@
--- Which files give the texts of a job, and which file is at fault (own choice).
-use Rattle.std.specs.Prelude.{◌≡◌, ◌≤◌, ◌+◌, nat_le, ℕ, Bool, true, false, if◌then◌else◌, List, [], length, take, ⊤, Option, Some, None, MatchOption, Result, Ok, Err}
+-- Which files give the texts of a job, which file is at fault, and why (own choice).
+use Rattle.std.specs.Prelude.{◌≡◌, ◌≢◌, ◌≤◌, ◌+◌, nat_le, ℕ, Bool, true, false, if◌then◌else◌, List, [], length, take, ⊤, Option, Some, Result, Ok, Err}
+use Rattle.std.specs.IoError.{error_kind}
 use Rattle.std.specs.String.{string_bytes}
+use Rattle.std.specs.declared.io.Error.{Error}
+use Rattle.std.specs.declared.io.ErrorKind.{ErrorKind}
+use Rattle.std.specs.declared.io.ErrorKind.TheVariants as kind
 use Rattle.std.specs.declared.string.String.{String}
 use Rattle.std.specs.declared.alloc.Global.{Global}
 use Rattle.jobs.specs.declared.job.Job.{Job}
 use Rattle.jobs.specs.declared.job.Paths.{Paths}
 use Rattle.jobs.specs.declared.job.Texts.{Texts}
 use Rattle.jobs.specs.Files.{has_certificate, has_script}
+use Rattle.shared_fetch.specs.declared.serial.FetchFault.{FetchFault}
+use Rattle.shared_fetch.specs.declared.serial.FetchFault.TheVariants as fetch
+use Rattle.program_edge.specs.declared.unread.Reason.{Reason}
+use Rattle.program_edge.specs.declared.unread.Reason.TheVariants.{NoSuchFile, IsDirectory, NotPermitted, TooLong, OutOfMemory, Other}
+use Rattle.program_edge.specs.declared.unread.Unread.{Unread}
 
--- what is known of a file: nothing, that it can't be opened, or the bytes that it holds
+-- what is known of a file: nothing, that opening it fails with an error of this kind, or the bytes that it
+-- holds
 pub data Known : Type 0 where
   Unknown : Known
-  Missing : Known
+  Refuses : ErrorKind → Known
   Holds : List ℕ → Known
 
--- what an open file has left is what is known of it
-abbrev pub IsOpen : Known → Option (List ℕ) → Type 0
-IsOpen Unknown remaining = ⊤
-IsOpen Missing remaining = ⊥
-IsOpen (Holds bytes) remaining = remaining ≡ Some bytes
+-- an open file has left what is known of it, and a file that can't be opened fails as is known. A file that
+-- holds bytes is there
+abbrev pub OpensAs : {F : Type 0} → (F → Option (List ℕ)) → Known → Result F Error → Type 0
+OpensAs remaining Unknown opened = ⊤
+OpensAs remaining (Refuses kind) (Ok file) = ⊥
+OpensAs remaining (Refuses kind) (Err error) = error_kind error ≡ kind
+OpensAs remaining (Holds bytes) (Ok file) = remaining file ≡ Some bytes
+OpensAs remaining (Holds bytes) (Err error) = error_kind error ≢ kind.NotFound
 
--- a file was opened, or not
-abbrev pub OpensAs : {F : Type 0} → (F → Option (List ℕ)) → Known → Option F → Type 0
-OpensAs remaining known opened = MatchOption opened ⊤ (λ file. IsOpen known (remaining file))
+-- why a file is not opened, for the kind of the error
+abbrev pub opening_reason : ErrorKind → Reason
+opening_reason kind.NotFound = NoSuchFile
+opening_reason kind.IsADirectory = IsDirectory
+opening_reason kind.PermissionDenied = NotPermitted
+opening_reason kind.OutOfMemory = OutOfMemory
+opening_reason _ = Other
+
+-- an open file is there
+abbrev pub but_there : Reason → Reason
+but_there NoSuchFile = Other
+but_there reason = reason
+
+-- why an open file is not read
+abbrev pub reading_reason : FetchFault → Reason
+reading_reason fetch.OutOfMemory = OutOfMemory
+reading_reason (fetch.Read kind) = but_there (opening_reason kind)
 
 -- the most bytes of a program text, and of any other file
 abbrev pub most_program : ℕ
@@ -31,38 +58,46 @@ most_program = 4194304
 abbrev pub most_file : ℕ
 most_file = 134217728
 
--- what reading a file may find: its bytes, or the first `most + 1` of them; or nothing, where it can't be
--- read, or memory ran out
-abbrev pub IsFound : Known → (most : ℕ) → Option (List ℕ) → Type 0
-IsFound known most None = ⊤
-IsFound Unknown most (Some found) = length found ≤ most + 1
-IsFound Missing most (Some found) = ⊥
-IsFound (Holds bytes) most (Some found) = found ≡ take (most + 1) bytes
+-- why a file of which this is known may not be read. Too long is none of these: then it was read
+abbrev pub IsUnread : Known → Reason → Type 0
+IsUnread Unknown reason = reason ≢ TooLong
+IsUnread (Refuses kind) reason = reason ≡ opening_reason kind
+IsUnread (Holds bytes) reason = (reason ≢ NoSuchFile) × (reason ≢ TooLong)
 
--- the text of a file beside the program: whole, empty where the job has no such file, and none where
--- nothing was found or too much
-abbrev pub text_of : (is_there : Bool) → Option (List ℕ) → Option (List ℕ)
-text_of false found = Some []
-text_of true None = None
-text_of true (Some found) = if nat_le (length found) most_file then Some found else None
+-- what reading a file may find: its bytes, or the first `most + 1` of them; or why it can't be read
+abbrev pub IsFound : Known → (most : ℕ) → Result (List ℕ) Reason → Type 0
+IsFound Unknown most (Ok found) = length found ≤ most + 1
+IsFound (Refuses kind) most (Ok found) = ⊥
+IsFound (Holds bytes) most (Ok found) = found ≡ take (most + 1) bytes
+IsFound known most (Err reason) = IsUnread known reason
 
--- the texts of a job, or the path of the first file, in the order program, certificate, script, that gives
--- none
-abbrev pub Gives : Job → Paths → (program certificate script : Option (List ℕ)) → Result Texts (String Global) → Type 0
+-- the text of a file beside the program: whole, empty where the job has no such file, and none where it
+-- can't be read or is too long
+abbrev pub text_of : (is_there : Bool) → Result (List ℕ) Reason → Result (List ℕ) Reason
+text_of false found = Ok []
+text_of true (Err reason) = Err reason
+text_of true (Ok found) = if nat_le (length found) most_file then Ok found else Err TooLong
+
+-- the file of this path gives no text, for this reason
+abbrev pub Names : Unread → String Global → Reason → Type 0
+Names unread path reason = (unread.path ≡ path) × (unread.reason ≡ reason)
+
+-- the texts of a job, or the first file, in the order program, certificate, script, that gives none
+abbrev pub Gives : Job → Paths → (program certificate script : Result (List ℕ) Reason) → Result Texts Unread → Type 0
 Gives job paths program certificate script (Ok texts) =
-    (program ≡ Some texts.program.items)
-    × (certificate ≡ Some texts.certificate)
-    × (script ≡ Some texts.script.items)
-Gives job paths None certificate script (Err path) = path ≡ paths.program
-Gives job paths (Some program) None script (Err path) = path ≡ paths.certificate
-Gives job paths (Some program) (Some certificate) None (Err path) = path ≡ paths.script
-Gives job paths (Some program) (Some certificate) (Some script) (Err path) = ⊥
+    (program ≡ Ok texts.program.items)
+    × (certificate ≡ Ok texts.certificate)
+    × (script ≡ Ok texts.script.items)
+Gives job paths (Err reason) certificate script (Err unread) = Names unread paths.program reason
+Gives job paths (Ok program) (Err reason) script (Err unread) = Names unread paths.certificate reason
+Gives job paths (Ok program) (Ok certificate) (Err reason) (Err unread) = Names unread paths.script reason
+Gives job paths (Ok program) (Ok certificate) (Ok script) (Err unread) = ⊥
 
 -- what the files of a job come to, for what was found in each
-pub record AreTextsOf (known : List ℕ → Known) (job : Job) (paths : Paths) (result : Result Texts (String Global)) : Type 0 where
-  pub program : Option (List ℕ)
-  pub certificate : Option (List ℕ)
-  pub script : Option (List ℕ)
+pub record AreTextsOf (known : List ℕ → Known) (job : Job) (paths : Paths) (result : Result Texts Unread) : Type 0 where
+  pub program : Result (List ℕ) Reason
+  pub certificate : Result (List ℕ) Reason
+  pub script : Result (List ℕ) Reason
   pub found_program : IsFound (known (string_bytes paths.program)) most_program program
   pub found_certificate : IsFound (known (string_bytes paths.certificate)) most_file certificate
   pub found_script : IsFound (known (string_bytes paths.script)) most_file script

@@ -1,3 +1,5 @@
 pub mod FileTexts
 pub mod Telling
+pub mod Asking
 pub mod Answering
+pub mod Examples

@@ -3,7 +3,12 @@ use Rattle.std.specs.Prelude.{◌≡◌, ℕ, Bool, true, false, List, [], ◌�
 use Rattle.std.specs.Io.KnownBytes.{Appends, Keeps}
 use Rattle.std.specs.String.{string_bytes}
 use Rattle.program_edge.specs.declared.fault.Fault.{Fault}
-use Rattle.program_edge.specs.declared.fault.Fault.TheVariants.{Help, Words, NoText, Predict, Emit, OutOfMemory, File, Serve}
+use Rattle.program_edge.specs.declared.fault.Fault.TheVariants.{Help, Words, NoText, Predict, Emit, OutOfMemory, InputTwice, File, Explained, Serve}
+use Rattle.program_edge.specs.declared.unread.Reason.{Reason}
+use Rattle.program_edge.specs.declared.unread.Reason.TheVariants as reason
+use Rattle.program_edge.specs.declared.unread.Unread.{Unread}
+use Rattle.jobs.specs.declared.job.Job.{Job}
+use Rattle.jobs.specs.declared.job.Job.TheVariants.{Explain}
 use Rattle.clap.specs.Values.{kind_of}
 use Rattle.clap.specs.declared.error.kind.ErrorKind.{ErrorKind}
 use Rattle.clap.specs.declared.error.kind.ErrorKind.TheVariants as kind
@@ -24,13 +29,24 @@ serve_name serve.OutOfMemory = codes "1 OutOfMemory"
 serve_name serve.Write = codes "2 Write"
 serve_name serve.Foreign = codes "3 Foreign"
 
+-- why a file gives no text; the limit is that of a certificate or a script
+abbrev pub reason_words : Reason → List ℕ
+reason_words reason.NoSuchFile = codes "no such file"
+reason_words reason.IsDirectory = codes "is a directory"
+reason_words reason.NotPermitted = codes "no permission"
+reason_words reason.TooLong = codes "longer than 134217728 bytes"
+reason_words reason.OutOfMemory = codes "out of memory"
+reason_words reason.Other = codes "cannot be read"
+
 -- what a fault is called behind `multiscalar: `
 abbrev pub name_of : Fault → List ℕ
 name_of NoText = codes "1 Words"
 name_of Predict = codes "2 Predict"
 name_of Emit = codes "3 Emit"
 name_of OutOfMemory = codes "4 OutOfMemory"
+name_of InputTwice = codes "5 InputTwice: only one file can be - (standard input)"
 name_of (File path) = codes "file " ++ string_bytes path
+name_of (Explained unread) = codes "file " ++ (string_bytes unread.path ++ (codes ": " ++ reason_words unread.reason))
 name_of (Serve fault) = serve_name fault
 name_of _ = []
 
@@ -52,6 +68,11 @@ IsTold fault status is_told output output' errors errors' =
     (status ≡ (if is_help fault && is_told then 0 else 2))
     × (is_told ≡ true → Appends (if is_help fault then output else errors) (if is_help fault then output' else errors') (said_of fault))
     × Keeps (if is_help fault then errors else output) (if is_help fault then errors' else output')
+
+-- what is told of a file that gives no text: only `explain` says why
+abbrev pub unread_fault : Job → Unread → Fault
+unread_fault (Explain name) unread = Explained unread
+unread_fault _ unread = File unread.path
 
 -- what is told of a fault of the words; the text of `clap`'s own faults is `clap`'s
 abbrev pub IsFaultOf : UsageFault → Fault → Type 0

@@ -1,11 +1,13 @@
 //! From a job and its files to what is written and the status.
 ghost use Rattle.program_edge.specs.Answering.{IsAnswered, IsRead, IsServed};
-ghost use Rattle.std.specs.Prelude.{Ok};
+ghost use Rattle.program_edge.specs.Telling.{unread_fault};
+ghost use Rattle.std.specs.Prelude.{◌≡◌, Ok};
 
 use crate::fault::Fault;
 use crate::named_files::NamedFiles;
 use crate::texts::read_texts;
 use crate::told::{Ending, tell};
+use crate::unread::Unread;
 use jobs::job::{Job, Paths, Texts};
 use std::alloc::Global;
 use std::io::Write;
@@ -50,7 +52,17 @@ fn answer_job<F: NamedFiles, O: Write, E: Write, R: Threads + Wait + Sync>(
 {
     match read_texts(rt, alloc, files, job, paths) {
         Ok(texts) => answer_texts(rt, alloc, job, &texts, output, errors),
-        Err(path) => tell(&Fault::File(path), output, errors),
+        Err(unread) => tell(&fault_of_file(job, unread), output, errors),
+    }
+}
+
+// The fault that is told of a file that gives no text: only `explain` says why.
+fn fault_of_file(job: &Job, unread: Unread) -> Fault
+    ensures { result ≡ unread_fault job.now unread }
+{
+    match job {
+        Job::Explain { .. } => Fault::Explained(unread),
+        _ => Fault::File(unread.path),
     }
 }
 

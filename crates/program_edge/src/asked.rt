@@ -1,8 +1,8 @@
 //! What the words of the command line ask for.
-ghost use Rattle.std.specs.Prelude.{IfOk, map};
+ghost use Rattle.std.specs.Prelude.{◌≡◌, ◌≤◌, IfOk, map};
 ghost use Rattle.std.specs.String.{string_bytes};
-ghost use Rattle.command_line.specs.Asked.{AskFor};
 ghost use Rattle.jobs.specs.Files.{HasFilesOf};
+ghost use Rattle.program_edge.specs.Asking.{IsAskedBy, input_count, input_of};
 ghost use Rattle.program_edge.specs.Telling.{IsFaultOf};
 
 use crate::fault::Fault;
@@ -13,20 +13,50 @@ use std::env;
 use std::io::ErrorKind;
 use std::rt::Env;
 
+/// The name of standard input. A file of this name is `./-`. (own choice)
+pub const STANDARD_INPUT: &str = "-";
+
 /// The job that the words of this process ask for, or the fault of its words. (own choice)
 pub fn asked<R: Env + AllocGlobal>(rt: &R) -> Result<(Job, Paths), Fault>
-    ensures { IfOk result (λ asked. HasFilesOf asked.0 asked.1) }
+    ensures files { IfOk result (λ asked. HasFilesOf asked.0 asked.1) }
+    ensures once { IfOk result (λ asked. input_count asked.1 ≤ 1) }
 {
     let words = read_words(rt)?;
     asked_by(rt.alloc(), words.as_slice())
 }
 
 /// The job that words ask for, or their fault. The first word is the program's own name. (own choice)
+///
+/// # Errors
+///
+/// `InputTwice` exactly where the words ask for a job of which more than one file is standard input; else
+/// what `fault_of` gives for the fault of `job_of`.
 pub fn asked_by(alloc: Global, words: &[String]) -> Result<(Job, Paths), Fault>
-    ensures files { IfOk result (λ asked. HasFilesOf asked.0 asked.1) }
-    ensures job { IfOk result (λ asked. AskFor (map string_bytes words.now) asked.0 asked.1) }
+    ensures { IsAskedBy (map string_bytes words.now) result }
 {
-    job_of(alloc, words).map_err(|fault| fault_of(alloc, fault))
+    let asked = match job_of(alloc, words) {
+        Ok(asked) => asked,
+        Err(fault) => return Err(fault_of(alloc, fault)),
+    };
+    if inputs(&asked.1) > 1 {
+        return Err(Fault::InputTwice);
+    }
+    Ok(asked)
+}
+
+// How many of a job's files are standard input.
+fn inputs(paths: &Paths) -> u32
+    ensures { result ≡ input_count paths.now }
+{
+    input(paths.program.as_str()) + input(paths.certificate.as_str()) + input(paths.script.as_str())
+}
+
+// 1 for the name of standard input, else 0.
+fn input(name: &str) -> u32
+    ensures value { result ≡ input_of name.now }
+    ensures most { result ≤ 1 }
+{
+    u32::from(name == STANDARD_INPUT)
 }
 
 // The words, the program's own name first.

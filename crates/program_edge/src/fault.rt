@@ -1,5 +1,6 @@
 //! Why the program does no job.
 
+use crate::unread::Unread;
 use verdict_report::fault::ServeFault;
 
 /// Why the program does no job: it says so, and ends with status 2, or with 0 for help and the version.
@@ -17,8 +18,12 @@ pub enum Fault {
     Emit,
     /// Memory ran out before the files were read.
     OutOfMemory,
+    /// More than one file of the job is standard input.
+    InputTwice,
     /// The file of this path can't be read, or is too long.
     File(String),
+    /// The same of a file of `explain`, which says why.
+    Explained(Unread),
     /// The job was not done.
     Serve(ServeFault),
 }

@@ -11,3 +11,4 @@ pub mod named_files;
 pub mod program;
 pub mod texts;
 pub mod told;
+pub mod unread;

@@ -1,11 +1,13 @@
 //! The texts of a job, from its files.
-ghost use Rattle.std.specs.Prelude.{◌≡◌, ◌≤◌, List, ℕ, Option, Some, None, MatchResult};
-ghost use Rattle.std.specs.Option.{option_map};
+ghost use Rattle.std.specs.Prelude.{◌≡◌, ◌≤◌, List, ℕ, Result, Ok, Err, MatchResult};
+ghost use Rattle.std.specs.Result.{result_map_both};
 ghost use Rattle.std.specs.String.{string_bytes};
 ghost use Rattle.jobs.specs.Files.{has_certificate};
 ghost use Rattle.program_edge.specs.FileTexts.{IsFound, AreTextsOf, text_of, most_program, most_file};
+ghost use Rattle.program_edge.specs.declared.unread.Reason.{Reason};
 
 use crate::named_files::NamedFiles;
+use crate::unread::{Reason, Unread, reason_of_opening, reason_of_reading};
 use jobs::job::{Job, Paths, Texts};
 use shared_fetch::serial::fetch;
 use shared_fetch::shared::fetch_shared;
@@ -20,8 +22,8 @@ pub const MOST_PROGRAM: u64 = 4_194_304;
 /// The most bytes of any other file.
 pub const MOST_FILE: u64 = 134_217_728;
 
-/// The texts of a job, from the files that its paths name, or the first path, in the order program,
-/// certificate, script, whose file can't be read or is too long. A program text that is too long is cut
+/// The texts of a job, from the files that its paths name, or the first file, in the order program,
+/// certificate, script, that can't be read or is too long, and why. A program text that is too long is cut
 /// behind the first byte too many, and is for the assembler to refuse. (own choice)
 pub fn read_texts<F: NamedFiles, R: Threads + Sync>(
     rt: &R,
@@ -29,7 +31,7 @@ pub fn read_texts<F: NamedFiles, R: Threads + Sync>(
     files: &F,
     job: &Job,
     paths: Paths,
-) -> Result<Texts, String>
+) -> Result<Texts, Unread>
     ensures { AreTextsOf (F.known files.now) job.now paths result }
 {
     let Paths {
@@ -44,56 +46,65 @@ pub fn read_texts<F: NamedFiles, R: Threads + Sync>(
     })
 }
 
-// The program text, or the path.
-fn read_program<F: NamedFiles>(alloc: Global, files: &F, path: String) -> Result<Vec<u8>, String>
-    ensures { (found : Option (List ℕ)) × IsFound (F.known files.now (string_bytes path)) most_program found
-        × MatchResult result (λ text. found ≡ Some text.items) (λ named. (found ≡ None) × (named ≡ path)) }
+// The program text, or why there is none.
+fn read_program<F: NamedFiles>(alloc: Global, files: &F, path: String) -> Result<Vec<u8>, Unread>
+    ensures { (found : Result (List ℕ) Reason) × IsFound (F.known files.now (string_bytes path)) most_program found
+        × MatchResult result (λ text. found ≡ Ok text.items)
+        (λ unread. (found ≡ Err unread.reason) × (unread.path ≡ path)) }
 {
     match read_file(alloc, files, path.as_str(), MOST_PROGRAM) {
-        Some(text) => Ok(text),
-        None => Err(path),
+        Ok(text) => Ok(text),
+        Err(reason) => Err(Unread { path, reason }),
     }
 }
 
-// The text of a file beside the program, empty where the job has none; or the path.
+// The text of a file beside the program, empty where the job has none; or why there is none.
 fn read_other<F: NamedFiles>(
     alloc: Global,
     files: &F,
     path: String,
     is_there: bool,
-) -> Result<Vec<u8>, String>
-    ensures { (found : Option (List ℕ)) × IsFound (F.known files.now (string_bytes path)) most_file found
-        × MatchResult result (λ text. text_of is_there found ≡ Some text.items)
-        (λ named. (text_of is_there found ≡ None) × (named ≡ path)) }
+) -> Result<Vec<u8>, Unread>
+    ensures { (found : Result (List ℕ) Reason) × IsFound (F.known files.now (string_bytes path)) most_file found
+        × MatchResult result (λ text. text_of is_there found ≡ Ok text.items)
+        (λ unread. (text_of is_there found ≡ Err unread.reason) × (unread.path ≡ path)) }
 {
     if !is_there {
         return Ok(Vec::new(alloc));
     }
     match read_file(alloc, files, path.as_str(), MOST_FILE) {
-        Some(text) if text.len() as u64 <= MOST_FILE => Ok(text),
-        _ => Err(path),
+        Ok(text) if text.len() as u64 <= MOST_FILE => Ok(text),
+        Ok(_) => Err(Unread {
+            path,
+            reason: Reason::TooLong,
+        }),
+        Err(reason) => Err(Unread { path, reason }),
     }
 }
 
 // The certificate in pieces, fetched by as many threads as share the job, empty where the job has none; or
-// the path.
+// why there is none.
 fn read_certificate<F: NamedFiles, R: Threads + Sync>(
     rt: &R,
     alloc: Global,
     files: &F,
     path: String,
     job: &Job,
-) -> Result<Text, String>
-    ensures { (found : Option (List ℕ)) × IsFound (F.known files.now (string_bytes path)) most_file found
-        × MatchResult result (λ text. text_of (has_certificate job.now) found ≡ Some text)
-        (λ named. (text_of (has_certificate job.now) found ≡ None) × (named ≡ path)) }
+) -> Result<Text, Unread>
+    ensures { (found : Result (List ℕ) Reason) × IsFound (F.known files.now (string_bytes path)) most_file found
+        × MatchResult result (λ text. text_of (has_certificate job.now) found ≡ Ok text)
+        (λ unread. (text_of (has_certificate job.now) found ≡ Err unread.reason) × (unread.path ≡ path)) }
 {
     if !job.has_certificate() {
         return Ok(Text::new(alloc, Vec::new(alloc)));
     }
     match read_pieces(rt, alloc, files, path.as_str(), fetchers(job)) {
-        Some(text) if text.is_within(MOST_FILE as usize) => Ok(text),
-        _ => Err(path),
+        Ok(text) if text.is_within(MOST_FILE as usize) => Ok(text),
+        Ok(_) => Err(Unread {
+            path,
+            reason: Reason::TooLong,
+        }),
+        Err(reason) => Err(Unread { path, reason }),
     }
 }
 
@@ -105,25 +116,34 @@ fn fetchers(job: &Job) -> u32 {
     }
 }
 
-// The file of this name in pieces, or its first `MOST_FILE + 1` bytes.
+// The file of this name in pieces, or its first `MOST_FILE + 1` bytes; or why it can't be read.
 fn read_pieces<F: NamedFiles, R: Threads + Sync>(
     rt: &R,
     alloc: Global,
     files: &F,
     name: &str,
     workers: u32,
-) -> Option<Text>
+) -> Result<Text, Reason>
     ensures { IsFound (F.known files.now name.now) most_file result }
 {
-    let mut opened = files.open(name)?;
-    fetch_shared(rt, alloc, &mut opened, MOST_FILE, workers).ok()
+    let mut opened = files
+        .open(name)
+        .map_err(|error| reason_of_opening(error.kind()))?;
+    fetch_shared(rt, alloc, &mut opened, MOST_FILE, workers).map_err(reason_of_reading)
 }
 
-// The file of this name, or its first `most + 1` bytes.
-fn read_file<F: NamedFiles>(alloc: Global, files: &F, name: &str, most: u64) -> Option<Vec<u8>>
+// The file of this name, or its first `most + 1` bytes; or why it can't be read.
+fn read_file<F: NamedFiles>(
+    alloc: Global,
+    files: &F,
+    name: &str,
+    most: u64,
+) -> Result<Vec<u8>, Reason>
     requires { most ≤ 134217728 }
-    ensures { IsFound (F.known files.now name.now) most (option_map (λ v. v.items) result) }
+    ensures { IsFound (F.known files.now name.now) most (result_map_both (λ v. v.items) (λ reason. reason) result) }
 {
-    let mut file = files.open(name)?;
-    fetch(alloc, &mut file, most).ok()
+    let mut file = files
+        .open(name)
+        .map_err(|error| reason_of_opening(error.kind()))?;
+    fetch(alloc, &mut file, most).map_err(reason_of_reading)
 }

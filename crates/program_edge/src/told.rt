@@ -1,9 +1,10 @@
 //! What the program says of a fault, and its status.
 ghost use Rattle.std.specs.Prelude.{◌≡◌, OnOk};
 ghost use Rattle.std.specs.Io.KnownBytes.{Appends};
-ghost use Rattle.program_edge.specs.Telling.{IsTold, said_of, serve_name};
+ghost use Rattle.program_edge.specs.Telling.{IsTold, reason_words, said_of, serve_name};
 
 use crate::fault::Fault;
+use crate::unread::Reason;
 use std::io;
 use std::io::Write;
 use verdict_report::fault::ServeFault;
@@ -48,11 +49,34 @@ fn say<W: Write>(fault: &Fault, writer: &mut W) -> io::Result<()>
         Fault::Predict => writeln!(writer, "multiscalar: 2 Predict"),
         Fault::Emit => writeln!(writer, "multiscalar: 3 Emit"),
         Fault::OutOfMemory => writeln!(writer, "multiscalar: 4 OutOfMemory"),
+        Fault::InputTwice => writeln!(
+            writer,
+            "multiscalar: 5 InputTwice: only one file can be - (standard input)"
+        ),
         Fault::File(path) => writeln!(writer, "multiscalar: file {path}"),
+        Fault::Explained(unread) => {
+            let path = unread.path.as_str();
+            let reason = reason_name(unread.reason);
+            writeln!(writer, "multiscalar: file {path}: {reason}")
+        }
         Fault::Serve(fault) => {
             let name = name_of(*fault);
             writeln!(writer, "multiscalar: {name}")
         }
+    }
+}
+
+// Why a file gives no text.
+fn reason_name(reason: Reason) -> &'static str
+    ensures { result.now ≡ reason_words reason }
+{
+    match reason {
+        Reason::NoSuchFile => "no such file",
+        Reason::IsDirectory => "is a directory",
+        Reason::NotPermitted => "no permission",
+        Reason::TooLong => "longer than 134217728 bytes",
+        Reason::OutOfMemory => "out of memory",
+        Reason::Other => "cannot be read",
     }
 }
 

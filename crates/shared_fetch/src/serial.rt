@@ -8,9 +8,10 @@ use thiserror::Error;
 /// Why a file's bytes are not there.
 #[derive(Clone, Copy, Debug, PartialEq, Eq, Error)]
 pub enum FetchFault {
-    /// 1: the reader failed, or was interrupted more than 1,000 times.
+    /// 1: the reader failed with an error of this kind; `Interrupted` where it was interrupted more than
+    /// 1,000 times.
     #[error("1 Read")]
-    Read,
+    Read(ErrorKind),
     /// 2: memory ran out.
     #[error("2 OutOfMemory")]
     OutOfMemory,
@@ -42,13 +43,13 @@ pub fn fetch<R: Read>(alloc: Global, reader: &mut R, most: u64) -> Result<Vec<u8
             Ok(count) => all
                 .extend_from_slice(&chunk[..count])
                 .map_err(|_| FetchFault::OutOfMemory)?,
-            Err(error) if error.kind() == ErrorKind::Interrupted => {
-                if interruptions == MOST_INTERRUPTIONS {
-                    return Err(FetchFault::Read);
+            Err(error) => {
+                let kind = error.kind();
+                if kind != ErrorKind::Interrupted || interruptions == MOST_INTERRUPTIONS {
+                    return Err(FetchFault::Read(kind));
                 }
                 interruptions += 1;
             }
-            Err(_) => return Err(FetchFault::Read),
         }
     }
     Ok(all)

@@ -12,5 +12,5 @@ pub returns-in-Err : goal.returns-in-Err
 returns-in-Err g c = record {
   read = c.read_texts.result;
   texts = c.read_texts.ensures;
-  served = rw c.in-Err.is c.tell.ensures;
+  served = rw (c.in-Err.is, ← c.fault_of_file.ensures) c.tell.ensures;
 }

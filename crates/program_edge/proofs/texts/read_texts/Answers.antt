@@ -1,14 +1,44 @@
 -- A script that was not looked for may hold anything.
-use Rattle.std.proofs.Common.{rules, None}
+use Rattle.std.proofs.Common.{rules}
+use Rattle.std.specs.String.{string_bytes}
+use Rattle.program_edge.specs.FileTexts.{most_file}
+use Rattle.program_edge.proofs.FoundLemmas.{some_found}
 use Rattle.program_edge.proofs.texts.read_texts.Goals as goal
 
 pub returns-in_err-read_certificate : goal.returns-in_err-read_certificate
-returns-in_err-read_certificate g c = record {
+returns-in_err-read_certificate g c =
+    let script = some_found (g.F.NamedFiles.known c.args.files.now (string_bytes c.args.paths.script)) most_file in
+    record {
+      program = c.read_program.ensures.0;
+      certificate = c.read_certificate.ensures.0;
+      script = script.0;
+      found_program = c.read_program.ensures.1;
+      found_certificate = c.read_certificate.ensures.1;
+      found_script = script.1;
+      gives = search rules;
+    }
+
+pub returns-in_err-read_program : goal.returns-in_err-read_program
+returns-in_err-read_program g c =
+    let certificate = some_found (g.F.NamedFiles.known c.args.files.now (string_bytes c.args.paths.certificate)) most_file in
+    let script = some_found (g.F.NamedFiles.known c.args.files.now (string_bytes c.args.paths.script)) most_file in
+    record {
+      program = c.read_program.ensures.0;
+      certificate = certificate.0;
+      script = script.0;
+      found_program = c.read_program.ensures.1;
+      found_certificate = certificate.1;
+      found_script = script.1;
+      gives = search rules;
+    }
+
+pub returns-in_err-read_other : goal.returns-in_err-read_other
+returns-in_err-read_other g c = record {
   program = c.read_program.ensures.0;
   certificate = c.read_certificate.ensures.0;
-  script = None;
+  script = c.read_other.ensures.0;
   found_program = c.read_program.ensures.1;
   found_certificate = c.read_certificate.ensures.1;
-  found_script = tt;
+  found_script = c.read_other.ensures.1;
   gives = search rules;
 }

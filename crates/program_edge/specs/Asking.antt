@@ -1,0 +1,45 @@
+-- What the program is asked for by its words (own choice).
+use Rattle.std.specs.Prelude.{◌≡◌, ℕ, ◌+◌, ◌<◌, ◌≤◌, List, if◌then◌else◌, codes, Result, Ok, Err}
+use Rattle.std.specs.String.{string_bytes}
+use Rattle.std.specs.Str.{bytes_eq}
+use Rattle.clap.specs.Words.{Text}
+use Rattle.jobs.specs.Files.{HasFilesOf}
+use Rattle.jobs.specs.declared.job.Job.{Job}
+use Rattle.jobs.specs.declared.job.Paths.{Paths}
+use Rattle.command_line.specs.Asked.{AskFor, IsFaultOf as IsFaultOfWords}
+use Rattle.command_line.specs.declared.words.UsageFault.{UsageFault}
+use Rattle.program_edge.specs.declared.fault.Fault.{Fault}
+use Rattle.program_edge.specs.declared.fault.Fault.TheVariants.{InputTwice}
+use Rattle.program_edge.specs.Telling.{IsFaultOf}
+
+-- a file of the name `-` is standard input
+abbrev pub input_of : List ℕ → ℕ
+input_of name = if bytes_eq name (codes "-") then 1 else 0
+
+-- how many files of a job are standard input
+abbrev pub input_count : Paths → ℕ
+input_count paths =
+    input_of (string_bytes paths.program) + input_of (string_bytes paths.certificate) + input_of (string_bytes paths.script)
+
+-- the words ask for this job over these files
+abbrev pub Ask : List Text → Job → Paths → Type 0
+Ask words job paths = AskFor words job paths × HasFilesOf job paths
+
+-- the words ask for a job of which more than one file is standard input
+pub record AskForInputTwice (words : List Text) : Type 0 where
+  pub job : Job
+  pub paths : Paths
+  pub asked : Ask words job paths
+  pub twice : 1 < input_count paths
+
+-- the words ask for no job: what is told is told of a fault that they have
+pub record IsTheirFault (words : List Text) (told : Fault) : Type 0 where
+  pub fault : UsageFault
+  pub theirs : IsFaultOfWords words fault
+  pub told_so : IsFaultOf fault told
+
+-- what the words come to: a job of which at most one file is standard input, or why there is none
+abbrev pub IsAskedBy : List Text → Result (Job × Paths) Fault → Type 0
+IsAskedBy words (Ok asked) = Ask words asked.0 asked.1 × (input_count asked.1 ≤ 1)
+IsAskedBy words (Err InputTwice) = AskForInputTwice words
+IsAskedBy words (Err told) = IsTheirFault words told
