@@ -1,6 +1,7 @@
--- Worked examples, computed by the checker: the first steps of the loop `count` on two units.
-use Rattle.std.specs.Prelude.{◌≡◌, [], ◌∷◌, false}
-use Rattle.std.proofs.Common.{refl}
+-- Worked examples, computed by the checker: the first steps of the loop `count` on two
+-- units, what the predictors answer, and which events are of different units.
+use Rattle.std.specs.Prelude.{◌≡◌, ◌<◌, [], ◌∷◌, false}
+use Rattle.std.proofs.Common.{refl, arith, lit<}
 use Rattle.mips_plain.specs.Words.{address, index_of}
 use Rattle.mips_plain.specs.MemoryMap.{region, effective}
 use Rattle.machine_model.specs.Answer.{least}
@@ -8,6 +9,7 @@ use Rattle.machine_model.specs.Examples.{count}
 use Rattle.machine_events.specs.declared.event.Event.TheVariants.{Assign, Exec, Transfer, Drain, Retire}
 use Rattle.synchronous_runner.specs.declared.predictor.Predictor.TheVariants as predictor
 use Rattle.synchronous_runner.specs.Predictions.{answer_for, asked}
+use Rattle.synchronous_runner.specs.Lockstep.{FromLast}
 use Rattle.synchronous_runner.specs.Steps.{Course, beginning, registers, first_allowed, goes_on, after_steps}
 
 -- the first task begins
@@ -68,3 +70,11 @@ list_answer = refl
 -- after its last number a list begins again
 pub list_again : asked (predictor.Script (record { list = 7 ∷ 1 ∷ []; at = 1 })) ≡ predictor.Script (record { list = 7 ∷ 1 ∷ []; at = 0 })
 list_again = refl
+
+-- the free unit and then the head, in a queue of one
+pub free_then_head : FromLast 1 2 (Assign 0 ∷ Exec 0 ∷ [])
+free_then_head = (lit< tt, (lit< tt, tt))
+
+-- no unit has two events in a step
+pub not_twice : FromLast 2 2 (Exec 1 ∷ Exec 1 ∷ []) → ⊥
+not_twice h = let again : 1 < 1 = h.1.0 in omega arith
