@@ -9,8 +9,9 @@ returns c =
     let one = with_argument c.in_ok-arg.ensures (c.with_usage.ensures.app ∙ c.subcommand-command.ensures.app, c.with_usage.ensures.local ∙ c.subcommand-command.ensures.local) c.program.ensures.rule c.program.ensures.local in
     let two = with_argument c.in_ok-arg-2.ensures one c.free_certificate.ensures.rule c.free_certificate.ensures.local in
     let three = with_argument c.in_ok-arg-3.ensures two c.least.ensures.rule c.least.ensures.local in
-    let four = with_argument c.in_ok-arg-4.ensures three c.units.ensures.rule c.units.ensures.local in
-    let five = with_argument c.in_ok-arg-5.ensures four c.workers.ensures.rule c.workers.ensures.local in
-    let six = with_argument c.in_ok-arg-6.ensures five c.budget.ensures.rule c.budget.ensures.local in
-    let seven = with_argument c.in_ok-arg-7.ensures six c.word.ensures.rule c.word.ensures.local in
-    IfOk-weaker c.arg-8.result _ _ (λ _ h. with_argument h seven c.word-2.ensures.rule c.word-2.ensures.local) c.arg-8.ensures
+    let four = with_argument c.in_ok-arg-4.ensures three c.schedule.ensures.rule c.schedule.ensures.local in
+    let five = with_argument c.in_ok-arg-5.ensures four c.units.ensures.rule c.units.ensures.local in
+    let six = with_argument c.in_ok-arg-6.ensures five c.workers.ensures.rule c.workers.ensures.local in
+    let seven = with_argument c.in_ok-arg-7.ensures six c.budget.ensures.rule c.budget.ensures.local in
+    let eight = with_argument c.in_ok-arg-8.ensures seven c.word.ensures.rule c.word.ensures.local in
+    IfOk-weaker c.arg-9.result _ _ (λ _ h. with_argument h eight c.word-2.ensures.rule c.word-2.ensures.local) c.arg-9.ensures
