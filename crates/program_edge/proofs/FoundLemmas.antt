@@ -1,5 +1,5 @@
 -- Whatever is known of a file, reading it may find something: for files that were not read.
-use Rattle.std.proofs.Common.{◌+◌, ◌≤◌, ℕ, List, [], length, take, refl, arith}
+use Rattle.std.proofs.Common.{◌+◌, ℕ, List, [], take, refl, arith}
 use Rattle.std.specs.Prelude.{Result, Ok, Err}
 use Rattle.program_edge.specs.declared.unread.Reason.{Reason}
 use Rattle.program_edge.specs.FileTexts.{Known, Unknown, Refuses, Holds, IsFound, opening_reason}
