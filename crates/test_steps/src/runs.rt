@@ -9,7 +9,7 @@ use std::alloc::Global;
 use std::process::Abort;
 use std::rt::HostRuntime;
 use synchronous_runner::predictor::Predictor;
-use synchronous_runner::report::{How, StepsFault};
+use synchronous_runner::report::{How, StepsFault, StepsReport};
 use synchronous_runner::runner::run_steps;
 use test_programs::certificates::{
     COUNT_CERTIFICATE, DIAMOND_CERTIFICATE, PAIR_CERTIFICATE, SPIN_CERTIFICATE,
@@ -22,6 +22,18 @@ fn accepted(rt: &impl Abort, alloc: Global, program: &str, certificate: &str) ->
     let cert = read(alloc, certificate.as_bytes(), &program).ok();
     let cert = cert.expect(rt, "a certificate");
     Accepted::new(program, cert).ok().expect(rt, "accepted")
+}
+
+/// What a run leaves that follows the first target.
+fn run<'a, R: Abort>(
+    rt: &R,
+    alloc: Global,
+    accepted: &'a Accepted,
+    units: u32,
+    budget: u32,
+) -> StepsReport<'a> {
+    let report = run_steps(alloc, accepted, units, budget, Predictor::First);
+    report.ok().expect(rt, "a report")
 }
 
 /// A run to its end by `halt`, which takes so many steps and events.
@@ -84,8 +96,7 @@ fn steps_of_diamond(rt: HostRuntime) {
 fn events_of_pair(rt: HostRuntime) {
     let alloc = rt.alloc();
     let accepted = accepted(&rt, alloc, PAIR, PAIR_CERTIFICATE);
-    let report = run_steps(alloc, &accepted, 2, 1_000_000, Predictor::First);
-    let report = report.ok().expect(&rt, "a report");
+    let report = run(&rt, alloc, &accepted, 2, 1_000_000);
     let events = [
         Event::Assign(0),
         Event::Assign(1),
@@ -108,15 +119,13 @@ fn events_of_pair(rt: HostRuntime) {
 fn budgets(rt: HostRuntime) {
     let alloc = rt.alloc();
     let spin = accepted(&rt, alloc, SPIN, SPIN_CERTIFICATE);
-    let report = run_steps(alloc, &spin, 1, 5, Predictor::First);
-    let report = report.ok().expect(&rt, "a report");
+    let report = run(&rt, alloc, &spin, 1, 5);
     assert_eq!(&rt; report.machine.outcome(), Standing::Running);
     assert_eq!(&rt; report.how, How::OutOfBudget);
     assert_eq!(&rt; report.steps, 5);
     assert_eq!(&rt; report.machine.length(), 5);
     let pair = accepted(&rt, alloc, PAIR, PAIR_CERTIFICATE);
-    let report = run_steps(alloc, &pair, 2, 2, Predictor::First);
-    let report = report.ok().expect(&rt, "a report");
+    let report = run(&rt, alloc, &pair, 2, 2);
     assert_eq!(&rt; report.how, How::OutOfBudget);
     assert_eq!(&rt; report.steps, 2);
     assert_eq!(&rt; report.machine.length(), 2);
