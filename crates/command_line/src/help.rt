@@ -13,7 +13,7 @@ the registers that it may create and the tasks that may follow it.
 
 PROGRAM is a program text. CERT is its certificate: for each task, the registers that may still be
 written from each of its instructions on. SCRIPT is a list of events, one on a line. Files are read
-whole before any text is judged.";
+whole before any text is judged. One of them may be -, standard input.";
 
 /// What stands below every help of the program.
 pub const STATUS: &str = "Exit status:
@@ -82,7 +82,8 @@ Of a text that is no program it writes the first fault, and what would be right:
 With CERT it says, too, why that text is no certificate, or that it is none of the program as it stands,
 and how to make it anew.
 
-The exit status is 0 where nothing is wrong, and 1 where something is or a text is refused.
+The exit status is 0 where nothing is wrong, and 1 where something is or a text is refused. Where a file
+cannot be read, it says why: multiscalar: file FILE: no such file
 
 For example:
   ./multiscalar explain examples/five-findings/program.s";
