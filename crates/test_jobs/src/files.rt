@@ -51,12 +51,12 @@ impl Read for Worn {
 const FETCHED: [(u32, u32, bool, Result<usize, FetchFault>); 8] = [
     (0, 3, false, Ok(3)),
     (1000, 3, false, Ok(3)),
-    (1001, 3, false, Err(FetchFault::Read)),
-    (0, 0, true, Err(FetchFault::Read)),
-    (0, 1, true, Err(FetchFault::Read)),
-    (0, 2, true, Err(FetchFault::Read)),
-    (0, 3, true, Err(FetchFault::Read)),
-    (0, 4, true, Err(FetchFault::Read)),
+    (1001, 3, false, Err(FetchFault::Read(ErrorKind::Interrupted))),
+    (0, 0, true, Err(FetchFault::Read(ErrorKind::Other))),
+    (0, 1, true, Err(FetchFault::Read(ErrorKind::Other))),
+    (0, 2, true, Err(FetchFault::Read(ErrorKind::Other))),
+    (0, 3, true, Err(FetchFault::Read(ErrorKind::Other))),
+    (0, 4, true, Err(FetchFault::Read(ErrorKind::Other))),
 ];
 
 fn fetched(alloc: Global, reader: Worn) -> Result<usize, FetchFault> {
@@ -209,7 +209,7 @@ fn fails_as_one_thread_does(rt: HostRuntime) {
     file.fails_from = 0;
     file.is_worn = true;
     let answer = fetch_shared(&rt, rt.alloc(), &mut file, 134_217_728, 4).err();
-    assert!(&rt; answer == Some(FetchFault::Read));
+    assert!(&rt; answer == Some(FetchFault::Read(ErrorKind::Other)));
 }
 
 // Takes one byte a write, and fails at the write of this number.
