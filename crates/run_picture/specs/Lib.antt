@@ -8,3 +8,4 @@ pub mod Adding
 pub mod WordsText
 pub mod ShapeText
 pub mod Picture
+pub mod Examples

@@ -1,6 +1,6 @@
 -- Long histories, summed by 290 stretches of equal length: how many events of a stretch each unit spent on
 -- tasks that ended in each way (own choice).
-use Rattle.std.specs.Prelude.{ℕ, ◌+◌, ◌-◌, ◌*◌, ◌/◌, ◌%◌, List, [], ◌∷◌, flat_map, min, max, nat_eq, nat_lt, ◌&&◌, if◌then◌else◌, sum, map}
+use Rattle.std.specs.Prelude.{ℕ, ◌+◌, ◌-◌, ◌*◌, ◌/◌, ◌%◌, List, [], ◌∷◌, flat_map, min, max, nat_eq, nat_lt, ◌&&◌, if◌then◌else◌}
 use Rattle.std.specs.List.{range_with_len, sum_by}
 use Rattle.task_lives.specs.declared.life.Ending.{Ending}
 use Rattle.task_lives.specs.declared.life.Ending.TheVariants.{Retired, Squashed, Dropped, Unfinished}
@@ -45,7 +45,7 @@ share_of length lives part = sum_by (counted length part) lives
 
 -- what lies below a part in its column
 abbrev pub below_of : (length : ℕ) → List Life → (part : ℕ) → ℕ
-below_of length lives part = sum (map (share_of length lives) (range_with_len (part - part % 4) (part % 4)))
+below_of length lives part = sum_by (share_of length lives) (range_with_len (part - part % 4) (part % 4))
 
 -- where a stretch ends
 abbrev pub end_of : (events stretch : ℕ) → ℕ

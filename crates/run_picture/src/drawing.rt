@@ -73,12 +73,29 @@ fn shapes_of(
     push_titles(&mut shapes, units, count, add_up(lives))?;
     push_lanes(&mut shapes, units)?;
     push_axis(&mut shapes, units, count)?;
-    if events.len() <= MOST_SINGLE {
-        push_single(&mut shapes, tasks, units, events, lives)?;
-    } else {
-        push_summed(alloc, &mut shapes, units, count, lives)?;
-    }
+    push_inner(alloc, &mut shapes, tasks, units, events, lives)?;
     Ok(shapes)
+}
+
+/// Adds what stands inside the frame.
+fn push_inner(
+    alloc: Global,
+    shapes: &mut Vec<Shape>,
+    tasks: &[Descriptor],
+    units: u32,
+    events: &[Event],
+    lives: &[Life],
+) -> Result<(), AllocError>
+    requires some { 0 < units }
+    requires room { length events.now ≤ most_events }
+    requires few { AreFew lives.now }
+    ensures { OnOk result (shapes.new.items ≡ shapes.old.items ++ inner_shapes tasks.now units events.now lives.now) }
+{
+    if events.len() <= MOST_SINGLE {
+        push_single(shapes, tasks, units, events, lives)
+    } else {
+        push_summed(alloc, shapes, units, events.len() as u32, lives)
+    }
 }
 
 /// Adds a bar for each life, the marks of the events, and the names of the tasks.

@@ -12,17 +12,17 @@ pub(crate) fn single_events(alloc: Global, runs: &[EventRun]) -> Result<Vec<Even
 {
     let mut events = Vec::new(alloc);
     for run in runs {
-        push_times(&mut events, run.event, run.count)?;
+        push_times(&mut events, &run.event, run.count)?;
     }
     Ok(events)
 }
 
 /// Adds an event so many times.
-fn push_times(events: &mut Vec<Event>, event: Event, count: u32) -> Result<(), AllocError>
-    ensures { OnOk result (events.new.items ≡ events.old.items ++ replicate count event) }
+fn push_times(events: &mut Vec<Event>, event: &Event, count: u32) -> Result<(), AllocError>
+    ensures { OnOk result (events.new.items ≡ events.old.items ++ replicate count event.now) }
 {
     for _ in 0..count {
-        events.push(event)?;
+        events.push(*event)?;
     }
     Ok(())
 }

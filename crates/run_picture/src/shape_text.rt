@@ -1,6 +1,6 @@
 //! The SVG element of a shape.
 
-ghost use Rattle.std.specs.Prelude.{◌≡◌, ◌++◌, OnOk};
+ghost use Rattle.std.specs.Prelude.{◌≡◌, ◌+◌, ◌++◌, OnOk};
 ghost use Rattle.std.specs.String.{string_bytes};
 ghost use Rattle.run_picture.specs.ShapeText.{beginning_text, end_text, ending_text, hover_text, life_text, shape_text, shapes_text, share_text, style_text};
 
@@ -106,14 +106,21 @@ fn write_life(text: &mut String, name: &str, life: Life) -> Result<(), AllocErro
     ensures { OnOk result (string_bytes text.new ≡ string_bytes text.old ++ life_text name.now life) }
 {
     let unit = life.unit;
-    let first = u64::from(life.first) + 1;
-    let last = u64::from(life.last) + 1;
+    let first = number_of(life.first);
+    let last = number_of(life.last);
     let executed = life.executed;
     let ending = word_of(life.ending);
     write!(
         text,
         "<title>task {name}, unit {unit}, events {first} to {last}, instructions: {executed}, {ending}</title>"
     )
+}
+
+/// The number of an event, counted from 1.
+fn number_of(event: u32) -> u64
+    ensures { result ≡ event + 1 }
+{
+    u64::from(event) + 1
 }
 
 /// The word for an ending.

@@ -1,8 +1,8 @@
 //! Long histories, summed by stretches of equal length: how many events of a stretch each unit spent on tasks
 //! that ended in each way.
 
-ghost use Rattle.std.specs.Prelude.{◌≡◌, ℕ, ◌+◌, ◌*◌, ◌-◌, ◌%◌, ◌++◌, ◌<◌, ◌≤◌, ◌^◌, IfOk, OnOk, length, map, slice_index, vec_len, sum};
-ghost use Rattle.std.specs.List.{range_with_len};
+ghost use Rattle.std.specs.Prelude.{◌≡◌, ℕ, ◌+◌, ◌*◌, ◌-◌, ◌%◌, ◌++◌, ◌<◌, ◌≤◌, ◌^◌, IfOk, OnOk, length, map, slice_index};
+ghost use Rattle.std.specs.List.{range_with_len, sum_by};
 ghost use Rattle.machine_model.specs.Answer.{most_events};
 ghost use Rattle.task_lives.specs.Sums.{AreFew};
 ghost use Rattle.run_picture.specs.Stretches.{column_part, ending_of as ending_of_part, end_of, height_of, length_of, overlap as overlap_of, part_of as part_of_ending, rectangle_of, share_of, stretches_of};
@@ -71,6 +71,7 @@ pub(crate) fn push_stretches(
 }
 
 /// The shares of so many parts: how many events of its stretch count for each.
+#[tactic(auto, using(crate::proofs::Shares::no_shares))]
 fn shares_of(alloc: Global, parts: usize, span: u32, lives: &[Life]) -> Result<Vec<u64>, AllocError>
     requires some { 0 < span }
     requires short { span ≤ 4000 }
@@ -87,10 +88,11 @@ fn shares_of(alloc: Global, parts: usize, span: u32, lives: &[Life]) -> Result<V
 /// Adds a life to the shares of its unit.
 fn add_life(shares: &mut Vec<u64>, span: u32, life: Life)
     requires some { 0 < span }
-    requires room { HaveRoom span shares.old.items }
+    requires room { HaveRoom (span + span) shares.old.items }
     ensures { AddsLife span life shares.old.items shares.new.items }
 {
-    for stretch in life.first / span..life.last / span + 1 {
+    let last = (life.last / span).min(STRETCHES - 1);
+    for stretch in life.first / span..last + 1 {
         add_overlap(shares, span, stretch, life);
     }
 }
@@ -134,7 +136,7 @@ fn push_part(
     requires small { (k : ℕ) → k < length shares.now → slice_index shares.now k < 2 ^ 40 }
     requires room { events ≤ most_events }
     ensures { OnOk result (shapes.new.items ≡ shapes.old.items
-        ++ column_part events part (sum (map (slice_index shares.now) (range_with_len (part - part % 4) (part % 4)))) (slice_index shares.now part)) }
+        ++ column_part events part (sum_by (slice_index shares.now) (range_with_len (part - part % 4) (part % 4))) (slice_index shares.now part)) }
 {
     let here = shares[part];
     if here > 0 {
@@ -148,7 +150,7 @@ fn push_part(
 fn below(shares: &[u64], part: usize) -> u64
     requires within { part < length shares.now }
     requires small { (k : ℕ) → k < length shares.now → slice_index shares.now k < 2 ^ 40 }
-    ensures value { result ≡ sum (map (slice_index shares.now) (range_with_len (part - part % 4) (part % 4))) }
+    ensures value { result ≡ sum_by (slice_index shares.now) (range_with_len (part - part % 4) (part % 4)) }
     ensures bound { result < 2 ^ 42 }
 {
     let mut below = 0;
