@@ -1,5 +1,6 @@
 -- One part of a list behind another.
-use Rattle.std.proofs.Common.{◌≡◌, ℕ, zero, suc, ◌+◌, List, [], ◌∷◌, ◌++◌, refl, ap, ◌∙◌, sym, append_assoc, append-nil, add_assoc, arith, subst}
+use Rattle.std.proofs.Common.{◌≡◌, ℕ, zero, suc, ◌+◌, List, [], ◌∷◌, ◌++◌, refl, ap, ◌∙◌, sym, append_assoc, append-nil, add-one, arith, replicate}
+use Rattle.std.proofs.lemmas.List.{replicate-append-replicate}
 use Rattle.std.specs.List.{range_with_len}
 use Rattle.std.specs.Prelude.{flat_map}
 
@@ -16,9 +17,9 @@ pub range_more : {A : Type 0} (f : ℕ → List A) (before : List A) (n : ℕ) �
 range_more f before n =
     append_assoc before (flat_map f (range_with_len 0 n)) (f n)
     ∙ ap (λ rest. before ++ rest) (sym (range_one_more f 0 n n (omega arith)))
-    ∙ ap (λ m. before ++ flat_map f (range_with_len 0 m)) (omega arith)
+    ∙ ap (λ m. before ++ flat_map f (range_with_len 0 m)) (sym (add-one n))
 
--- two and three parts
-pub two_parts : {A : Type 0} (before a b middle last : List A) → middle ≡ before ++ a → last ≡ middle ++ b → last ≡ before ++ (a ++ b)
-two_parts before a b middle last one two =
-    two ∙ ap (λ front. front ++ b) one ∙ append_assoc before a b
+-- one copy more
+pub replicate_more : {A : Type 0} (before : List A) (n : ℕ) (x : A) → (before ++ replicate n x) ++ x ∷ [] ≡ before ++ replicate (n + 1) x
+replicate_more before n x =
+    append_assoc before (replicate n x) (x ∷ []) ∙ ap (λ rest. before ++ rest) (replicate-append-replicate n 1 x)

@@ -6,7 +6,7 @@ use Rattle.std.proofs.Math.Nat.{mul-le-mul_left}
 use Rattle.std.proofs.lemmas.Grind.{same_number_lists}
 use Rattle.std.proofs.lemmas.List.FromFn.{length-map-range_with_len, get_or-map-range_with_len}
 use Rattle.std.proofs.lemmas.List.{length-take}
-use Rattle.std.proofs.lemmas.List.Sums.{sum_by_more}
+use Rattle.std.proofs.lemmas.List.Sums.{sum_by-cons, sum_by_more}
 use Rattle.task_lives.specs.declared.life.Ending.TheVariants.{Retired}
 use Rattle.task_lives.specs.declared.life.Life.{Life}
 use Rattle.run_picture.specs.Stretches.{below_of, column_part, counted, share_of}
@@ -36,7 +36,8 @@ share-le len [] k = omega arith
 share-le len (life ∷ lives) k =
     let here = counted-le len k life in
     let rest = share-le len lives k in
-    omega (arith, here, rest)
+    let both = sum_by-cons (counted len k) life lives in
+    omega (arith, here, rest, both)
 
 pub life_more : (len parts : ℕ) (lives : List Life) (i : ℕ) (d : Life) (old new : List ℕ) → i < length lives → old ≡ shares len (take i lives) parts → AddsLife len (get_or lives i d) old new → new ≡ shares len (take (i + 1) lives) parts
 life_more len parts lives i d old new within is adds =
@@ -84,7 +85,9 @@ shares_in len lives parts a zero within = refl
 shares_in len lives parts a (suc n) within =
     let here = share_at len lives parts a (omega (arith, within)) in
     let rest = shares_in len lives parts (a + 1) n (omega (arith, within)) in
-    omega (arith, here, rest)
+    let left = sum_by-cons (λ k. get_or (shares len lives parts) k 0) a (range_with_len (a + 1) n) in
+    let right = sum_by-cons (share_of len lives) a (range_with_len (a + 1) n) in
+    omega (arith, here, rest, left, right)
 
 column_same : (events len parts : ℕ) (lives : List Life) (xs : List ℕ) (part : ℕ) → part < parts → xs ≡ shares len lives parts
     → column_part events part (sum_by (λ k. get_or xs k 0) (range_with_len (part - part % 4) (part % 4))) (get_or xs part 0) ≡ column_part events part (below_of len lives part) (share_of len lives part)
@@ -115,7 +118,9 @@ sum_one_more f a zero last is =
     omega (arith, same)
 sum_one_more f a (suc n) last is =
     let rest = sum_one_more f (a + 1) n last (omega (arith, is)) in
-    omega (arith, rest)
+    let left = sum_by-cons f a (range_with_len (a + 1) (suc n)) in
+    let right = sum_by-cons f a (range_with_len (a + 1) n) in
+    omega (arith, rest, left, right)
 
 pub sum_more : (f : ℕ → ℕ) (a n : ℕ) → sum_by f (range_with_len a (n + 1)) ≡ sum_by f (range_with_len a n) + f (a + n)
 sum_more f a n = ap (λ m. sum_by f (range_with_len a m)) (add-one n) ∙ sum_one_more f a n (a + n) refl

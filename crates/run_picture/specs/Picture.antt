@@ -38,18 +38,33 @@ shapes_of tasks units history lives =
     ++ (lanes_of units ++ (axis_of units (length history) ++ inner_shapes tasks units history lives))
 
 -- the beginning of the file: its size, what it is called, the style sheet, and the legend
-abbrev pub opening_text : (units events : ℕ) → List ℕ
-opening_text units events =
-    codes "<svg xmlns='http://www.w3.org/2000/svg' viewBox='0 0 1280 " ++ (decimal ((bottom_of units + 9200) / 100)
-    ++ (codes "' width='1280' height='" ++ (decimal ((bottom_of units + 9200) / 100)
-    ++ (codes "' role='img' font-family='system-ui,Segoe UI,Liberation Sans,Arial,sans-serif'><title>Run on " ++ (decimal units
-    ++ (codes " units, " ++ (decimal events ++ (codes " events</title>" ++ 10 ∷ []))))))))
+abbrev pub height_of : (units : ℕ) → ℕ
+height_of units = (bottom_of units + 9200) / 100
+
+abbrev pub root_text : (height : ℕ) → List ℕ
+root_text height =
+    codes "<svg xmlns='http://www.w3.org/2000/svg' viewBox='0 0 1280 " ++ (decimal height ++ (codes "' width='1280' height='" ++ (decimal height
+    ++ codes "' role='img' font-family='system-ui,Segoe UI,Liberation Sans,Arial,sans-serif'>")))
+
+abbrev pub called_text : (units events : ℕ) → List ℕ
+called_text units events =
+    codes "<title>Run on " ++ (decimal units ++ (codes " units, " ++ (decimal events ++ (codes " events</title>" ++ 10 ∷ []))))
 
 abbrev pub legend_text : (events : ℕ) → List ℕ
 legend_text events = if nat_le events 2000 then MARKS_LEGEND.now else STRETCHES_LEGEND.now
 
+abbrev pub sheet_text : (events : ℕ) → List ℕ
+sheet_text events = SHEET.now ++ legend_text events
+
+abbrev pub opening_text : (units events : ℕ) → List ℕ
+opening_text units events = root_text (height_of units) ++ (called_text units events ++ sheet_text events)
+
+-- the text of the picture of a run of so many events, by its shapes
+abbrev pub file_text : List Descriptor → (units events : ℕ) → List Shape → List ℕ
+file_text tasks units events shapes =
+    opening_text units events ++ (shapes_text tasks shapes ++ (codes "</svg>" ++ 10 ∷ []))
+
 -- the whole text, of a history of a program on so many units
 abbrev pub picture_text : Listing → (units : ℕ) → List Event → List ℕ
 picture_text p units history =
-    opening_text units (length history) ++ (SHEET.now ++ (legend_text (length history)
-    ++ (shapes_text p.tasks (shapes_of p.tasks units history (lives_of units history)) ++ (codes "</svg>" ++ 10 ∷ []))))
+    file_text p.tasks units (length history) (shapes_of p.tasks units history (lives_of units history))

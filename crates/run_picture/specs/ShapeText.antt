@@ -62,14 +62,18 @@ beginning_text class (Label left base words) =
     codes "<text class='" ++ (class ++ (codes "' x='" ++ (pixels_text left ++ (codes "' y='" ++ (pixels_text base ++ codes "'>")))))
 
 -- what is said of a life; its events are numbered from 1
-abbrev pub line_of_life : (name : List ℕ) (unit first last executed : ℕ) (ending : List ℕ) → List ℕ
-line_of_life name unit first last executed ending =
-    codes "<title>task " ++ (name ++ (codes ", unit " ++ (decimal unit ++ (codes ", events " ++ (decimal first
-    ++ (codes " to " ++ (decimal last ++ (codes ", instructions: " ++ (decimal executed ++ (codes ", "
-    ++ (ending ++ codes "</title>")))))))))))
+abbrev pub place_text : (name : List ℕ) (unit : ℕ) → List ℕ
+place_text name unit = codes "<title>task " ++ (name ++ (codes ", unit " ++ decimal unit))
+
+abbrev pub span_text : (first last : ℕ) → List ℕ
+span_text first last = codes ", events " ++ (decimal first ++ (codes " to " ++ decimal last))
+
+abbrev pub course_text : (executed : ℕ) (ending : List ℕ) → List ℕ
+course_text executed ending = codes ", instructions: " ++ (decimal executed ++ (codes ", " ++ (ending ++ codes "</title>")))
 
 abbrev pub life_text : (name : List ℕ) → Life → List ℕ
-life_text name life = line_of_life name life.unit (life.first + 1) (life.last + 1) life.executed (ending_text life.ending)
+life_text name life =
+    place_text name life.unit ++ (span_text (life.first + 1) (life.last + 1) ++ course_text life.executed (ending_text life.ending))
 
 abbrev pub hover_text : List Descriptor → Hover → List ℕ
 hover_text tasks Nothing = []

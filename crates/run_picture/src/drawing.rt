@@ -6,7 +6,7 @@ ghost use Rattle.machine_events.specs.Runs.{events_of};
 ghost use Rattle.machine_model.specs.Answer.{most_events};
 ghost use Rattle.task_lives.specs.Lives.{AllFit};
 ghost use Rattle.task_lives.specs.Sums.{AreFew};
-ghost use Rattle.run_picture.specs.Picture.{inner_shapes, legend_text, opening_text, picture_text, shapes_of as shapes_of_run, single_shapes, summed_shapes};
+ghost use Rattle.run_picture.specs.Picture.{called_text, file_text, height_of, inner_shapes, legend_text, opening_text, picture_text, root_text, shapes_of as shapes_of_run, sheet_text, single_shapes, summed_shapes};
 
 use crate::bars::{push_bars, push_names};
 use crate::events::single_events;
@@ -45,13 +45,27 @@ pub fn draw(
 {
     let events = single_events(alloc, runs)?;
     let lives = lives_of_runs(alloc, runs, units)?;
-    let shapes = shapes_of(alloc, program.tasks(), units, &events, &lives)?;
+    let text = draw_lives(alloc, program.tasks(), units, &events, &lives)?;
+    Ok(text)
+}
+
+/// Draws a history with these lives.
+fn draw_lives(
+    alloc: Global,
+    tasks: &[Descriptor],
+    units: u32,
+    events: &[Event],
+    lives: &[Life],
+) -> Result<String, AllocError>
+    requires some { 0 < units }
+    requires room { length events.now ≤ most_events }
+    requires few { AreFew lives.now }
+    ensures { IfOk result (λ text. string_bytes text
+        ≡ file_text tasks.now units (length events.now) (shapes_of_run tasks.now units events.now lives.now)) }
+{
+    let shapes = shapes_of(alloc, tasks, units, events, lives)?;
     let mut text = String::new(alloc);
-    write_opening(&mut text, units, events.len())?;
-    text.push_str(SHEET)?;
-    write_legend(&mut text, events.len())?;
-    write_shapes(&mut text, program.tasks(), &shapes)?;
-    text.push_str("</svg>\n")?;
+    write_file(&mut text, tasks, units, events.len(), &shapes)?;
     Ok(text)
 }
 
@@ -133,15 +147,60 @@ fn push_summed(
     push_note(shapes, units, Words::Stretch(stretch_length(events)))
 }
 
+/// Writes the file of some shapes.
+fn write_file(
+    text: &mut String,
+    tasks: &[Descriptor],
+    units: u32,
+    events: usize,
+    shapes: &[Shape],
+) -> Result<(), AllocError>
+    ensures { OnOk result (string_bytes text.new ≡ string_bytes text.old ++ file_text tasks.now units events shapes.now) }
+{
+    write_opening(text, units, events)?;
+    write_shapes(text, tasks, shapes)?;
+    text.push_str("</svg>\n")
+}
+
 /// Writes the beginning of the file.
 fn write_opening(text: &mut String, units: u32, events: usize) -> Result<(), AllocError>
     ensures { OnOk result (string_bytes text.new ≡ string_bytes text.old ++ opening_text units events) }
 {
-    let height = (bottom(units) + 9_200) / 100;
-    writeln!(
+    write_root(text, height(units))?;
+    write_called(text, units, events)?;
+    write_sheet(text, events)
+}
+
+/// How high the picture of so many units is, in pixels.
+fn height(units: u32) -> u64
+    ensures { result ≡ height_of units }
+{
+    (bottom(units) + 9_200) / 100
+}
+
+/// Writes the beginning of the root element.
+fn write_root(text: &mut String, height: u64) -> Result<(), AllocError>
+    ensures { OnOk result (string_bytes text.new ≡ string_bytes text.old ++ root_text height) }
+{
+    write!(
         text,
-        "<svg xmlns='http://www.w3.org/2000/svg' viewBox='0 0 1280 {height}' width='1280' height='{height}' role='img' font-family='system-ui,Segoe UI,Liberation Sans,Arial,sans-serif'><title>Run on {units} units, {events} events</title>"
+        "<svg xmlns='http://www.w3.org/2000/svg' viewBox='0 0 1280 {height}' width='1280' height='{height}' role='img' font-family='system-ui,Segoe UI,Liberation Sans,Arial,sans-serif'>"
     )
+}
+
+/// Writes what the file is called.
+fn write_called(text: &mut String, units: u32, events: usize) -> Result<(), AllocError>
+    ensures { OnOk result (string_bytes text.new ≡ string_bytes text.old ++ called_text units events) }
+{
+    writeln!(text, "<title>Run on {units} units, {events} events</title>")
+}
+
+/// Writes the style sheet and the legend.
+fn write_sheet(text: &mut String, events: usize) -> Result<(), AllocError>
+    ensures { OnOk result (string_bytes text.new ≡ string_bytes text.old ++ sheet_text events) }
+{
+    text.push_str(SHEET)?;
+    write_legend(text, events)
 }
 
 /// Writes the legend of single events, or of stretches.

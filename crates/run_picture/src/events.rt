@@ -18,6 +18,7 @@ pub(crate) fn single_events(alloc: Global, runs: &[EventRun]) -> Result<Vec<Even
 }
 
 /// Adds an event so many times.
+#[tactic(auto, using(crate::proofs::Parts::replicate_more))]
 fn push_times(events: &mut Vec<Event>, event: &Event, count: u32) -> Result<(), AllocError>
     ensures { OnOk result (events.new.items ≡ events.old.items ++ replicate count event.now) }
 {

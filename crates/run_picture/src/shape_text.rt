@@ -2,7 +2,7 @@
 
 ghost use Rattle.std.specs.Prelude.{◌≡◌, ◌+◌, ◌++◌, OnOk};
 ghost use Rattle.std.specs.String.{string_bytes};
-ghost use Rattle.run_picture.specs.ShapeText.{beginning_text, end_text, ending_text, hover_text, life_text, shape_text, shapes_text, share_text, style_text};
+ghost use Rattle.run_picture.specs.ShapeText.{beginning_text, course_text, end_text, ending_text, hover_text, life_text, place_text, shape_text, shapes_text, share_text, span_text, style_text};
 
 use crate::bars::name_of;
 use crate::pixels::Pixels;
@@ -105,15 +105,30 @@ fn write_hover(text: &mut String, tasks: &[Descriptor], hover: Hover) -> Result<
 fn write_life(text: &mut String, name: &str, life: Life) -> Result<(), AllocError>
     ensures { OnOk result (string_bytes text.new ≡ string_bytes text.old ++ life_text name.now life) }
 {
-    let unit = life.unit;
-    let first = number_of(life.first);
-    let last = number_of(life.last);
-    let executed = life.executed;
-    let ending = word_of(life.ending);
-    write!(
-        text,
-        "<title>task {name}, unit {unit}, events {first} to {last}, instructions: {executed}, {ending}</title>"
-    )
+    write_place(text, name, life.unit)?;
+    write_span(text, number_of(life.first), number_of(life.last))?;
+    write_course(text, life.executed, word_of(life.ending))
+}
+
+/// Writes which task it is, and where.
+fn write_place(text: &mut String, name: &str, unit: u32) -> Result<(), AllocError>
+    ensures { OnOk result (string_bytes text.new ≡ string_bytes text.old ++ place_text name.now unit) }
+{
+    write!(text, "<title>task {name}, unit {unit}")
+}
+
+/// Writes the numbers of the first and the last event.
+fn write_span(text: &mut String, first: u64, last: u64) -> Result<(), AllocError>
+    ensures { OnOk result (string_bytes text.new ≡ string_bytes text.old ++ span_text first last) }
+{
+    write!(text, ", events {first} to {last}")
+}
+
+/// Writes how many instructions were executed, and the ending.
+fn write_course(text: &mut String, executed: u32, ending: &str) -> Result<(), AllocError>
+    ensures { OnOk result (string_bytes text.new ≡ string_bytes text.old ++ course_text executed ending.now) }
+{
+    write!(text, ", instructions: {executed}, {ending}</title>")
 }
 
 /// The number of an event, counted from 1.
