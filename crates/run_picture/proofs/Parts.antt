@@ -23,3 +23,8 @@ range_more f before n =
 pub replicate_more : {A : Type 0} (before : List A) (n : ℕ) (x : A) → (before ++ replicate n x) ++ x ∷ [] ≡ before ++ replicate (n + 1) x
 replicate_more before n x =
     append_assoc before (replicate n x) (x ∷ []) ∙ ap (λ rest. before ++ rest) (replicate-append-replicate n 1 x)
+
+-- three parts, written one after the other
+pub three_parts : {A : Type 0} (base first second p q r : List A) → first ≡ base ++ p → second ≡ first ++ q → second ++ r ≡ base ++ (p ++ (q ++ r))
+three_parts base first second p q r one two =
+    ap (λ front. front ++ r) (two ∙ ap (λ front. front ++ q) one) ∙ append_assoc (base ++ p) q r ∙ append_assoc base p (q ++ r)
