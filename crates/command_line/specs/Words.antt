@@ -7,7 +7,7 @@ use Rattle.std.specs.Str.{bytes_eq}
 use Rattle.jobs.specs.declared.job.Emit.{Emit}
 use Rattle.jobs.specs.declared.job.Emit.TheVariants.{Text, Cert, Keep}
 use Rattle.jobs.specs.declared.job.RunEmit.{RunEmit}
-use Rattle.jobs.specs.declared.job.RunEmit.TheVariants.{Report, Script, Summary}
+use Rattle.jobs.specs.declared.job.RunEmit.TheVariants.{Report, Script, Summary, Picture}
 use Rattle.jobs.specs.declared.job.ReplayEmit.{ReplayEmit}
 use Rattle.jobs.specs.declared.job.ReplayEmit.TheVariants as replay
 use Rattle.jobs.specs.declared.job.Schedule.{Schedule}
@@ -60,10 +60,12 @@ abbrev pub run_emit_of : List ℕ → Option RunEmit
 run_emit_of text =
     if bytes_eq text (codes "report") then Some Report
     else (if bytes_eq text (codes "script") then Some Script
-    else (if bytes_eq text (codes "summary") then Some Summary else None))
+    else (if bytes_eq text (codes "summary") then Some Summary
+    else (if bytes_eq text (codes "svg") then Some Picture else None)))
 
 -- the value of `--emit` of `replay`
 abbrev pub replay_emit_of : List ℕ → Option ReplayEmit
 replay_emit_of text =
     if bytes_eq text (codes "answers") then Some replay.Answers
-    else (if bytes_eq text (codes "summary") then Some replay.Summary else None)
+    else (if bytes_eq text (codes "summary") then Some replay.Summary
+    else (if bytes_eq text (codes "svg") then Some replay.Picture else None))

@@ -188,8 +188,11 @@ tasks overlap. It is no model of the time of a processor.
 
 With `--least` it makes the certificate itself, that of `annotate --emit keep`.
 
+With `--emit svg` it writes a picture of the run, a lane for each unit and a bar for each task on it.
+
 For example:
   ./multiscalar run --least examples/count/program.s
+  ./multiscalar run --least --emit svg examples/count/program.s > count.svg
   ./multiscalar run --least --schedule steps --emit summary examples/count/program.s
   ./multiscalar run --least --units 8 --predict last --emit summary examples/diamond/program.s";
 
@@ -200,13 +203,13 @@ the program as it stands)";
 
 /// `--emit` of `replay`.
 pub const REPLAY_EMIT: &str =
-    "What is written: answers (what the machine says of each event, and how it then stands) or summary
-(how often each task was assigned, and how that ended)";
+    "What is written: answers (what the machine says of each event, and how it then stands), summary
+(how often each task was assigned, and how that ended) or svg (the allowed events as a picture)";
 
 /// `--emit` of `run`.
 pub const RUN_EMIT: &str =
     "What is written: report (the words that were put out, and how the run ended), script (the events
-of the run) or summary (how often each task was assigned, and how that ended)";
+of the run), summary (how often each task was assigned, and how that ended) or svg (a picture)";
 
 /// `--least`.
 pub const LEAST: &str = "Makes the least certificate of the program as it stands, in place of CERT";

@@ -28,8 +28,8 @@ pub enum UsageFault {
     /// 2: the value of `--predict` is neither `first`, `last` nor 1 to 64 numbers 0..=15.
     #[error("2 Predict")]
     Predict,
-    /// 3: the value of `--emit` is none of `text`, `cert` and `keep`; for `replay` neither `answers` nor
-    /// `summary`; for `run` none of `report`, `script` and `summary`.
+    /// 3: the value of `--emit` is none of `text`, `cert` and `keep`; for `replay` none of `answers`, `summary`
+    /// and `svg`; for `run` none of `report`, `script`, `summary` and `svg`.
     #[error("3 Emit")]
     Emit,
     /// 4: memory ran out.
@@ -486,6 +486,7 @@ fn read_replay_emit(text: &str) -> Option<ReplayEmit>
     match text {
         "answers" => Some(ReplayEmit::Answers),
         "summary" => Some(ReplayEmit::Summary),
+        "svg" => Some(ReplayEmit::Picture),
         _ => None,
     }
 }
@@ -498,6 +499,7 @@ fn read_run_emit(text: &str) -> Option<RunEmit>
         "report" => Some(RunEmit::Report),
         "script" => Some(RunEmit::Script),
         "summary" => Some(RunEmit::Summary),
+        "svg" => Some(RunEmit::Picture),
         _ => None,
     }
 }

@@ -32,6 +32,8 @@ pub enum RunEmit {
     Script,
     /// How often each task was assigned, how that ended, and how much of its work was of use.
     Summary,
+    /// The run as a picture, in SVG.
+    Picture,
 }
 
 /// What `replay` writes of a script.
@@ -41,6 +43,8 @@ pub enum ReplayEmit {
     Answers,
     /// How often each task was assigned, how that ended, and how much of its work was of use.
     Summary,
+    /// The events that were allowed as a picture, in SVG.
+    Picture,
 }
 
 /// How `run` guesses the next task behind a running one (the paper, section 2.1, leaves it open).

@@ -13,6 +13,7 @@ use Rattle.event_script.specs.FaultText.{script_fault_text}
 use Rattle.event_script.specs.EventScript.{script_of}
 use Rattle.task_lives.specs.Lives.{lives_of}
 use Rattle.run_summary.specs.SummaryText.{summary_text}
+use Rattle.run_picture.specs.Picture.{picture_text}
 use Rattle.jobs.specs.declared.job.ReplayEmit.{ReplayEmit}
 use Rattle.jobs.specs.declared.job.ReplayEmit.TheVariants as emit
 use Rattle.verdict_report.specs.OutputTexts.{Report}
@@ -45,10 +46,11 @@ allowed (event ∷ events) (Ok done ∷ answers) = event ∷ allowed events answ
 allowed (event ∷ events) (Err refusal ∷ answers) = allowed events answers
 
 -- what is written of events that were played: the answers, and how the machine stands; or what the tasks
--- came to that the allowed events assigned, as `run` sums them up
+-- came to that the allowed events assigned, as `run` sums them up; or a picture of the allowed events
 abbrev pub played_text : ReplayEmit → (units : ℕ) → Listing → List Event → Played → List ℕ
 played_text emit.Answers units p events played = answers_text played.answers ++ machine_text played.state
 played_text emit.Summary units p events played = summary_text p (lives_of units (allowed events played.answers))
+played_text emit.Picture units p events played = picture_text p units (allowed events played.answers)
 
 -- what `replay` writes of the events of a script, where an event that is refused changes nothing
 abbrev pub events_report : ReplayEmit → (units : ℕ) → Listing → List Event → Report

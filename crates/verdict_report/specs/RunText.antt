@@ -12,6 +12,7 @@ use Rattle.event_script.specs.EventScript.{script_of}
 use Rattle.event_script.specs.ScriptText.{script_text}
 use Rattle.task_lives.specs.Lives.{lives_of}
 use Rattle.run_summary.specs.SummaryText.{summary_text}
+use Rattle.run_picture.specs.Picture.{picture_text}
 use Rattle.threaded_runner.specs.declared.report.How.{How}
 use Rattle.threaded_runner.specs.declared.report.How.TheVariants.{Ended, OutOfBudget}
 use Rattle.synchronous_runner.specs.Steps.{beginning, after_steps, Takes}
@@ -75,11 +76,12 @@ steps_text None s = []
 steps_text (Some count) s = codes "steps " ++ (decimal count ++ (codes ", retired instructions " ++ (decimal (count_c s) ++ 10 ∷ [])))
 
 -- what is written of a run: its end; its history as a script, which is read as that history; or what the
--- tasks that it assigned came to, and its steps
+-- tasks that it assigned came to, and its steps; or a picture of its history
 abbrev pub IsWrittenOf : RunEmit → (units : ℕ) → Listing → Run → List ℕ → Type 0
 IsWrittenOf emit.Report units p run bytes = bytes ≡ ending_text run.how run.state
 IsWrittenOf emit.Script units p run bytes = (bytes ≡ script_text p run.history) × (script_of p bytes ≡ Ok run.history)
 IsWrittenOf emit.Summary units p run bytes = bytes ≡ summary_text p (lives_of units run.history) ++ steps_text run.steps run.state
+IsWrittenOf emit.Picture units p run bytes = bytes ≡ picture_text p units run.history
 
 -- the report of some run of a program in which nothing is found
 pub record IsRunReport (schedule : Schedule) (units budget : ℕ) (predict : Prediction) (emitted : RunEmit) (p : Listing) (report : Report) : Type 0 where

@@ -4,11 +4,13 @@ ghost use Rattle.std.specs.String.{string_bytes};
 ghost use Rattle.sequencer.specs.Seen.{state, units_of};
 ghost use Rattle.task_lives.specs.Lives.{lives_of};
 ghost use Rattle.run_summary.specs.SummaryText.{summary_text};
+ghost use Rattle.run_picture.specs.Picture.{picture_text};
 ghost use Rattle.verdict_report.specs.MachineText.{machine_text, retired_text, standing_status, standing_text};
 
 use crate::plain_text::write_words;
 use jobs::ranges::Units;
 use machine_events::event::Standing;
+use run_picture::drawing::draw;
 use sequencer::machine::Machine;
 use std::alloc::{AllocError, Global};
 use task_descriptor::program::Program;
@@ -61,6 +63,22 @@ pub fn summary_of(
     histories_fit();
     let lives = lives_of_runs(alloc, machine.history(), units.get())?;
     run_summary::summary::write(alloc, program, &lives)
+}
+
+/// The history of a machine of so many units, which runs this program, as a picture.
+pub fn picture_of(
+    alloc: Global,
+    units: Units,
+    machine: &Machine<'_>,
+    program: &Program,
+) -> Result<Vec<u8>, AllocError>
+    requires over { machine.now.accepted.program ≡ program.now }
+    requires units { units_of machine.now ≡ units }
+    ensures { IfOk result (λ bytes. bytes.items ≡ picture_text program.now units machine.now.history) }
+{
+    histories_fit();
+    let picture = draw(alloc, program, units.get(), machine.history())?;
+    Ok(picture.into_bytes())
 }
 
 /// The status of a run that stands so.

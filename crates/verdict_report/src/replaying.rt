@@ -10,7 +10,7 @@ ghost use Rattle.verdict_report.specs.ReplayText.{allowed, answers_text, events_
 
 use crate::event_text::{refused_script, write_answers};
 use crate::judging::{Judged, judge};
-use crate::machine_text::{standing_status_of, summary_of, write_machine};
+use crate::machine_text::{picture_of, standing_status_of, summary_of, write_machine};
 use crate::report::Report;
 use event_script::fault::ScriptFault;
 use event_script::reading::read;
@@ -72,6 +72,7 @@ fn replay_events(
     let bytes = match emit {
         ReplayEmit::Answers => answers_of(alloc, &answers, &machine)?,
         ReplayEmit::Summary => summary_of(alloc, units, &machine, accepted.program())?,
+        ReplayEmit::Picture => picture_of(alloc, units, &machine, accepted.program())?,
     };
     Ok(Report::new(bytes, standing_status_of(machine.outcome())))
 }

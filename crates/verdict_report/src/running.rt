@@ -12,7 +12,7 @@ ghost use Rattle.event_script.specs.ScriptText.{script_text};
 
 use crate::fault::ServeFault;
 use crate::judging::{Judged, judge};
-use crate::machine_text::{standing_status_of, summary_of, write_machine};
+use crate::machine_text::{picture_of, standing_status_of, summary_of, write_machine};
 use crate::plain_text::write_words;
 use crate::ran::{Extent, Ran};
 use crate::report::Report;
@@ -85,6 +85,7 @@ fn report_of_run(
         RunEmit::Report => ending(alloc, ran)?,
         RunEmit::Script => script(alloc, ran, accepted)?,
         RunEmit::Summary => summary(alloc, units, ran, accepted)?,
+        RunEmit::Picture => picture_of(alloc, units, &ran.machine, accepted.program())?,
     };
     Ok(Report::new(bytes, ending_status_of(ran)))
 }

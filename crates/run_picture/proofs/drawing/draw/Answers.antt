@@ -1,0 +1,12 @@
+-- The tasks are those of the program, the events those of the runs, and the lives those of these events.
+use Rattle.std.proofs.Common.{◌∙◌, length}
+use Rattle.run_picture.specs.Picture.{file_text, shapes_of}
+use Rattle.run_picture.proofs.drawing.draw.Goals as goal
+
+pub returns : goal.returns
+returns c =
+    let tasks = c.tasks.ensures.value in
+    let events = c.deref.ensures.value ∙ c.in_ok-events.ensures in
+    let lives = c.deref-2.ensures.value ∙ c.in_ok-lives.ensures.exact in
+    c.in_ok-text.ensures
+    ∙ (λ i. file_text (tasks i) c.args.units (length (events i)) (shapes_of (tasks i) c.args.units (events i) (lives i)))

@@ -1,0 +1,11 @@
+-- The columns' parts so far.
+use Rattle.std.proofs.Common.{◌≡◌, ◌++◌}
+use Rattle.std.specs.Prelude.{flat_map}
+use Rattle.std.specs.List.{range_with_len}
+use Rattle.run_picture.specs.Stretches.{below_of, column_part, length_of, share_of}
+use Rattle.run_picture.proofs.stretches.push_stretches.Given as goal
+
+abbrev pub invariant-loop-part : goal.invariant-loop-part
+invariant-loop-part l =
+    l.shapes.items ≡ l.initial.shapes.items
+    ++ flat_map (λ part. column_part l.events part (below_of (length_of l.events) l.lives part) (share_of (length_of l.events) l.lives part)) (range_with_len 0 l.part)

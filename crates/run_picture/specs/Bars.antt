@@ -1,0 +1,52 @@
+-- The bars of lives, and the names of their tasks (own choice).
+use Rattle.std.specs.Prelude.{ℕ, ◌+◌, ◌-◌, List, [], ◌∷◌, map, flat_map, length, slice_get, nat_eq, nat_lt, if◌then◌else◌, codes, Option, Some, None}
+use Rattle.task_descriptor.specs.declared.descriptor.Descriptor.{Descriptor}
+use Rattle.task_lives.specs.declared.life.Life.{Life}
+use Rattle.run_picture.specs.declared.shape.Shape.{Shape}
+use Rattle.run_picture.specs.declared.shape.Style.TheVariants.{Bar, TaskName}
+use Rattle.run_picture.specs.declared.shape.Form.TheVariants.{Rectangle}
+use Rattle.run_picture.specs.declared.shape.Words.TheVariants.{Task}
+use Rattle.run_picture.specs.declared.shape.Hover.TheVariants.{OfLife}
+use Rattle.run_picture.specs.Places.{place_of, top_of, fitting_of}
+use Rattle.run_picture.specs.Shapes.{label}
+
+-- from where the first event of a life begins to where its last one ends
+abbrev pub width_of : (events : ℕ) → Life → ℕ
+width_of events life = place_of events (life.last + 1) - place_of events life.first
+
+-- the bar of a life, in its unit's lane
+abbrev pub bar_of : (events : ℕ) → Life → Shape
+bar_of events life = record {
+  style = Bar life.ending;
+  form = Rectangle (place_of events life.first) (top_of life.unit) (width_of events life) 4000;
+  hover = OfLife life;
+}
+
+-- one bar for each life, in the same order
+abbrev pub bars_of : (events : ℕ) → List Life → List Shape
+bars_of events lives = map (bar_of events) lives
+
+-- the name of a task of a program
+abbrev pub name_in : Option Descriptor → List ℕ
+name_in None = codes "?"
+name_in (Some d) = d.name
+
+abbrev pub name_of : List Descriptor → (task : ℕ) → List ℕ
+name_of tasks task = name_in (slice_get tasks task)
+
+-- how many letters of a name a bar of this width has room for: all of them, or so many that three points
+-- have room behind them
+abbrev pub letters_in : (name : List ℕ) (width : ℕ) → ℕ
+letters_in name width =
+    if nat_eq (fitting_of (width - 1000) name) (length name) then length name else fitting_of (width - 2300) name
+
+-- the name on a bar, where so many letters of it have room
+abbrev pub name_label : (events letters : ℕ) → Life → List Shape
+name_label events letters life =
+    if nat_lt 0 letters then label TaskName (place_of events life.first + 600) (top_of life.unit + 1800) (Task life.task letters) ∷ [] else []
+
+abbrev pub name_on : List Descriptor → (events : ℕ) → Life → List Shape
+name_on tasks events life = name_label events (letters_in (name_of tasks life.task) (width_of events life)) life
+
+abbrev pub names_of : List Descriptor → (events : ℕ) → List Life → List Shape
+names_of tasks events lives = flat_map (name_on tasks events) lives

@@ -1,0 +1,58 @@
+-- Worked examples, computed by the checker: lengths, a bar, marks and a stretch.
+use Rattle.std.specs.Prelude.{◌≡◌, ℕ, ◌+◌, ◌*◌, List, [], ◌∷◌, codes}
+use Rattle.std.specs.Fmt.{digits}
+use Rattle.std.proofs.Common.{refl}
+use Rattle.machine_events.specs.declared.event.Event.TheVariants.{Assign, Exec, Transfer, Squash, Retire}
+use Rattle.task_lives.specs.declared.life.Ending.{Ending}
+use Rattle.task_lives.specs.declared.life.Ending.TheVariants.{Retired, Squashed}
+use Rattle.task_lives.specs.declared.life.Life.{Life}
+use Rattle.run_picture.specs.declared.shape.Style.TheVariants.{Bar, Instruction}
+use Rattle.run_picture.specs.declared.shape.Form.TheVariants.{Rectangle, Line}
+use Rattle.run_picture.specs.declared.shape.Hover.TheVariants.{Nothing, OfLife}
+use Rattle.run_picture.specs.Places.{pixels_text, place_of, top_of, step_of, fitting_of}
+use Rattle.run_picture.specs.Bars.{bar_of, letters_in}
+use Rattle.run_picture.specs.Marks.{marks_of}
+use Rattle.run_picture.specs.Stretches.{overlap, counted, share_of}
+
+abbrev life : (task unit first last executed : ℕ) → Ending → Life
+life task unit first last executed ending = record {
+  task = task;
+  unit = unit;
+  first = first;
+  last = last;
+  executed = executed;
+  ending = ending;
+}
+
+pub pixels : pixels_text 16050 ≡ codes "160.50"
+unfolding pixels_text digits
+pixels = refl
+
+pub numbers_of_15 : step_of 15 ≡ 2
+numbers_of_15 = refl
+
+-- "Amen" in 33 pixels: 11, 13 and 9
+pub three_letters : fitting_of 3300 (65 ∷ 109 ∷ 101 ∷ 110 ∷ []) ≡ 3
+three_letters = refl
+
+-- events 1 to 9 of 16, on unit 1: 72.5 pixels for each
+abbrev squashed : Life
+squashed = life 1 1 1 9 0 Squashed
+
+pub bar_of_squashed : bar_of 16 squashed ≡ record { style = Bar Squashed; form = Rectangle 16050 23400 65250 4000; hover = OfLife squashed }
+bar_of_squashed = refl
+
+-- behind a Retire the instruction at position 0 is one of unit 1
+pub marks_behind_retire : marks_of 2 4 (Assign 0 ∷ Retire ∷ Assign 0 ∷ Exec 0 ∷ []) ≡ record { style = Instruction; form = Line 110300 26100 110300 27000; hover = Nothing } ∷ []
+marks_behind_retire = refl
+
+-- in stretches of 4 events, events 1 to 9 have 3, 4 and 2
+pub overlaps : overlap 4 0 squashed ∷ overlap 4 1 squashed ∷ overlap 4 2 squashed ∷ overlap 4 3 squashed ∷ [] ≡ 3 ∷ 4 ∷ 2 ∷ 0 ∷ []
+overlaps = refl
+
+-- they count for the part of squashed lives (1) of unit 1 in stretch 2, and for no other
+pub share_of_squashed : share_of 4 (squashed ∷ []) ((290 + 2) * 4 + 1) ≡ 2
+share_of_squashed = refl
+
+pub no_share_of_retired : share_of 4 (squashed ∷ []) ((290 + 2) * 4) ≡ 0
+no_share_of_retired = refl

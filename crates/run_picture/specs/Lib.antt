@@ -1,0 +1,11 @@
+pub mod Places
+pub mod Shapes
+pub mod Frame
+pub mod Bars
+pub mod Marks
+pub mod Stretches
+pub mod Adding
+pub mod WordsText
+pub mod ShapeText
+pub mod Picture
+pub mod Examples

@@ -1,0 +1,73 @@
+-- Long histories, summed by 290 stretches of equal length: how many events of a stretch each unit spent on
+-- tasks that ended in each way (own choice).
+use Rattle.std.specs.Prelude.{ℕ, ◌+◌, ◌-◌, ◌*◌, ◌/◌, ◌%◌, List, [], ◌∷◌, flat_map, min, max, nat_eq, nat_lt, ◌&&◌, if◌then◌else◌}
+use Rattle.std.specs.List.{range_with_len, sum_by}
+use Rattle.task_lives.specs.declared.life.Ending.{Ending}
+use Rattle.task_lives.specs.declared.life.Ending.TheVariants.{Retired, Squashed, Dropped, Unfinished}
+use Rattle.task_lives.specs.declared.life.Life.{Life}
+use Rattle.run_picture.specs.declared.shape.Shape.{Shape}
+use Rattle.run_picture.specs.declared.shape.Style.TheVariants.{Share}
+use Rattle.run_picture.specs.Places.{place_of, top_of}
+use Rattle.run_picture.specs.Shapes.{rectangle}
+
+-- how many events a stretch has; the last ones may be shorter, or empty
+abbrev pub length_of : (events : ℕ) → ℕ
+length_of events = events / 290 + 1
+
+-- a column has a part for each ending, from below: retired, squashed, dropped, unfinished
+abbrev pub part_of : Ending → ℕ
+part_of Retired = 0
+part_of Squashed = 1
+part_of Dropped = 2
+part_of Unfinished = 3
+
+abbrev pub ending_of : (part : ℕ) → Ending
+ending_of part = if nat_eq part 0 then Retired else if nat_eq part 1 then Squashed else if nat_eq part 2 then Dropped else Unfinished
+
+-- the parts are numbered: those of a column, those of the columns of a unit, those of the units
+abbrev pub unit_at : (part : ℕ) → ℕ
+unit_at part = part / 1160
+
+abbrev pub stretch_at : (part : ℕ) → ℕ
+stretch_at part = part / 4 % 290
+
+-- how many events of a life are in a stretch
+abbrev pub overlap : (length stretch : ℕ) → Life → ℕ
+overlap length stretch life = min (life.last + 1) (stretch * length + length) - max life.first (stretch * length)
+
+-- how many of them count for a part
+abbrev pub counted : (length part : ℕ) → Life → ℕ
+counted length part life =
+    if nat_eq (unit_at part) life.unit && nat_eq (part % 4) (part_of life.ending) then overlap length (stretch_at part) life else 0
+
+abbrev pub share_of : (length : ℕ) → List Life → (part : ℕ) → ℕ
+share_of length lives part = sum_by (counted length part) lives
+
+-- what lies below a part in its column
+abbrev pub below_of : (length : ℕ) → List Life → (part : ℕ) → ℕ
+below_of length lives part = sum_by (share_of length lives) (range_with_len (part - part % 4) (part % 4))
+
+-- where a stretch ends
+abbrev pub end_of : (events stretch : ℕ) → ℕ
+end_of events stretch = min (stretch * length_of events + length_of events) events
+
+-- a column is as high as a bar where its unit had tasks throughout
+abbrev pub height_of : (events stretch count : ℕ) → ℕ
+height_of events stretch count = count * 4000 / max (end_of events stretch - stretch * length_of events) 1
+
+abbrev pub rectangle_of : (events part below here : ℕ) → Shape
+rectangle_of events part below here =
+    let s = stretch_at part in
+    rectangle (Share (ending_of (part % 4)))
+    (place_of events (s * length_of events))
+    (top_of (unit_at part) + 4000 - height_of events s (below + here))
+    (place_of events (end_of events s) - place_of events (s * length_of events))
+    (height_of events s (below + here) - height_of events s below)
+
+-- the rectangle of a part, if there is something in it
+abbrev pub column_part : (events part below here : ℕ) → List Shape
+column_part events part below here = if nat_lt 0 here then rectangle_of events part below here ∷ [] else []
+
+abbrev pub stretches_of : (units events : ℕ) → List Life → List Shape
+stretches_of units events lives =
+    flat_map (λ part. column_part events part (below_of (length_of events) lives part) (share_of (length_of events) lives part)) (range_with_len 0 (units * 1160))

@@ -1,0 +1,43 @@
+-- What labels say (own choice).
+use Rattle.std.specs.Fmt.{decimal}
+use Rattle.std.specs.Prelude.{ℕ, List, [], ◌∷◌, ◌++◌, codes, length, take, flat_map, encode_utf8, nat_eq, nat_le, if◌then◌else◌}
+use Rattle.task_descriptor.specs.declared.descriptor.Descriptor.{Descriptor}
+use Rattle.run_summary.specs.declared.tally.Tally.{Tally}
+use Rattle.run_picture.specs.declared.shape.Words.{Words}
+use Rattle.run_picture.specs.declared.shape.Words.TheVariants.{Title, Sums, OfUnit, EventNumber, Events, Task, Register, Ring, Stretch}
+use Rattle.run_picture.specs.Bars.{name_of}
+
+-- what stands behind a word for so many things
+abbrev pub plural : ℕ → List ℕ
+plural n = if nat_eq n 1 then [] else codes "s"
+
+abbrev pub title_text : (units events : ℕ) → List ℕ
+title_text units events =
+    codes "Run on " ++ (decimal units ++ (codes " unit" ++ (plural units ++ (codes ": " ++ (decimal events ++ (codes " event" ++ plural events))))))
+
+abbrev pub lives_text : Tally → List ℕ
+lives_text t =
+    codes "lives of tasks: " ++ (decimal t.assigned ++ (codes " (" ++ (decimal t.retired ++ (codes " retired, " ++ (decimal t.squashed
+    ++ (codes " squashed, " ++ (decimal t.dropped ++ (codes " dropped, " ++ (decimal t.unfinished ++ codes " unfinished)")))))))))
+
+abbrev pub work_text : Tally → List ℕ
+work_text t =
+    codes "; instructions of retired tasks: " ++ (decimal t.useful ++ (codes ", of squashed or dropped ones: " ++ decimal t.wasted))
+
+-- a name if it has at most so many letters, else so many of them and three points; letters are ASCII
+abbrev pub name_text : (name : List ℕ) (letters : ℕ) → List ℕ
+name_text name letters =
+    if nat_le (length name) letters then name else flat_map encode_utf8 (take letters name) ++ codes "&#8230;"
+
+abbrev pub words_text : List Descriptor → Words → List ℕ
+words_text tasks (Title units events) = title_text units events
+words_text tasks (Sums tally) = lives_text tally ++ work_text tally
+words_text tasks (OfUnit unit) = codes "unit " ++ decimal unit
+words_text tasks (EventNumber number) = decimal number
+words_text tasks Events = codes "events, numbered as the lines of the run's script"
+words_text tasks (Task task letters) = name_text (name_of tasks task) letters
+words_text tasks (Register register) = codes "$" ++ decimal register
+words_text tasks Ring = codes "An arrow that leaves the last unit goes on at unit 0: the units form a ring."
+words_text tasks (Stretch events) =
+    codes "A long run, summed: each column is " ++ (decimal events
+    ++ codes " events, and shows how much of them a unit spent on tasks that ended so.")

@@ -1,0 +1,215 @@
+//! A run as one SVG file.
+
+ghost use Rattle.std.specs.Prelude.{◌≡◌, ◌++◌, ◌<◌, ◌≤◌, IfOk, OnOk, length};
+ghost use Rattle.std.specs.String.{string_bytes};
+ghost use Rattle.machine_events.specs.Runs.{events_of};
+ghost use Rattle.machine_model.specs.Answer.{most_events};
+ghost use Rattle.task_lives.specs.Lives.{AllFit};
+ghost use Rattle.task_lives.specs.Sums.{AreFew};
+ghost use Rattle.run_picture.specs.Picture.{called_text, file_text, height_of, inner_shapes, legend_text, opening_text, picture_text, root_text, shapes_of as shapes_of_run, sheet_text, single_shapes, summed_shapes};
+
+use crate::bars::{push_bars, push_names};
+use crate::events::single_events;
+use crate::lanes::{push_axis, push_lanes, push_note, push_titles};
+use crate::marks::push_marks;
+use crate::scale::bottom;
+use crate::shape::{Shape, Words};
+use crate::shape_text::write_shapes;
+use crate::sheet::{MARKS_LEGEND, SHEET, STRETCHES_LEGEND};
+use crate::stretches::{push_stretches, stretch_length};
+use machine_events::event::{Event, EventRun};
+use run_summary::tally::add_up;
+use std::alloc::{AllocError, Global};
+use task_descriptor::descriptor::Descriptor;
+use task_descriptor::program::Program;
+use task_lives::life::Life;
+use task_lives::lives::lives_of_runs;
+
+/// The most events that are drawn singly; more are summed by stretches.
+const MOST_SINGLE: usize = 2_000;
+
+/// Draws the history of a run of a program on so many units, at least one: one SVG file, with no script and no
+/// font of its own. The history has at most 1,000,000 events, and no event of it is at a position where there
+/// is no unit; so it is with every history of a machine (`task_lives::laws::histories_fit`). The error says
+/// that memory was refused.
+pub fn draw(
+    alloc: Global,
+    program: &Program,
+    units: u32,
+    runs: &[EventRun],
+) -> Result<String, AllocError>
+    requires some { 0 < units }
+    requires room { length (events_of runs.now) ≤ most_events }
+    requires fit { AllFit 0 (events_of runs.now) }
+    ensures { IfOk result (λ text. string_bytes text ≡ picture_text program.now units (events_of runs.now)) }
+{
+    let events = single_events(alloc, runs)?;
+    let lives = lives_of_runs(alloc, runs, units)?;
+    let text = draw_lives(alloc, program.tasks(), units, &events, &lives)?;
+    Ok(text)
+}
+
+/// Draws a history with these lives.
+fn draw_lives(
+    alloc: Global,
+    tasks: &[Descriptor],
+    units: u32,
+    events: &[Event],
+    lives: &[Life],
+) -> Result<String, AllocError>
+    requires some { 0 < units }
+    requires room { length events.now ≤ most_events }
+    requires few { AreFew lives.now }
+    ensures { IfOk result (λ text. string_bytes text
+        ≡ file_text tasks.now units (length events.now) (shapes_of_run tasks.now units events.now lives.now)) }
+{
+    let shapes = shapes_of(alloc, tasks, units, events, lives)?;
+    let mut text = String::new(alloc);
+    write_file(&mut text, tasks, units, events.len(), &shapes)?;
+    Ok(text)
+}
+
+/// The shapes of the picture of a history with these lives.
+fn shapes_of(
+    alloc: Global,
+    tasks: &[Descriptor],
+    units: u32,
+    events: &[Event],
+    lives: &[Life],
+) -> Result<Vec<Shape>, AllocError>
+    requires some { 0 < units }
+    requires room { length events.now ≤ most_events }
+    requires few { AreFew lives.now }
+    ensures { IfOk result (λ shapes. shapes.items ≡ shapes_of_run tasks.now units events.now lives.now) }
+{
+    let count = events.len() as u32;
+    let mut shapes = Vec::new(alloc);
+    push_titles(&mut shapes, units, count, add_up(lives))?;
+    push_lanes(&mut shapes, units)?;
+    push_axis(&mut shapes, units, count)?;
+    push_inner(alloc, &mut shapes, tasks, units, events, lives)?;
+    Ok(shapes)
+}
+
+/// Adds what stands inside the frame.
+fn push_inner(
+    alloc: Global,
+    shapes: &mut Vec<Shape>,
+    tasks: &[Descriptor],
+    units: u32,
+    events: &[Event],
+    lives: &[Life],
+) -> Result<(), AllocError>
+    requires some { 0 < units }
+    requires room { length events.now ≤ most_events }
+    requires few { AreFew lives.now }
+    ensures { OnOk result (shapes.new.items ≡ shapes.old.items ++ inner_shapes tasks.now units events.now lives.now) }
+{
+    if events.len() <= MOST_SINGLE {
+        push_single(shapes, tasks, units, events, lives)
+    } else {
+        push_summed(alloc, shapes, units, events.len() as u32, lives)
+    }
+}
+
+/// Adds a bar for each life, the marks of the events, and the names of the tasks.
+fn push_single(
+    shapes: &mut Vec<Shape>,
+    tasks: &[Descriptor],
+    units: u32,
+    events: &[Event],
+    lives: &[Life],
+) -> Result<(), AllocError>
+    requires some { 0 < units }
+    requires room { length events.now ≤ most_events }
+    ensures { OnOk result (shapes.new.items ≡ shapes.old.items ++ single_shapes tasks.now units events.now lives.now) }
+{
+    let count = events.len() as u32;
+    push_bars(shapes, count, lives)?;
+    push_marks(shapes, units, count, events)?;
+    push_names(shapes, tasks, count, lives)?;
+    push_note(shapes, units, Words::Ring)
+}
+
+/// Adds the columns of a long history.
+fn push_summed(
+    alloc: Global,
+    shapes: &mut Vec<Shape>,
+    units: u32,
+    events: u32,
+    lives: &[Life],
+) -> Result<(), AllocError>
+    requires room { events ≤ most_events }
+    requires few { AreFew lives.now }
+    ensures { OnOk result (shapes.new.items ≡ shapes.old.items ++ summed_shapes units events lives.now) }
+{
+    push_stretches(alloc, shapes, units, events, lives)?;
+    push_note(shapes, units, Words::Stretch(stretch_length(events)))
+}
+
+/// Writes the file of some shapes.
+fn write_file(
+    text: &mut String,
+    tasks: &[Descriptor],
+    units: u32,
+    events: usize,
+    shapes: &[Shape],
+) -> Result<(), AllocError>
+    ensures { OnOk result (string_bytes text.new ≡ string_bytes text.old ++ file_text tasks.now units events shapes.now) }
+{
+    write_opening(text, units, events)?;
+    write_shapes(text, tasks, shapes)?;
+    text.push_str("</svg>\n")
+}
+
+/// Writes the beginning of the file.
+fn write_opening(text: &mut String, units: u32, events: usize) -> Result<(), AllocError>
+    ensures { OnOk result (string_bytes text.new ≡ string_bytes text.old ++ opening_text units events) }
+{
+    write_root(text, height(units))?;
+    write_called(text, units, events)?;
+    write_sheet(text, events)
+}
+
+/// How high the picture of so many units is, in pixels.
+fn height(units: u32) -> u64
+    ensures { result ≡ height_of units }
+{
+    (bottom(units) + 9_200) / 100
+}
+
+/// Writes the beginning of the root element.
+fn write_root(text: &mut String, height: u64) -> Result<(), AllocError>
+    ensures { OnOk result (string_bytes text.new ≡ string_bytes text.old ++ root_text height) }
+{
+    write!(
+        text,
+        "<svg xmlns='http://www.w3.org/2000/svg' viewBox='0 0 1280 {height}' width='1280' height='{height}' role='img' font-family='system-ui,Segoe UI,Liberation Sans,Arial,sans-serif'>"
+    )
+}
+
+/// Writes what the file is called.
+fn write_called(text: &mut String, units: u32, events: usize) -> Result<(), AllocError>
+    ensures { OnOk result (string_bytes text.new ≡ string_bytes text.old ++ called_text units events) }
+{
+    writeln!(text, "<title>Run on {units} units, {events} events</title>")
+}
+
+/// Writes the style sheet and the legend.
+fn write_sheet(text: &mut String, events: usize) -> Result<(), AllocError>
+    ensures { OnOk result (string_bytes text.new ≡ string_bytes text.old ++ sheet_text events) }
+{
+    text.push_str(SHEET)?;
+    write_legend(text, events)
+}
+
+/// Writes the legend of single events, or of stretches.
+fn write_legend(text: &mut String, events: usize) -> Result<(), AllocError>
+    ensures { OnOk result (string_bytes text.new ≡ string_bytes text.old ++ legend_text events) }
+{
+    if events <= MOST_SINGLE {
+        text.push_str(MARKS_LEGEND)
+    } else {
+        text.push_str(STRETCHES_LEGEND)
+    }
+}

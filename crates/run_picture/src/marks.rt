@@ -1,0 +1,200 @@
+//! The marks of single events: instructions, registers that go from one unit to the next, and where a squash
+//! begins.
+
+ghost use Rattle.std.specs.Prelude.{◌≡◌, ◌+◌, ◌++◌, ◌%◌, ◌<◌, ◌≤◌, ◌^◌, OnOk, length};
+ghost use Rattle.machine_model.specs.HeadEvent.{retired_after, unit_of};
+ghost use Rattle.run_picture.specs.Marks.{arrow_of, arrows_of, by_room as style_by_room, marks_at, marks_of, register_of, squash_of, tick_of, transfer_of, unit_before};
+
+use crate::scale::{BAR_HEIGHT, middle, room, top};
+use crate::shape::{Form, Hover, Shape, Style, Words};
+use machine_events::event::Event;
+use std::alloc::AllocError;
+
+/// An event with less room than this is drawn by a finer line.
+const SMALL_ROOM: u64 = 350;
+
+/// With this room there is a place for a register beside its arrow.
+const ROOM_OF_REGISTER: u64 = 2_600;
+
+/// Adds the marks of the events of a history of so many units, at least one.
+pub(crate) fn push_marks(
+    shapes: &mut Vec<Shape>,
+    units: u32,
+    count: u32,
+    events: &[Event],
+) -> Result<(), AllocError>
+    requires some { 0 < units }
+    requires few { length events.now < 2 ^ 31 }
+    ensures { OnOk result (shapes.new.items ≡ shapes.old.items ++ marks_of units count events.now) }
+{
+    let mut retired: u32 = 0;
+    for (index, event) in events.iter().enumerate() {
+        push_mark(shapes, units, count, retired, index as u32, *event)?;
+        retired = retired_with(retired, *event);
+    }
+    Ok(())
+}
+
+/// How many tasks have retired after an event.
+fn retired_with(retired: u32, event: Event) -> u32
+    requires { retired < 2 ^ 31 }
+    ensures value { result ≡ retired_after retired event }
+    ensures bound { result ≤ retired + 1 }
+{
+    match event {
+        Event::Retire => retired + 1,
+        _ => retired,
+    }
+}
+
+/// Adds the marks of an event, before which so many tasks retired.
+fn push_mark(
+    shapes: &mut Vec<Shape>,
+    units: u32,
+    count: u32,
+    retired: u32,
+    index: u32,
+    event: Event,
+) -> Result<(), AllocError>
+    requires some { 0 < units }
+    requires few { index < 2 ^ 31 }
+    ensures { OnOk result (shapes.new.items ≡ shapes.old.items ++ marks_at units count index (unit_of units retired 0 event) event) }
+{
+    match event {
+        Event::Exec(position) => {
+            let unit = unit_at(units, retired, position);
+            shapes.push(tick(count, index, unit))?;
+            Ok(())
+        }
+        Event::Transfer(position, register) => {
+            let unit = unit_at(units, retired, position);
+            push_transfer(shapes, units, count, index, unit, register.get())
+        }
+        Event::Squash(position) => {
+            let unit = unit_at(units, retired, position);
+            shapes.push(squash(count, index, unit))?;
+            Ok(())
+        }
+        _ => Ok(()),
+    }
+}
+
+/// The number of the unit at a position, after so many tasks have retired.
+fn unit_at(units: u32, retired: u32, position: u32) -> u32
+    requires { 0 < units }
+    ensures value { result ≡ (retired + position) % units }
+    ensures bound { result < units }
+{
+    let place = u64::from(retired) + u64::from(position);
+    (place % u64::from(units)) as u32
+}
+
+/// One style where events have room, and a finer one where they have little.
+fn by_room(count: u32, fine: Style, full: Style) -> Style
+    ensures { result ≡ style_by_room count fine full }
+{
+    if room(count) < SMALL_ROOM { fine } else { full }
+}
+
+/// A tick in the lower part of the unit's bar.
+fn tick(count: u32, index: u32, unit: u32) -> Shape
+    ensures { result ≡ tick_of count index unit }
+{
+    let x = middle(count, index);
+    let y = top(unit) + BAR_HEIGHT;
+    let style = by_room(count, Style::FineInstruction, Style::Instruction);
+    Shape::plain(style, Form::Line(x, y - 1_300, x, y - 400))
+}
+
+/// A mark above the bar of the unit behind which a squash begins.
+fn squash(count: u32, index: u32, unit: u32) -> Shape
+    requires { index < 2 ^ 31 }
+    ensures { result ≡ squash_of count index unit }
+{
+    let x = middle(count, index);
+    Shape {
+        style: Style::SquashMark,
+        form: Form::Wedge(x.saturating_sub(700), top(unit) - 900),
+        hover: Hover::OfSquash(index + 1, unit),
+    }
+}
+
+/// Adds the arrow of a register to the unit that takes it, and the register's number where there is room.
+fn push_transfer(
+    shapes: &mut Vec<Shape>,
+    units: u32,
+    count: u32,
+    index: u32,
+    unit: u32,
+    register: u8,
+) -> Result<(), AllocError>
+    requires some { 0 < units }
+    requires few { index < 2 ^ 31 }
+    ensures { OnOk result (shapes.new.items ≡ shapes.old.items ++ transfer_of units count index unit register) }
+{
+    let from = before(units, unit);
+    let hover = Hover::OfTransfer(index + 1, register, from, unit);
+    push_arrows(shapes, count, index, hover, from, unit)?;
+    push_register(shapes, count, index, unit, register)
+}
+
+/// The unit before a unit round the ring.
+fn before(units: u32, unit: u32) -> u32
+    requires { 0 < units }
+    ensures { result ≡ unit_before units unit }
+{
+    if unit == 0 { units - 1 } else { unit - 1 }
+}
+
+/// Adds an arrow from the bar above to the bar of a unit; to unit 0 it comes from the last unit, below.
+fn push_arrows(
+    shapes: &mut Vec<Shape>,
+    count: u32,
+    index: u32,
+    hover: Hover,
+    from: u32,
+    unit: u32,
+) -> Result<(), AllocError>
+    ensures { OnOk result (shapes.new.items ≡ shapes.old.items ++ arrows_of count index hover from unit) }
+{
+    let y = top(unit);
+    if unit == 0 {
+        let leaves = top(from) + BAR_HEIGHT;
+        shapes.push(arrow(count, index, hover, leaves, leaves + 1_400))?;
+        shapes.push(arrow(count, index, hover, y - 1_400, y))?;
+    } else {
+        shapes.push(arrow(count, index, hover, y - 2_800, y))?;
+    }
+    Ok(())
+}
+
+/// An arrow down at the middle of an event's room.
+fn arrow(count: u32, index: u32, hover: Hover, top: u64, bottom: u64) -> Shape
+    ensures { result ≡ arrow_of count index hover top bottom }
+{
+    let x = middle(count, index);
+    Shape {
+        style: by_room(count, Style::FineArrow, Style::Arrow),
+        form: Form::Line(x, top, x, bottom),
+        hover,
+    }
+}
+
+/// Adds a register's number beside its arrow, if there is room for it.
+fn push_register(
+    shapes: &mut Vec<Shape>,
+    count: u32,
+    index: u32,
+    unit: u32,
+    register: u8,
+) -> Result<(), AllocError>
+    ensures { OnOk result (shapes.new.items ≡ shapes.old.items ++ register_of count index unit register) }
+{
+    if room(count) < ROOM_OF_REGISTER {
+        return Ok(());
+    }
+    let x = middle(count, index) + 500;
+    let form = Form::Label(x, top(unit) - 900, Words::Register(register));
+    shapes.push(Shape::plain(Style::RegisterName, form))?;
+    Ok(())
+}

@@ -1,0 +1,119 @@
+//! The shapes of a picture. All lengths are in hundredths of a pixel, from the left and from above.
+
+use run_summary::tally::Tally;
+use task_lives::life::{Ending, Life};
+
+/// How a shape looks: a class of the style sheet (own choice).
+#[derive(Clone, Copy, Debug, PartialEq, Eq)]
+pub enum Style {
+    /// What the picture is called.
+    Heading,
+    /// Further text.
+    Quiet,
+    /// The ground of every other lane.
+    Ground,
+    /// The number of a unit, before its lane.
+    UnitName,
+    /// A line up through the lanes at a number of the axis.
+    Grid,
+    /// The axis of events.
+    Axis,
+    /// A number below the axis.
+    AxisNumber,
+    /// What the axis counts.
+    Caption,
+    /// The bar of a life that ended so.
+    Bar(Ending),
+    /// What lives that ended so had of a stretch.
+    Share(Ending),
+    /// The name of a task on its bar.
+    TaskName,
+    /// An instruction.
+    Instruction,
+    /// The same, where events have little room.
+    FineInstruction,
+    /// A register that goes from one unit to the next.
+    Arrow,
+    /// The same, where events have little room.
+    FineArrow,
+    /// The register beside its arrow.
+    RegisterName,
+    /// Where a squash begins.
+    SquashMark,
+}
+
+/// What a label says.
+#[derive(Clone, Copy, Debug, PartialEq, Eq)]
+pub enum Words {
+    /// What the picture is called: how many units, and how many events.
+    Title(u32, u32),
+    /// What the lives came to.
+    Sums(Tally),
+    /// The number of a unit.
+    OfUnit(u32),
+    /// The number of an event, from 1.
+    EventNumber(u32),
+    /// What the axis counts.
+    Events,
+    /// The name of the task with this number: all of it, or so many letters and three points.
+    Task(u32, usize),
+    /// A register's number.
+    Register(u8),
+    /// That the units form a ring.
+    Ring,
+    /// That so many events are summed.
+    Stretch(u32),
+}
+
+/// What is said of a shape where a pointer rests on it.
+#[derive(Clone, Copy, Debug, PartialEq, Eq)]
+pub enum Hover {
+    /// Nothing.
+    Nothing,
+    /// A life.
+    OfLife(Life),
+    /// By this event, numbered from 1, a register goes from one unit to another.
+    OfTransfer(u32, u8, u32, u32),
+    /// By this event, numbered from 1, what follows a unit is squashed.
+    OfSquash(u32, u32),
+}
+
+/// The form of a shape.
+#[derive(Clone, Copy, Debug, PartialEq, Eq)]
+pub enum Form {
+    /// A rectangle: where its left upper corner is, and how wide and high it is.
+    Rectangle(u64, u64, u64, u64),
+    /// A line from one point to another.
+    Line(u64, u64, u64, u64),
+    /// A small triangle that points down, from its left upper corner.
+    Wedge(u64, u64),
+    /// A label: where its first letter stands, or the one in its middle or the last one, as its style says.
+    Label(u64, u64, Words),
+}
+
+/// A shape.
+#[derive(Clone, Copy, Debug, PartialEq, Eq)]
+pub struct Shape {
+    /// How it looks.
+    pub style: Style,
+    /// Where it is.
+    pub form: Form,
+    /// What is said of it.
+    pub hover: Hover,
+}
+
+impl Shape {
+    ghost use Rattle.std.specs.Prelude.{◌≡◌};
+    ghost use Rattle.run_picture.specs.Shapes.{plain as plain_of};
+
+    /// A shape of which nothing is said.
+    pub(crate) fn plain(style: Style, form: Form) -> Shape
+        ensures { result ≡ plain_of style form }
+    {
+        Shape {
+            style,
+            form,
+            hover: Hover::Nothing,
+        }
+    }
+}

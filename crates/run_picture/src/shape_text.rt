@@ -1,0 +1,188 @@
+//! The SVG element of a shape.
+
+ghost use Rattle.std.specs.Prelude.{◌≡◌, ◌+◌, ◌++◌, OnOk};
+ghost use Rattle.std.specs.String.{string_bytes};
+ghost use Rattle.run_picture.specs.ShapeText.{beginning_text, course_text, end_text, ending_text, hover_text, life_text, place_text, shape_text, shapes_text, share_text, span_text, style_text};
+
+use crate::bars::name_of;
+use crate::pixels::Pixels;
+use crate::shape::{Form, Hover, Shape, Style};
+use crate::words_text::write_words;
+use std::alloc::AllocError;
+use task_descriptor::descriptor::Descriptor;
+use task_lives::life::{Ending, Life};
+
+/// Writes the elements of shapes, one behind the other.
+pub(crate) fn write_shapes(
+    text: &mut String,
+    tasks: &[Descriptor],
+    shapes: &[Shape],
+) -> Result<(), AllocError>
+    ensures { OnOk result (string_bytes text.new ≡ string_bytes text.old ++ shapes_text tasks.now shapes.now) }
+{
+    for shape in shapes {
+        write_shape(text, tasks, shape)?;
+    }
+    Ok(())
+}
+
+/// Writes the element of a shape, in a line of its own.
+fn write_shape(text: &mut String, tasks: &[Descriptor], shape: &Shape) -> Result<(), AllocError>
+    ensures { OnOk result (string_bytes text.new ≡ string_bytes text.old ++ shape_text tasks.now shape.now) }
+{
+    write_beginning(text, shape.style, shape.form)?;
+    write_hover(text, tasks, shape.hover)?;
+    write_end(text, tasks, shape.form)
+}
+
+/// Writes the beginning of an element: its style and its place.
+fn write_beginning(text: &mut String, style: Style, form: Form) -> Result<(), AllocError>
+    ensures { OnOk result (string_bytes text.new ≡ string_bytes text.old ++ beginning_text (style_text style) form) }
+{
+    let class = class_of(style);
+    match form {
+        Form::Rectangle(left, top, width, height) => {
+            let (x, y) = (Pixels(left), Pixels(top));
+            let (w, h) = (Pixels(width), Pixels(height));
+            write!(
+                text,
+                "<rect class='{class}' x='{x}' y='{y}' width='{w}' height='{h}'>"
+            )
+        }
+        Form::Line(left, top, right, bottom) => {
+            let (x, y) = (Pixels(left), Pixels(top));
+            let (to, below) = (Pixels(right), Pixels(bottom));
+            write!(
+                text,
+                "<line class='{class}' x1='{x}' y1='{y}' x2='{to}' y2='{below}'>"
+            )
+        }
+        Form::Wedge(left, top) => {
+            let (x, y) = (Pixels(left), Pixels(top));
+            write!(text, "<path class='{class}' d='M{x} {y}h14l-7 11z'>")
+        }
+        Form::Label(left, base, _) => {
+            let (x, y) = (Pixels(left), Pixels(base));
+            write!(text, "<text class='{class}' x='{x}' y='{y}'>")
+        }
+    }
+}
+
+/// Writes the end of an element: what a label says, and the closing tag.
+fn write_end(text: &mut String, tasks: &[Descriptor], form: Form) -> Result<(), AllocError>
+    ensures { OnOk result (string_bytes text.new ≡ string_bytes text.old ++ end_text tasks.now form) }
+{
+    match form {
+        Form::Rectangle(..) => text.push_str("</rect>\n"),
+        Form::Line(..) => text.push_str("</line>\n"),
+        Form::Wedge(..) => text.push_str("</path>\n"),
+        Form::Label(_, _, words) => {
+            write_words(text, tasks, words)?;
+            text.push_str("</text>\n")
+        }
+    }
+}
+
+/// Writes what is said of a shape.
+fn write_hover(text: &mut String, tasks: &[Descriptor], hover: Hover) -> Result<(), AllocError>
+    ensures { OnOk result (string_bytes text.new ≡ string_bytes text.old ++ hover_text tasks.now hover) }
+{
+    match hover {
+        Hover::Nothing => Ok(()),
+        Hover::OfLife(life) => write_life(text, name_of(tasks, life.task), life),
+        Hover::OfTransfer(number, register, from, to) => write!(
+            text,
+            "<title>event {number}: ${register} goes from unit {from} to unit {to}</title>"
+        ),
+        Hover::OfSquash(number, unit) => write!(
+            text,
+            "<title>event {number}: what follows unit {unit} is squashed</title>"
+        ),
+    }
+}
+
+/// Writes what is said of a life; its events are numbered from 1.
+fn write_life(text: &mut String, name: &str, life: Life) -> Result<(), AllocError>
+    ensures { OnOk result (string_bytes text.new ≡ string_bytes text.old ++ life_text name.now life) }
+{
+    write_place(text, name, life.unit)?;
+    write_span(text, number_of(life.first), number_of(life.last))?;
+    write_course(text, life.executed, word_of(life.ending))
+}
+
+/// Writes which task it is, and where.
+fn write_place(text: &mut String, name: &str, unit: u32) -> Result<(), AllocError>
+    ensures { OnOk result (string_bytes text.new ≡ string_bytes text.old ++ place_text name.now unit) }
+{
+    write!(text, "<title>task {name}, unit {unit}")
+}
+
+/// Writes the numbers of the first and the last event.
+fn write_span(text: &mut String, first: u64, last: u64) -> Result<(), AllocError>
+    ensures { OnOk result (string_bytes text.new ≡ string_bytes text.old ++ span_text first last) }
+{
+    write!(text, ", events {first} to {last}")
+}
+
+/// Writes how many instructions were executed, and the ending.
+fn write_course(text: &mut String, executed: u32, ending: &str) -> Result<(), AllocError>
+    ensures { OnOk result (string_bytes text.new ≡ string_bytes text.old ++ course_text executed ending.now) }
+{
+    write!(text, ", instructions: {executed}, {ending}</title>")
+}
+
+/// The number of an event, counted from 1.
+fn number_of(event: u32) -> u64
+    ensures { result ≡ event + 1 }
+{
+    u64::from(event) + 1
+}
+
+/// The word for an ending.
+fn word_of(ending: Ending) -> &'static str
+    ensures { result.now ≡ ending_text ending }
+{
+    match ending {
+        Ending::Retired => "retired",
+        Ending::Squashed => "squashed",
+        Ending::Dropped => "dropped",
+        Ending::Unfinished => "unfinished",
+    }
+}
+
+/// The class of a style.
+fn class_of(style: Style) -> &'static str
+    ensures { result.now ≡ style_text style }
+{
+    match style {
+        Style::Heading => "title",
+        Style::Quiet => "quiet",
+        Style::Ground => "lane",
+        Style::UnitName => "unit",
+        Style::Grid => "grid",
+        Style::Axis => "axis",
+        Style::AxisNumber => "number",
+        Style::Caption => "caption",
+        Style::Bar(ending) => word_of(ending),
+        Style::Share(ending) => share_class(ending),
+        Style::TaskName => "task",
+        Style::Instruction => "instruction",
+        Style::FineInstruction => "instruction fine",
+        Style::Arrow => "transfer",
+        Style::FineArrow => "transfer fine",
+        Style::RegisterName => "register",
+        Style::SquashMark => "squash",
+    }
+}
+
+/// The class of a part of a stretch.
+fn share_class(ending: Ending) -> &'static str
+    ensures { result.now ≡ share_text ending }
+{
+    match ending {
+        Ending::Retired => "share retired",
+        Ending::Squashed => "share squashed",
+        Ending::Dropped => "share dropped",
+        Ending::Unfinished => "share unfinished",
+    }
+}

@@ -1,0 +1,109 @@
+//! What labels say.
+
+ghost use Rattle.std.specs.Prelude.{◌≡◌, ◌++◌, OnOk, flat_map, encode_utf8};
+ghost use Rattle.std.specs.String.{string_bytes};
+ghost use Rattle.run_picture.specs.WordsText.{lives_text, name_text, plural as plural_of, title_text, work_text, words_text};
+
+use crate::bars::name_of;
+use crate::shape::Words;
+use run_summary::tally::Tally;
+use std::alloc::AllocError;
+use task_descriptor::descriptor::Descriptor;
+
+/// Writes what a label says.
+pub(crate) fn write_words(
+    text: &mut String,
+    tasks: &[Descriptor],
+    words: Words,
+) -> Result<(), AllocError>
+    ensures { OnOk result (string_bytes text.new ≡ string_bytes text.old ++ words_text tasks.now words) }
+{
+    match words {
+        Words::Title(units, events) => write_title(text, units, events),
+        Words::Sums(tally) => write_sums(text, tally),
+        Words::OfUnit(unit) => write!(text, "unit {unit}"),
+        Words::EventNumber(number) => write!(text, "{number}"),
+        Words::Task(task, letters) => write_name(text, name_of(tasks, task), letters),
+        Words::Register(register) => write!(text, "${register}"),
+        Words::Events => text.push_str("events, numbered as the lines of the run's script"),
+        Words::Ring => text.push_str(
+            "An arrow that leaves the last unit goes on at unit 0: the units form a ring.",
+        ),
+        Words::Stretch(events) => write!(
+            text,
+            "A long run, summed: each column is {events} events, and shows how much of them a unit spent on tasks that ended so."
+        ),
+    }
+}
+
+/// Writes what the picture is called.
+fn write_title(text: &mut String, units: u32, events: u32) -> Result<(), AllocError>
+    ensures { OnOk result (string_bytes text.new ≡ string_bytes text.old ++ title_text units events) }
+{
+    let s = plural(units);
+    let of_events = plural(events);
+    write!(text, "Run on {units} unit{s}: {events} event{of_events}")
+}
+
+/// What stands behind a word for so many things.
+fn plural(count: u32) -> &'static str
+    ensures { result.now ≡ plural_of count }
+{
+    if count == 1 { "" } else { "s" }
+}
+
+/// Writes what some lives came to.
+fn write_sums(text: &mut String, tally: Tally) -> Result<(), AllocError>
+    ensures { OnOk result (string_bytes text.new ≡ string_bytes text.old ++ (lives_text tally ++ work_text tally)) }
+{
+    write_lives(text, tally)?;
+    write_work(text, tally)
+}
+
+/// Writes how some lives ended.
+fn write_lives(text: &mut String, tally: Tally) -> Result<(), AllocError>
+    ensures { OnOk result (string_bytes text.new ≡ string_bytes text.old ++ lives_text tally) }
+{
+    let assigned = tally.assigned;
+    let retired = tally.retired;
+    let squashed = tally.squashed;
+    let dropped = tally.dropped;
+    let unfinished = tally.unfinished;
+    write!(
+        text,
+        "lives of tasks: {assigned} ({retired} retired, {squashed} squashed, {dropped} dropped, {unfinished} unfinished)"
+    )
+}
+
+/// Writes how many instructions some lives executed.
+fn write_work(text: &mut String, tally: Tally) -> Result<(), AllocError>
+    ensures { OnOk result (string_bytes text.new ≡ string_bytes text.old ++ work_text tally) }
+{
+    let useful = tally.useful;
+    let wasted = tally.wasted;
+    write!(
+        text,
+        "; instructions of retired tasks: {useful}, of squashed or dropped ones: {wasted}"
+    )
+}
+
+/// Writes a name if it has at most so many letters, else so many of them and three points.
+fn write_name(text: &mut String, name: &str, letters: usize) -> Result<(), AllocError>
+    ensures { OnOk result (string_bytes text.new ≡ string_bytes text.old ++ name_text name.now letters) }
+{
+    if name.len() <= letters {
+        return text.push_str(name);
+    }
+    write_letters(text, &name.as_bytes()[..letters])?;
+    text.push_str("&#8230;")
+}
+
+/// Writes letters.
+fn write_letters(text: &mut String, letters: &[u8]) -> Result<(), AllocError>
+    ensures { OnOk result (string_bytes text.new ≡ string_bytes text.old ++ flat_map encode_utf8 letters.now) }
+{
+    for letter in letters {
+        text.push(char::from(*letter))?;
+    }
+    Ok(())
+}

@@ -1,0 +1,114 @@
+//! Pictures of machines that were given some events.
+
+ghost use Rattle.std.specs.Prelude.{◌<◌};
+
+use crate::given::{accepted, apply_all, machine, two_rounds};
+use machine_events::event::Event;
+use mark_checker::accept::Accepted;
+use run_picture::drawing::draw;
+use sequencer::machine::Machine;
+use std::alloc::Global;
+use std::process::Abort;
+use task_lives::laws::histories_fit;
+use test_programs::certificates::{COUNT_CERTIFICATE, DIAMOND_CERTIFICATE};
+use test_programs::programs::{COUNT, DIAMOND};
+
+fn picture(
+    rt: &impl Abort,
+    alloc: Global,
+    accepted: &Accepted,
+    machine: &Machine<'_>,
+    units: u32,
+) -> String
+    requires { 0 < units }
+{
+    histories_fit();
+    let text = draw(alloc, accepted.program(), units, machine.history()).ok();
+    text.expect(rt, "room for a picture")
+}
+
+// Each of the three lives has a bar; the axis has 1,160 pixels behind the first 88, so 72.5 for each of 16
+// events. The second task is squashed by event 10.
+#[test]
+fn bars_of_two_rounds(rt: HostRuntime) {
+    let accepted = accepted(&rt, rt.alloc(), COUNT, COUNT_CERTIFICATE);
+    let mut machine = machine(&rt, rt.alloc(), &accepted, 2);
+    two_rounds(&rt, &mut machine);
+    let text = picture(&rt, rt.alloc(), &accepted, &machine, 2);
+    assert!(rt; text.starts_with("<svg xmlns='http://www.w3.org/2000/svg' viewBox='0 0 1280 380'"));
+    assert!(rt; text.ends_with("</svg>\n"));
+    assert_eq!(rt; text.matches("<title>task ").count(), 3);
+    assert!(rt;
+        text.contains(
+            "<rect class='retired' x='88.00' y='166.00' width='1160.00' height='40.00'><title>task A, unit 0, events 1 to 16, instructions: 4, retired</title></rect>"
+        )
+    );
+    assert!(rt;
+        text.contains(
+            "<rect class='squashed' x='160.50' y='234.00' width='652.50' height='40.00'><title>task B, unit 1, events 2 to 10, instructions: 0, squashed</title></rect>"
+        )
+    );
+    assert!(rt;
+        text.contains(
+            "<rect class='unfinished' x='813.00' y='234.00' width='435.00' height='40.00'><title>task A, unit 1, events 11 to 16, instructions: 2, unfinished</title></rect>"
+        )
+    );
+    assert!(rt;
+        text.contains(
+            "lives of tasks: 3 (1 retired, 1 squashed, 0 dropped, 1 unfinished); instructions of retired tasks: 4, of squashed or dropped ones: 0"
+        )
+    );
+}
+
+// Six instructions, four registers and a squash are marked; unit 1 takes each register from unit 0.
+#[test]
+fn marks_of_two_rounds(rt: HostRuntime) {
+    let accepted = accepted(&rt, rt.alloc(), COUNT, COUNT_CERTIFICATE);
+    let mut machine = machine(&rt, rt.alloc(), &accepted, 2);
+    two_rounds(&rt, &mut machine);
+    let text = picture(&rt, rt.alloc(), &accepted, &machine, 2);
+    assert_eq!(rt; text.matches("<line class='instruction' ").count(), 6);
+    assert_eq!(rt; text.matches("<line class='transfer' ").count(), 4);
+    assert!(rt;
+        text.contains(
+            "<line class='transfer' x1='414.25' y1='206.00' x2='414.25' y2='234.00'><title>event 5: $8 goes from unit 0 to unit 1</title></line>\n<text class='register' x='419.25' y='225.00'>$8</text>"
+        )
+    );
+    assert!(rt;
+        text.contains(
+            "<path class='squash' d='M769.75 157.00h14l-7 11z'><title>event 10: what follows unit 0 is squashed</title></path>"
+        )
+    );
+}
+
+// Of five lives of `DIAMOND` four have begun.
+#[test]
+fn picture_of_a_diamond(rt: HostRuntime) {
+    let accepted = accepted(&rt, rt.alloc(), DIAMOND, DIAMOND_CERTIFICATE);
+    let mut machine = machine(&rt, rt.alloc(), &accepted, 3);
+    let events = [
+        Event::Assign(0),
+        Event::Assign(1),
+        Event::Assign(3),
+        Event::Exec(0),
+        Event::Exec(0),
+        Event::Squash(0),
+        Event::Assign(2),
+    ];
+    apply_all(&rt, &mut machine, &events);
+    let text = picture(&rt, rt.alloc(), &accepted, &machine, 3);
+    assert_eq!(rt; text.matches("<title>task ").count(), 4);
+    assert!(rt;
+        text.contains("<title>task D, unit 2, events 3 to 6, instructions: 0, squashed</title>")
+    );
+}
+
+// Nothing was assigned.
+#[test]
+fn picture_of_nothing(rt: HostRuntime) {
+    let accepted = accepted(&rt, rt.alloc(), COUNT, COUNT_CERTIFICATE);
+    let machine = machine(&rt, rt.alloc(), &accepted, 1);
+    let text = picture(&rt, rt.alloc(), &accepted, &machine, 1);
+    assert_eq!(rt; text.matches("<title>task ").count(), 0);
+    assert!(rt; text.contains("Run on 1 unit: 0 events"));
+}

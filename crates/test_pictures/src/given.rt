@@ -1,0 +1,80 @@
+//! Machines that were given some events, and lives.
+
+use annotated_asm::assembler::assemble;
+use machine_events::event::Event;
+use mark_checker::accept::Accepted;
+use mask_certificate::reading::read;
+use mips_plain::number::Reg;
+use sequencer::machine::Machine;
+use std::alloc::Global;
+use std::process::Abort;
+
+pub(crate) fn register(rt: &impl Abort, number: u8) -> Reg {
+    Reg::new(number).expect(rt, "a register")
+}
+
+pub(crate) fn accepted(
+    rt: &impl Abort,
+    alloc: Global,
+    program: &str,
+    certificate: &str,
+) -> Accepted {
+    let program = assemble(alloc, program.as_bytes()).ok();
+    let program = program.expect(rt, "a program");
+    let cert = read(alloc, certificate.as_bytes(), &program).ok();
+    let cert = cert.expect(rt, "a certificate");
+    Accepted::new(program, cert).ok().expect(rt, "accepted")
+}
+
+pub(crate) fn machine<'a>(
+    rt: &impl Abort,
+    alloc: Global,
+    accepted: &'a Accepted,
+    units: u32,
+) -> Machine<'a> {
+    Machine::new(alloc, accepted, units)
+        .ok()
+        .expect(rt, "a machine")
+}
+
+pub(crate) fn apply_all(rt: &impl Abort, machine: &mut Machine<'_>, events: &[Event]) {
+    for event in events {
+        expect_applied(rt, machine, event);
+    }
+}
+
+fn expect_applied(rt: &impl Abort, machine: &mut Machine<'_>, event: &Event) {
+    assert!(rt; machine.apply(*event).is_ok());
+}
+
+/// Two rounds of `COUNT` on two units. Its second task is predicted behind the first round and squashed;
+/// its unit takes the next round, which is unfinished.
+pub(crate) fn two_rounds(rt: &impl Abort, machine: &mut Machine<'_>) {
+    begin_round(rt, machine);
+    let again = [
+        Event::Drain(0, register(rt, 10)),
+        Event::Squash(0),
+        Event::Assign(0),
+        Event::Transfer(1, register(rt, 8)),
+        Event::Transfer(1, register(rt, 9)),
+        Event::Exec(1),
+        Event::Exec(1),
+        Event::Retire,
+    ];
+    apply_all(rt, machine, &again);
+}
+
+// The first round of `COUNT`, with the wrong task behind it.
+fn begin_round(rt: &impl Abort, machine: &mut Machine<'_>) {
+    let round = [
+        Event::Assign(0),
+        Event::Assign(1),
+        Event::Exec(0),
+        Event::Exec(0),
+        Event::Transfer(1, register(rt, 8)),
+        Event::Transfer(1, register(rt, 9)),
+        Event::Exec(0),
+        Event::Exec(0),
+    ];
+    apply_all(rt, machine, &round);
+}

@@ -1,0 +1,207 @@
+#!/usr/bin/env python3
+"""Compares the pictures of runs with the lives of their scripts.
+
+    picture.py --svg FILE --script FILE [--units N]
+    picture.py --program PROGRAM [FOLDER ..]
+
+The first form reads a picture and the event script that it shows. The second
+runs the built `multiscalar`: for each example that has a certificate it records
+runs on 1, 2, 4 and 16 units, and draws the replay of each. From the script alone,
+by a model of its own, this computes the lives of the tasks, the instructions, the
+registers passed on and the squashes. The picture must be well-formed XML with no
+script and no reference outside, and must have exactly these: for each life one bar
+with its task, unit, events, instructions and ending, at its place. Names may not
+be wider than their bars, nor bars of a unit overlap. Of a run of more than 2,000
+events it compares the height of each part of each column. What differs is told,
+and the script ends with status 1. It is no part of the tests.
+"""
+import argparse
+import collections
+import pathlib
+import re
+import subprocess
+import sys
+import tempfile
+import xml.etree.ElementTree as tree
+
+TOP = pathlib.Path(__file__).resolve().parent.parent
+SVG = "{http://www.w3.org/2000/svg}"
+MOST_SINGLE = 2000
+LEFT, WIDTH = 88.0, 1160.0
+Life = collections.namedtuple("Life", "task unit first last executed ending")
+TITLE = re.compile(r"task (\w+), unit (\d+), events (\d+) to (\d+), instructions: (\d+), (\w+)")
+STRETCHES = 290
+
+
+def history_of(text, units):
+    """Lives, transfers (event, register, from, to) and squashes (event, unit); events count from 1."""
+    lives, passes, squashes, queue = [], [], [], []
+    for number, line in enumerate(text.splitlines(), 1):
+        word, *rest = line.split()
+        if word == "assign":
+            # the unit behind that of the youngest task, or where the last head was
+            unit = (queue[-1]["unit"] + 1) % units if queue else history_of.next
+            life = dict(task=rest[0], unit=unit, first=number, last=0, executed=0, ending="unfinished")
+            lives.append(life)
+            queue.append(life)
+        elif word == "exec":
+            queue[int(rest[0])]["executed"] += 1
+        elif word == "transfer":
+            at = int(rest[0])
+            passes.append((number, int(rest[1][1:]), queue[at - 1]["unit"], queue[at]["unit"]))
+        elif word == "squash":
+            at = int(rest[0])
+            squashes.append((number, queue[at]["unit"]))
+            end(queue, at + 1, number, "squashed")
+        elif word == "drop":
+            if int(rest[0]) == 0:
+                history_of.next = queue[0]["unit"]
+            end(queue, int(rest[0]), number, "dropped")
+        elif word == "retire":
+            head = queue.pop(0)
+            head.update(last=number, ending="retired")
+            history_of.next = (head["unit"] + 1) % units
+    for life in queue:
+        life["last"] = number
+    return [Life(**life) for life in lives], passes, squashes
+
+
+def end(queue, kept, number, ending):
+    for life in queue[kept:]:
+        life.update(last=number, ending=ending)
+    del queue[kept:]
+
+
+def faults_of(svg, script, units):
+    """What is wrong with a picture of a script."""
+    root = tree.fromstring(svg)
+    events = len(script.splitlines())
+    history_of.next = 0
+    lives, passes, squashes = history_of(script, units) if events else ([], [], [])
+    for element in root.iter():
+        if element.tag in (SVG + "script", SVG + "image", SVG + "foreignObject"):
+            yield f"an element {element.tag}"
+        for key, value in element.attrib.items():
+            if key.startswith("on") or "://" in value:
+                yield f"an attribute {key}={value}"
+    if events > MOST_SINGLE:
+        yield from stretch_faults(root, lives, events, units)
+        return
+    yield from bar_faults(root, lives, events)
+    yield from mark_faults(root, lives, passes, squashes)
+
+
+def mark_faults(root, lives, passes, squashes):
+    told = [title.text for title in root.iter(SVG + "title")]
+    for number, register, source, target in passes:
+        wanted = 1 if target else 2
+        if told.count(f"event {number}: ${register} goes from unit {source} to unit {target}") != wanted:
+            yield f"no arrow of event {number}"
+    arrows = sum("goes from unit" in text for text in told)
+    if arrows != sum(1 if target else 2 for _, _, _, target in passes):
+        yield f"{arrows} arrows of {len(passes)} transfers"
+    for number, unit in squashes:
+        if told.count(f"event {number}: what follows unit {unit} is squashed") != 1:
+            yield f"no mark of the squash of event {number}"
+    ticks = sum(line.get("class", "").startswith("instruction") for line in root.iter(SVG + "line"))
+    executed = sum(life.executed for life in lives)
+    if ticks != executed:
+        yield f"{ticks} ticks of {executed} instructions"
+
+
+def bar_faults(root, lives, events):
+    drawn = []
+    rows = collections.defaultdict(list)
+    for bar in root.iter(SVG + "rect"):
+        title = bar.find(SVG + "title")
+        if title is None:
+            continue
+        task, unit, first, last, executed, ending = TITLE.fullmatch(title.text).groups()
+        life = Life(task, int(unit), int(first), int(last), int(executed), ending)
+        drawn.append(life)
+        left, width = float(bar.get("x")), float(bar.get("width"))
+        begin = LEFT + (life.first - 1) * WIDTH / events
+        behind = LEFT + life.last * WIDTH / events
+        if abs(left - begin) > 0.02 or abs(left + width - behind) > 0.04:
+            yield f"the bar of {life} is at {left}, {width} wide"
+        if bar.get("class") != ending:
+            yield f"the bar of {life} looks {bar.get('class')}"
+        rows[float(bar.get("y"))].append((left, left + width))
+    if drawn != lives:
+        yield f"{len(drawn)} bars of {len(lives)} lives, or others"
+    for spans in rows.values():
+        spans.sort()
+        if any(one[1] > two[0] + 0.04 for one, two in zip(spans, spans[1:])):
+            yield "bars of one unit overlap"
+    for text in root.iter(SVG + "text"):
+        if text.get("class") == "task":
+            x, y = float(text.get("x")), float(text.get("y")) - 18
+            width = max((end - start for start, end in rows[y] if start <= x <= end), default=0)
+            if 4 * len(text.text) > width:
+                yield f"the name {text.text} is wider than its bar"
+
+
+def stretch_faults(root, lives, events, units):
+    """The heights of the columns, against the events of the lives counted one by one."""
+    length = events // STRETCHES + 1
+    counts = collections.Counter()
+    for life in lives:
+        for event in range(life.first - 1, life.last):
+            counts[life.unit, event // length, life.ending] += 1
+    drawn = {}
+    for part in root.iter(SVG + "rect"):
+        style, _, ending = part.get("class").partition(" ")
+        if style == "share":
+            x, y = float(part.get("x")), float(part.get("y"))
+            stretch = round((x - LEFT) / WIDTH * events / length)
+            drawn[int((y - 152) // 68), stretch, ending] = float(part.get("height"))
+    if set(drawn) != set(counts):
+        yield f"{len(drawn)} parts of columns, where there are {len(counts)}"
+    for (unit, stretch, ending), height in drawn.items():
+        size = min((stretch + 1) * length, events) - stretch * length
+        if abs(height - counts[unit, stretch, ending] * 40 / size) > 0.02:
+            yield f"unit {unit}, stretch {stretch}, {ending}: {height} high"
+
+
+def run(program, *words):
+    return subprocess.run([program, *map(str, words)], capture_output=True).stdout
+
+
+def pictures_of(program, folder):
+    """Pictures of runs of an example, with their scripts and numbers of units."""
+    texts = [folder / "program.s", folder / "certificate.cert2"]
+    for units in (1, 2, 4, 16):
+        script = run(program, "run", "--emit", "script", "--units", units, *texts)
+        with tempfile.NamedTemporaryFile() as file:
+            file.write(script)
+            file.flush()
+            yield units, script.decode(), run(program, "replay", "--emit", "svg", "--units", units, *texts, file.name)
+
+
+def main():
+    options = argparse.ArgumentParser(description=__doc__, formatter_class=argparse.RawDescriptionHelpFormatter)
+    options.add_argument("--program", type=lambda path: str(pathlib.Path(path).resolve()))
+    options.add_argument("--svg", type=pathlib.Path)
+    options.add_argument("--script", type=pathlib.Path)
+    options.add_argument("--units", type=int, default=4)
+    options.add_argument("folders", metavar="FOLDER", type=pathlib.Path, nargs="*")
+    given = options.parse_args()
+    if given.svg and given.script:
+        cases = [(given.svg.name, given.units, given.script.read_text(), given.svg.read_bytes())]
+    elif given.program:
+        folders = given.folders or sorted(path.parent for path in TOP.glob("examples/*/certificate.cert2"))
+        cases = ((folder.name, *case) for folder in folders for case in pictures_of(given.program, folder))
+    else:
+        options.error("give --svg and --script, or --program")
+    seen, failed = 0, 0
+    for name, units, script, svg in cases:
+        seen += 1
+        for fault in faults_of(svg, script, units):
+            failed += 1
+            print(f"{name} on {units} units: {fault}")
+    print(f"{seen} pictures, {failed} faults")
+    sys.exit(1 if failed else 0)
+
+
+if __name__ == "__main__":
+    main()
