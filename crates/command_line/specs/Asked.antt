@@ -2,7 +2,7 @@
 -- subcommand the words name, and with which values, is what `clap` makes of them.
 use Rattle.std.specs.Prelude.{◌≡◌, ◌≢◌, ◌⊎◌, ℕ, Bool, true, false, not, List, [], Option, is_none, Some, None, Result, IsSome, IsSomeAnd, ⊤, if◌then◌else◌, codes, option_and_then, MatchResult, unwrap_or}
 use Rattle.std.specs.String.{string_bytes}
-use Rattle.std.specs.Option.{option_map_or}
+use Rattle.std.specs.Option.{option_map, option_map_or}
 use Rattle.std.specs.Str.{bytes_eq}
 use Rattle.std.specs.Str.Parse.{digits_value, without_leading_plus}
 use Rattle.clap.specs.Words.{Row, Text, first_of, found_of, kind_of, one_of, rows_of, subcommand_of}
@@ -84,8 +84,10 @@ Gives name values (Seq budget) =
     (name ≡ codes "seq") × (number_at (codes "budget") values ≡ Some budget)
 Gives name values Print = name ≡ codes "print"
 Gives name values (Annotate emit) = (name ≡ codes "annotate") × (emit_in values ≡ Some emit)
-Gives name values (Explain file warnings) = (name ≡ codes "explain")
-    × (first_of (codes "program") values ≡ Some (string_bytes file)) × (warnings ≡ not (is_given (codes "no-warnings") values))
+Gives name values (Explain file certificate warnings) = (name ≡ codes "explain")
+    × (first_of (codes "program") values ≡ Some (string_bytes file))
+    × (first_of (codes "certificate") values ≡ option_map string_bytes certificate)
+    × (warnings ≡ not (is_given (codes "no-warnings") values))
 Gives name values (Check source workers) = (name ≡ codes "check")
     × IsSource (codes "certificate") values source × (number_at (codes "workers") values ≡ Some workers)
 Gives name values (Replay source units emit) = (name ≡ codes "replay") × IsSource (codes "script") values source

@@ -84,7 +84,7 @@ abbrev pub annotate : Shape
 annotate = subcommand (codes "annotate") (program ∷ word (codes "emit") (codes "text") ∷ [])
 
 abbrev pub explain : Shape
-explain = subcommand (codes "explain") (program ∷ no_warnings ∷ [])
+explain = subcommand (codes "explain") (program ∷ free_certificate ∷ no_warnings ∷ [])
 
 abbrev pub check : Shape
 check = subcommand (codes "check") (program ∷ free_certificate ∷ least ∷ checkers ∷ [])

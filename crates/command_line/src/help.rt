@@ -35,7 +35,10 @@ pub const SEQ_LONG: &str =
 Writes the words that `out` sends, in decimal, one on a line, and then how the run ended:
   halted after N instructions
   trapped K Name after N instructions
-  out of budget after N instructions";
+  out of budget after N instructions
+
+For example:
+  ./multiscalar seq examples/count/program.s";
 
 /// `print`, in one line.
 pub const PRINT: &str = "Writes a program in canonical text";
@@ -44,7 +47,10 @@ pub const PRINT: &str = "Writes a program in canonical text";
 pub const PRINT_LONG: &str =
     "Writes a program in canonical text, which reads back as the same program. Of a text that is no
 program it writes the first fault and its line:
-  program refused: K Name line N";
+  program refused: K Name line N
+
+For example:
+  ./multiscalar print examples/count/program.s";
 
 /// `annotate`, in one line.
 pub const ANNOTATE: &str = "Proposes a program's annotations, or its certificate";
@@ -52,7 +58,10 @@ pub const ANNOTATE: &str = "Proposes a program's annotations, or its certificate
 /// `annotate`.
 pub const ANNOTATE_LONG: &str =
     "Proposes which registers each task creates and where values are forwarded; stops, releases and
-targets stay as they are. The proposal is not trusted: `check` judges it like any other.";
+targets stay as they are. The proposal is not trusted: `check` judges it like any other.
+
+For example, a certificate of the program as it stands:
+  ./multiscalar annotate --emit keep examples/count/program.s";
 
 /// `explain`, in one line.
 pub const EXPLAIN: &str = "Says which of a program's annotations are wrong, and why";
@@ -70,8 +79,13 @@ use; a finding that no path shows has no note:
 Of a text that is no program it writes the first fault, and what would be right:
   FILE:LINE: error: .. [K Name line N]
   FILE:LINE: help: ..
-The exit status is 0 where nothing is wrong, and 1 where something is or the text is refused:
-  multiscalar explain a.s";
+With CERT it says, too, why that text is no certificate, or that it is none of the program as it stands,
+and how to make it anew.
+
+The exit status is 0 where nothing is wrong, and 1 where something is or a text is refused.
+
+For example:
+  ./multiscalar explain examples/five-findings/program.s";
 
 /// `check`, in one line.
 pub const CHECK: &str = "Checks a program with its certificate";
@@ -91,8 +105,11 @@ A finding that is of no register has `-`. Of a text that is no certificate it wr
 and for the faults 2 and 3 the line:
   certificate refused: K Name LINE
 
-With `--least` it makes the certificate itself, that of `annotate --emit keep`:
-  multiscalar check --least a.s";
+With `--least` it makes the certificate itself, that of `annotate --emit keep`.
+
+For example:
+  ./multiscalar check examples/count/program.s examples/count/certificate.cert2
+  ./multiscalar check --least examples/count/program.s";
 
 /// `replay`, in one line.
 pub const REPLAY: &str = "Applies a script of events to a machine of some units";
@@ -126,11 +143,11 @@ first fault and its line:
   script refused: K Name LINE
 
 With `--emit summary` it writes a table instead of the answers and of how the run stands: that of
-`run --emit summary`, of the events that were allowed:
-  multiscalar replay --emit summary a.s a.cert a.events
+`run --emit summary`, of the events that were allowed. With `--least` it makes the certificate itself,
+that of `annotate --emit keep`.
 
-With `--least` it makes the certificate itself, that of `annotate --emit keep`:
-  multiscalar replay --least a.s a.events";
+For example:
+  ./multiscalar replay --least --units 2 examples/count/program.s examples/count/script.events";
 
 /// `run`, in one line.
 pub const RUN: &str = "Runs a program on a machine of some units, in threads";
@@ -155,17 +172,19 @@ A run that came to its budget has one line for the two:
 
 With `--emit script` it writes what the machine did instead, one event on each line, for `replay` with
 as many units:
-  multiscalar run --units 2 --emit script a.s a.cert > a.events
-  multiscalar replay --units 2 a.s a.cert a.events
+  ./multiscalar run --least --units 2 --emit script examples/count/program.s > count.events
+  ./multiscalar replay --least --units 2 examples/count/program.s count.events
 
 With `--emit summary` it writes a table instead, with a row for each task and one for all of them:
   assigned  retired  squashed  dropped  unfinished  useful  wasted  task
 `assigned` counts how often the task was assigned, and the next four how that ended; `useful` counts the
-instructions of those that retired, `wasted` the instructions of those that were squashed or dropped:
-  multiscalar run --units 8 --predict last --emit summary a.s a.cert
+instructions of those that retired, `wasted` the instructions of those that were squashed or dropped.
 
-With `--least` it makes the certificate itself, that of `annotate --emit keep`:
-  multiscalar run --least a.s";
+With `--least` it makes the certificate itself, that of `annotate --emit keep`.
+
+For example:
+  ./multiscalar run --least examples/count/program.s
+  ./multiscalar run --least --units 8 --predict last --emit summary examples/diamond/program.s";
 
 /// `--emit` of `annotate`.
 pub const ANNOTATE_EMIT: &str =
@@ -184,6 +203,12 @@ of the run) or summary (how often each task was assigned, and how that ended)";
 
 /// `--least`.
 pub const LEAST: &str = "Makes the least certificate of the program as it stands, in place of CERT";
+
+/// CERT, where `--least` may stand in its place.
+pub const CERTIFICATE: &str = "The certificate of the program; none with --least";
+
+/// CERT of `explain`.
+pub const EXPLAIN_CERTIFICATE: &str = "A certificate of the program, which is explained, too";
 
 /// `--no-warnings`.
 pub const NO_WARNINGS: &str = "Says nothing of annotations that are right but cost time";

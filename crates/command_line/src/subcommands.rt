@@ -118,11 +118,10 @@ fn certificate<'a>(alloc: Global) -> Arg<'a>
     file(alloc, "certificate", "CERT", text)
 }
 
-fn free_certificate<'a>(alloc: Global) -> Arg<'a>
+fn free_certificate<'a>(alloc: Global, text: &'a str) -> Arg<'a>
     ensures rule { rule_of result ≡ free_certificate_rule }
     ensures local { result.global ≡ false }
 {
-    let text = "The certificate of the program; none with --least";
     free_file(alloc, "certificate", "CERT", text)
 }
 
@@ -221,6 +220,7 @@ fn explain<'a>(alloc: Global) -> Result<Command<'a>, AllocError>
 {
     subcommand(alloc, "explain", help::EXPLAIN, help::EXPLAIN_LONG)
         .arg(program(alloc))?
+        .arg(free_certificate(alloc, help::EXPLAIN_CERTIFICATE))?
         .arg(no_warnings(alloc))
 }
 
@@ -230,7 +230,7 @@ fn check<'a>(alloc: Global) -> Result<Command<'a>, AllocError>
     let command = subcommand(alloc, "check", help::CHECK, help::CHECK_LONG);
     with_usage(command, help::CHECK_USAGE)
         .arg(program(alloc))?
-        .arg(free_certificate(alloc))?
+        .arg(free_certificate(alloc, help::CERTIFICATE))?
         .arg(least(alloc))?
         .arg(checkers(alloc))
 }
@@ -254,7 +254,7 @@ fn run<'a>(alloc: Global) -> Result<Command<'a>, AllocError>
     let command = subcommand(alloc, "run", help::RUN, help::RUN_LONG);
     with_usage(command, help::RUN_USAGE)
         .arg(program(alloc))?
-        .arg(free_certificate(alloc))?
+        .arg(free_certificate(alloc, help::CERTIFICATE))?
         .arg(least(alloc))?
         .arg(units(alloc))?
         .arg(workers(alloc))?

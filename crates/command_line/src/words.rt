@@ -166,6 +166,19 @@ fn replayed_paths(
     }
 }
 
+// The program, and the certificate that is explained beside it, if there is one.
+fn explained_paths(alloc: Global, values: &ArgMatches<'_>) -> Result<Paths, UsageFault>
+    ensures { MatchResult result (λ p. (first_of (codes "program") (values_in values.now) ≡ Some (string_bytes p.program))
+        × (string_bytes p.certificate ≡ unwrap_or (first_of (codes "certificate") (values_in values.now)) [])
+        × (string_bytes p.script ≡ [])) IsNoJob }
+{
+    Ok(Paths {
+        program: path(alloc, values, "program")?,
+        certificate: String::from_str(alloc, text(values, "certificate").unwrap_or(""))?,
+        script: String::new(alloc),
+    })
+}
+
 // Whether an option without a value is given.
 fn is_given(values: &ArgMatches<'_>, id: &str) -> bool
     ensures { result ≡ is_given id.now (values_in values.now) }
@@ -207,6 +220,16 @@ fn path(alloc: Global, values: &ArgMatches<'_>, id: &str) -> Result<String, Usag
     match text(values, id) {
         Some(path) => Ok(String::from_str(alloc, path)?),
         None => Err(no_job(alloc)),
+    }
+}
+
+// The name of a file that need not be named.
+fn free_path(alloc: Global, values: &ArgMatches<'_>, id: &str) -> Result<Option<String>, UsageFault>
+    ensures { MatchResult result (λ p. first_of id.now (values_in values.now) ≡ option_map string_bytes p) IsNoJob }
+{
+    match text(values, id) {
+        Some(path) => Ok(Some(String::from_str(alloc, path)?)),
+        None => Ok(None),
     }
 }
 
@@ -288,10 +311,13 @@ fn read_annotate(alloc: Global, values: &ArgMatches<'_>) -> Result<(Job, Paths),
 fn read_explain(alloc: Global, values: &ArgMatches<'_>) -> Result<(Job, Paths), UsageFault>
     ensures { Reads (codes "explain") (values_in values.now) result }
 {
-    let name = path(alloc, values, "program")?;
-    let warnings = !is_given(values, "no-warnings");
-    let job = Job::Explain { name, warnings };
-    Ok((job, program_path(alloc, values)?))
+    let paths = explained_paths(alloc, values)?;
+    let job = Job::Explain {
+        name: path(alloc, values, "program")?,
+        certificate: free_path(alloc, values, "certificate")?,
+        warnings: !is_given(values, "no-warnings"),
+    };
+    Ok((job, paths))
 }
 
 fn read_check(alloc: Global, values: &ArgMatches<'_>) -> Result<(Job, Paths), UsageFault>

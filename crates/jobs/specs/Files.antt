@@ -1,10 +1,10 @@
 -- Which files a job has (own choice).
-use Rattle.std.specs.Prelude.{◌≡◌, Bool, true, false, []}
+use Rattle.std.specs.Prelude.{◌≡◌, Bool, true, false, [], is_some}
 use Rattle.std.specs.String.{string_bytes}
 use Rattle.jobs.specs.declared.job.CertificateSource.{CertificateSource}
 use Rattle.jobs.specs.declared.job.CertificateSource.TheVariants.{File, Least}
 use Rattle.jobs.specs.declared.job.Job.{Job}
-use Rattle.jobs.specs.declared.job.Job.TheVariants.{Check, Replay, Run}
+use Rattle.jobs.specs.declared.job.Job.TheVariants.{Explain, Check, Replay, Run}
 use Rattle.jobs.specs.declared.job.Paths.{Paths}
 
 -- the certificate is in a file
@@ -14,6 +14,7 @@ is_in_file Least = false
 
 -- the job has a file with a certificate beside its program
 abbrev pub has_certificate : Job → Bool
+has_certificate (Explain name certificate warnings) = is_some certificate
 has_certificate (Check source workers) = is_in_file source
 has_certificate (Replay source units emit) = is_in_file source
 has_certificate (Run source units workers budget predict emit) = is_in_file source

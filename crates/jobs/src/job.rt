@@ -71,6 +71,8 @@ pub enum Job {
     Explain {
         /// The program's file as the words have it, for the diagnostics.
         name: String,
+        /// The certificate's file as the words have it, where one is to be explained, too.
+        certificate: Option<String>,
         /// Whether marks that are right but cost time are told, too.
         warnings: bool,
     },
@@ -106,6 +108,7 @@ impl Job {
         ensures { result ≡ has_certificate self.now }
     {
         match self {
+            Job::Explain { certificate, .. } => certificate.is_some(),
             Job::Check { certificate, .. } => matches!(certificate, CertificateSource::File),
             Job::Replay { certificate, .. } => matches!(certificate, CertificateSource::File),
             Job::Run { certificate, .. } => matches!(certificate, CertificateSource::File),
@@ -126,7 +129,7 @@ impl Job {
 pub struct Paths {
     /// The program text.
     pub program: String,
-    /// The certificate: of `check`, `replay` and `run`, where it is in a file.
+    /// The certificate: of `explain`, `check`, `replay` and `run`, where it is in a file.
     pub certificate: String,
     /// The event script: of `replay`.
     pub script: String,
@@ -137,7 +140,7 @@ pub struct Paths {
 pub struct Texts {
     /// The program text.
     pub program: Vec<u8>,
-    /// The certificate: of `check`, `replay` and `run`, where it is in a file.
+    /// The certificate: of `explain`, `check`, `replay` and `run`, where it is in a file.
     pub certificate: Text,
     /// The event script: of `replay`.
     pub script: Vec<u8>,

@@ -273,3 +273,39 @@ fn explains_each_rule(rt: HostRuntime) {
         row.runs(&rt, rt.alloc());
     }
 }
+
+// Certificates of `spin`, and what is said of them: the right one, one that is none from its third line on,
+// and one without a mask for the task's entry.
+const CERTIFICATES: [(&str, &str, u8); 3] = [
+    ("cert 2\ntask A\n0 0000000000000000\n", "", 0),
+    (
+        "cert 2\ntask A\n0 zz\n",
+        "a.cert:3: error: this is no line of a certificate [2 Line 3]
+a.cert:3: help: a line is task NAME, or an index of at most 5 digits, one blank and a mask: in cert 2 of 16 lower-case hexadecimal digits, in cert 1 of 8, with no bit above 33
+a.cert: help: make it anew: multiscalar annotate --emit keep a.s > a.cert
+",
+        1,
+    ),
+    (
+        "cert 2\ntask A\n",
+        "a.cert: error: this is not a certificate of a.s as it stands; findings with it: 1, with the least certificate: 0
+a.cert: help: make it anew: multiscalar annotate --emit keep a.s > a.cert
+",
+        1,
+    ),
+];
+
+#[test]
+fn explains_certificates(rt: HostRuntime) {
+    for &(certificate, expected, status) in &CERTIFICATES {
+        let row = Row {
+            words: "explain a.s a.cert",
+            program: SPIN,
+            certificate,
+            expected,
+            status,
+            ..EMPTY
+        };
+        row.runs(&rt, rt.alloc());
+    }
+}

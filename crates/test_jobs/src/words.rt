@@ -12,13 +12,28 @@ enum Wanted {
     Seq(u32),
     Print,
     Annotate(Emit),
-    Explain(bool),
+    Explain(WantedExplain),
     Check(CertificateSource, u32),
     Replay(CertificateSource, u32, ReplayEmit),
     Run(WantedRun),
 }
 
 use CertificateSource::{File, Least};
+
+// What `explain` takes.
+#[derive(Clone, Copy, PartialEq)]
+struct WantedExplain {
+    names_program: bool,
+    names_certificate: bool,
+    warnings: bool,
+}
+
+// `explain` with nothing but its program.
+const PLAIN_EXPLAIN: WantedExplain = WantedExplain {
+    names_program: true,
+    names_certificate: false,
+    warnings: true,
+};
 
 // What `run` takes.
 #[derive(Clone, Copy, PartialEq)]
@@ -70,7 +85,15 @@ impl Wanted {
             Job::Seq { budget } => Wanted::Seq(budget.get()),
             Job::Print => Wanted::Print,
             Job::Annotate { emit } => Wanted::Annotate(*emit),
-            Job::Explain { name } => Wanted::Explain(name.as_str() == "a.s"),
+            Job::Explain {
+                name,
+                certificate,
+                warnings,
+            } => Wanted::Explain(WantedExplain {
+                names_program: name.as_str() == "a.s",
+                names_certificate: is_named(certificate, "a.cert"),
+                warnings: *warnings,
+            }),
             Job::Check {
                 certificate,
                 workers,
@@ -104,18 +127,41 @@ impl Wanted {
             Wanted::Replay(Least, ..) => ("", "a.events"),
             Wanted::Replay(File, ..) => ("a.cert", "a.events"),
             Wanted::Check(File, _) => ("a.cert", ""),
+            Wanted::Explain(explain) if explain.names_certificate => ("a.cert", ""),
             Wanted::Run(run) if run.certificate == File => ("a.cert", ""),
             _ => ("", ""),
         }
     }
 }
 
+// Whether there is a file, of this name.
+fn is_named(file: &Option<String>, name: &str) -> bool {
+    match file {
+        Some(file) => file.as_str() == name,
+        None => false,
+    }
+}
+
 // Words that give a job of the program `a.s`.
-const JOBS: [(&str, Wanted); 20] = [
+const JOBS: [(&str, Wanted); 22] = [
     ("seq a.s", Wanted::Seq(1_000_000)),
     ("seq --budget 17 a.s", Wanted::Seq(17)),
     ("print a.s", Wanted::Print),
-    ("explain a.s", Wanted::Explain(true)),
+    ("explain a.s", Wanted::Explain(PLAIN_EXPLAIN)),
+    (
+        "explain a.s a.cert",
+        Wanted::Explain(WantedExplain {
+            names_certificate: true,
+            ..PLAIN_EXPLAIN
+        }),
+    ),
+    (
+        "explain --no-warnings a.s",
+        Wanted::Explain(WantedExplain {
+            warnings: false,
+            ..PLAIN_EXPLAIN
+        }),
+    ),
     ("check a.s a.cert", Wanted::Check(File, 1)),
     ("check a.s a.cert --workers 16", Wanted::Check(File, 16)),
     ("check --workers 3 a.s a.cert", Wanted::Check(File, 3)),
@@ -262,7 +308,7 @@ fn expect_path(rt: &impl Abort, line: &str, path: &String, expected: &str) {
     assert!(rt; path.as_str() == expected, "{line}");
 }
 
-const NO_JOBS: [&str; 28] = [
+const NO_JOBS: [&str; 29] = [
     "seq",
     "seq a.s b.s",
     "seq a.s --budget 0",
@@ -278,6 +324,7 @@ const NO_JOBS: [&str; 28] = [
     "check --least=yes a.s",
     "check --least --least a.s",
     "explain --least a.s",
+    "explain a.s a.cert b.cert",
     "replay a.s a.cert",
     "replay a.s a.cert a.events b.events",
     "replay a.s a.cert a.events --units 0",

@@ -55,7 +55,11 @@ fn report_of<R: Threads + Wait + Sync>(
         Job::Seq { budget } => Ok(seq(alloc, *budget, program)?),
         Job::Print => Ok(print(alloc, program)?),
         Job::Annotate { emit } => Ok(annotate(alloc, *emit, program)?),
-        Job::Explain { name } => Ok(explain(alloc, name, program)?),
+        Job::Explain {
+            name,
+            certificate,
+            warnings: _,
+        } => Ok(explain(alloc, name, certificate, texts)?),
         Job::Check {
             certificate,
             workers,

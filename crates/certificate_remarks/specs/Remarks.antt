@@ -1,0 +1,71 @@
+-- What is said of a certificate that does not serve its program (own choice, in the form of gcc and clang):
+-- why its text is refused, or that it is not one of the program as it stands; and the command that makes it
+-- anew.
+use Rattle.std.specs.Prelude.{ℕ, nat_le, nat_lt, Bool, ◌||◌, if◌then◌else◌, List, [], ◌∷◌, ◌++◌, length, codes}
+use Rattle.std.specs.List.{list_any}
+use Rattle.std.specs.Fmt.{decimal}
+use Rattle.mask_certificate.specs.declared.fault.CertFault.{CertFault}
+use Rattle.mask_certificate.specs.declared.fault.CertFault.TheVariants.{Header, Line, TaskName, MissingTask, Shape, OutOfMemory}
+use Rattle.mask_certificate.specs.FaultText.{cert_fault_text}
+use Rattle.mark_checker.specs.Numbers.{number_of}
+use Rattle.mark_checker.specs.declared.finding.Finding.{Finding}
+
+-- what is wrong with the text of a certificate
+abbrev pub fault_sentence : CertFault → List ℕ
+fault_sentence Header = codes "the first line is neither cert 2 nor cert 1"
+fault_sentence (Line line) = codes "this is no line of a certificate"
+fault_sentence (TaskName line) = codes "this is not the program's next task"
+fault_sentence MissingTask = codes "a task of the program is missing"
+fault_sentence Shape = codes "the indices of a task do not rise, or one of them is above 4095"
+fault_sentence OutOfMemory = []
+
+-- what was expected there
+abbrev pub fault_help : CertFault → List ℕ
+fault_help Header = codes "a certificate begins with the line cert 2, or with cert 1 where its masks have 8 digits"
+fault_help (Line line) = codes "a line is task NAME, or an index of at most 5 digits, one blank and a mask: in cert 2 of 16 lower-case hexadecimal digits, in cert 1 of 8, with no bit above 33"
+fault_help (TaskName line) = codes "a certificate has one line task NAME for each task of the program, in the order of the program"
+fault_help MissingTask = codes "a certificate has one line task NAME for each task of the program, in the order of the program"
+fault_help Shape = codes "within a task each index is larger than the one before it, and at most 4095"
+fault_help OutOfMemory = []
+
+-- the line of a fault, where it is in one
+abbrev pub fault_line : CertFault → List ℕ
+fault_line Header = codes "1:"
+fault_line (Line line) = decimal line ++ codes ":"
+fault_line (TaskName line) = decimal line ++ codes ":"
+fault_line _ = []
+
+abbrev pub place_text : (file : List ℕ) → CertFault → List ℕ
+place_text file fault = file ++ (codes ":" ++ (fault_line fault ++ codes " "))
+
+-- the command that makes the certificate anew, for a program in a file of this name
+abbrev pub anew_text : (program file : List ℕ) → List ℕ
+anew_text program file =
+    file ++ (codes ": help: make it anew: multiscalar annotate --emit keep " ++ (program ++ (codes " > " ++ (file ++ 10 ∷ []))))
+
+-- all that is said of a certificate whose text is refused; both files have names
+abbrev pub refused_text : (program file : List ℕ) → CertFault → List ℕ
+refused_text program file fault =
+    place_text file fault ++ (codes "error: " ++ (fault_sentence fault ++ (codes " [" ++ (cert_fault_text fault ++ (codes "]" ++ 10 ∷ [])))))
+    ++ (place_text file fault ++ (codes "help: " ++ (fault_help fault ++ 10 ∷ [])))
+    ++ anew_text program file
+
+-- The rules 1 to 4 judge the certificate alone: with a least certificate they find nothing.
+abbrev pub is_of_certificate : Finding → Bool
+is_of_certificate f = nat_le (number_of f.rule) 4
+
+-- The checker finds more with a certificate than with the least one.
+abbrev pub finds_more : (found least : List Finding) → Bool
+finds_more found least = list_any is_of_certificate found || nat_lt (length least) (length found)
+
+abbrev pub unfit_text : (program file : List ℕ) → (found least : ℕ) → List ℕ
+unfit_text program file found least =
+    file ++ (codes ": error: this is not a certificate of " ++ (program ++ (codes " as it stands; findings with it: " ++ (decimal found
+    ++ (codes ", with the least certificate: " ++ (decimal least ++ 10 ∷ []))))))
+    ++ anew_text program file
+
+-- What is said of a certificate that could be read: nothing, or that it does not fit, by what the checker finds
+-- with it and with the least one.
+abbrev pub fitting_text : (program file : List ℕ) → (found least : List Finding) → List ℕ
+fitting_text program file found least =
+    if finds_more found least then unfit_text program file (length found) (length least) else []
