@@ -1,5 +1,5 @@
 -- A token ends within its line: a token takes bytes of what it is taken from, and none twice.
-use Rattle.std.proofs.Common.{◌≡◌, ℕ, zero, suc, ◌+◌, ◌-◌, ◌<◌, ◌≤◌, ◌^◌, Bool, true, false, List, [], ◌∷◌, length, take, drop, arith, refl, ap, sym, ◌∙◌, subst, if◌then◌else◌}
+use Rattle.std.proofs.Common.{ℕ, zero, suc, ◌+◌, ◌-◌, ◌<◌, ◌≤◌, ◌^◌, Bool, true, false, List, [], ◌∷◌, length, take, arith, if◌then◌else◌}
 use Rattle.std.specs.Prelude.{◌==◌, take_while, slice_index}
 use Rattle.std.specs.List.{All, prefix_len}
 use Rattle.std.specs.Str.{byte}

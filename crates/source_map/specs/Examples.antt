@@ -12,7 +12,6 @@ use Rattle.annotated_asm.specs.declared.fault.AsmFault.TheVariants as fault
 use Rattle.program_tokens.specs.Spans.{spans_after}
 use Rattle.source_map.specs.declared.position.Position.{Position}
 use Rattle.source_map.specs.declared.position.Stretch.{Stretch}
-use Rattle.source_map.specs.declared.position.TaskLists.{TaskLists}
 use Rattle.source_map.specs.Sources.{Sources, with_line, with_lines, sources_of}
 
 -- lines, each with its LF
