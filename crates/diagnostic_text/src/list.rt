@@ -1,11 +1,11 @@
 //! The lists of a `.task` that would be right.
 
-ghost use Rattle.std.specs.Prelude.{◌≡◌, [], ◌∷◌, ◌++◌, ◌||◌, ◌<◌, nat_eq, codes, map as each, slice_get, IfOk, OnOk, if◌then◌else◌};
+ghost use Rattle.std.specs.Prelude.{◌≡◌, [], ◌∷◌, ◌++◌, ◌||◌, ◌<◌, ◌==◌, nat_eq, codes, map as each, position, slice_get, IfOk, OnOk, if◌then◌else◌};
 ghost use Rattle.std.specs.List.{flat_map};
 ghost use Rattle.std.specs.Fmt.{decimal};
 ghost use Rattle.std.specs.String.{string_bytes};
 ghost use Rattle.mips_plain.specs.Words.{has};
-ghost use Rattle.diagnostic_text.specs.Lists.{registers_with, registers_text, task_name, names_at, names_text, create_text, targets_text};
+ghost use Rattle.diagnostic_text.specs.Lists.{registers_with, registers_text, task_name, name_of, names_at, names_text, create_text, targets_text};
 
 use mips_plain::number::{Place, Reg, RegSet};
 use std::alloc::{AllocError, Global};
@@ -81,6 +81,21 @@ fn write_registers(text: &mut String, registers: &[u8]) -> Result<(), AllocError
     }
 }
 
+/// Adds the name of the task that begins at a place, if one begins there.
+fn add_name<'a>(
+    list: &mut Vec<&'a str>,
+    program: &'a Program,
+    place: Place,
+) -> Result<(), AllocError>
+    ensures { OnOk result (each (λ name. name.now) list.new.items
+        ≡ each (λ name. name.now) list.old.items ++ name_of program.now (position (λ d. d.entry == place) program.now.tasks)) }
+{
+    if let Some(task) = program.task_at(place.get()) {
+        list.push(task_name(program, task))?;
+    }
+    Ok(())
+}
+
 /// The names of the tasks that begin at some places; none of a place where none begins.
 fn names_at<'a>(
     alloc: Global,
@@ -91,9 +106,7 @@ fn names_at<'a>(
 {
     let mut list = Vec::new(alloc);
     for place in places {
-        if let Some(task) = program.task_at(place.get()) {
-            list.push(task_name(program, task))?;
-        }
+        add_name(&mut list, program, *place)?;
     }
     Ok(list)
 }
