@@ -23,7 +23,6 @@ from model import Fault, TOK, assemble, certify, dests, exits, inner, print_prog
 
 R = random.Random()
 WRITTEN = {5, 6, 7}
-ON_TASK = {5, 12}
 MOST_SHOWN = 1000
 
 
@@ -39,7 +38,7 @@ def columns(line):
 
 
 def places(text):
-    """Line and column of each task and of each instruction."""
+    """Line and column of each task and of each instruction, the latter with how many bytes it has."""
     tasks, code = [], []
     for number, line in enumerate(text.split("\n"), 1):
         starts = columns(line)
@@ -51,8 +50,40 @@ def places(text):
         if head == ".task":
             tasks.append((number, column))
         elif not head.startswith("."):
-            code += [(number, column)] * instructions(head, starts)
+            end = starts[-1][0] + len(starts[-1][1])
+            code += [(number, column, end - column)] * instructions(head, starts)
     return tasks, code
+
+
+def lists(text):
+    """For each task, the column and the width of its `create=`, of its `targets=` and of each target."""
+    all_lists = []
+    for line in text.split("\n"):
+        starts = columns(line)
+        while len(starts) >= 2 and starts[1][1] == ":":
+            starts = starts[2:]
+        if not starts or starts[0][1] != ".task":
+            continue
+        words = [k for k in range(2, len(starts)) if k + 1 < len(starts) and starts[k + 1][1] == "="]
+        create, targets = words[0], words[1]
+        ends = [column + len(token) for column, token in starts]
+        all_lists.append(((starts[create][0], ends[targets - 1] - starts[create][0]),
+                          (starts[targets][0], ends[-1] - starts[targets][0]),
+                          [(column, len(token)) for column, token in starts[targets + 2:] if token != ","]))
+    return all_lists
+
+
+def meant(program, text, finding):
+    """The line, the column and the width of what a finding is about."""
+    task, index, rule, register = finding
+    tasks, code = places(text)
+    create, targets, each = lists(text)[task]
+    if rule == 5:
+        return tasks[task][0], *create
+    if rule == 12:
+        begins = {t[1] for t in program.tasks}
+        return tasks[task][0], *next(at for j, at in zip(program.tasks[task][3], each) if j not in begins)
+    return code[index]
 
 
 def instructions(head, starts):
@@ -65,34 +96,44 @@ def instructions(head, starts):
     return 1 if value < 0x10000 or value >= 0xFFFF8000 else 2
 
 
-def sentence(rule, task, register):
-    """The error and the help of a rule."""
+def listed(pieces):
+    """A list in a `.task`."""
+    return ",".join(pieces) or "-"
+
+
+def sentence(program, finding):
+    """The error and the help of a finding."""
+    number, _, rule, register = finding
+    task, _, create, places_listed = program.tasks[number]
+    begins = {t[1]: t[0] for t in program.tasks}
+    with_register = listed(f"${r}" for r in range(34) if r in create or r == register)
+    kept = listed(begins[j] for j in places_listed if j in begins)
     return {
         5: (f"task {task} may write ${register}, which its create mask lacks",
-            f"add ${register} to the create mask of task {task}"),
+            f"add ${register} to the create mask of task {task}: create={with_register}"),
         6: (f"task {task} forwards ${register} here and may write it again",
             f"remove !f here and put it at the last instruction that writes ${register}"),
         7: (f"task {task} releases ${register} here and may write it again",
             f"remove ${register} from this release, and release it behind the last instruction that writes it"),
         8: (f"task {task} sends ${register} here, which its create mask lacks",
-            f"add ${register} to the create mask of task {task}"),
+            f"add ${register} to the create mask of task {task}: create={with_register}"),
         9: (f"task {task} can end here and go on to a place that is not one of its targets",
             f"add the place to the targets of task {task}; if no task begins there, the control flow must change"),
         10: (f"task {task} can go on from here to an index that has no instruction",
              "the control flow must change: put halt or a jump there"),
         11: (f"task {task} goes on over a jump to an address in a register", "end the task here: add !s"),
         12: (f"a target of task {task} is not where a task begins",
-             "remove the target, or let a task begin there"),
+             f"let a task begin there, or remove the target: targets={kept}"),
     }[rule]
 
 
-def excerpt(text, line, column):
-    """The two rows that show a line and a column of a text; none of a line that is too long."""
+def excerpt(text, line, column, width):
+    """The two rows that show a part of a line of a text; none of a line that is too long."""
     shown, number = text.split("\n")[line - 1], str(line)
     if len(shown.removesuffix("\r")) > 1000:
         return []
     below = "".join("\t" if c == "\t" else " " for c in shown[:column - 1])
-    return [f"{number:>5} | {shown}", f"{' ' * max(5, len(number))} | {below}^"]
+    return [f"{number:>5} | {shown}", f"{' ' * max(5, len(number))} | {below}^{'~' * (width - 1)}"]
 
 
 def cut(told, rows):
@@ -140,10 +181,10 @@ def differs(program, text, name, said):
     findings = verdict(program, certify(program))
     for finding in findings[:MOST_SHOWN]:
         task, index, rule, register = finding
-        line, column = tasks[task] if rule in ON_TASK else code[index]
-        error, todo = sentence(rule, program.tasks[task][0], register)
+        line, column, width = meant(program, text, finding)
+        error, todo = sentence(program, finding)
         at = f"{name}:{line}:{column}: "
-        if not cut(told, [f"{at}error: {error} [rule {rule}]", *excerpt(text, line, column)]):
+        if not cut(told, [f"{at}error: {error} [rule {rule}]", *excerpt(text, line, column, width)]):
             return f"the error of {finding}"
         asked = query(program, finding)
         if asked:
@@ -161,7 +202,9 @@ def differs(program, text, name, said):
             words = "written here" if rule in WRITTEN else "reached from here"
             if (match.group(1), int(match.group(2)), match.group(4)) != (name, end, words):
                 return f"the place of the note of {finding}"
-            if (end, int(match.group(3))) not in code or not cut(told, excerpt(text, end, int(match.group(3)))):
+            column = int(match.group(3))
+            widths = {width for at, begins, width in code if (at, begins) == (end, column)}
+            if len(widths) != 1 or not cut(told, excerpt(text, end, column, *widths)):
                 return f"the column of the note of {finding}"
         if not cut(told, [f"{at}help: {todo}"]):
             return f"the help of {finding}"

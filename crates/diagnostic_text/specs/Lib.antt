@@ -1,2 +1,3 @@
 pub mod Sentences
+pub mod Lists
 pub mod Diagnostics

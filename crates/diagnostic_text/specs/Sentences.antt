@@ -61,4 +61,4 @@ help_text SentNotCreated task r = codes "add $" ++ (decimal r ++ (codes " to the
 help_text ExitNotListed task r = codes "add the place to the targets of task " ++ (task ++ codes "; if no task begins there, the control flow must change")
 help_text FallsOff task r = codes "the control flow must change: put halt or a jump there"
 help_text IndirectGoesOn task r = codes "end the task here: add !s"
-help_text TargetNotEntry task r = codes "remove the target, or let a task begin there"
+help_text TargetNotEntry task r = codes "let a task begin there, or remove the target"

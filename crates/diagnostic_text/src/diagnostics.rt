@@ -9,9 +9,11 @@ ghost use Rattle.annotated_asm.specs.Steps.{FailsText};
 ghost use Rattle.annotated_asm.specs.ProgramText.{parse};
 ghost use Rattle.source_map.specs.Sources.{sources_in};
 ghost use Rattle.source_excerpt.specs.Excerpt.{position_text};
-ghost use Rattle.diagnostic_text.specs.Diagnostics.{task_name, error_text, todo_text, line_of, path_text, note_text, path_note, finding_text, more_text, findings_text, IsExplained};
+ghost use Rattle.diagnostic_text.specs.Sentences.{number_in as register_number};
+ghost use Rattle.diagnostic_text.specs.Diagnostics.{error_text, text_to_write, todo_text, line_of, path_text, note_text, path_note, finding_text, more_text, findings_text, IsExplained};
 
-use crate::place::{line_of, note_index, note_words, place_by, place_of};
+use crate::list::{task_name, write_create, write_targets};
+use crate::place::{instruction_stretch, line_of, note_index, note_words, place_of, stretch_by};
 use crate::sentence::{number_in, write_help, write_sentence};
 use annotated_asm::assembler::assemble;
 use annotated_asm::fault::AsmFault;
@@ -27,16 +29,6 @@ use task_descriptor::program::Program;
 /// The most findings that `explain` shows of a text; of any more it says how many they are (own choice). A
 /// text of 100 KB can have 138 million findings, and each is shown with a path of up to 4,096 steps.
 pub const MOST_SHOWN: usize = 1_000;
-
-/// The name of the task of this number.
-fn task_name(program: &Program, task: u32) -> &str
-    ensures { result.now ≡ task_name (slice_get program.now.tasks task) }
-{
-    match program.tasks().get(task as usize) {
-        Some(descriptor) => descriptor.name.as_str(),
-        None => "",
-    }
-}
 
 /// Adds what is wrong.
 fn write_error(
@@ -55,19 +47,45 @@ fn write_error(
     writeln!(text, " [rule {number}]")
 }
 
+/// Adds the text to write, where that is plain.
+fn write_text_to_write(
+    alloc: Global,
+    text: &mut String,
+    program: &Program,
+    finding: &Finding,
+) -> Result<(), AllocError>
+    ensures { OnOk result (string_bytes text.new
+        ≡ string_bytes text.old ++ text_to_write finding.now.rule program.now finding.now.task (register_number finding.now.reg)) }
+{
+    match finding.rule {
+        Rule::ExceedsCreate | Rule::SentNotCreated => {
+            text.push_str(": create=")?;
+            write_create(alloc, text, program, finding.task, number_in(finding.reg))
+        }
+        Rule::TargetNotEntry => {
+            text.push_str(": targets=")?;
+            write_targets(alloc, text, program, finding.task)
+        }
+        _ => Ok(()),
+    }
+}
+
 /// Adds what to do.
 fn write_todo(
+    alloc: Global,
     text: &mut String,
     file: &str,
     at: Position,
-    task: &str,
+    program: &Program,
     finding: &Finding,
 ) -> Result<(), AllocError>
-    ensures { OnOk result (string_bytes text.new ≡ string_bytes text.old ++ todo_text file.now at task.now finding.now) }
+    ensures { OnOk result (string_bytes text.new ≡ string_bytes text.old ++ todo_text file.now at program.now finding.now) }
 {
+    let name = task_name(program, finding.task);
     write_position(text, file, at)?;
     write!(text, "help: ")?;
-    write_help(text, finding.rule, task, number_in(finding.reg))?;
+    write_help(text, finding.rule, name, number_in(finding.reg))?;
+    write_text_to_write(alloc, text, program, finding)?;
     writeln!(text, "")
 }
 
@@ -154,7 +172,8 @@ fn write_path_note(
         Some(path) => {
             let rule = shown.finding.rule;
             write_note(text, file, map, rule, path)?;
-            write_excerpt(alloc, text, rows, place_of(map, note_index(rule, path)), 1)
+            let meant = instruction_stretch(map, note_index(rule, path));
+            write_excerpt(alloc, text, rows, meant.position, meant.width)
         }
         None => Ok(()),
     }
@@ -174,12 +193,13 @@ fn write_finding(
         ≡ string_bytes text.old ++ finding_text file.now (each (λ line. line.now) rows.now) program.now (sources_in map.now) shown.now) }
 {
     let finding = &shown.finding;
-    let at = place_by(map, finding);
+    let meant = stretch_by(program, map, finding);
+    let at = meant.position;
     let task = task_name(program, finding.task);
     write_error(text, file, at, task, finding)?;
-    write_excerpt(alloc, text, rows, at, 1)?;
+    write_excerpt(alloc, text, rows, at, meant.width)?;
     write_path_note(alloc, text, file, rows, map, shown)?;
-    write_todo(text, file, at, task, finding)
+    write_todo(alloc, text, file, at, program, finding)
 }
 
 /// Adds how many findings are not shown, if there are any.

@@ -3,5 +3,6 @@
 #![tactic(auto)]
 
 pub mod diagnostics;
+mod list;
 mod place;
 mod sentence;

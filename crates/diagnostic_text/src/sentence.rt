@@ -137,6 +137,6 @@ pub(crate) fn write_help(text: &mut String, rule: Rule, task: &str, r: u8) -> Re
             "the control flow must change: put halt or a jump there"
         ),
         Rule::IndirectGoesOn => write!(text, "end the task here: add !s"),
-        Rule::TargetNotEntry => write!(text, "remove the target, or let a task begin there"),
+        Rule::TargetNotEntry => write!(text, "let a task begin there, or remove the target"),
     }
 }

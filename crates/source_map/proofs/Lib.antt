@@ -1,2 +1,4 @@
 mod LineSteps
 mod Fitting
+mod SpanEnds
+pub mod Targets

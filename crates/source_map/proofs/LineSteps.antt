@@ -1,5 +1,5 @@
 -- One line more: the map with it is where the map with the lines behind it begins.
-use Rattle.std.proofs.Common.{◌≡◌, ℕ, ◌+◌, ◌*◌, List, length, [], ◌∷◌, Option, Some, None, Result, Ok, Err, ap, sym, ◌∙◌, subst, IfSome, IfNone}
+use Rattle.std.proofs.Common.{◌≡◌, ℕ, ◌+◌, ◌*◌, List, length, drop, [], ◌∷◌, Option, Some, None, Result, Ok, Err, ap, sym, ◌∙◌, subst, IfSome, IfNone}
 use Rattle.program_statements.specs.Steps.{◌>>=◌}
 use Rattle.program_statements.specs.declared.statement.Section.{Section}
 use Rattle.annotated_asm.specs.Steps.{FailsText}
@@ -13,32 +13,34 @@ use Rattle.program_statements.specs.Statements.{statement_of}
 use Rattle.program_statements.specs.declared.statement.Statement.{Statement}
 use Rattle.annotated_asm.specs.Items.{labels_of, after_labels, on_line, tokens_on_line, section_after}
 use Rattle.source_map.specs.declared.position.LabelSource.{LabelSource}
-use Rattle.source_map.specs.Sources.{Sources, token_position, label_sources, with_labels, with_statement, with_line, with_lines}
+use Rattle.source_map.specs.Sources.{Sources, label_sources, with_labels, with_statement, with_line, with_lines}
 
 -- what a line adds, from its tokens and its statement
+abbrev pub added : Sources → ℕ → Section → List Span → List Token → Statement → Sources
+added front n here spans tokens said =
+    with_statement (with_labels front (label_sources n spans 0 tokens)) n (drop (2 * length (labels_of tokens)) spans) (after_labels tokens) here said
+
 pub line_read : (front : Sources) (n : ℕ) (here : Section) (line : List ℕ) (tokens : List Token) (said : Statement)
     → tokens_on_line n (line_tokens line) ≡ Ok tokens → on_line n (statement_of here (after_labels tokens)) ≡ Ok said
-    → with_line front n here line ≡ Ok (
-      with_statement (with_labels front (label_sources n (line_spans line) 0 tokens))
-          (token_position n (line_spans line) (2 * length (labels_of tokens))) here said,
-      section_after here said,
-    )
+    → with_line front n here line ≡ Ok (added front n here (line_spans line) tokens said, section_after here said)
 unfolding with_line
 line_read front n here line tokens said e f =
-    ap (λ (r : Result (List Token) AsmFault). r >>= λ ts. on_line n (statement_of here (after_labels ts)) >>= λ x. Ok (with_statement (with_labels front (label_sources n (line_spans line) 0 ts)) (token_position n (line_spans line) (2 * length (labels_of ts))) here x, section_after here x)) e
-    ∙ ap (λ (r : Result Statement AsmFault). r >>= λ x. Ok (with_statement (with_labels front (label_sources n (line_spans line) 0 tokens)) (token_position n (line_spans line) (2 * length (labels_of tokens))) here x, section_after here x)) f
+    ap (λ (r : Result (List Token) AsmFault). r >>= λ ts. on_line n (statement_of here (after_labels ts)) >>= λ x. Ok (added front n here (line_spans line) ts x, section_after here x)) e
+    ∙ ap (λ (r : Result Statement AsmFault). r >>= λ x. Ok (added front n here (line_spans line) tokens x, section_after here x)) f
 
 -- the same in the terms of the code: the places and the tokens behind the labels as it has them
-pub line_told : (front last : Sources) (n : ℕ) (here : Section) (line : List ℕ) (tokens rest : List Token) (spans : List Span) (number : ℕ) (labels : List LabelSource) (said : Statement)
+pub line_told : (front last : Sources) (n : ℕ) (here : Section) (line : List ℕ) (tokens rest : List Token) (spans own : List Span) (number : ℕ) (labels : List LabelSource) (said : Statement)
     → tokens_on_line n (line_tokens line) ≡ Ok tokens → spans ≡ line_spans line
-    → rest ≡ after_labels tokens → number ≡ 2 * length (labels_of tokens) → labels ≡ label_sources n spans 0 tokens
-    → on_line n (statement_of here rest) ≡ Ok said → last ≡ with_statement (with_labels front labels) (token_position n spans number) here said
+    → rest ≡ after_labels tokens → number ≡ 2 * length (labels_of tokens) → own ≡ drop number spans → labels ≡ label_sources n spans 0 tokens
+    → on_line n (statement_of here rest) ≡ Ok said → last ≡ with_statement (with_labels front labels) n own rest here said
     → with_line front n here line ≡ Ok (last, section_after here said)
-line_told front last n here line tokens rest spans number labels said is_tokens is_spans is_rest is_number is_labels is_said is_last =
-    let same : with_statement (with_labels front (label_sources n (line_spans line) 0 tokens)) (token_position n (line_spans line) (2 * length (labels_of tokens))) here said ≡ last =
-    ap (λ ss. with_statement (with_labels front (label_sources n ss 0 tokens)) (token_position n ss (2 * length (labels_of tokens))) here said) (sym is_spans)
-    ∙ ap (λ m. with_statement (with_labels front (label_sources n spans 0 tokens)) (token_position n spans m) here said) (sym is_number)
-    ∙ ap (λ ls. with_statement (with_labels front ls) (token_position n spans number) here said) (sym is_labels)
+line_told front last n here line tokens rest spans own number labels said is_tokens is_spans is_rest is_number is_own is_labels is_said is_last =
+    let same : added front n here (line_spans line) tokens said ≡ last =
+    ap (λ ss. added front n here ss tokens said) (sym is_spans)
+    ∙ ap (λ m. with_statement (with_labels front (label_sources n spans 0 tokens)) n (drop m spans) (after_labels tokens) here said) (sym is_number)
+    ∙ ap (λ ss. with_statement (with_labels front (label_sources n spans 0 tokens)) n ss (after_labels tokens) here said) (sym is_own)
+    ∙ ap (λ ts. with_statement (with_labels front (label_sources n spans 0 tokens)) n own ts here said) (sym is_rest)
+    ∙ ap (λ ls. with_statement (with_labels front ls) n own rest here said) (sym is_labels)
     ∙ sym is_last in
     line_read front n here line tokens said is_tokens (ap (λ ts. on_line n (statement_of here ts)) (sym is_rest) ∙ is_said)
     ∙ ap (λ (next : Sources). let read : Result (Sources × Section) AsmFault = Ok (next, section_after here said) in read) same

@@ -1,6 +1,10 @@
 -- Where what a program text says stands (own format): the line and the column of each instruction, task,
--- label and piece of data. Lines, tokens and statements are the assembler's.
-use Rattle.std.specs.Prelude.{ℕ, ◌+◌, ◌*◌, List, [], ◌∷◌, ◌++◌, length, slice_get, replicate, Option, Some, None, Result, Ok, Err, nat_lt, if◌then◌else◌}
+-- label and piece of data, and how far instructions and the lists of tasks reach. Lines, tokens and statements
+-- are the assembler's.
+use Rattle.std.specs.Prelude.{◌≡◌, ℕ, ◌+◌, ◌-◌, ◌*◌, Bool, true, false, List, [], ◌∷◌, ◌++◌, length, drop, map as each, take_while, slice_get, replicate, Option, Some, None, Result, Ok, Err, nat_lt, if◌then◌else◌}
+use Rattle.std.specs.declared.alloc.Global.{Global}
+use Rattle.std.specs.declared.vec.Vec.{Vec}
+use Rattle.task_descriptor.specs.Listing.{Listing}
 use Rattle.program_tokens.specs.Lines.{lines}
 use Rattle.program_tokens.specs.Grammar.{line_tokens}
 use Rattle.program_tokens.specs.Spans.{line_spans}
@@ -18,6 +22,8 @@ use Rattle.annotated_asm.specs.Layout.{instruction_count}
 use Rattle.annotated_asm.specs.declared.fault.AsmFault.{AsmFault}
 use Rattle.annotated_asm.specs.declared.fault.AsmFault.TheVariants as fault
 use Rattle.source_map.specs.declared.position.Position.{Position}
+use Rattle.source_map.specs.declared.position.Stretch.{Stretch}
+use Rattle.source_map.specs.declared.position.TaskLists.{TaskLists}
 use Rattle.source_map.specs.declared.position.LabelSource.{LabelSource}
 use Rattle.source_map.specs.declared.position.DataSource.{DataSource}
 use Rattle.source_map.specs.declared.position.SourceMap.{SourceMap}
@@ -25,7 +31,10 @@ use Rattle.source_map.specs.declared.position.SourceMap.{SourceMap}
 -- a source map as lists
 pub record Sources : Type 0 where
   pub code : List Position
+  pub widths : List ℕ
   pub tasks : List Position
+  pub lists : List TaskLists
+  pub targets : List (List Stretch)
   pub labels : List LabelSource
   pub pieces : List DataSource
   pub start : Option Position
@@ -33,14 +42,17 @@ pub record Sources : Type 0 where
 abbrev pub sources_in : SourceMap → Sources
 sources_in map = record {
   code = map.code.items;
+  widths = map.widths.items;
   tasks = map.tasks.items;
+  lists = map.lists.items;
+  targets = each (λ (list : Vec Stretch Global). list.items) map.targets.items;
   labels = map.labels.items;
   pieces = map.pieces.items;
   start = map.start;
 }
 
 abbrev pub no_sources : Sources
-no_sources = record { code = []; tasks = []; labels = []; pieces = []; start = None }
+no_sources = record { code = []; widths = []; tasks = []; lists = []; targets = []; labels = []; pieces = []; start = None }
 
 -- where the token of this number begins, in line n; behind the last token, where the line begins
 abbrev pub column_of : Option Span → ℕ
@@ -49,6 +61,18 @@ column_of (Some span) = span.column
 
 abbrev pub token_position : ℕ → List Span → ℕ → Position
 token_position n spans number = record { line = n; column = column_of (slice_get spans number) }
+
+-- the column behind a token's last byte
+abbrev pub end_of : Option Span → ℕ
+end_of None = 1
+end_of (Some span) = span.column + span.len
+
+-- how many bytes there are from the first of one token to the last of another
+abbrev pub width_between : List Span → (first last : ℕ) → ℕ
+width_between spans first last = end_of (slice_get spans last) - column_of (slice_get spans first)
+
+abbrev pub stretch_between : ℕ → List Span → (first last : ℕ) → Stretch
+stretch_between n spans first last = record { position = token_position n spans first; width = width_between spans first last }
 
 -- the labels at the front of a line's tokens, the first of which has this number: each label is two tokens
 abbrev pub label_sources : ℕ → List Span → ℕ → List Token → List LabelSource
@@ -62,25 +86,58 @@ with_labels front labels = record front { labels = front.labels ++ labels }
 abbrev pub data_source : Section → Position → DataSource
 data_source here at = record { section = here; position = at }
 
--- the map with the statement that stands at a place, in a section
-abbrev pub with_statement : Sources → Position → Section → Statement → Sources
-with_statement front at here (statement.Code i marks) =
-    record front { code = front.code ++ replicate (instruction_count i) at }
-with_statement front at here (statement.Task task) = record front { tasks = front.tasks ++ at ∷ [] }
-with_statement front at here (statement.Bytes bytes) = record front { pieces = front.pieces ++ data_source here at ∷ [] }
-with_statement front at here (statement.Space size) = record front { pieces = front.pieces ++ data_source here at ∷ [] }
-with_statement front at here (statement.Start name) = record front { start = Some at }
-with_statement front at here _ = front
+-- The number, in the tokens of a `.task NAME create=REGS targets=TS`, of the word `targets`: it is the first name
+-- behind `create=`.
+abbrev pub is_no_name : Token → Bool
+is_no_name (token.Name name) = false
+is_no_name _ = true
+
+abbrev pub targets_number : List Token → ℕ
+targets_number tokens = 4 + length (take_while is_no_name (drop 4 tokens))
+
+-- `create=REGS` is what stands from the word `create` to the word `targets`, and `targets=TS` is the rest
+abbrev pub task_lists : ℕ → List Span → List Token → TaskLists
+task_lists n spans tokens = record {
+  create = stretch_between n spans 2 (targets_number tokens - 1);
+  targets = stretch_between n spans (targets_number tokens) (length spans - 1);
+}
+
+abbrev pub token_stretch : ℕ → Span → Stretch
+token_stretch n span = record { position = record { line = n; column = span.column }; width = span.len }
+
+-- where the targets stand: each is a token, with commas between them
+abbrev pub target_stretches : ℕ → List Span → List Stretch
+target_stretches n [] = []
+target_stretches n (last ∷ []) = token_stretch n last ∷ []
+target_stretches n (first ∷ comma ∷ rest) = token_stretch n first ∷ target_stretches n rest
+
+-- the map with the statement of these tokens, which stand at these places of line n, in a section
+abbrev pub with_statement : Sources → (n : ℕ) → List Span → List Token → Section → Statement → Sources
+with_statement front n spans tokens here (statement.Code i marks) = record front {
+  code = front.code ++ replicate (instruction_count i) (token_position n spans 0);
+  widths = front.widths ++ replicate (instruction_count i) (width_between spans 0 (length spans - 1));
+}
+with_statement front n spans tokens here (statement.Task task) = record front {
+  tasks = front.tasks ++ token_position n spans 0 ∷ [];
+  lists = front.lists ++ task_lists n spans tokens ∷ [];
+  targets = front.targets ++ target_stretches n (drop (targets_number tokens + 2) spans) ∷ [];
+}
+with_statement front n spans tokens here (statement.Bytes bytes) =
+    record front { pieces = front.pieces ++ data_source here (token_position n spans 0) ∷ [] }
+with_statement front n spans tokens here (statement.Space size) =
+    record front { pieces = front.pieces ++ data_source here (token_position n spans 0) ∷ [] }
+with_statement front n spans tokens here (statement.Start name) = record front { start = Some (token_position n spans 0) }
+with_statement front n spans tokens here _ = front
 
 -- The map with one line more, which has this number and section, and the section behind it. The statement
--- begins behind the labels.
+-- begins behind the labels, which are two tokens each.
 unfoldable pub with_line : Sources → ℕ → Section → List ℕ → Result (Sources × Section) AsmFault
 with_line front n here line = do
   tokens ← tokens_on_line n (line_tokens line)
   s ← on_line n (statement_of here (after_labels tokens))
   Ok (
-    with_statement (with_labels front (label_sources n (line_spans line) 0 tokens))
-        (token_position n (line_spans line) (2 * length (labels_of tokens))) here s,
+    with_statement (with_labels front (label_sources n (line_spans line) 0 tokens)) n
+        (drop (2 * length (labels_of tokens)) (line_spans line)) (after_labels tokens) here s,
     section_after here s,
   )
 
@@ -95,3 +152,11 @@ with_lines front n here (line ∷ lines) = do
 unfoldable pub sources_of : List ℕ → Result Sources AsmFault
 sources_of text =
     if nat_lt 4194304 (length text) then Err fault.TooLong else with_lines no_sources 1 Text (lines text)
+
+-- The map has a place for each instruction and each task of the program, and for no other.
+pub record HasPlacesOf (s : Sources) (p : Listing) : Type 0 where
+  pub code : length s.code ≡ length p.code
+  pub widths : length s.widths ≡ length p.code
+  pub tasks : length s.tasks ≡ length p.tasks
+  pub lists : length s.lists ≡ length p.tasks
+  pub targets : length s.targets ≡ length p.tasks

@@ -3,5 +3,6 @@
 #![tactic(auto)]
 
 pub mod laws;
+mod places;
 pub mod position;
 pub mod reading;

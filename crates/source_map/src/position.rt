@@ -12,6 +12,24 @@ pub struct Position {
     pub column: usize,
 }
 
+/// A part of a line.
+#[derive(Clone, Copy, Debug, PartialEq, Eq)]
+pub struct Stretch {
+    /// Where it begins.
+    pub position: Position,
+    /// How many bytes it has.
+    pub width: usize,
+}
+
+/// Where the two lists of a `.task` stand.
+#[derive(Clone, Copy, Debug, PartialEq, Eq)]
+pub struct TaskLists {
+    /// `create=` and its registers.
+    pub create: Stretch,
+    /// `targets=` and its targets.
+    pub targets: Stretch,
+}
+
 /// A label, and where it stands.
 #[derive(Clone, Copy, Debug, PartialEq, Eq)]
 pub struct LabelSource {
@@ -36,8 +54,15 @@ pub struct SourceMap {
     /// For each instruction of the machine, index 0 first, where the instruction of the text begins that it
     /// is part of: the two of a pseudo-instruction stand at one place.
     pub code: Vec<Position>,
+    /// For each instruction of the machine, how many bytes the instruction of the text has, from its mnemonic
+    /// to its last operand or mark.
+    pub widths: Vec<usize>,
     /// For each task, task 0 first, where its `.task` begins.
     pub tasks: Vec<Position>,
+    /// For each task, where its lists stand.
+    pub lists: Vec<TaskLists>,
+    /// For each task, where its targets stand, in their order; if it has none, where the `-` does.
+    pub targets: Vec<Vec<Stretch>>,
     /// The labels, in the order of the text.
     pub labels: Vec<LabelSource>,
     /// The pieces of data, in the order of the text.

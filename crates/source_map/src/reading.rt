@@ -1,40 +1,24 @@
 //! The source map of a text, read line by line.
 
-ghost use Rattle.std.specs.Prelude.{◌≡◌, ◌≤◌, ◌+◌, ◌*◌, ◌++◌, ◌∷◌, [], length, slice_get, replicate, IfOk, IfSome, IfNone, OnOk};
+ghost use Rattle.std.specs.Prelude.{◌≡◌, ◌≤◌, ◌<◌, ◌+◌, ◌*◌, ◌^◌, ◌++◌, ◌∷◌, [], length, drop, replicate, All, IfOk, IfSome, IfNone, OnOk};
 ghost use Rattle.annotated_asm.specs.Steps.{Answers};
 ghost use Rattle.annotated_asm.specs.Items.{labels_of, after_labels};
-ghost use Rattle.source_map.specs.Sources.{column_of, token_position, label_sources, data_source, sources_in, with_statement, with_line, sources_of};
+ghost use Rattle.source_map.specs.Sources.{token_position, label_sources, task_lists, targets_number, target_stretches, sources_in, with_statement, with_line, sources_of};
 
+use crate::places::{
+    behind, read_places, target_stretches, targets_number, task_lists, token_position,
+    width_between,
+};
 use crate::position::{DataSource, LabelSource, Position, SourceMap};
 use annotated_asm::assembler::MOST_TEXT;
 use annotated_asm::fault::AsmFault;
 use annotated_asm::line::{instruction_count, section_after, statement_at, tokens_of};
 use program_statements::statement::{Section, Statement};
 use program_tokens::line::first_line;
-use program_tokens::span::{Span, read_spans};
+use program_tokens::span::Span;
 use program_tokens::token::Token;
 use std::alloc::{AllocError, Global};
 use task_descriptor::name::Name;
-
-/// The column of a token.
-fn column_of(span: Option<&Span>) -> usize
-    ensures { result ≡ column_of (option_copied span.entry) }
-{
-    match span {
-        Some(span) => span.column,
-        None => 1,
-    }
-}
-
-/// Where the token of this number begins.
-fn token_position(line: u32, spans: &[Span], number: usize) -> Position
-    ensures { result ≡ token_position line spans.now number }
-{
-    Position {
-        line,
-        column: column_of(spans.get(number)),
-    }
-}
 
 /// The label at the front of some tokens, and the tokens behind its colon.
 fn first_label<'a>(tokens: &'a [Token]) -> Option<(Name, &'a [Token])>
@@ -71,35 +55,72 @@ fn add_labels<'a>(
     Ok((rest, number))
 }
 
-/// Adds a place as often as there are instructions.
-fn add_code(code: &mut Vec<Position>, at: Position, count: u64) -> Result<(), AllocError>
-    ensures { OnOk result (code.new.items ≡ code.old.items ++ replicate count at) }
+/// Adds the place and the width of an instruction of the text, as often as it is of the machine.
+fn add_code(
+    code: &mut Vec<Position>,
+    widths: &mut Vec<usize>,
+    at: Position,
+    width: usize,
+    count: u64,
+) -> Result<(), AllocError>
+    ensures code { OnOk result (code.new.items ≡ code.old.items ++ replicate count at) }
+    ensures widths { OnOk result (widths.new.items ≡ widths.old.items ++ replicate count width) }
 {
     for _ in 0..count {
         code.push(at)?;
+        widths.push(width)?;
     }
     Ok(())
 }
 
-/// Adds a statement that stands at this place.
-fn add_statement(
+/// Adds a task with its lists.
+fn add_task(
+    alloc: Global,
     map: &mut SourceMap,
-    at: Position,
+    line: u32,
+    spans: &[Span],
+    tokens: &[Token],
+) -> Result<(), AllocError>
+    requires { All (λ span. span.column + span.len < 2 ^ 64) spans.now }
+    ensures { OnOk result (sources_in map.new ≡ record (sources_in map.old) {
+      tasks = map.old.tasks.items ++ token_position line spans.now 0 ∷ [];
+      lists = map.old.lists.items ++ task_lists line spans.now tokens.now ∷ [];
+      targets = (sources_in map.old).targets ++ target_stretches line (drop (targets_number tokens.now + 2) spans.now) ∷ [];
+    }) }
+{
+    let word = targets_number(tokens);
+    let list = target_stretches(alloc, line, behind(spans, word + 2))?;
+    map.tasks.push(token_position(line, spans, 0))?;
+    map.lists.push(task_lists(line, spans, tokens))?;
+    map.targets.push(list)?;
+    Ok(())
+}
+
+/// Adds the statement of these tokens, which stand at these places.
+fn add_statement(
+    alloc: Global,
+    map: &mut SourceMap,
+    line: u32,
+    spans: &[Span],
+    tokens: &[Token],
     section: Section,
     statement: &Statement,
 ) -> Result<(), AllocError>
-    ensures { OnOk result (sources_in map.new ≡ with_statement (sources_in map.old) at section statement.now) }
+    requires { All (λ span. span.column + span.len < 2 ^ 64) spans.now }
+    ensures { OnOk result (sources_in map.new ≡ with_statement (sources_in map.old) line spans.now tokens.now section statement.now) }
 {
+    let position = token_position(line, spans, 0);
     match statement {
         Statement::Code(instruction, _) => {
-            add_code(&mut map.code, at, instruction_count(instruction))?;
+            let width = width_between(spans, 0, spans.len().saturating_sub(1));
+            let count = instruction_count(instruction);
+            add_code(&mut map.code, &mut map.widths, position, width, count)?;
         }
-        Statement::Task(_) => map.tasks.push(at)?,
-        Statement::Bytes(_) | Statement::Space(_) => map.pieces.push(DataSource {
-            section,
-            position: at,
-        })?,
-        Statement::Start(_) => map.start = Some(at),
+        Statement::Task(_) => add_task(alloc, map, line, spans, tokens)?,
+        Statement::Bytes(_) | Statement::Space(_) => {
+            map.pieces.push(DataSource { section, position })?;
+        }
+        Statement::Start(_) => map.start = Some(position),
         Statement::Empty | Statement::Label(_) | Statement::Section(_) => {}
     }
     Ok(())
@@ -125,11 +146,11 @@ fn add_line(
     ensures { Answers (λ next. (sources_in map.new, next)) result (with_line (sources_in map.old) line section text.now) }
 {
     tokens_of(&mut read.tokens, line, text)?;
-    read_spans(&mut read.spans, text)?;
+    read_places(&mut read.spans, text)?;
     let (rest, number) = add_labels(&mut map.labels, line, &read.spans, &read.tokens)?;
     let statement = statement_at(alloc, line, section, rest)?;
-    let at = token_position(line, &read.spans, number);
-    add_statement(map, at, section, &statement)?;
+    let spans = behind(&read.spans, number);
+    add_statement(alloc, map, line, spans, rest, section, &statement)?;
     Ok(section_after(section, &statement))
 }
 
@@ -150,7 +171,6 @@ pub fn source_map(alloc: Global, text: &[u8]) -> Result<SourceMap, AsmFault>
     map_of(alloc, text)
 }
 
-ghost use Rattle.std.specs.Option.{option_copied};
 ghost use Rattle.program_tokens.specs.Lines.{lines};
 ghost use Rattle.source_map.specs.Sources.{no_sources, with_lines};
 
@@ -161,7 +181,10 @@ fn map_of(alloc: Global, text: &[u8]) -> Result<SourceMap, AsmFault>
 {
     let mut map = SourceMap {
         code: Vec::new(alloc),
+        widths: Vec::new(alloc),
         tasks: Vec::new(alloc),
+        lists: Vec::new(alloc),
+        targets: Vec::new(alloc),
         labels: Vec::new(alloc),
         pieces: Vec::new(alloc),
         start: None,

@@ -15,19 +15,19 @@ C: j B !s
 B: halt
 ";
 
-const SAID: &str = "p.s:1:1: error: task A may write $9, which its create mask lacks [rule 5]
+const SAID: &str = "p.s:1:9: error: task A may write $9, which its create mask lacks [rule 5]
     1 | .task A create=$8 targets=B
-      | ^
+      |         ^~~~~~~~~
 p.s:4:1: note: written here, on the path 3 -> 4
     4 | slti $9,$8,4
-      | ^
-p.s:1:1: help: add $9 to the create mask of task A
+      | ^~~~~~~~~~~~
+p.s:1:9: help: add $9 to the create mask of task A: create=$8,$9
 p.s:3:4: error: task A forwards $8 here and may write it again [rule 6]
     3 | A: addiu $8,$8,1 !f
-      |    ^
+      |    ^~~~~~~~~~~~~~~~
 p.s:6:1: note: written here, on the path 3 -> 4 -> 5 -> 6
     6 | addiu $8,$8,2
-      | ^
+      | ^~~~~~~~~~~~~
 p.s:3:4: help: remove !f here and put it at the last instruction that writes $8
 ";
 
@@ -35,13 +35,13 @@ p.s:3:4: help: remove !f here and put it at the last instruction that writes $8
 const TABBED: &[u8] = b".task A create=- targets=-\r\nA:\taddiu $8,$0,1\r\n\thalt\r\n";
 
 const SAID_OF_TABBED: &str =
-    "p.s:1:1: error: task A may write $8, which its create mask lacks [rule 5]
+    "p.s:1:9: error: task A may write $8, which its create mask lacks [rule 5]
     1 | .task A create=- targets=-
-      | ^
+      |         ^~~~~~~~
 p.s:2:4: note: written here, on the path 2
     2 | A:\taddiu $8,$0,1
-      |   \t^
-p.s:1:1: help: add $8 to the create mask of task A
+      |   \t^~~~~~~~~~~~~
+p.s:1:9: help: add $8 to the create mask of task A: create=$8
 ";
 
 #[test]
@@ -100,7 +100,7 @@ fn expect_lines(rt: &impl Abort, alloc: Global, program: &str, lines: usize, end
 fn all_of_a_thousand_findings_are_shown(rt: HostRuntime) {
     // 100 releases of 10 registers are 1,000 findings; the last release stands in line 102.
     let program = releasing(rt.alloc(), TEN, 100).expect(&rt, "memory");
-    let end = "\np.s:102:1: help: add $10 to the create mask of task A\n";
+    let end = "\np.s:102:1: help: add $10 to the create mask of task A: create=$10\n";
     expect_lines(&rt, rt.alloc(), program.as_str(), 7_000, end);
 }
 
@@ -144,13 +144,13 @@ fn behind_blanks(alloc: Global, blanks: usize) -> Result<String, AllocError> {
 #[test]
 fn lines_of_a_thousand_bytes_are_shown(rt: HostRuntime) {
     let program = behind_blanks(rt.alloc(), 987).expect(&rt, "memory");
-    let end = "  |    ^\np.s:2:4: help: add $8 to the create mask of task A\n";
+    let end = "  |    ^~~~~~~~~~\np.s:2:4: help: add $8 to the create mask of task A: create=$8\n";
     expect_lines(&rt, rt.alloc(), program.as_str(), 7, end);
 }
 
 #[test]
 fn longer_lines_are_not_shown(rt: HostRuntime) {
     let program = behind_blanks(rt.alloc(), 988).expect(&rt, "memory");
-    let end = "path 2\np.s:2:4: help: add $8 to the create mask of task A\n";
+    let end = "path 2\np.s:2:4: help: add $8 to the create mask of task A: create=$8\n";
     expect_lines(&rt, rt.alloc(), program.as_str(), 3, end);
 }

@@ -22,42 +22,42 @@ fn says_nothing_of_right_marks(rt: HostRuntime) {
 const WRONG: [(&str, &str); 2] = [
     (
         COUNT_CREATES_LESS,
-        "a.s:2:1: error: task A may write $10, which its create mask lacks [rule 5]
+        "a.s:2:9: error: task A may write $10, which its create mask lacks [rule 5]
     2 | .task A create=$8,$9 targets=A,B
-      | ^
+      |         ^~~~~~~~~~~~
 a.s:7:1: note: written here, on the path 5 -> 6 -> 7
     7 | slti $10,$8,4
-      | ^
-a.s:2:1: help: add $10 to the create mask of task A
+      | ^~~~~~~~~~~~~
+a.s:2:9: help: add $10 to the create mask of task A: create=$8,$9,$10
 ",
     ),
     (
         FIVE_FINDINGS,
-        "a.s:1:1: error: task A may write $8, which its create mask lacks [rule 5]
+        "a.s:1:9: error: task A may write $8, which its create mask lacks [rule 5]
     1 | .task A create=- targets=B
-      | ^
+      |         ^~~~~~~~
 a.s:4:4: note: written here, on the path 4
     4 | A: addiu $8,$0,1 !f !s
-      |    ^
-a.s:1:1: help: add $8 to the create mask of task A
+      |    ^~~~~~~~~~~~~~~~~~~
+a.s:1:9: help: add $8 to the create mask of task A: create=$8
 a.s:4:4: error: task A sends $8 here, which its create mask lacks [rule 8]
     4 | A: addiu $8,$0,1 !f !s
-      |    ^
+      |    ^~~~~~~~~~~~~~~~~~~
 a.s:4:4: note: reached from here, on the path 4
     4 | A: addiu $8,$0,1 !f !s
-      |    ^
-a.s:4:4: help: add $8 to the create mask of task A
+      |    ^~~~~~~~~~~~~~~~~~~
+a.s:4:4: help: add $8 to the create mask of task A: create=$8
 a.s:5:4: error: task B can end here and go on to a place that is not one of its targets [rule 9]
     5 | B: addiu $9,$0,2 !s
-      |    ^
+      |    ^~~~~~~~~~~~~~~~
 a.s:5:4: note: reached from here, on the path 5
     5 | B: addiu $9,$0,2 !s
-      |    ^
+      |    ^~~~~~~~~~~~~~~~
 a.s:5:4: help: add the place to the targets of task B; if no task begins there, the control flow must change
-a.s:2:1: error: a target of task B is not where a task begins [rule 12]
+a.s:2:27: error: a target of task B is not where a task begins [rule 12]
     2 | .task B create=$9 targets=D
-      | ^
-a.s:2:1: help: remove the target, or let a task begin there
+      |                           ^
+a.s:2:27: help: let a task begin there, or remove the target: targets=-
 ",
     ),
 ];
@@ -128,13 +128,13 @@ bne $9,$0,A !s
 B: out $8
 halt
 ",
-        "a.s:1:1: error: task A may write $9, which its create mask lacks [rule 5]
+        "a.s:1:9: error: task A may write $9, which its create mask lacks [rule 5]
     1 | .task A create=$8 targets=A,B
-      | ^
+      |         ^~~~~~~~~
 a.s:4:1: note: written here, on the path 3 -> 4
     4 | slti $9,$8,4
-      | ^
-a.s:1:1: help: add $9 to the create mask of task A
+      | ^~~~~~~~~~~~
+a.s:1:9: help: add $9 to the create mask of task A: create=$8,$9
 ",
     ),
     (
@@ -148,10 +148,10 @@ halt
 ",
         "a.s:3:4: error: task A forwards $8 here and may write it again [rule 6]
     3 | A: addiu $8,$8,1 !f
-      |    ^
+      |    ^~~~~~~~~~~~~~~~
 a.s:4:1: note: written here, on the path 3 -> 4
     4 | slti $8,$8,4
-      | ^
+      | ^~~~~~~~~~~~
 a.s:3:4: help: remove !f here and put it at the last instruction that writes $8
 ",
     ),
@@ -166,10 +166,10 @@ halt
 ",
         "a.s:3:4: error: task A releases $9 here and may write it again [rule 7]
     3 | A: release $9
-      |    ^
+      |    ^~~~~~~~~~
 a.s:4:1: note: written here, on the path 3 -> 4
     4 | slti $9,$8,4
-      | ^
+      | ^~~~~~~~~~~~
 a.s:3:4: help: remove $9 from this release, and release it behind the last instruction that writes it
 ",
     ),
@@ -184,11 +184,11 @@ halt
 ",
         "a.s:3:4: error: task A sends $10 here, which its create mask lacks [rule 8]
     3 | A: release $10
-      |    ^
+      |    ^~~~~~~~~~~
 a.s:3:4: note: reached from here, on the path 3
     3 | A: release $10
-      |    ^
-a.s:3:4: help: add $10 to the create mask of task A
+      |    ^~~~~~~~~~~
+a.s:3:4: help: add $10 to the create mask of task A: create=$8,$9,$10
 ",
     ),
     (
@@ -202,10 +202,10 @@ halt
 ",
         "a.s:5:1: error: task A can end here and go on to a place that is not one of its targets [rule 9]
     5 | bne $9,$0,A !s
-      | ^
+      | ^~~~~~~~~~~~~~
 a.s:3:4: note: reached from here, on the path 3 -> 4 -> 5
     3 | A: addiu $8,$8,1 !f
-      |    ^
+      |    ^~~~~~~~~~~~~~~~
 a.s:5:1: help: add the place to the targets of task A; if no task begins there, the control flow must change
 ",
     ),
@@ -219,10 +219,10 @@ B: out $8
 ",
         "a.s:6:4: error: task B can go on from here to an index that has no instruction [rule 10]
     6 | B: out $8
-      |    ^
+      |    ^~~~~~
 a.s:6:4: note: reached from here, on the path 6
     6 | B: out $8
-      |    ^
+      |    ^~~~~~
 a.s:6:4: help: the control flow must change: put halt or a jump there
 ",
     ),
@@ -237,10 +237,10 @@ jr $31
 ",
         "a.s:7:1: error: task B goes on over a jump to an address in a register [rule 11]
     7 | jr $31
-      | ^
+      | ^~~~~~
 a.s:6:4: note: reached from here, on the path 6 -> 7
     6 | B: out $8
-      |    ^
+      |    ^~~~~~
 a.s:7:1: help: end the task here: add !s
 ",
     ),
@@ -253,10 +253,10 @@ bne $9,$0,A !s
 B: out $8
 halt
 ",
-        "a.s:1:1: error: a target of task A is not where a task begins [rule 12]
+        "a.s:1:34: error: a target of task A is not where a task begins [rule 12]
     1 | .task A create=$8,$9 targets=A,B,@1
-      | ^
-a.s:1:1: help: remove the target, or let a task begin there
+      |                                  ^~
+a.s:1:34: help: let a task begin there, or remove the target: targets=A,B
 ",
     ),
 ];

@@ -1,6 +1,9 @@
--- As many places as there were turns.
+-- As many places, and as many widths, as there were turns.
 use Rattle.std.proofs.Common.{◌≡◌, ◌++◌, replicate}
 use Rattle.source_map.proofs.reading.add_code.Given as goal
 
 abbrev pub invariant-loop : goal.invariant-loop
-invariant-loop l = l.code.items ≡ l.fn.code.items ++ replicate l.counter l.at
+invariant-loop l = record {
+  code : l.code.items ≡ l.fn.code.items ++ replicate l.counter l.at;
+  widths : l.widths.items ≡ l.fn.widths.items ++ replicate l.counter l.width;
+}

@@ -1,16 +1,25 @@
 -- The line adds its labels, then its statement, as the definition does.
-use Rattle.std.proofs.Common.{◌≡◌, ◌∙◌, sym, ap, refl, List, Result, Ok}
+use Rattle.std.specs.List.{All}
+use Rattle.std.proofs.lemmas.List.Elements.{All-drop}
+use Rattle.std.proofs.Common.{◌<◌, ◌+◌, ◌^◌, subst, ◌≡◌, ◌∙◌, sym, ap, refl, List, drop, Result, Ok}
 use Rattle.program_tokens.specs.Grammar.{line_tokens}
 use Rattle.program_tokens.specs.declared.token.Token.{Token}
 use Rattle.program_tokens.specs.declared.span.Span.{Span}
 use Rattle.program_statements.specs.declared.statement.Section.{Section}
 use Rattle.annotated_asm.specs.Items.{tokens_on_line}
 use Rattle.annotated_asm.specs.declared.fault.AsmFault.{AsmFault}
-use Rattle.source_map.specs.declared.position.Position.{Position}
 use Rattle.source_map.specs.declared.position.LabelSource.{LabelSource}
-use Rattle.source_map.specs.Sources.{Sources, sources_in, token_position, label_sources, with_labels, with_statement}
+use Rattle.source_map.specs.Sources.{Sources, sources_in, label_sources, with_labels, with_statement}
 use Rattle.source_map.proofs.LineSteps.{line_told}
 use Rattle.source_map.proofs.reading.add_line.Goals as goal
+
+pub add_statement-requires : goal.add_statement-requires
+add_statement-requires c =
+    let ends : List Span → Type 0 = λ ss. All (λ (span : Span). span.column + span.len < 2 ^ 64) ss in
+    let spans = c.read_places.new.spans.items in
+    let number = c.in_ok-rest.number in
+    let is_own : c.behind-spans.result.now ≡ drop number spans = c.behind-spans.ensures ∙ ap (λ (ss : List Span). drop number ss) c.deref-3.ensures.value in
+    subst ends (sym is_own) (All-drop (λ (span : Span). span.column + span.len < 2 ^ 64) number spans c.in_ok-read_places.ensures.ends)
 
 pub returns : goal.returns
 returns c =
@@ -20,17 +29,17 @@ returns c =
     let last = sources_in c.add_statement.new.map in
     let tokens = c.deref-2.result.now in
     let spans = c.deref.result.now in
+    let own = c.behind-spans.result.now in
     let number = c.in_ok-rest.number in
+    let rest = c.in_ok-rest.rest.now in
     let said = c.in_ok-statement.statement in
     let labels = label_sources n spans 0 tokens in
     let read : tokens_on_line n (line_tokens c.args.text.now) ≡ Ok tokens =
     c.in_ok-tokens_of.ensures ∙ ap (λ (ts : List Token). let made : Result (List Token) AsmFault = Ok ts in made) (sym c.deref-2.ensures.value) in
-    let at : c.token_position-at.result ≡ token_position n spans number =
-    c.token_position-at.ensures ∙ ap (λ (ss : List Span). token_position n ss number) (c.deref-3.ensures.value ∙ sym c.deref.ensures.value) in
-    let added : last ≡ with_statement (with_labels front labels) (token_position n spans number) here said =
+    let is_own : own ≡ drop number spans = c.behind-spans.ensures ∙ ap (λ (ss : List Span). drop number ss) (c.deref-3.ensures.value ∙ sym c.deref.ensures.value) in
+    let added : last ≡ with_statement (with_labels front labels) n own rest here said =
     c.in_ok-add_statement.ensures
-    ∙ ap (λ (ls : List LabelSource). let next : Sources = record front { labels = ls } in with_statement next c.token_position-at.result here said) c.in_ok-rest.ensures.added
-    ∙ ap (λ (p : Position). with_statement (with_labels front labels) p here said) at in
-    line_told front last n here c.args.text.now tokens c.in_ok-rest.rest.now spans number labels said
-    read (c.deref.ensures.value ∙ c.in_ok-read_spans.ensures) c.in_ok-rest.ensures.rest c.in_ok-rest.ensures.number refl c.in_ok-statement.ensures added
+    ∙ ap (λ (ls : List LabelSource). let next : Sources = record front { labels = ls } in with_statement next n own rest here said) c.in_ok-rest.ensures.added in
+    line_told front last n here c.args.text.now tokens rest spans own number labels said
+    read (c.deref.ensures.value ∙ c.in_ok-read_places.ensures.places) c.in_ok-rest.ensures.rest c.in_ok-rest.ensures.number is_own refl c.in_ok-statement.ensures added
     ∙ ap (λ (behind : Section). let made : Result (Sources × Section) AsmFault = Ok (last, behind) in made) (sym c.section_after.ensures)
