@@ -1,0 +1,13 @@
+-- The tokens that were passed over are labels or no names.
+use Rattle.std.proofs.Common.{◌≡◌, ◌+◌, length}
+use Rattle.refusal_text.specs.NameFaults.{unknown_from}
+use Rattle.refusal_text.proofs.name_fault.unknown_from.Given as goal
+
+abbrev pub invariant-loop : goal.invariant-loop
+invariant-loop l = record {
+  value : unknown_from l.index l.labels l.rest ≡ unknown_from l.first l.labels l.tokens;
+  counted : l.index + length l.rest ≡ l.first + length l.tokens;
+}
+
+abbrev pub decreases-loop : goal.decreases-loop
+decreases-loop l = length l.rest

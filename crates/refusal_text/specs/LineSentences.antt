@@ -1,0 +1,124 @@
+-- What is said of a fault of one line (own words): what is wrong with the bytes that are meant, and what
+-- would be right there.
+use Rattle.std.specs.Prelude.{ℕ, List, [], ◌∷◌, ◌++◌, map, take, length, slice_get, codes, Bool, true, false, Option, Some, None, unwrap_or, is_some, Result, Ok, Err, nat_lt, if◌then◌else◌}
+use Rattle.std.specs.Fmt.{decimal}
+use Rattle.program_tokens.specs.Grammar.{line_tokens}
+use Rattle.program_tokens.specs.Spans.{line_spans}
+use Rattle.program_tokens.specs.declared.span.Span.{Span}
+use Rattle.program_tokens.specs.declared.token.LineFault.{LineFault}
+use Rattle.program_tokens.specs.declared.token.Token.{Token}
+use Rattle.program_tokens.specs.declared.token.Token.TheVariants as token
+use Rattle.program_tokens.specs.declared.token.Mark.TheVariants as mark
+use Rattle.program_statements.specs.declared.statement.Section.{Section}
+use Rattle.program_statements.specs.declared.statement.Section.TheVariants as section
+use Rattle.annotated_asm.specs.declared.fault.AsmFault.{AsmFault}
+use Rattle.annotated_asm.specs.declared.fault.AsmFault.TheVariants.{NotAscii, Token as NoToken, Mnemonic, Operand, Number, Mark}
+use Rattle.source_excerpt.specs.Excerpt.{shown_byte}
+use Rattle.line_faults.specs.declared.shape.Shape.{Shape}
+use Rattle.line_faults.specs.declared.shape.Shape.TheVariants.{Nothing}
+use Rattle.line_faults.specs.Shapes.{shapes, near_statement, shape_in, form_text, range_text}
+use Rattle.line_faults.specs.Bytes.{span, bytes_at, byte_at, byte_span, token_span, token_help}
+use Rattle.line_faults.specs.Meant.{label_tokens, span_at, is_early, operand_span, number_index, is_directive, mark_index}
+
+-- What is read of a line.
+
+-- no tokens where the line has bytes that form none
+abbrev pub readable : Result (List Token) LineFault → List Token
+readable (Ok tokens) = tokens
+readable (Err fault) = []
+
+abbrev pub tokens_in : (line : List ℕ) → List Token
+tokens_in line = readable (line_tokens line)
+
+-- the statement's first word, and the shape of the operands behind it
+abbrev pub word_of : (line : List ℕ) → List Token → List Span → List ℕ
+word_of line tokens spans = bytes_at line (span_at spans (label_tokens tokens))
+
+abbrev pub shape_of : (word : List ℕ) → Shape
+shape_of word = unwrap_or (shape_in word shapes) Nothing
+
+-- the bytes of a line that are meant by its fault
+abbrev pub meant : AsmFault → (line : List ℕ) → List Token → List Span → Span
+meant (NotAscii n) line tokens spans = byte_span line
+meant (NoToken n) line tokens spans = token_span line
+meant (Mnemonic n) line tokens spans = span_at spans (label_tokens tokens)
+meant (Operand n) line tokens spans = operand_span (shape_of (word_of line tokens spans)) tokens spans
+meant (Number n) line tokens spans = span_at spans (number_index (shape_of (word_of line tokens spans)) tokens)
+meant (Mark n) line tokens spans = span_at spans (mark_index tokens)
+meant _ line tokens spans = span 1 1
+
+-- Sentences.
+
+abbrev pub dots : List ℕ → List ℕ
+dots bytes = if nat_lt 40 (length bytes) then codes ".." else []
+
+-- bytes of a text; of more than 40 only the first
+abbrev pub quoted : List ℕ → List ℕ
+quoted bytes = codes "`" ++ (map shown_byte (take 40 bytes) ++ (dots bytes ++ codes "`"))
+
+abbrev pub operand_sentence : (early : Bool) → (word : List ℕ) → (meant : List ℕ) → List ℕ
+operand_sentence true word meant = codes "the operands of " ++ (quoted word ++ codes " end too early")
+operand_sentence false word meant = quoted word ++ (codes " cannot take " ++ (quoted meant ++ codes " here"))
+
+abbrev pub mark_sentence : (directive : Bool) → Option Token → (meant : List ℕ) → List ℕ
+mark_sentence true t meant = codes "the mark " ++ (quoted meant ++ codes " stands on a directive")
+mark_sentence false (Some (token.Mark mark.Unknown)) meant = codes "there is no mark " ++ quoted meant
+mark_sentence false (Some (token.Mark mark.Forward)) meant = quoted meant ++ codes " stands a second time"
+mark_sentence false _ meant = quoted meant ++ codes " is a second stop"
+
+-- what is wrong with the bytes at this place of a line
+abbrev pub line_sentence : AsmFault → (at : Span) → (line : List ℕ) → List Token → List Span → List ℕ
+line_sentence (NotAscii n) at line tokens spans = codes "a program text cannot have the byte " ++ decimal (byte_at line at)
+line_sentence (NoToken n) at line tokens spans = quoted (bytes_at line at) ++ codes " is no token"
+line_sentence (Mnemonic n) at line tokens spans =
+    codes "there is no instruction or directive " ++ (quoted (bytes_at line at) ++ codes " here")
+line_sentence (Operand n) at line tokens spans =
+    let word = word_of line tokens spans in operand_sentence (is_early (shape_of word) tokens) word (bytes_at line at)
+line_sentence (Number n) at line tokens spans = quoted (bytes_at line at) ++ codes " is out of its range"
+line_sentence (Mark n) at line tokens spans =
+    mark_sentence (is_directive tokens) (slice_get tokens (mark_index tokens)) (bytes_at line at)
+line_sentence _ at line tokens spans = []
+
+-- What would be right.
+
+-- what stands in a section
+abbrev pub section_help : Section → List ℕ
+section_help section.Text = codes "in .text stand instructions and .start, .task, .text, .data and .rodata"
+section_help section.Data = codes "in .data and .rodata stand .word, .byte and .space, and .start, .task, .text, .data and .rodata"
+section_help section.Rodata = codes "in .data and .rodata stand .word, .byte and .space, and .start, .task, .text, .data and .rodata"
+
+abbrev pub near_help : Section → (near : Option (List ℕ)) → List ℕ
+near_help here None = section_help here
+near_help here (Some near) = codes "did you mean " ++ (near ++ codes "?")
+
+-- a word that begins a statement, but in another section, is spelled well
+abbrev pub mnemonic_help : Section → (word : List ℕ) → List ℕ
+mnemonic_help here word =
+    if is_some (shape_in word shapes) then section_help here else near_help here (near_statement word)
+
+abbrev pub number_help : Option Token → Shape → List ℕ
+number_help (Some (token.Index n)) shape = codes "a place is @0 to @4096"
+number_help _ shape = range_text shape
+
+-- what would be right at this place of a line
+abbrev pub line_help : Section → AsmFault → (at : Span) → (line : List ℕ) → List Token → List Span → List ℕ
+line_help here (NotAscii n) at line tokens spans = codes "a text has printable ASCII characters, blanks and tabs"
+line_help here (NoToken n) at line tokens spans = token_help (byte_at line at)
+line_help here (Mnemonic n) at line tokens spans = mnemonic_help here (bytes_at line at)
+line_help here (Operand n) at line tokens spans =
+    let word = word_of line tokens spans in codes "the form is " ++ (map shown_byte (take 40 word) ++ form_text (shape_of word))
+line_help here (Number n) at line tokens spans =
+    let shape = shape_of (word_of line tokens spans) in number_help (slice_get tokens (number_index shape tokens)) shape
+line_help here (Mark n) at line tokens spans = codes "an instruction may have !f, and one of !s, !st and !sn"
+line_help here _ at line tokens spans = []
+
+-- The same of a line as it is read.
+
+abbrev pub meant_in : AsmFault → (line : List ℕ) → Span
+meant_in fault line = meant fault line (tokens_in line) (line_spans line)
+
+abbrev pub sentence_in : AsmFault → (line : List ℕ) → List ℕ
+sentence_in fault line = line_sentence fault (meant_in fault line) line (tokens_in line) (line_spans line)
+
+abbrev pub help_in : Section → AsmFault → (line : List ℕ) → List ℕ
+help_in here fault line = line_help here fault (meant_in fault line) line (tokens_in line) (line_spans line)
