@@ -34,7 +34,7 @@ tokens_in line = readable (line_tokens line)
 abbrev pub word_of : (line : List ℕ) → List Token → List Span → List ℕ
 word_of line tokens spans = bytes_at line (span_at spans (label_tokens tokens))
 
-abbrev pub shape_of : (word : List ℕ) → Shape
+unfoldable pub shape_of : (word : List ℕ) → Shape
 shape_of word = unwrap_or (shape_in word shapes) Nothing
 
 -- the bytes of a line that are meant by its fault
@@ -53,7 +53,7 @@ abbrev pub dots : List ℕ → List ℕ
 dots bytes = if nat_lt 40 (length bytes) then codes ".." else []
 
 -- bytes of a text; of more than 40 only the first
-abbrev pub quoted : List ℕ → List ℕ
+unfoldable pub quoted : List ℕ → List ℕ
 quoted bytes = codes "`" ++ (map shown_byte (take 40 bytes) ++ (dots bytes ++ codes "`"))
 
 abbrev pub operand_sentence : (early : Bool) → (word : List ℕ) → (meant : List ℕ) → List ℕ
@@ -91,10 +91,15 @@ abbrev pub near_help : Section → (near : Option (List ℕ)) → List ℕ
 near_help here None = section_help here
 near_help here (Some near) = codes "did you mean " ++ (near ++ codes "?")
 
+unfoldable pub begins_statement : (word : List ℕ) → Bool
+begins_statement word = is_some (shape_in word shapes)
+
+unfoldable pub near_word : (word : List ℕ) → Option (List ℕ)
+near_word word = near_statement word
+
 -- a word that begins a statement, but in another section, is spelled well
 abbrev pub mnemonic_help : Section → (word : List ℕ) → List ℕ
-mnemonic_help here word =
-    if is_some (shape_in word shapes) then section_help here else near_help here (near_statement word)
+mnemonic_help here word = if begins_statement word then section_help here else near_help here (near_word word)
 
 abbrev pub number_help : Option Token → Shape → List ℕ
 number_help (Some (token.Index n)) shape = codes "a place is @0 to @4096"

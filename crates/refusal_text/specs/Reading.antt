@@ -1,6 +1,6 @@
 -- The lines with a fault (own choice): each line is judged by itself and its section, and a line with a fault
 -- leaves the section as it was.
-use Rattle.std.specs.Prelude.{ℕ, ◌+◌, ◌-◌, List, [], ◌∷◌, ◌++◌, take, drop, length, Option, Some, None, Result, Ok, Err, nat_lt, if◌then◌else◌}
+use Rattle.std.specs.Prelude.{ℕ, ◌+◌, ◌-◌, List, [], ◌∷◌, ◌++◌, take, drop, length, Option, Some, None, Result, Ok, Err, nat_lt, nat_le, if◌then◌else◌}
 use Rattle.program_tokens.specs.Grammar.{line_tokens}
 use Rattle.program_statements.specs.Steps.{◌>>=◌}
 use Rattle.program_statements.specs.Statements.{statement_of}
@@ -45,4 +45,5 @@ section_of rows n = section_behind Text (take (n - 1) rows)
 abbrev pub faults_behind : (rows : List (List ℕ)) → (n : ℕ) → List FaultyLine
 faults_behind rows n =
     if nat_lt 4194305 (length rows) then []
+    else if nat_le (length rows) n then []
     else faults_from (n + 1) (section_of rows (n + 1)) (drop n rows)

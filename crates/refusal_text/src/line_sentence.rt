@@ -1,10 +1,10 @@
 //! What is said of a fault of one line: a sentence, and what would be right.
 
 ghost use Rattle.std.specs.Prelude.{◌≡◌, ◌++◌, map, take, slice_get, IfOk, OnOk};
-ghost use Rattle.std.specs.Option.{option_copied};
+ghost use Rattle.std.specs.Option.{option_copied, option_map};
 ghost use Rattle.std.specs.String.{string_bytes};
 ghost use Rattle.source_excerpt.specs.Excerpt.{shown_byte};
-ghost use Rattle.refusal_text.specs.LineSentences.{word_of, shape_of, meant, dots, quoted, operand_sentence, mark_sentence, line_sentence, section_help, near_help, mnemonic_help, number_help, line_help};
+ghost use Rattle.refusal_text.specs.LineSentences.{word_of, shape_of, meant, dots, quoted, operand_sentence, mark_sentence, line_sentence, section_help, near_help, begins_statement, near_word, mnemonic_help, number_help, line_help};
 
 use annotated_asm::fault::AsmFault;
 use line_faults::bytes::{byte_at, byte_span, bytes_at, front, token_help, token_span};
@@ -28,6 +28,7 @@ fn word_of<'a>(line: &'a [u8], tokens: &[Token], spans: &[Span]) -> &'a [u8]
 }
 
 /// The shape of the operands behind a word.
+#[tactic(auto, unfolding(crate::specs::LineSentences::shape_of))]
 fn shape_of(word: &[u8]) -> Shape
     ensures { result ≡ shape_of word.now }
 {
@@ -56,7 +57,11 @@ pub(crate) fn meant(
         AsmFault::Operand(_) => Ok(operand_span(shape, tokens, spans)),
         AsmFault::Number(_) => Ok(span_at(spans, number_index(shape, tokens))),
         AsmFault::Mark(_) => Ok(span_at(spans, mark_index(tokens))),
-        _ => Ok(Span { column: 1, len: 1 }),
+        AsmFault::TooLong
+        | AsmFault::Duplicate(_)
+        | AsmFault::Unknown(_)
+        | AsmFault::Build(_)
+        | AsmFault::OutOfMemory => Ok(Span { column: 1, len: 1 }),
     }
 }
 
@@ -94,6 +99,7 @@ fn write_dots(said: &mut String, bytes: &[u8]) -> Result<(), AllocError>
 /// # Errors
 ///
 /// `AllocError` where memory was refused.
+#[tactic(auto, unfolding(crate::specs::LineSentences::quoted))]
 pub(crate) fn write_quoted(said: &mut String, bytes: &[u8]) -> Result<(), AllocError>
     ensures { OnOk result (string_bytes said.new ≡ string_bytes said.old ++ quoted bytes.now) }
 {
@@ -195,7 +201,11 @@ pub(crate) fn write_line_sentence(
             write!(said, " is out of its range")
         }
         AsmFault::Mark(_) => write_mark_sentence(said, tokens, meant),
-        _ => Ok(()),
+        AsmFault::TooLong
+        | AsmFault::Duplicate(_)
+        | AsmFault::Unknown(_)
+        | AsmFault::Build(_)
+        | AsmFault::OutOfMemory => Ok(()),
     }
 }
 
@@ -210,17 +220,44 @@ fn section_help(section: Section) -> &'static str
     }
 }
 
+/// Adds which word may have been meant, if one is near, else what stands in the section.
+fn write_near_help(
+    said: &mut String,
+    section: Section,
+    near: Option<&str>,
+) -> Result<(), AllocError>
+    ensures { OnOk result (string_bytes said.new ≡ string_bytes said.old ++ near_help section (option_map (λ word. word.now) near.entry)) }
+{
+    match near {
+        Some(near) => write!(said, "did you mean {near}?"),
+        None => said.push_str(section_help(section)),
+    }
+}
+
+/// Whether a word begins a statement of some section.
+#[tactic(auto, unfolding(crate::specs::LineSentences::begins_statement))]
+fn begins_statement(word: &[u8]) -> bool
+    ensures { result ≡ begins_statement word.now }
+{
+    shape_named(word).is_some()
+}
+
+/// The word that is near to one which begins no statement, if there is one.
+#[tactic(auto, unfolding(crate::specs::LineSentences::near_word))]
+fn near_word(word: &[u8]) -> Option<&'static str>
+    ensures { option_map (λ near. near.now) result ≡ near_word word.now }
+{
+    near_statement(word)
+}
+
 /// Adds which word may have been meant in place of one that begins no statement in this section.
 fn write_mnemonic_help(said: &mut String, section: Section, word: &[u8]) -> Result<(), AllocError>
     ensures { OnOk result (string_bytes said.new ≡ string_bytes said.old ++ mnemonic_help section word.now) }
 {
-    if shape_named(word).is_some() {
+    if begins_statement(word) {
         return said.push_str(section_help(section));
     }
-    match near_statement(word) {
-        Some(near) => write!(said, "did you mean {near}?"),
-        None => said.push_str(section_help(section)),
-    }
+    write_near_help(said, section, near_word(word))
 }
 
 /// What the numbers of a statement are.
@@ -275,7 +312,11 @@ pub(crate) fn write_line_help(
         AsmFault::Mark(_) => said.push_str(
             "an instruction may have !f, and one of !s, !st and !sn",
         ),
-        _ => Ok(()),
+        AsmFault::TooLong
+        | AsmFault::Duplicate(_)
+        | AsmFault::Unknown(_)
+        | AsmFault::Build(_)
+        | AsmFault::OutOfMemory => Ok(()),
     }
 }
 

@@ -5,7 +5,7 @@ ghost use Rattle.std.specs.Option.{option_map};
 ghost use Rattle.std.specs.String.{string_bytes};
 ghost use Rattle.line_faults.specs.Near.{nearest};
 ghost use Rattle.source_map.specs.Sources.{sources_of};
-ghost use Rattle.refusal_text.specs.NameFaults.{labels_in, defines, defined_index, second_index, is_label, unknown_from, unknown_index, name_index, name_span, name_sentence, near_label, name_help, named_text, name_position, name_text};
+ghost use Rattle.refusal_text.specs.NameFaults.{labels_in, defines, defined_index, second_index, is_label, unknown_from, unknown_index, name_index, name_span, name_sentence, near_label, near_help, name_help, named_text, name_position, name_text};
 
 use crate::line_sentence::write_quoted;
 use crate::line_text::{read_or_none, row_at, write_error, write_help};
@@ -157,7 +157,15 @@ fn name_index(fault: AsmFault, labels: &[LabelSource], tokens: &[Token]) -> Opti
     match fault {
         AsmFault::Duplicate(_) => second_index(tokens),
         AsmFault::Unknown(_) => unknown_index(labels, tokens),
-        _ => None,
+        AsmFault::TooLong
+        | AsmFault::NotAscii(_)
+        | AsmFault::Token(_)
+        | AsmFault::Mnemonic(_)
+        | AsmFault::Operand(_)
+        | AsmFault::Number(_)
+        | AsmFault::Mark(_)
+        | AsmFault::Build(_)
+        | AsmFault::OutOfMemory => None,
     }
 }
 
@@ -192,7 +200,15 @@ fn write_name_sentence(
             write_quoted(said, name)?;
             write!(said, " is no label")
         }
-        _ => said.push_str(fault_sentence(fault)),
+        AsmFault::TooLong
+        | AsmFault::NotAscii(_)
+        | AsmFault::Token(_)
+        | AsmFault::Mnemonic(_)
+        | AsmFault::Operand(_)
+        | AsmFault::Number(_)
+        | AsmFault::Mark(_)
+        | AsmFault::Build(_)
+        | AsmFault::OutOfMemory => said.push_str(fault_sentence(fault)),
     }
 }
 
@@ -218,6 +234,23 @@ fn nearest<'a>(labels: &'a [LabelSource], name: &[u8]) -> Option<&'a Name>
     None
 }
 
+/// Adds which label may have been meant, if one is near, else what would be right.
+fn write_near_help(
+    said: &mut String,
+    fault: AsmFault,
+    near: Option<&Name>,
+) -> Result<(), AllocError>
+    ensures { OnOk result (string_bytes said.new ≡ string_bytes said.old ++ near_help fault (option_map (λ name. name.now) near.entry)) }
+{
+    match near {
+        Some(near) => {
+            let near = near.as_str();
+            write!(said, "did you mean {near}?")
+        }
+        None => said.push_str(fault_help(fault)),
+    }
+}
+
 /// Adds what would be right in place of a name.
 fn write_name_help(
     said: &mut String,
@@ -228,15 +261,21 @@ fn write_name_help(
 ) -> Result<(), AllocError>
     ensures { OnOk result (string_bytes said.new ≡ string_bytes said.old ++ name_help fault index labels.now name.now) }
 {
-    let (AsmFault::Unknown(_), Some(_)) = (fault, index) else {
+    if index.is_none() {
         return said.push_str(fault_help(fault));
-    };
-    match near_label(labels, name) {
-        Some(near) => {
-            let near = near.as_str();
-            write!(said, "did you mean {near}?")
-        }
-        None => said.push_str(fault_help(fault)),
+    }
+    match fault {
+        AsmFault::Unknown(_) => write_near_help(said, fault, near_label(labels, name)),
+        AsmFault::Duplicate(_)
+        | AsmFault::TooLong
+        | AsmFault::NotAscii(_)
+        | AsmFault::Token(_)
+        | AsmFault::Mnemonic(_)
+        | AsmFault::Operand(_)
+        | AsmFault::Number(_)
+        | AsmFault::Mark(_)
+        | AsmFault::Build(_)
+        | AsmFault::OutOfMemory => said.push_str(fault_help(fault)),
     }
 }
 

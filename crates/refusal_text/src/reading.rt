@@ -1,9 +1,9 @@
 //! The lines of a text with a fault.
 
-ghost use Rattle.std.specs.Prelude.{◌≡◌, ◌+◌, ◌≤◌, ◌<◌, ◌^◌, ◌-◌, length, take, drop, map, IfOk};
+ghost use Rattle.std.specs.Prelude.{◌≡◌, ◌+◌, ◌≤◌, ◌<◌, ◌^◌, ◌++◌, length, take, drop, map, IfOk, OnOk};
 ghost use Rattle.annotated_asm.specs.Steps.{Answers};
 ghost use Rattle.annotated_asm.specs.Items.{after_labels};
-ghost use Rattle.refusal_text.specs.Reading.{read_line, judged, section_behind, faults_from, section_of, faults_behind};
+ghost use Rattle.refusal_text.specs.Reading.{read_line, judged, section_behind, faulty, faults_from, section_of, faults_behind};
 
 use annotated_asm::fault::AsmFault;
 use annotated_asm::line::{section_after, statement_at, tokens_of};
@@ -82,7 +82,7 @@ fn section_behind(alloc: Global, rows: &[&[u8]]) -> Result<Section, AllocError>
     Ok(section)
 }
 
-/// The first lines of some.
+/// The first of some lines.
 fn front<'a, 'b>(rows: &'b [&'a [u8]], count: usize) -> &'b [&'a [u8]]
     ensures { result.now ≡ take count rows.now }
 {
@@ -93,6 +93,41 @@ fn front<'a, 'b>(rows: &'b [&'a [u8]], count: usize) -> &'b [&'a [u8]]
     }
 }
 
+/// The same, by what the lines have.
+fn front_rows<'a, 'b>(rows: &'b [&'a [u8]], count: usize) -> &'b [&'a [u8]]
+    ensures { map (λ row. row.now) result.now ≡ take count (map (λ row. row.now) rows.now) }
+{
+    front(rows, count)
+}
+
+/// The lines behind the first of some.
+fn behind<'a, 'b>(rows: &'b [&'a [u8]], count: usize) -> &'b [&'a [u8]]
+    ensures rows { result.now ≡ drop count rows.now }
+    ensures few { length result.now ≤ length rows.now }
+{
+    if count < rows.len() {
+        &rows[count..]
+    } else {
+        &[]
+    }
+}
+
+/// The same, by what the lines have.
+fn behind_rows<'a, 'b>(rows: &'b [&'a [u8]], count: usize) -> &'b [&'a [u8]]
+    ensures rows { map (λ row. row.now) result.now ≡ drop count (map (λ row. row.now) rows.now) }
+    ensures few { length result.now ≤ length rows.now }
+{
+    behind(rows, count)
+}
+
+/// How many lines there are.
+fn row_count(rows: &[&[u8]]) -> usize
+    ensures count { result ≡ length (map (λ row. row.now) rows.now) }
+    ensures same { result ≡ length rows.now }
+{
+    rows.len()
+}
+
 /// The section of a line of a text of these lines.
 ///
 /// # Errors
@@ -101,10 +136,34 @@ fn front<'a, 'b>(rows: &'b [&'a [u8]], count: usize) -> &'b [&'a [u8]]
 pub(crate) fn section_of(alloc: Global, rows: &[&[u8]], line: u32) -> Result<Section, AllocError>
     ensures { IfOk result (λ here. here ≡ section_of (map (λ row. row.now) rows.now) line) }
 {
-    section_behind(alloc, front(rows, line.saturating_sub(1) as usize))
+    let here = section_behind(alloc, front_rows(rows, line.saturating_sub(1) as usize))?;
+    Ok(here)
+}
+
+/// Adds a line with its fault, if it has one.
+fn add_faulty(
+    found: &mut Vec<FaultyLine>,
+    line: u32,
+    section: Section,
+    fault: Option<AsmFault>,
+) -> Result<(), AllocError>
+    ensures { OnOk result (found.new.items ≡ found.old.items ++ faulty line section fault) }
+{
+    match fault {
+        Some(fault) => {
+            found.push(FaultyLine {
+                line,
+                section,
+                fault,
+            })?;
+            Ok(())
+        }
+        None => Ok(()),
+    }
 }
 
 /// The lines with a fault among these, the first of which has this number and section.
+#[tactic(auto, using(crate::proofs::Found::found_more))]
 fn faults_from(
     alloc: Global,
     first: u32,
@@ -120,13 +179,7 @@ fn faults_from(
     let mut line = first;
     for row in rows {
         let (next, fault) = judged(alloc, &mut tokens, line, section, row)?;
-        if let Some(fault) = fault {
-            found.push(FaultyLine {
-                line,
-                section,
-                fault,
-            })?;
-        }
+        add_faulty(&mut found, line, section, fault)?;
         section = next;
         line += 1;
     }
@@ -145,10 +198,14 @@ pub(crate) fn faults_behind(
 ) -> Result<Vec<FaultyLine>, AllocError>
     ensures { IfOk result (λ found. found.items ≡ faults_behind (map (λ row. row.now) rows.now) line) }
 {
-    let count = line as usize;
-    if rows.len() > MOST_LINES || count >= rows.len() {
+    let count = row_count(rows);
+    if count > MOST_LINES {
+        return Ok(Vec::new(alloc));
+    }
+    if line as usize >= count {
         return Ok(Vec::new(alloc));
     }
     let section = section_of(alloc, rows, line + 1)?;
-    faults_from(alloc, line + 1, section, &rows[count..])
+    let found = faults_from(alloc, line + 1, section, behind_rows(rows, line as usize))?;
+    Ok(found)
 }

@@ -108,7 +108,12 @@ fn build_text(
             let place = instruction_place(alloc, text, index)?;
             placed_text(alloc, file, text, place, AsmFault::Build(fault))
         }
-        _ => whole_text(alloc, file, AsmFault::Build(fault)),
+        BuildFault::TooMany
+        | BuildFault::NoTask
+        | BuildFault::BadEntry
+        | BuildFault::DuplicateEntry
+        | BuildFault::BadMask
+        | BuildFault::BadStart => whole_text(alloc, file, AsmFault::Build(fault)),
     }
 }
 

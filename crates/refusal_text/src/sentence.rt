@@ -30,7 +30,13 @@ pub(crate) fn fault_sentence(fault: AsmFault) -> &'static str
         AsmFault::Duplicate(_) => "a label, a task or .start stands a second time",
         AsmFault::Unknown(_) => "a name is no label of the kind that is wanted here",
         AsmFault::Build(fault) => build_sentence(fault),
-        _ => "",
+        AsmFault::NotAscii(_)
+        | AsmFault::Token(_)
+        | AsmFault::Mnemonic(_)
+        | AsmFault::Operand(_)
+        | AsmFault::Number(_)
+        | AsmFault::Mark(_)
+        | AsmFault::OutOfMemory => "",
     }
 }
 
@@ -63,6 +69,12 @@ pub(crate) fn fault_help(fault: AsmFault) -> &'static str
         AsmFault::Unknown(_) =>
             "a task, a target, .start, a branch and a jump name a label of .text; la names any label",
         AsmFault::Build(fault) => build_help(fault),
-        _ => "",
+        AsmFault::NotAscii(_)
+        | AsmFault::Token(_)
+        | AsmFault::Mnemonic(_)
+        | AsmFault::Operand(_)
+        | AsmFault::Number(_)
+        | AsmFault::Mark(_)
+        | AsmFault::OutOfMemory => "",
     }
 }

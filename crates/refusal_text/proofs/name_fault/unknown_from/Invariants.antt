@@ -5,8 +5,8 @@ use Rattle.refusal_text.proofs.name_fault.unknown_from.Given as goal
 
 abbrev pub invariant-loop : goal.invariant-loop
 invariant-loop l = record {
-  value : unknown_from l.index l.labels l.rest ≡ unknown_from l.first l.labels l.tokens;
-  counted : l.index + length l.rest ≡ l.first + length l.tokens;
+  value : unknown_from l.index l.labels l.rest ≡ unknown_from l.fn.first l.labels l.tokens;
+  counted : l.index + length l.rest ≡ l.fn.first + length l.tokens;
 }
 
 abbrev pub decreases-loop : goal.decreases-loop

@@ -6,6 +6,6 @@ use Rattle.refusal_text.proofs.reading.faults_from.Given as goal
 abbrev pub invariant-loop-row : goal.invariant-loop-row
 invariant-loop-row l = record {
   found : l.found.items ++ faults_from l.line l.section (map (λ row. row.now) (drop l.row-index l.rows))
-      ≡ faults_from l.first l.here (map (λ row. row.now) l.rows);
-  counted : l.line ≡ l.first + l.row-index;
+      ≡ faults_from l.fn.first l.fn.here (map (λ row. row.now) l.rows);
+  counted : l.line ≡ l.fn.first + l.row-index;
 }
