@@ -37,13 +37,17 @@ word_of line tokens spans = bytes_at line (span_at spans (label_tokens tokens))
 unfoldable pub shape_of : (word : List ℕ) → Shape
 shape_of word = unwrap_or (shape_in word shapes) Nothing
 
+-- the first number out of its range
+unfoldable pub number_span : Shape → List Token → List Span → Span
+number_span shape tokens spans = span_at spans (number_index shape tokens)
+
 -- the bytes of a line that are meant by its fault
 abbrev pub meant : AsmFault → (line : List ℕ) → List Token → List Span → Span
 meant (NotAscii n) line tokens spans = byte_span line
 meant (NoToken n) line tokens spans = token_span line
 meant (Mnemonic n) line tokens spans = span_at spans (label_tokens tokens)
 meant (Operand n) line tokens spans = operand_span (shape_of (word_of line tokens spans)) tokens spans
-meant (Number n) line tokens spans = span_at spans (number_index (shape_of (word_of line tokens spans)) tokens)
+meant (Number n) line tokens spans = number_span (shape_of (word_of line tokens spans)) tokens spans
 meant (Mark n) line tokens spans = span_at spans (mark_index tokens)
 meant _ line tokens spans = span 1 1
 
@@ -66,6 +70,9 @@ mark_sentence false (Some (token.Mark mark.Unknown)) meant = codes "there is no 
 mark_sentence false (Some (token.Mark mark.Forward)) meant = quoted meant ++ codes " stands a second time"
 mark_sentence false _ meant = quoted meant ++ codes " is a second stop"
 
+unfoldable pub ends_early : (word : List ℕ) → List Token → Bool
+ends_early word tokens = is_early (shape_of word) tokens
+
 -- what is wrong with the bytes at this place of a line
 abbrev pub line_sentence : AsmFault → (at : Span) → (line : List ℕ) → List Token → List Span → List ℕ
 line_sentence (NotAscii n) at line tokens spans = codes "a program text cannot have the byte " ++ decimal (byte_at line at)
@@ -73,7 +80,7 @@ line_sentence (NoToken n) at line tokens spans = quoted (bytes_at line at) ++ co
 line_sentence (Mnemonic n) at line tokens spans =
     codes "there is no instruction or directive " ++ (quoted (bytes_at line at) ++ codes " here")
 line_sentence (Operand n) at line tokens spans =
-    let word = word_of line tokens spans in operand_sentence (is_early (shape_of word) tokens) word (bytes_at line at)
+    operand_sentence (ends_early (word_of line tokens spans) tokens) (word_of line tokens spans) (bytes_at line at)
 line_sentence (Number n) at line tokens spans = quoted (bytes_at line at) ++ codes " is out of its range"
 line_sentence (Mark n) at line tokens spans =
     mark_sentence (is_directive tokens) (slice_get tokens (mark_index tokens)) (bytes_at line at)
@@ -105,15 +112,20 @@ abbrev pub number_help : Option Token → Shape → List ℕ
 number_help (Some (token.Index n)) shape = codes "a place is @0 to @4096"
 number_help _ shape = range_text shape
 
+unfoldable pub range_help : Shape → List Token → List ℕ
+range_help shape tokens = number_help (slice_get tokens (number_index shape tokens)) shape
+
+-- a word with its operands
+unfoldable pub form_help : (word : List ℕ) → List ℕ
+form_help word = codes "the form is " ++ (map shown_byte (take 40 word) ++ form_text (shape_of word))
+
 -- what would be right at this place of a line
 abbrev pub line_help : Section → AsmFault → (at : Span) → (line : List ℕ) → List Token → List Span → List ℕ
 line_help here (NotAscii n) at line tokens spans = codes "a text has printable ASCII characters, blanks and tabs"
 line_help here (NoToken n) at line tokens spans = token_help (byte_at line at)
 line_help here (Mnemonic n) at line tokens spans = mnemonic_help here (bytes_at line at)
-line_help here (Operand n) at line tokens spans =
-    let word = word_of line tokens spans in codes "the form is " ++ (map shown_byte (take 40 word) ++ form_text (shape_of word))
-line_help here (Number n) at line tokens spans =
-    let shape = shape_of (word_of line tokens spans) in number_help (slice_get tokens (number_index shape tokens)) shape
+line_help here (Operand n) at line tokens spans = form_help (word_of line tokens spans)
+line_help here (Number n) at line tokens spans = range_help (shape_of (word_of line tokens spans)) tokens
 line_help here (Mark n) at line tokens spans = codes "an instruction may have !f, and one of !s, !st and !sn"
 line_help here _ at line tokens spans = []
 

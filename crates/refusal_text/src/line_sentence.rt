@@ -4,7 +4,7 @@ ghost use Rattle.std.specs.Prelude.{◌≡◌, ◌++◌, map, take, slice_get, I
 ghost use Rattle.std.specs.Option.{option_copied, option_map};
 ghost use Rattle.std.specs.String.{string_bytes};
 ghost use Rattle.source_excerpt.specs.Excerpt.{shown_byte};
-ghost use Rattle.refusal_text.specs.LineSentences.{word_of, shape_of, meant, dots, quoted, operand_sentence, mark_sentence, line_sentence, section_help, near_help, begins_statement, near_word, mnemonic_help, number_help, line_help};
+ghost use Rattle.refusal_text.specs.LineSentences.{word_of, shape_of, meant, dots, quoted, operand_sentence, mark_sentence, line_sentence, section_help, near_help, begins_statement, near_word, mnemonic_help, number_span, number_help, range_help, form_help, ends_early, line_help};
 
 use annotated_asm::fault::AsmFault;
 use line_faults::bytes::{byte_at, byte_span, bytes_at, front, token_help, token_span};
@@ -35,6 +35,14 @@ fn shape_of(word: &[u8]) -> Shape
     shape_named(word).unwrap_or(Shape::Nothing)
 }
 
+/// The first number out of its range.
+#[tactic(auto, unfolding(crate::specs::LineSentences::number_span))]
+fn number_span(shape: Shape, tokens: &[Token], spans: &[Span]) -> Span
+    ensures { result ≡ number_span shape tokens.now spans.now }
+{
+    span_at(spans, number_index(shape, tokens))
+}
+
 /// The bytes of a line that are meant by its fault; its first byte where the fault is not one of a line.
 ///
 /// # Errors
@@ -55,7 +63,7 @@ pub(crate) fn meant(
         AsmFault::Token(_) => token_span(alloc, line),
         AsmFault::Mnemonic(_) => Ok(span_at(spans, label_tokens(tokens))),
         AsmFault::Operand(_) => Ok(operand_span(shape, tokens, spans)),
-        AsmFault::Number(_) => Ok(span_at(spans, number_index(shape, tokens))),
+        AsmFault::Number(_) => Ok(number_span(shape, tokens, spans)),
         AsmFault::Mark(_) => Ok(span_at(spans, mark_index(tokens))),
         AsmFault::TooLong
         | AsmFault::Duplicate(_)
@@ -107,6 +115,14 @@ pub(crate) fn write_quoted(said: &mut String, bytes: &[u8]) -> Result<(), AllocE
     write_shown(said, front(bytes, MOST_QUOTED))?;
     write_dots(said, bytes)?;
     write!(said, "`")
+}
+
+/// Whether the operands of a word end too early.
+#[tactic(auto, unfolding(crate::specs::LineSentences::ends_early))]
+fn ends_early(word: &[u8], tokens: &[Token]) -> bool
+    ensures { result ≡ ends_early word.now tokens.now }
+{
+    is_early(shape_of(word), tokens)
 }
 
 /// Adds what is wrong with operands.
@@ -194,7 +210,7 @@ pub(crate) fn write_line_sentence(
         }
         AsmFault::Operand(_) => {
             let word = word_of(line, tokens, spans);
-            write_operand_sentence(said, is_early(shape_of(word), tokens), word, meant)
+            write_operand_sentence(said, ends_early(word, tokens), word, meant)
         }
         AsmFault::Number(_) => {
             write_quoted(said, meant)?;
@@ -270,10 +286,18 @@ fn number_help(token: Option<&Token>, shape: Shape) -> &'static str
     }
 }
 
+/// The same of the first number out of its range.
+#[tactic(auto, unfolding(crate::specs::LineSentences::range_help))]
+fn range_help(shape: Shape, tokens: &[Token]) -> &'static str
+    ensures { result.now ≡ range_help shape tokens.now }
+{
+    number_help(tokens.get(number_index(shape, tokens)), shape)
+}
+
 /// Adds the operands that a word takes.
+#[tactic(auto, unfolding(crate::specs::LineSentences::form_help))]
 fn write_form(said: &mut String, word: &[u8]) -> Result<(), AllocError>
-    ensures { OnOk result (string_bytes said.new
-        ≡ string_bytes said.old ++ (codes "the form is " ++ (map shown_byte (take 40 word.now) ++ form_text (shape_of word.now)))) }
+    ensures { OnOk result (string_bytes said.new ≡ string_bytes said.old ++ form_help word.now) }
 {
     write!(said, "the form is ")?;
     write_shown(said, front(word, MOST_QUOTED))?;
@@ -305,10 +329,7 @@ pub(crate) fn write_line_help(
         AsmFault::Token(_) => said.push_str(token_help(byte_at(line, at))),
         AsmFault::Mnemonic(_) => write_mnemonic_help(said, section, bytes_at(line, at)),
         AsmFault::Operand(_) => write_form(said, word),
-        AsmFault::Number(_) => {
-            let number = tokens.get(number_index(shape, tokens));
-            said.push_str(number_help(number, shape))
-        }
+        AsmFault::Number(_) => said.push_str(range_help(shape, tokens)),
         AsmFault::Mark(_) => said.push_str(
             "an instruction may have !f, and one of !s, !st and !sn",
         ),

@@ -213,13 +213,16 @@ fn write_name_sentence(
 }
 
 /// The first label that is near to a name; to a name of one letter none is.
-fn near_label<'a>(labels: &'a [LabelSource], name: &[u8]) -> Option<&'a Name>
+fn near_label<'a>(labels: &'a [LabelSource], name: &[u8]) -> Option<&'a str>
     ensures { option_map (λ near. near.now) result ≡ near_label labels.now name.now }
 {
     if name.len() < 2 {
         return None;
     }
-    nearest(labels, name)
+    match nearest(labels, name) {
+        Some(near) => Some(near.as_str()),
+        None => None,
+    }
 }
 
 /// The first label that is near to a name.
@@ -235,18 +238,11 @@ fn nearest<'a>(labels: &'a [LabelSource], name: &[u8]) -> Option<&'a Name>
 }
 
 /// Adds which label may have been meant, if one is near, else what would be right.
-fn write_near_help(
-    said: &mut String,
-    fault: AsmFault,
-    near: Option<&Name>,
-) -> Result<(), AllocError>
-    ensures { OnOk result (string_bytes said.new ≡ string_bytes said.old ++ near_help fault (option_map (λ name. name.now) near.entry)) }
+fn write_near_help(said: &mut String, fault: AsmFault, near: Option<&str>) -> Result<(), AllocError>
+    ensures { OnOk result (string_bytes said.new ≡ string_bytes said.old ++ near_help fault (option_map (λ label. label.now) near.entry)) }
 {
     match near {
-        Some(near) => {
-            let near = near.as_str();
-            write!(said, "did you mean {near}?")
-        }
+        Some(near) => write!(said, "did you mean {near}?"),
         None => said.push_str(fault_help(fault)),
     }
 }
