@@ -42,7 +42,7 @@ unfoldable pub number_span : Shape → List Token → List Span → Span
 number_span shape tokens spans = span_at spans (number_index shape tokens)
 
 -- the bytes of a line that are meant by its fault
-abbrev pub meant : AsmFault → (line : List ℕ) → List Token → List Span → Span
+unfoldable pub meant : AsmFault → (line : List ℕ) → List Token → List Span → Span
 meant (NotAscii n) line tokens spans = byte_span line
 meant (NoToken n) line tokens spans = token_span line
 meant (Mnemonic n) line tokens spans = span_at spans (label_tokens tokens)
@@ -60,31 +60,46 @@ dots bytes = if nat_lt 40 (length bytes) then codes ".." else []
 unfoldable pub quoted : List ℕ → List ℕ
 quoted bytes = codes "`" ++ (map shown_byte (take 40 bytes) ++ (dots bytes ++ codes "`"))
 
-abbrev pub operand_sentence : (early : Bool) → (word : List ℕ) → (meant : List ℕ) → List ℕ
-operand_sentence true word meant = codes "the operands of " ++ (quoted word ++ codes " end too early")
-operand_sentence false word meant = quoted word ++ (codes " cannot take " ++ (quoted meant ++ codes " here"))
+-- The sentences, over what is quoted in them.
 
-abbrev pub mark_sentence : (directive : Bool) → Option Token → (meant : List ℕ) → List ℕ
-mark_sentence true t meant = codes "the mark " ++ (quoted meant ++ codes " stands on a directive")
-mark_sentence false (Some (token.Mark mark.Unknown)) meant = codes "there is no mark " ++ quoted meant
-mark_sentence false (Some (token.Mark mark.Forward)) meant = quoted meant ++ codes " stands a second time"
-mark_sentence false _ meant = quoted meant ++ codes " is a second stop"
+unfoldable pub byte_sentence : (byte : ℕ) → List ℕ
+byte_sentence byte = codes "a program text cannot have the byte " ++ decimal byte
+
+unfoldable pub token_sentence : (meant : List ℕ) → List ℕ
+token_sentence meant = meant ++ codes " is no token"
+
+unfoldable pub mnemonic_sentence : (meant : List ℕ) → List ℕ
+mnemonic_sentence meant = codes "there is no instruction or directive " ++ (meant ++ codes " here")
+
+unfoldable pub operand_sentence : (early : Bool) → (word meant : List ℕ) → List ℕ
+operand_sentence true word meant = codes "the operands of " ++ (word ++ codes " end too early")
+operand_sentence false word meant = word ++ (codes " cannot take " ++ (meant ++ codes " here"))
+
+unfoldable pub number_sentence : (meant : List ℕ) → List ℕ
+number_sentence meant = meant ++ codes " is out of its range"
+
+unfoldable pub mark_sentence : (directive : Bool) → Option Token → (meant : List ℕ) → List ℕ
+mark_sentence true t meant = codes "the mark " ++ (meant ++ codes " stands on a directive")
+mark_sentence false (Some (token.Mark mark.Unknown)) meant = codes "there is no mark " ++ meant
+mark_sentence false (Some (token.Mark mark.Forward)) meant = meant ++ codes " stands a second time"
+mark_sentence false _ meant = meant ++ codes " is a second stop"
 
 unfoldable pub ends_early : (word : List ℕ) → List Token → Bool
 ends_early word tokens = is_early (shape_of word) tokens
 
--- what is wrong with the bytes at this place of a line
-abbrev pub line_sentence : AsmFault → (at : Span) → (line : List ℕ) → List Token → List Span → List ℕ
-line_sentence (NotAscii n) at line tokens spans = codes "a program text cannot have the byte " ++ decimal (byte_at line at)
-line_sentence (NoToken n) at line tokens spans = quoted (bytes_at line at) ++ codes " is no token"
-line_sentence (Mnemonic n) at line tokens spans =
-    codes "there is no instruction or directive " ++ (quoted (bytes_at line at) ++ codes " here")
-line_sentence (Operand n) at line tokens spans =
-    operand_sentence (ends_early (word_of line tokens spans) tokens) (word_of line tokens spans) (bytes_at line at)
-line_sentence (Number n) at line tokens spans = quoted (bytes_at line at) ++ codes " is out of its range"
-line_sentence (Mark n) at line tokens spans =
-    mark_sentence (is_directive tokens) (slice_get tokens (mark_index tokens)) (bytes_at line at)
-line_sentence _ at line tokens spans = []
+-- the mark that is meant
+unfoldable pub bad_mark : List Token → Option Token
+bad_mark tokens = slice_get tokens (mark_index tokens)
+
+-- what is wrong, by the word of the line's statement and the bytes that are meant, as they are quoted
+unfoldable pub line_sentence : AsmFault → (byte : ℕ) → (early : Bool) → List Token → (word meant : List ℕ) → List ℕ
+line_sentence (NotAscii n) byte early tokens word meant = byte_sentence byte
+line_sentence (NoToken n) byte early tokens word meant = token_sentence meant
+line_sentence (Mnemonic n) byte early tokens word meant = mnemonic_sentence meant
+line_sentence (Operand n) byte early tokens word meant = operand_sentence early word meant
+line_sentence (Number n) byte early tokens word meant = number_sentence meant
+line_sentence (Mark n) byte early tokens word meant = mark_sentence (is_directive tokens) (bad_mark tokens) meant
+line_sentence _ byte early tokens word meant = []
 
 -- What would be right.
 
@@ -116,26 +131,48 @@ unfoldable pub range_help : Shape → List Token → List ℕ
 range_help shape tokens = number_help (slice_get tokens (number_index shape tokens)) shape
 
 -- a word with its operands
-unfoldable pub form_help : (word : List ℕ) → List ℕ
-form_help word = codes "the form is " ++ (map shown_byte (take 40 word) ++ form_text (shape_of word))
+unfoldable pub form_help : (word form : List ℕ) → List ℕ
+form_help word form = codes "the form is " ++ (word ++ form)
 
--- what would be right at this place of a line
-abbrev pub line_help : Section → AsmFault → (at : Span) → (line : List ℕ) → List Token → List Span → List ℕ
-line_help here (NotAscii n) at line tokens spans = codes "a text has printable ASCII characters, blanks and tabs"
-line_help here (NoToken n) at line tokens spans = token_help (byte_at line at)
-line_help here (Mnemonic n) at line tokens spans = mnemonic_help here (bytes_at line at)
-line_help here (Operand n) at line tokens spans = form_help (word_of line tokens spans)
-line_help here (Number n) at line tokens spans = range_help (shape_of (word_of line tokens spans)) tokens
-line_help here (Mark n) at line tokens spans = codes "an instruction may have !f, and one of !s, !st and !sn"
-line_help here _ at line tokens spans = []
+unfoldable pub form_of : (word : List ℕ) → List ℕ
+form_of word = form_text (shape_of word)
+
+unfoldable pub byte_help : (byte : ℕ) → List ℕ
+byte_help byte = token_help byte
+
+unfoldable pub ascii_help : List ℕ
+ascii_help = codes "a text has printable ASCII characters, blanks and tabs"
+
+unfoldable pub mark_help : List ℕ
+mark_help = codes "an instruction may have !f, and one of !s, !st and !sn"
+
+-- what would be right, in a section, by the word of the line's statement and the byte where the place begins
+unfoldable pub line_help : Section → AsmFault → (byte : ℕ) → List Token → (word front : List ℕ) → List ℕ
+line_help here (NotAscii n) byte tokens word front = ascii_help
+line_help here (NoToken n) byte tokens word front = byte_help byte
+line_help here (Mnemonic n) byte tokens word front = mnemonic_help here word
+line_help here (Operand n) byte tokens word front = form_help front (form_of word)
+line_help here (Number n) byte tokens word front = range_help (shape_of word) tokens
+line_help here (Mark n) byte tokens word front = mark_help
+line_help here _ byte tokens word front = []
+
+-- the first bytes of a text, as they are shown
+unfoldable pub shown : List ℕ → List ℕ
+shown bytes = map shown_byte (take 40 bytes)
 
 -- The same of a line as it is read.
 
 abbrev pub meant_in : AsmFault → (line : List ℕ) → Span
 meant_in fault line = meant fault line (tokens_in line) (line_spans line)
 
+abbrev pub word_in : (line : List ℕ) → List ℕ
+word_in line = word_of line (tokens_in line) (line_spans line)
+
 abbrev pub sentence_in : AsmFault → (line : List ℕ) → List ℕ
-sentence_in fault line = line_sentence fault (meant_in fault line) line (tokens_in line) (line_spans line)
+sentence_in fault line =
+    line_sentence fault (byte_at line (meant_in fault line)) (ends_early (word_in line) (tokens_in line)) (tokens_in line)
+    (quoted (word_in line)) (quoted (bytes_at line (meant_in fault line)))
 
 abbrev pub help_in : Section → AsmFault → (line : List ℕ) → List ℕ
-help_in here fault line = line_help here fault (meant_in fault line) line (tokens_in line) (line_spans line)
+help_in here fault line =
+    line_help here fault (byte_at line (meant_in fault line)) (tokens_in line) (word_in line) (shown (word_in line))

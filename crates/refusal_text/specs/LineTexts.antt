@@ -25,7 +25,7 @@ abbrev pub position_in : FaultyLine → Span → Position
 position_in f at = record { line = f.line; column = at.column }
 
 -- what is said of a line with a fault, by the bytes that are meant and by what is said of them
-abbrev pub told_text : (file : List ℕ) → (rows : List (List ℕ)) → FaultyLine → (at : Span) → (sentence help : List ℕ) → List ℕ
+unfoldable pub told_text : (file : List ℕ) → (rows : List (List ℕ)) → FaultyLine → (at : Span) → (sentence help : List ℕ) → List ℕ
 told_text file rows f at sentence help =
     error_row file (position_in f at) sentence f.fault
     ++ (excerpt_text rows (position_in f at) at.len ++ help_row file (position_in f at) help)
@@ -35,7 +35,7 @@ abbrev pub row_at : (rows : List (List ℕ)) → (n : ℕ) → List ℕ
 row_at rows n = unwrap_or (slice_get rows (n - 1)) []
 
 -- all that is said of a line with a fault, in a text of these lines
-abbrev pub faulty_text : (file : List ℕ) → (rows : List (List ℕ)) → FaultyLine → List ℕ
+unfoldable pub faulty_text : (file : List ℕ) → (rows : List (List ℕ)) → FaultyLine → List ℕ
 faulty_text file rows f =
     told_text file rows f (meant_in f.fault (row_at rows f.line)) (sentence_in f.fault (row_at rows f.line))
     (help_in f.section f.fault (row_at rows f.line))
@@ -52,7 +52,7 @@ more_lines file more =
     else file ++ (codes ": note: " ++ (decimal more ++ (codes " more lines with a fault" ++ 10 ∷ [])))
 
 -- what is said of further lines with a fault
-abbrev pub further_text : (file : List ℕ) → (rows : List (List ℕ)) → List FaultyLine → List ℕ
+unfoldable pub further_text : (file : List ℕ) → (rows : List (List ℕ)) → List FaultyLine → List ℕ
 further_text file rows list = flat_map (faulty_text file rows) (take most_further list) ++ more_lines file (length list - most_further)
 
 -- What is said of a text whose line n has this fault: of that line, and of those behind it.

@@ -62,19 +62,19 @@ abbrev pub unknown_index : List LabelSource → List Token → Option ℕ
 unknown_index labels tokens =
     unknown_from (label_tokens tokens + 1) labels (take 100 (drop 1 (drop (label_tokens tokens) tokens)))
 
-abbrev pub name_index : AsmFault → List LabelSource → List Token → Option ℕ
+unfoldable pub name_index : AsmFault → List LabelSource → List Token → Option ℕ
 name_index (Duplicate n) labels tokens = second_index tokens
 name_index (Unknown n) labels tokens = unknown_index labels tokens
 name_index _ labels tokens = None
 
 -- the bytes that are meant; the line's first where the line does not tell which
-abbrev pub name_span : Option ℕ → List Span → Span
+unfoldable pub name_span : Option ℕ → List Span → Span
 name_span None spans = span 1 1
 name_span (Some index) spans = span_at spans index
 
 -- Sentences.
 
-abbrev pub name_sentence : AsmFault → Option ℕ → (name : List ℕ) → List ℕ
+unfoldable pub name_sentence : AsmFault → Option ℕ → (name : List ℕ) → List ℕ
 name_sentence fault None name = fault_sentence fault
 name_sentence (Duplicate n) (Some index) name = quoted name ++ codes " stands a second time"
 name_sentence (Unknown n) (Some index) name = quoted name ++ codes " is no label"
@@ -89,14 +89,14 @@ near_help fault None = fault_help fault
 near_help fault (Some near) = codes "did you mean " ++ (near ++ codes "?")
 
 -- a label that is near, where one is
-abbrev pub name_help : AsmFault → Option ℕ → List LabelSource → (name : List ℕ) → List ℕ
+unfoldable pub name_help : AsmFault → Option ℕ → List LabelSource → (name : List ℕ) → List ℕ
 name_help (Unknown n) (Some index) labels name = near_help (Unknown n) (near_label labels name)
 name_help fault index labels name = fault_help fault
 
 -- What is said.
 
 -- by the bytes that are meant and by what is said of them
-abbrev pub named_text : (file : List ℕ) → (rows : List (List ℕ)) → Position → (len : ℕ) → (sentence help : List ℕ) → AsmFault → List ℕ
+unfoldable pub named_text : (file : List ℕ) → (rows : List (List ℕ)) → Position → (len : ℕ) → (sentence help : List ℕ) → AsmFault → List ℕ
 named_text file rows at len sentence help fault =
     error_row file at sentence fault ++ (excerpt_text rows at len ++ help_row file at help)
 

@@ -14,7 +14,7 @@ use Rattle.refusal_text.specs.LineTexts.{lines_text}
 use Rattle.refusal_text.specs.NameFaults.{labels_in, named_text, name_text}
 
 -- what is said of a fault that is in no one line
-abbrev pub whole_text : (file : List ℕ) → AsmFault → List ℕ
+unfoldable pub whole_text : (file : List ℕ) → AsmFault → List ℕ
 whole_text file fault =
     file ++ (codes ": error: " ++ (fault_sentence fault ++ (codes " [" ++ (asm_fault_text fault ++ (codes "]" ++ 10 ∷ [])))))
     ++ (file ++ (codes ": help: " ++ (fault_help fault ++ 10 ∷ [])))

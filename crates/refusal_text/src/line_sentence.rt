@@ -4,10 +4,10 @@ ghost use Rattle.std.specs.Prelude.{◌≡◌, ◌++◌, map, take, slice_get, I
 ghost use Rattle.std.specs.Option.{option_copied, option_map};
 ghost use Rattle.std.specs.String.{string_bytes};
 ghost use Rattle.source_excerpt.specs.Excerpt.{shown_byte};
-ghost use Rattle.refusal_text.specs.LineSentences.{word_of, shape_of, meant, dots, quoted, operand_sentence, mark_sentence, line_sentence, section_help, near_help, begins_statement, near_word, mnemonic_help, number_span, number_help, range_help, form_help, ends_early, line_help};
+ghost use Rattle.refusal_text.specs.LineSentences.{word_of, shape_of, number_span, meant, dots, quoted, shown, ends_early, byte_sentence, token_sentence, mnemonic_sentence, operand_sentence, number_sentence, bad_mark, mark_sentence, line_sentence, section_help, near_help, begins_statement, near_word, mnemonic_help, number_help, range_help, form_of, form_help, byte_help, ascii_help, mark_help, line_help};
 
 use annotated_asm::fault::AsmFault;
-use line_faults::bytes::{byte_at, byte_span, bytes_at, front, token_help, token_span};
+use line_faults::bytes::{byte_span, bytes_at, front, token_help, token_span};
 use line_faults::meant::{
     is_directive, is_early, label_tokens, mark_index, number_index, operand_span, span_at,
 };
@@ -21,7 +21,7 @@ use std::alloc::{AllocError, Global};
 const MOST_QUOTED: usize = 40;
 
 /// The first word of a line's statement.
-fn word_of<'a>(line: &'a [u8], tokens: &[Token], spans: &[Span]) -> &'a [u8]
+pub(crate) fn word_of<'a>(line: &'a [u8], tokens: &[Token], spans: &[Span]) -> &'a [u8]
     ensures { result.now ≡ word_of line.now tokens.now spans.now }
 {
     bytes_at(line, span_at(spans, label_tokens(tokens)))
@@ -48,6 +48,7 @@ fn number_span(shape: Shape, tokens: &[Token], spans: &[Span]) -> Span
 /// # Errors
 ///
 /// `AllocError` where memory was refused.
+#[tactic(auto, unfolding(crate::specs::LineSentences::meant))]
 pub(crate) fn meant(
     alloc: Global,
     fault: AsmFault,
@@ -117,106 +118,152 @@ pub(crate) fn write_quoted(said: &mut String, bytes: &[u8]) -> Result<(), AllocE
     write!(said, "`")
 }
 
+/// Bytes of a text as a quotation.
+///
+/// # Errors
+///
+/// `AllocError` where memory was refused.
+pub(crate) fn quotation(alloc: Global, bytes: &[u8]) -> Result<String, AllocError>
+    ensures { IfOk result (λ quotation. string_bytes quotation ≡ quoted bytes.now) }
+{
+    let mut quotation = String::new(alloc);
+    write_quoted(&mut quotation, bytes)?;
+    Ok(quotation)
+}
+
+/// The first bytes of a text, as they are shown.
+///
+/// # Errors
+///
+/// `AllocError` where memory was refused.
+#[tactic(auto, unfolding(crate::specs::LineSentences::shown))]
+pub(crate) fn shown(alloc: Global, bytes: &[u8]) -> Result<String, AllocError>
+    ensures { IfOk result (λ text. string_bytes text ≡ shown bytes.now) }
+{
+    let mut text = String::new(alloc);
+    write_shown(&mut text, front(bytes, MOST_QUOTED))?;
+    Ok(text)
+}
+
 /// Whether the operands of a word end too early.
 #[tactic(auto, unfolding(crate::specs::LineSentences::ends_early))]
-fn ends_early(word: &[u8], tokens: &[Token]) -> bool
+pub(crate) fn ends_early(word: &[u8], tokens: &[Token]) -> bool
     ensures { result ≡ ends_early word.now tokens.now }
 {
     is_early(shape_of(word), tokens)
 }
 
+/// Adds that no text has this byte.
+#[tactic(auto, unfolding(crate::specs::LineSentences::byte_sentence))]
+fn write_byte_sentence(said: &mut String, byte: u8) -> Result<(), AllocError>
+    ensures { OnOk result (string_bytes said.new ≡ string_bytes said.old ++ byte_sentence byte) }
+{
+    write!(said, "a program text cannot have the byte {byte}")
+}
+
+/// Adds that what is quoted is no token.
+#[tactic(auto, unfolding(crate::specs::LineSentences::token_sentence))]
+fn write_token_sentence(said: &mut String, meant: &str) -> Result<(), AllocError>
+    ensures { OnOk result (string_bytes said.new ≡ string_bytes said.old ++ token_sentence meant.now) }
+{
+    write!(said, "{meant} is no token")
+}
+
+/// Adds that what is quoted begins no statement.
+#[tactic(auto, unfolding(crate::specs::LineSentences::mnemonic_sentence))]
+fn write_mnemonic_sentence(said: &mut String, meant: &str) -> Result<(), AllocError>
+    ensures { OnOk result (string_bytes said.new ≡ string_bytes said.old ++ mnemonic_sentence meant.now) }
+{
+    write!(said, "there is no instruction or directive {meant} here")
+}
+
 /// Adds what is wrong with operands.
+#[tactic(auto, unfolding(crate::specs::LineSentences::operand_sentence))]
 fn write_operand_sentence(
     said: &mut String,
     early: bool,
-    word: &[u8],
-    meant: &[u8],
+    word: &str,
+    meant: &str,
 ) -> Result<(), AllocError>
     ensures { OnOk result (string_bytes said.new ≡ string_bytes said.old ++ operand_sentence early word.now meant.now) }
 {
     if early {
-        write!(said, "the operands of ")?;
-        write_quoted(said, word)?;
-        return write!(said, " end too early");
+        write!(said, "the operands of {word} end too early")
+    } else {
+        write!(said, "{word} cannot take {meant} here")
     }
-    write_quoted(said, word)?;
-    write!(said, " cannot take ")?;
-    write_quoted(said, meant)?;
-    write!(said, " here")
 }
 
-/// Adds what is wrong with a mark of an instruction.
-fn write_own_mark(said: &mut String, mark: Option<&Token>, meant: &[u8]) -> Result<(), AllocError>
-    ensures { OnOk result (string_bytes said.new ≡ string_bytes said.old ++ mark_sentence false (option_copied mark.entry) meant.now) }
+/// Adds that what is quoted is a number out of its range.
+#[tactic(auto, unfolding(crate::specs::LineSentences::number_sentence))]
+fn write_number_sentence(said: &mut String, meant: &str) -> Result<(), AllocError>
+    ensures { OnOk result (string_bytes said.new ≡ string_bytes said.old ++ number_sentence meant.now) }
 {
-    match mark {
-        Some(Token::Mark(Mark::Unknown)) => {
-            write!(said, "there is no mark ")?;
-            write_quoted(said, meant)
-        }
-        Some(Token::Mark(Mark::Forward)) => {
-            write_quoted(said, meant)?;
-            write!(said, " stands a second time")
-        }
-        _ => {
-            write_quoted(said, meant)?;
-            write!(said, " is a second stop")
-        }
-    }
+    write!(said, "{meant} is out of its range")
+}
+
+/// The mark that is meant.
+#[tactic(auto, unfolding(crate::specs::LineSentences::bad_mark))]
+fn bad_mark(tokens: &[Token]) -> Option<Token>
+    ensures { result ≡ bad_mark tokens.now }
+{
+    tokens.get(mark_index(tokens)).copied()
 }
 
 /// Adds what is wrong with a mark.
-fn write_mark_sentence(said: &mut String, tokens: &[Token], meant: &[u8]) -> Result<(), AllocError>
-    ensures { OnOk result (string_bytes said.new
-        ≡ string_bytes said.old ++ mark_sentence (is_directive tokens.now) (slice_get tokens.now (mark_index tokens.now)) meant.now) }
+#[tactic(auto, unfolding(crate::specs::LineSentences::mark_sentence))]
+fn write_mark_sentence(
+    said: &mut String,
+    directive: bool,
+    mark: Option<Token>,
+    meant: &str,
+) -> Result<(), AllocError>
+    ensures { OnOk result (string_bytes said.new ≡ string_bytes said.old ++ mark_sentence directive mark meant.now) }
 {
-    if is_directive(tokens) {
-        write!(said, "the mark ")?;
-        write_quoted(said, meant)?;
-        return write!(said, " stands on a directive");
+    if directive {
+        return write!(said, "the mark {meant} stands on a directive");
     }
-    write_own_mark(said, tokens.get(mark_index(tokens)), meant)
+    match mark {
+        Some(Token::Mark(Mark::Unknown)) => write!(said, "there is no mark {meant}"),
+        Some(Token::Mark(Mark::Forward)) => write!(said, "{meant} stands a second time"),
+        _ => write!(said, "{meant} is a second stop"),
+    }
 }
 
-/// Adds what is wrong with the bytes at a place of a line.
+/// What a line with a fault has.
+#[derive(Clone, Copy)]
+pub(crate) struct LineFacts {
+    /// The byte where what is meant begins.
+    pub byte: u8,
+    /// Whether the operands end too early.
+    pub early: bool,
+}
+
+/// Adds what is wrong, by the word of the line's statement and the bytes that are meant, as they are quoted.
 ///
 /// # Errors
 ///
 /// `AllocError` where memory was refused.
+#[tactic(auto, unfolding(crate::specs::LineSentences::line_sentence))]
 pub(crate) fn write_line_sentence(
     said: &mut String,
     fault: AsmFault,
-    at: Span,
-    line: &[u8],
+    facts: LineFacts,
     tokens: &[Token],
-    spans: &[Span],
+    word: &str,
+    meant: &str,
 ) -> Result<(), AllocError>
-    ensures { OnOk result (string_bytes said.new ≡ string_bytes said.old ++ line_sentence fault at line.now tokens.now spans.now) }
+    ensures { OnOk result (string_bytes said.new ≡ string_bytes said.old ++ line_sentence fault facts.byte facts.early tokens.now word.now meant.now) }
 {
-    let meant = bytes_at(line, at);
     match fault {
-        AsmFault::NotAscii(_) => {
-            let byte = byte_at(line, at);
-            write!(said, "a program text cannot have the byte {byte}")
+        AsmFault::NotAscii(_) => write_byte_sentence(said, facts.byte),
+        AsmFault::Token(_) => write_token_sentence(said, meant),
+        AsmFault::Mnemonic(_) => write_mnemonic_sentence(said, meant),
+        AsmFault::Operand(_) => write_operand_sentence(said, facts.early, word, meant),
+        AsmFault::Number(_) => write_number_sentence(said, meant),
+        AsmFault::Mark(_) => {
+            write_mark_sentence(said, is_directive(tokens), bad_mark(tokens), meant)
         }
-        AsmFault::Token(_) => {
-            write_quoted(said, meant)?;
-            write!(said, " is no token")
-        }
-        AsmFault::Mnemonic(_) => {
-            write!(said, "there is no instruction or directive ")?;
-            write_quoted(said, meant)?;
-            write!(said, " here")
-        }
-        AsmFault::Operand(_) => {
-            let word = word_of(line, tokens, spans);
-            write_operand_sentence(said, ends_early(word, tokens), word, meant)
-        }
-        AsmFault::Number(_) => {
-            write_quoted(said, meant)?;
-            write!(said, " is out of its range")
-        }
-        AsmFault::Mark(_) => write_mark_sentence(said, tokens, meant),
         AsmFault::TooLong
         | AsmFault::Duplicate(_)
         | AsmFault::Unknown(_)
@@ -294,45 +341,71 @@ fn range_help(shape: Shape, tokens: &[Token]) -> &'static str
     number_help(tokens.get(number_index(shape, tokens)), shape)
 }
 
-/// Adds the operands that a word takes.
-#[tactic(auto, unfolding(crate::specs::LineSentences::form_help))]
-fn write_form(said: &mut String, word: &[u8]) -> Result<(), AllocError>
-    ensures { OnOk result (string_bytes said.new ≡ string_bytes said.old ++ form_help word.now) }
+/// The operands that a word takes.
+#[tactic(auto, unfolding(crate::specs::LineSentences::form_of))]
+fn form_of(word: &[u8]) -> &'static str
+    ensures { result.now ≡ form_of word.now }
 {
-    write!(said, "the form is ")?;
-    write_shown(said, front(word, MOST_QUOTED))?;
-    said.push_str(form_text(shape_of(word)))
+    form_text(shape_of(word))
 }
 
-/// Adds what would be right at a place of a line.
+/// Adds a word with its operands.
+#[tactic(auto, unfolding(crate::specs::LineSentences::form_help))]
+fn write_form(said: &mut String, word: &str, form: &str) -> Result<(), AllocError>
+    ensures { OnOk result (string_bytes said.new ≡ string_bytes said.old ++ form_help word.now form.now) }
+{
+    write!(said, "the form is {word}{form}")
+}
+
+/// What tokens that begin with a byte are.
+#[tactic(auto, unfolding(crate::specs::LineSentences::byte_help))]
+fn byte_help(byte: u8) -> &'static str
+    ensures { result.now ≡ byte_help byte }
+{
+    token_help(byte)
+}
+
+/// What bytes a text has.
+#[tactic(auto, unfolding(crate::specs::LineSentences::ascii_help))]
+fn ascii_help() -> &'static str
+    ensures { result.now ≡ ascii_help }
+{
+    "a text has printable ASCII characters, blanks and tabs"
+}
+
+/// What marks an instruction has.
+#[tactic(auto, unfolding(crate::specs::LineSentences::mark_help))]
+fn mark_help() -> &'static str
+    ensures { result.now ≡ mark_help }
+{
+    "an instruction may have !f, and one of !s, !st and !sn"
+}
+
+/// Adds what would be right, in a section, by the word of the line's statement and the byte where what is
+/// meant begins.
 ///
 /// # Errors
 ///
 /// `AllocError` where memory was refused.
+#[tactic(auto, unfolding(crate::specs::LineSentences::line_help))]
 pub(crate) fn write_line_help(
     said: &mut String,
     section: Section,
     fault: AsmFault,
-    at: Span,
-    line: &[u8],
+    byte: u8,
     tokens: &[Token],
-    spans: &[Span],
+    word: &[u8],
+    front: &str,
 ) -> Result<(), AllocError>
-    ensures { OnOk result (string_bytes said.new ≡ string_bytes said.old ++ line_help section fault at line.now tokens.now spans.now) }
+    ensures { OnOk result (string_bytes said.new ≡ string_bytes said.old ++ line_help section fault byte tokens.now word.now front.now) }
 {
-    let word = word_of(line, tokens, spans);
-    let shape = shape_of(word);
     match fault {
-        AsmFault::NotAscii(_) => said.push_str(
-            "a text has printable ASCII characters, blanks and tabs",
-        ),
-        AsmFault::Token(_) => said.push_str(token_help(byte_at(line, at))),
-        AsmFault::Mnemonic(_) => write_mnemonic_help(said, section, bytes_at(line, at)),
-        AsmFault::Operand(_) => write_form(said, word),
-        AsmFault::Number(_) => said.push_str(range_help(shape, tokens)),
-        AsmFault::Mark(_) => said.push_str(
-            "an instruction may have !f, and one of !s, !st and !sn",
-        ),
+        AsmFault::NotAscii(_) => said.push_str(ascii_help()),
+        AsmFault::Token(_) => said.push_str(byte_help(byte)),
+        AsmFault::Mnemonic(_) => write_mnemonic_help(said, section, word),
+        AsmFault::Operand(_) => write_form(said, front, form_of(word)),
+        AsmFault::Number(_) => said.push_str(range_help(shape_of(word), tokens)),
+        AsmFault::Mark(_) => said.push_str(mark_help()),
         AsmFault::TooLong
         | AsmFault::Duplicate(_)
         | AsmFault::Unknown(_)

@@ -7,9 +7,12 @@ ghost use Rattle.program_tokens.specs.Grammar.{line_tokens};
 ghost use Rattle.refusal_text.specs.LineSentences.{readable, meant_in, sentence_in, help_in};
 ghost use Rattle.refusal_text.specs.LineTexts.{error_row, help_row, position_in, told_text, row_at, faulty_text, more_lines, further_text, lines_text, most_further};
 
-use crate::line_sentence::{meant, write_line_help, write_line_sentence};
+use crate::line_sentence::{
+    LineFacts, ends_early, meant, quotation, shown, word_of, write_line_help, write_line_sentence,
+};
 use crate::reading::{FaultyLine, faults_behind, section_of};
 use annotated_asm::fault::AsmFault;
+use line_faults::bytes::{byte_at, bytes_at};
 use program_statements::statement::Section;
 use program_tokens::line::read_tokens;
 use program_tokens::span::{Span, read_spans};
@@ -62,10 +65,33 @@ fn told_of(
     read_or_none(&mut tokens, line)?;
     read_spans(&mut spans, line)?;
     let at = meant(alloc, fault, line, &tokens, &spans)?;
+    let word = word_of(line, &tokens, &spans);
+    let facts = LineFacts {
+        byte: byte_at(line, at),
+        early: ends_early(word, &tokens),
+    };
+    let quoted_word = quotation(alloc, word)?;
+    let quoted_bytes = quotation(alloc, bytes_at(line, at))?;
+    let front = shown(alloc, word)?;
     let mut sentence = String::new(alloc);
     let mut help = String::new(alloc);
-    write_line_sentence(&mut sentence, fault, at, line, &tokens, &spans)?;
-    write_line_help(&mut help, section, fault, at, line, &tokens, &spans)?;
+    write_line_sentence(
+        &mut sentence,
+        fault,
+        facts,
+        &tokens,
+        quoted_word.as_str(),
+        quoted_bytes.as_str(),
+    )?;
+    write_line_help(
+        &mut help,
+        section,
+        fault,
+        facts.byte,
+        &tokens,
+        word,
+        front.as_str(),
+    )?;
     Ok(Told { at, sentence, help })
 }
 
@@ -115,6 +141,7 @@ pub(crate) fn row_at<'a>(rows: &[&'a [u8]], number: u32) -> &'a [u8]
 }
 
 /// Adds what is said of a line with a fault.
+#[tactic(auto, unfolding(crate::specs::LineTexts::told_text))]
 fn write_told(
     alloc: Global,
     said: &mut String,
@@ -136,6 +163,7 @@ fn write_told(
 }
 
 /// Adds all that is said of a line with a fault, in a text of these lines.
+#[tactic(auto, unfolding(crate::specs::LineTexts::faulty_text))]
 fn write_faulty(
     alloc: Global,
     said: &mut String,
@@ -197,6 +225,7 @@ fn front(list: &[FaultyLine], count: usize) -> &[FaultyLine]
 }
 
 /// Adds what is said of further lines with a fault.
+#[tactic(auto, unfolding(crate::specs::LineTexts::further_text))]
 fn write_further(
     alloc: Global,
     said: &mut String,

@@ -151,6 +151,7 @@ fn unknown_index(labels: &[LabelSource], tokens: &[Token]) -> Option<usize>
 }
 
 /// Which token is meant by a fault of a name, if the line tells it.
+#[tactic(auto, unfolding(crate::specs::NameFaults::name_index))]
 fn name_index(fault: AsmFault, labels: &[LabelSource], tokens: &[Token]) -> Option<usize>
     ensures { result ≡ name_index fault labels.now tokens.now }
 {
@@ -170,6 +171,7 @@ fn name_index(fault: AsmFault, labels: &[LabelSource], tokens: &[Token]) -> Opti
 }
 
 /// The bytes that are meant; the line's first where the line does not tell which.
+#[tactic(auto, unfolding(crate::specs::NameFaults::name_span))]
 fn name_span(index: Option<usize>, spans: &[Span]) -> Span
     ensures { result ≡ name_span index spans.now }
 {
@@ -180,6 +182,7 @@ fn name_span(index: Option<usize>, spans: &[Span]) -> Span
 }
 
 /// Adds what is wrong with a name.
+#[tactic(auto, unfolding(crate::specs::NameFaults::name_sentence))]
 fn write_name_sentence(
     said: &mut String,
     fault: AsmFault,
@@ -248,6 +251,7 @@ fn write_near_help(said: &mut String, fault: AsmFault, near: Option<&str>) -> Re
 }
 
 /// Adds what would be right in place of a name.
+#[tactic(auto, unfolding(crate::specs::NameFaults::name_help))]
 fn write_name_help(
     said: &mut String,
     fault: AsmFault,
@@ -280,6 +284,7 @@ fn write_name_help(
 /// # Errors
 ///
 /// `AllocError` where memory was refused.
+#[tactic(auto, unfolding(crate::specs::NameFaults::named_text))]
 pub(crate) fn write_named(
     alloc: Global,
     said: &mut String,

@@ -19,6 +19,7 @@ use std::alloc::{AllocError, Global};
 use task_descriptor::program::BuildFault;
 
 /// What is said of a fault that is in no one line.
+#[tactic(auto, unfolding(crate::specs::Refusals::whole_text))]
 fn whole_text(alloc: Global, file: &str, fault: AsmFault) -> Result<String, AllocError>
     ensures { IfOk result (λ said. string_bytes said ≡ whole_text file.now fault) }
 {
