@@ -214,12 +214,37 @@ def differs(program, text, name, said):
     return f"more is said: {told[0]}" if told else None
 
 
+REFUSAL = re.compile(r"(.*):(\d+):(\d+): error: [^\n]+ \[([^\n\]]+)\]\n((?: *\d+ \| [^\n]*\n +\| [ \t]*\^~*\n)?)"
+                     r"\1:\2:\3: help: [^\n]+\n")
+
+
+def shown_so(text, line, column, rows):
+    """Whether the rows show the line with a caret below the column, and tildes below what stands behind it."""
+    text = "".join(c if ord(c) < 128 else "?" for c in text).replace("\r\n", "\n").removesuffix("\r")
+    front = "\n".join(excerpt(text, line, column))
+    return rows.startswith(front) and re.fullmatch(r"~*\n" if front else "", rows[len(front):]) is not None
+
+
 def refused_so(fault, text, name, said):
-    """Whether these two lines tell the first fault of a text, at its line if it has one."""
+    """Whether what is said tells the first fault of a text, at its line if it has one, and then those of later lines."""
     line = places(text)[1][fault.index][0] if fault.index is not None else fault.line
-    at = re.escape(f"{name}:{line}: " if line else f"{name}: ")
-    told = re.escape(fault.text()[len("program refused: "):-1])
-    return re.fullmatch(f"{at}error: [^\n]+ \\[{told}\\]\n{at}help: [^\n]+\n", said) is not None
+    told = fault.text()[len("program refused: "):-1]
+    if not line:
+        at = re.escape(f"{name}: ")
+        return re.fullmatch(f"{at}error: [^\n]+ \\[{re.escape(told)}\\]\n{at}help: [^\n]+\n", said) is not None
+    at, lines = 0, []
+    while match := REFUSAL.match(said, at):
+        here, column, tag = int(match.group(2)), int(match.group(3)), match.group(4)
+        if match.group(1) != name or not shown_so(text, here, column, match.group(5)):
+            return False
+        if not lines and (here, tag) != (line, told):
+            return False
+        if lines and not (fault.k in range(2, 8) and here > lines[-1] and re.fullmatch(rf"[2-7] \w+ line {here}", tag)):
+            return False
+        lines.append(here)
+        at = match.end()
+    more = re.fullmatch(re.escape(name) + r": note: (1 more line|\d+ more lines) with a fault\n", said[at:])
+    return 0 < len(lines) <= 20 and (at == len(said) or (len(lines) == 20 and more is not None))
 
 
 def label_of(program, index):

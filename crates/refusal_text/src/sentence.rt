@@ -1,7 +1,7 @@
 //! A sentence for each fault, and what would be right.
 
 ghost use Rattle.std.specs.Prelude.{◌≡◌};
-ghost use Rattle.refusal_text.specs.Refusals.{build_sentence, fault_sentence, build_help, fault_help};
+ghost use Rattle.refusal_text.specs.Faults.{build_sentence, fault_sentence, build_help, fault_help};
 
 use annotated_asm::fault::AsmFault;
 use task_descriptor::program::BuildFault;
@@ -27,16 +27,16 @@ pub(crate) fn fault_sentence(fault: AsmFault) -> &'static str
 {
     match fault {
         AsmFault::TooLong => "the text is too long",
-        AsmFault::NotAscii(_) => "the line has a byte that a program text cannot have",
-        AsmFault::Token(_) => "the line has characters that form no token",
-        AsmFault::Mnemonic(_) => "there is no such instruction or directive here",
-        AsmFault::Operand(_) => "these are not the operands of this statement",
-        AsmFault::Number(_) => "a number is out of its range",
-        AsmFault::Mark(_) => "a mark is unknown, stands twice, or stands on a directive",
         AsmFault::Duplicate(_) => "a label, a task or .start stands a second time",
         AsmFault::Unknown(_) => "a name is no label of the kind that is wanted here",
         AsmFault::Build(fault) => build_sentence(fault),
-        AsmFault::OutOfMemory => "",
+        AsmFault::NotAscii(_)
+        | AsmFault::Token(_)
+        | AsmFault::Mnemonic(_)
+        | AsmFault::Operand(_)
+        | AsmFault::Number(_)
+        | AsmFault::Mark(_)
+        | AsmFault::OutOfMemory => "",
     }
 }
 
@@ -64,21 +64,17 @@ pub(crate) fn fault_help(fault: AsmFault) -> &'static str
 {
     match fault {
         AsmFault::TooLong => "a text has at most 4194304 bytes",
-        AsmFault::NotAscii(_) => "a text has printable ASCII characters, blanks and tabs",
-        AsmFault::Token(_) =>
-            "tokens are names of up to 32 letters, digits and _, registers such as $8 or $sp, numbers such as -4 or 0x1f, places such as @7, directives, marks and , : = ( ) -",
-        AsmFault::Mnemonic(_) =>
-            "instructions stand in .text; .word, .byte and .space stand in .data or .rodata",
-        AsmFault::Operand(_) =>
-            "each statement has operands of fixed number and kinds, with commas between them",
-        AsmFault::Number(_) =>
-            "a shift amount is 0 to 31; the immediate of addiu, slti and sltiu and an offset -32768 to 32767; that of andi, ori, xori and lui 0 to 65535; a number of li or .word -2147483648 to 4294967295; of .byte -128 to 255; of .space 0 to 65536; of a place 0 to 4096",
-        AsmFault::Mark(_) => "an instruction may have !f, and one of !s, !st and !sn",
         AsmFault::Duplicate(_) =>
             "a label and a task of one name stand once, and .start stands once",
         AsmFault::Unknown(_) =>
             "a task, a target, .start, a branch and a jump name a label of .text; la names any label",
         AsmFault::Build(fault) => build_help(fault),
-        AsmFault::OutOfMemory => "",
+        AsmFault::NotAscii(_)
+        | AsmFault::Token(_)
+        | AsmFault::Mnemonic(_)
+        | AsmFault::Operand(_)
+        | AsmFault::Number(_)
+        | AsmFault::Mark(_)
+        | AsmFault::OutOfMemory => "",
     }
 }

@@ -1,0 +1,9 @@
+-- A near word is sought in the rows that are left.
+use Rattle.std.proofs.Common.{◌≡◌, drop, map}
+use Rattle.line_faults.specs.Near.{nearest}
+use Rattle.line_faults.proofs.shape.near_in.Given as goal
+
+abbrev pub invariant-loop-name : goal.invariant-loop-name
+invariant-loop-name l =
+    nearest l.word (map (λ row. row.0.now) (drop l.name-index l.rows))
+    ≡ nearest l.word (map (λ row. row.0.now) l.rows)

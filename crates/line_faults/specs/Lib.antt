@@ -1,0 +1,5 @@
+pub mod Bytes
+pub mod Forms
+pub mod Meant
+pub mod Near
+pub mod Shapes

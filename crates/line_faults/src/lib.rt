@@ -1,0 +1,8 @@
+//! What is meant by a fault of one line of a program text: which bytes, and what would be right there.
+#![tactic(auto)]
+
+pub mod bytes;
+mod form;
+pub mod meant;
+pub mod near;
+pub mod shape;

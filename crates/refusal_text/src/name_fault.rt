@@ -1,0 +1,342 @@
+//! What is said of a name that stands a second time, or is no label of the kind that is wanted.
+
+ghost use Rattle.std.specs.Prelude.{◌≡◌, ◌++◌, ◌+◌, ◌<◌, ◌^◌, length, take, drop, map, IfOk, OnOk};
+ghost use Rattle.std.specs.Option.{option_map};
+ghost use Rattle.std.specs.String.{string_bytes};
+ghost use Rattle.line_faults.specs.Near.{nearest};
+ghost use Rattle.source_map.specs.Sources.{sources_of};
+ghost use Rattle.refusal_text.specs.NameFaults.{labels_in, defines, defined_index, second_index, is_label, unknown_from, unknown_index, name_index, name_span, name_sentence, near_label, near_help, name_help, named_text, name_position, name_text};
+
+use crate::line_sentence::write_quoted;
+use crate::line_text::{read_or_none, row_at, write_error, write_help};
+use crate::sentence::{fault_help, fault_sentence};
+use annotated_asm::fault::AsmFault;
+use line_faults::bytes::bytes_at;
+use line_faults::meant::{label_tokens, span_at};
+use line_faults::near::is_near;
+use program_tokens::span::{Span, read_spans};
+use program_tokens::token::{Directive, Token};
+use source_excerpt::excerpt::write_excerpt;
+use source_map::position::{LabelSource, Position};
+use source_map::reading::source_map;
+use std::alloc::{AllocError, Global};
+use task_descriptor::name::Name;
+
+/// How many tokens of a statement are looked at. (own choice)
+const MOST_TOKENS: usize = 100;
+
+/// The labels of a text, if its lines can be read.
+///
+/// # Errors
+///
+/// `AllocError` where memory was refused.
+pub(crate) fn labels_in(alloc: Global, text: &[u8]) -> Result<Vec<LabelSource>, AllocError>
+    ensures { IfOk result (λ labels. labels.items ≡ labels_in (sources_of text.now)) }
+{
+    match source_map(alloc, text) {
+        Ok(map) => Ok(map.labels),
+        Err(AsmFault::OutOfMemory) => Err(AllocError),
+        Err(_) => Ok(Vec::new(alloc)),
+    }
+}
+
+/// Whether a statement is a `.task` or a `.start`.
+fn defines(tokens: &[Token]) -> bool
+    ensures { result ≡ defines tokens.now }
+{
+    matches!(
+        tokens,
+        [Token::Directive(Directive::Task | Directive::Start), ..]
+    )
+}
+
+/// Which token of a statement is the name that it defines.
+fn defined_index(tokens: &[Token]) -> Option<usize>
+    ensures { result ≡ defined_index tokens.now }
+{
+    match tokens {
+        [Token::Directive(Directive::Task), ..] => Some(1),
+        [Token::Directive(Directive::Start), ..] => Some(0),
+        _ => None,
+    }
+}
+
+/// What is behind the first tokens.
+fn behind_tokens(tokens: &[Token], count: usize) -> &[Token]
+    ensures { result.now ≡ drop count tokens.now }
+{
+    if count < tokens.len() {
+        &tokens[count..]
+    } else {
+        &[]
+    }
+}
+
+/// The first of some tokens.
+fn front_tokens(tokens: &[Token], count: usize) -> &[Token]
+    ensures { result.now ≡ take count tokens.now }
+{
+    if count < tokens.len() {
+        &tokens[..count]
+    } else {
+        tokens
+    }
+}
+
+/// Which token stands a second time, if the line has only one that can.
+fn second_index(tokens: &[Token]) -> Option<usize>
+    ensures { result ≡ second_index tokens.now }
+{
+    let labels = label_tokens(tokens);
+    if labels == 0 {
+        return defined_index(tokens);
+    }
+    if labels == 2 && !defines(behind_tokens(tokens, 2)) {
+        return Some(0);
+    }
+    None
+}
+
+/// Whether a name is a label.
+fn is_label(labels: &[LabelSource], name: &Name) -> bool
+    ensures { result ≡ is_label labels.now name.now }
+{
+    for label in labels {
+        if label.name.bytes() == name.bytes() {
+            return true;
+        }
+    }
+    false
+}
+
+/// The index of the first of some tokens that is a name and no label; the first of all has this index.
+fn unknown_from(first: usize, labels: &[LabelSource], tokens: &[Token]) -> Option<usize>
+    requires { first + length tokens.now < 2 ^ 64 }
+    ensures { result ≡ unknown_from first labels.now tokens.now }
+{
+    let mut index = first;
+    let mut rest = tokens;
+    loop {
+        match rest {
+            [] => return None,
+            [Token::Name(_), Token::Equals, behind @ ..] => {
+                index += 2;
+                rest = behind;
+            }
+            [Token::Name(name), behind @ ..] => {
+                if !is_label(labels, name) {
+                    return Some(index);
+                }
+                index += 1;
+                rest = behind;
+            }
+            [_, behind @ ..] => {
+                index += 1;
+                rest = behind;
+            }
+        }
+    }
+}
+
+/// Which of the first 100 tokens behind the statement's first is a name and no label.
+fn unknown_index(labels: &[LabelSource], tokens: &[Token]) -> Option<usize>
+    ensures { result ≡ unknown_index labels.now tokens.now }
+{
+    let count = label_tokens(tokens);
+    if count >= tokens.len() {
+        return None;
+    }
+    let rest = behind_tokens(behind_tokens(tokens, count), 1);
+    unknown_from(count + 1, labels, front_tokens(rest, MOST_TOKENS))
+}
+
+/// Which token is meant by a fault of a name, if the line tells it.
+#[tactic(auto, unfolding(crate::specs::NameFaults::name_index))]
+fn name_index(fault: AsmFault, labels: &[LabelSource], tokens: &[Token]) -> Option<usize>
+    ensures { result ≡ name_index fault labels.now tokens.now }
+{
+    match fault {
+        AsmFault::Duplicate(_) => second_index(tokens),
+        AsmFault::Unknown(_) => unknown_index(labels, tokens),
+        AsmFault::TooLong
+        | AsmFault::NotAscii(_)
+        | AsmFault::Token(_)
+        | AsmFault::Mnemonic(_)
+        | AsmFault::Operand(_)
+        | AsmFault::Number(_)
+        | AsmFault::Mark(_)
+        | AsmFault::Build(_)
+        | AsmFault::OutOfMemory => None,
+    }
+}
+
+/// The bytes that are meant; the line's first where the line does not tell which.
+#[tactic(auto, unfolding(crate::specs::NameFaults::name_span))]
+fn name_span(index: Option<usize>, spans: &[Span]) -> Span
+    ensures { result ≡ name_span index spans.now }
+{
+    match index {
+        Some(index) => span_at(spans, index),
+        None => Span { column: 1, len: 1 },
+    }
+}
+
+/// Adds what is wrong with a name.
+#[tactic(auto, unfolding(crate::specs::NameFaults::name_sentence))]
+fn write_name_sentence(
+    said: &mut String,
+    fault: AsmFault,
+    index: Option<usize>,
+    name: &[u8],
+) -> Result<(), AllocError>
+    ensures { OnOk result (string_bytes said.new ≡ string_bytes said.old ++ name_sentence fault index name.now) }
+{
+    if index.is_none() {
+        return said.push_str(fault_sentence(fault));
+    }
+    match fault {
+        AsmFault::Duplicate(_) => {
+            write_quoted(said, name)?;
+            write!(said, " stands a second time")
+        }
+        AsmFault::Unknown(_) => {
+            write_quoted(said, name)?;
+            write!(said, " is no label")
+        }
+        AsmFault::TooLong
+        | AsmFault::NotAscii(_)
+        | AsmFault::Token(_)
+        | AsmFault::Mnemonic(_)
+        | AsmFault::Operand(_)
+        | AsmFault::Number(_)
+        | AsmFault::Mark(_)
+        | AsmFault::Build(_)
+        | AsmFault::OutOfMemory => said.push_str(fault_sentence(fault)),
+    }
+}
+
+/// The first label that is near to a name; to a name of one letter none is.
+fn near_label<'a>(labels: &'a [LabelSource], name: &[u8]) -> Option<&'a str>
+    ensures { option_map (λ near. near.now) result ≡ near_label labels.now name.now }
+{
+    if name.len() < 2 {
+        return None;
+    }
+    match nearest(labels, name) {
+        Some(near) => Some(near.as_str()),
+        None => None,
+    }
+}
+
+/// The first label that is near to a name.
+fn nearest<'a>(labels: &'a [LabelSource], name: &[u8]) -> Option<&'a Name>
+    ensures { option_map (λ near. near.now) result ≡ nearest name.now (map (λ label. label.name) labels.now) }
+{
+    for label in labels {
+        if is_near(name, label.name.bytes()) {
+            return Some(&label.name);
+        }
+    }
+    None
+}
+
+/// Adds which label may have been meant, if one is near, else what would be right.
+fn write_near_help(said: &mut String, fault: AsmFault, near: Option<&str>) -> Result<(), AllocError>
+    ensures { OnOk result (string_bytes said.new ≡ string_bytes said.old ++ near_help fault (option_map (λ label. label.now) near.entry)) }
+{
+    match near {
+        Some(near) => write!(said, "did you mean {near}?"),
+        None => said.push_str(fault_help(fault)),
+    }
+}
+
+/// Adds what would be right in place of a name.
+#[tactic(auto, unfolding(crate::specs::NameFaults::name_help))]
+fn write_name_help(
+    said: &mut String,
+    fault: AsmFault,
+    index: Option<usize>,
+    labels: &[LabelSource],
+    name: &[u8],
+) -> Result<(), AllocError>
+    ensures { OnOk result (string_bytes said.new ≡ string_bytes said.old ++ name_help fault index labels.now name.now) }
+{
+    if index.is_none() {
+        return said.push_str(fault_help(fault));
+    }
+    match fault {
+        AsmFault::Unknown(_) => write_near_help(said, fault, near_label(labels, name)),
+        AsmFault::Duplicate(_)
+        | AsmFault::TooLong
+        | AsmFault::NotAscii(_)
+        | AsmFault::Token(_)
+        | AsmFault::Mnemonic(_)
+        | AsmFault::Operand(_)
+        | AsmFault::Number(_)
+        | AsmFault::Mark(_)
+        | AsmFault::Build(_)
+        | AsmFault::OutOfMemory => said.push_str(fault_help(fault)),
+    }
+}
+
+/// Adds what is said of a fault at a place.
+///
+/// # Errors
+///
+/// `AllocError` where memory was refused.
+#[tactic(auto, unfolding(crate::specs::NameFaults::named_text))]
+pub(crate) fn write_named(
+    alloc: Global,
+    said: &mut String,
+    file: &str,
+    rows: &[&[u8]],
+    place: (Position, usize),
+    words: (&str, &str),
+    fault: AsmFault,
+) -> Result<(), AllocError>
+    ensures { OnOk result (string_bytes said.new ≡ string_bytes said.old
+        ++ named_text file.now (map (λ row. row.now) rows.now) place.0 place.1 words.entry.0.now words.entry.1.now fault) }
+{
+    let (at, len) = place;
+    let (sentence, help) = words;
+    write_error(said, file, at, sentence, fault)?;
+    write_excerpt(alloc, said, rows, at, len)?;
+    write_help(said, file, at, help)
+}
+
+/// Adds all that is said of a name in a line of a text of these lines and labels.
+///
+/// # Errors
+///
+/// `AllocError` where memory was refused.
+pub(crate) fn write_name_fault(
+    alloc: Global,
+    said: &mut String,
+    file: &str,
+    rows: &[&[u8]],
+    labels: &[LabelSource],
+    line: u32,
+    fault: AsmFault,
+) -> Result<(), AllocError>
+    ensures { OnOk result (string_bytes said.new
+        ≡ string_bytes said.old ++ name_text file.now (map (λ row. row.now) rows.now) labels.now line fault) }
+{
+    let row = row_at(rows, line);
+    let mut tokens = Vec::new(alloc);
+    let mut spans = Vec::new(alloc);
+    read_or_none(&mut tokens, row)?;
+    read_spans(&mut spans, row)?;
+    let index = name_index(fault, labels, &tokens);
+    let at = name_span(index, &spans);
+    let name = bytes_at(row, at);
+    let mut sentence = String::new(alloc);
+    let mut help = String::new(alloc);
+    write_name_sentence(&mut sentence, fault, index, name)?;
+    write_name_help(&mut help, fault, index, labels, name)?;
+    let position = Position {
+        line,
+        column: at.column,
+    };
+    let words = (sentence.as_str(), help.as_str());
+    write_named(alloc, said, file, rows, (position, at.len), words, fault)
+}

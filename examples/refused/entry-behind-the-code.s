@@ -1,0 +1,3 @@
+.task B create=- targets=-
+A: halt !s
+B:

@@ -1,0 +1,3 @@
+.task B create=- targets=-
+A: nop
+B: j A !s

@@ -1,0 +1,4 @@
+.task A create=- targets=@0,@4097
+A: halt !s
+.data
+.byte 1,256,2

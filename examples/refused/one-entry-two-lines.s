@@ -1,0 +1,5 @@
+.task A create=- targets=B
+.task B create=- targets=-
+A:
+B:
+   halt !s

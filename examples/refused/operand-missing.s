@@ -1,0 +1,4 @@
+.task A create=$8
+A: addu $8,$8 !f
+   release $8,
+   halt $8

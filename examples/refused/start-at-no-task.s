@@ -1,0 +1,4 @@
+.task A create=$8 targets=-
+.start B
+A: nop
+B: j A !s

@@ -1,0 +1,5 @@
+.task A create=$8 targets=-
+A: halt !s
+.data
+.space 65536
+.byte 1

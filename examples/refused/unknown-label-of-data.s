@@ -1,0 +1,5 @@
+.task A create=$8 targets=-
+A: beq $8,$0,D !s
+   halt !s
+.data
+D: .word 1
