@@ -76,17 +76,21 @@ fn explains_wrong_marks(rt: HostRuntime) {
 }
 
 // Texts that are refused, and what is said of them.
-const REFUSED: [(&str, &str); 4] = [
+const REFUSED: [(&str, &str); 8] = [
     (
         "foo $8",
-        "a.s:1: error: there is no such instruction or directive here [4 Mnemonic line 1]
-a.s:1: help: instructions stand in .text; .word, .byte and .space stand in .data or .rodata
+        "a.s:1:1: error: there is no instruction or directive `foo` here [4 Mnemonic line 1]
+    1 | foo $8
+      | ^~~
+a.s:1:1: help: in .text stand instructions and .start, .task, .text, .data and .rodata
 ",
     ),
     (
         ".task A create=- targets=-\nA: halt\nA: nop\n",
-        "a.s:3: error: a label, a task or .start stands a second time [8 Duplicate line 3]
-a.s:3: help: a label and a task of one name stand once, and .start stands once
+        "a.s:3:1: error: `A` stands a second time [8 Duplicate line 3]
+    3 | A: nop
+      | ^
+a.s:3:1: help: a label and a task of one name stand once, and .start stands once
 ",
     ),
     (
@@ -98,8 +102,81 @@ a.s: help: add a line for each task, such as .task A create=$8 targets=A,B
     // `li` is two instructions, so the one with the wrong mark has the index 2; it stands in line 4.
     (
         ".task A create=$8 targets=-\n\nA: li $8,0x12345678\n  out $8 !f\nhalt\n",
-        "a.s:4: error: this instruction cannot have this mark, or releases nothing [10 Build 6 BadMark 2]
-a.s:4: help: !f stands on an instruction that writes a register, !st and !sn on a conditional branch, no stop on halt; release takes registers other than $0
+        "a.s:4:3: error: this instruction cannot have this mark, or releases nothing [10 Build 6 BadMark 2]
+    4 |   out $8 !f
+      |   ^
+a.s:4:3: help: !f stands on an instruction that writes a register, !st and !sn on a conditional branch, no stop on halt; release takes registers other than $0
+",
+    ),
+    (
+        ".task A create=$8 targets=-
+A:
+   adu $8,$8,$9 !f
+   hlat !s
+",
+        "a.s:3:4: error: there is no instruction or directive `adu` here [4 Mnemonic line 3]
+    3 |    adu $8,$8,$9 !f
+      |    ^~~
+a.s:3:4: help: did you mean addu?
+a.s:4:4: error: there is no instruction or directive `hlat` here [4 Mnemonic line 4]
+    4 |    hlat !s
+      |    ^~~~
+a.s:4:4: help: did you mean halt?
+",
+    ),
+    (
+        ".task A create=$8
+A: addu $8,$8 !f
+   release $8,
+   halt $8
+",
+        "a.s:1:18: error: the operands of `.task` end too early [5 Operand line 1]
+    1 | .task A create=$8
+      |                  ^
+a.s:1:18: help: the form is .task NAME create=REGS targets=TS
+a.s:2:14: error: the operands of `addu` end too early [5 Operand line 2]
+    2 | A: addu $8,$8 !f
+      |              ^
+a.s:2:14: help: the form is addu rd,rs,rt
+a.s:3:15: error: the operands of `release` end too early [5 Operand line 3]
+    3 |    release $8,
+      |               ^
+a.s:3:15: help: the form is release r,r,..
+a.s:4:9: error: `halt` cannot take `$8` here [5 Operand line 4]
+    4 |    halt $8
+      |         ^~
+a.s:4:9: help: the form is halt
+",
+    ),
+    (
+        ".task A create=$8 targets=-
+.text !f
+A: addiu $8,$8,1 !f !f
+   beq $8,$9,A !st !sn
+   halt !s
+",
+        "a.s:2:7: error: the mark `!f` stands on a directive [7 Mark line 2]
+    2 | .text !f
+      |       ^~
+a.s:2:7: help: an instruction may have !f, and one of !s, !st and !sn
+a.s:3:21: error: `!f` stands a second time [7 Mark line 3]
+    3 | A: addiu $8,$8,1 !f !f
+      |                     ^~
+a.s:3:21: help: an instruction may have !f, and one of !s, !st and !sn
+a.s:4:20: error: `!sn` is a second stop [7 Mark line 4]
+    4 |    beq $8,$9,A !st !sn
+      |                    ^~~
+a.s:4:20: help: an instruction may have !f, and one of !s, !st and !sn
+",
+    ),
+    (
+        ".task Loop create=$8 targets=Loop,Lop
+Loop: addiu $8,$8,1 !f !s
+",
+        "a.s:1:35: error: `Lop` is no label [9 Unknown line 1]
+    1 | .task Loop create=$8 targets=Loop,Lop
+      |                                   ^~~
+a.s:1:35: help: did you mean Loop?
 ",
     ),
 ];

@@ -51,7 +51,12 @@ impl Read for Worn {
 const FETCHED: [(u32, u32, bool, Result<usize, FetchFault>); 8] = [
     (0, 3, false, Ok(3)),
     (1000, 3, false, Ok(3)),
-    (1001, 3, false, Err(FetchFault::Read(ErrorKind::Interrupted))),
+    (
+        1001,
+        3,
+        false,
+        Err(FetchFault::Read(ErrorKind::Interrupted)),
+    ),
     (0, 0, true, Err(FetchFault::Read(ErrorKind::Other))),
     (0, 1, true, Err(FetchFault::Read(ErrorKind::Other))),
     (0, 2, true, Err(FetchFault::Read(ErrorKind::Other))),
