@@ -1,6 +1,6 @@
 -- What is said of a name that stands a second time, or is no label of the kind that is wanted (own choice):
 -- which name is meant, where the line tells it.
-use Rattle.std.specs.Prelude.{ℕ, ◌+◌, List, [], ◌∷◌, ◌++◌, map, take, drop, length, nat_lt, codes, Bool, true, false, not, Option, Some, None, Result, Ok, Err, if◌then◌else◌, ◌==◌, ◌&&◌}
+use Rattle.std.specs.Prelude.{ℕ, ◌+◌, List, [], ◌∷◌, ◌++◌, map, take, drop, length, nat_lt, codes, Bool, true, false, not, Option, Some, None, Result, Ok, Err, if◌then◌else◌, ◌==◌, ◌&&◌, ◌||◌}
 use Rattle.std.specs.List.{list_any}
 use Rattle.std.specs.Str.{bytes_eq}
 use Rattle.program_tokens.specs.Spans.{line_spans}
@@ -50,11 +50,14 @@ second_index tokens =
 abbrev pub is_label : List LabelSource → (name : List ℕ) → Bool
 is_label labels name = list_any (λ label. bytes_eq label.name name) labels
 
+abbrev pub begins_with_equals : List Token → Bool
+begins_with_equals (token.Equals ∷ rest) = true
+begins_with_equals _ = false
+
 abbrev pub unknown_from : (index : ℕ) → List LabelSource → List Token → Option ℕ
 unknown_from index labels [] = None
-unknown_from index labels (token.Name name ∷ token.Equals ∷ rest) = unknown_from (index + 2) labels rest
 unknown_from index labels (token.Name name ∷ rest) =
-    if is_label labels name then unknown_from (index + 1) labels rest else Some index
+    if begins_with_equals rest || is_label labels name then unknown_from (index + 1) labels rest else Some index
 unknown_from index labels (t ∷ rest) = unknown_from (index + 1) labels rest
 
 -- among the first 100 tokens behind the statement's first

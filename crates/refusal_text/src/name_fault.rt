@@ -1,11 +1,11 @@
 //! What is said of a name that stands a second time, or is no label of the kind that is wanted.
 
-ghost use Rattle.std.specs.Prelude.{◌≡◌, ◌++◌, ◌+◌, ◌<◌, ◌^◌, length, take, drop, map, IfOk, OnOk};
+ghost use Rattle.std.specs.Prelude.{◌≡◌, ◌++◌, ◌+◌, ◌<◌, ◌^◌, ◌||◌, length, take, drop, map, IfOk, OnOk};
 ghost use Rattle.std.specs.Option.{option_map};
 ghost use Rattle.std.specs.String.{string_bytes};
 ghost use Rattle.line_faults.specs.Near.{nearest};
 ghost use Rattle.source_map.specs.Sources.{sources_of};
-ghost use Rattle.refusal_text.specs.NameFaults.{labels_in, defines, defined_index, second_index, is_label, unknown_from, unknown_index, name_index, name_span, name_sentence, near_label, near_help, name_help, named_text, name_position, name_text};
+ghost use Rattle.refusal_text.specs.NameFaults.{labels_in, defines, defined_index, second_index, begins_with_equals, is_label, unknown_from, unknown_index, name_index, name_span, name_sentence, near_label, near_help, name_help, named_text, name_position, name_text};
 
 use crate::line_sentence::write_quoted;
 use crate::line_text::{read_or_none, row_at, write_error, write_help};
@@ -109,6 +109,20 @@ fn is_label(labels: &[LabelSource], name: &Name) -> bool
     false
 }
 
+/// Whether a `=` comes first.
+fn begins_with_equals(tokens: &[Token]) -> bool
+    ensures { result ≡ begins_with_equals tokens.now }
+{
+    matches!(tokens, [Token::Equals, ..])
+}
+
+/// Whether a name with these tokens behind it is a word of the statement or a label.
+fn is_passed_over(labels: &[LabelSource], name: &Name, behind: &[Token]) -> bool
+    ensures { result ≡ (begins_with_equals behind.now || is_label labels.now name.now) }
+{
+    begins_with_equals(behind) || is_label(labels, name)
+}
+
 /// The index of the first of some tokens that is a name and no label; the first of all has this index.
 fn unknown_from(first: usize, labels: &[LabelSource], tokens: &[Token]) -> Option<usize>
     requires { first + length tokens.now < 2 ^ 64 }
@@ -119,12 +133,8 @@ fn unknown_from(first: usize, labels: &[LabelSource], tokens: &[Token]) -> Optio
     loop {
         match rest {
             [] => return None,
-            [Token::Name(_), Token::Equals, behind @ ..] => {
-                index += 2;
-                rest = behind;
-            }
             [Token::Name(name), behind @ ..] => {
-                if !is_label(labels, name) {
+                if !is_passed_over(labels, name, behind) {
                     return Some(index);
                 }
                 index += 1;
