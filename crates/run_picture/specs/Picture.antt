@@ -65,6 +65,6 @@ file_text tasks units events shapes =
     opening_text units events ++ (shapes_text tasks shapes ++ (codes "</svg>" ++ 10 ∷ []))
 
 -- the whole text, of a history of a program on so many units
-abbrev pub picture_text : Listing → (units : ℕ) → List Event → List ℕ
+unfoldable pub picture_text : Listing → (units : ℕ) → List Event → List ℕ
 picture_text p units history =
     file_text p.tasks units (length history) (shapes_of p.tasks units history (lives_of units history))

@@ -1,9 +1,10 @@
 -- The tasks are those of the program, the events those of the runs, and the lives those of these events.
 use Rattle.std.proofs.Common.{◌∙◌, length}
-use Rattle.run_picture.specs.Picture.{file_text, shapes_of}
+use Rattle.run_picture.specs.Picture.{file_text, picture_text, shapes_of}
 use Rattle.run_picture.proofs.drawing.draw.Goals as goal
 
 pub returns : goal.returns
+unfolding picture_text
 returns c =
     let tasks = c.tasks.ensures.value in
     let events = c.deref.ensures.value ∙ c.in_ok-events.ensures in
