@@ -1,0 +1,87 @@
+-- The lists of the least certificate tell which tasks reach an instruction.
+use Rattle.std.proofs.Common.{◌≡◌, ℕ, ◌+◌, ◌-◌, ◌<◌, ◌↔◌, Bool, true, false, not, Option, Some, None, List, length, slice_get, refl, sym, ◌∙◌, ap, subst, arith}
+use Rattle.std.specs.Prelude.{is_some, is_none, IsSome}
+use Rattle.std.proofs.lemmas.Option.{slice_get_within}
+use Rattle.mips_plain.specs.Words.{has}
+use Rattle.task_descriptor.specs.Listing.{Listing}
+use Rattle.task_descriptor.specs.declared.descriptor.Descriptor.{Descriptor}
+use Rattle.task_graph.specs.Members.{Reaches}
+use Rattle.mask_certificate.specs.Lists.{mask_at, list_of}
+use Rattle.annotator.specs.Least.{LeastList, IsLeast}
+use Rattle.annotator.specs.Proposed.{IsMember, Produces}
+use Rattle.annotator.specs.Marking.{indices_of, ProducedAt}
+use Rattle.annotator.proofs.MarkLemmas.{listed_reached}
+use Rattle.annotator.proofs.LeastMasks.{some_task}
+use Rattle.costly_marks.specs.Costly.{BeginsUnreached}
+use Rattle.costly_marks.specs.Steps.{TaskLacks, SomeTaskLacks}
+
+-- a test that fails refuses what does not hold
+pub refused : {X : Type 0} → (X → ⊥) → (false ≡ true) ↔ X
+refused no = (λ h. absurd (cc), λ x. absurd (no x))
+
+pub certain : {X : Type 0} → X → (true ≡ true) ↔ X
+certain x = (λ h. x, λ y. refl)
+
+both : (b : Bool) → b ≡ true → b ≡ false → ⊥
+both b t f = cc
+
+pub member_of : (p : Listing) (cert : List (List (ℕ × ℕ))) (t index : ℕ) → IsLeast p cert → t < length p.tasks → is_some (mask_at (list_of cert t) index) ≡ true → IsMember p index
+member_of p cert t index least inside h =
+    let task = some_task p.tasks t inside in
+    record { task = t; descriptor = task.0; is_there = task.1; reached = ((least.least t task.0 task.1).reached index).0 h }
+
+pub not_member : (p : Listing) (cert : List (List (ℕ × ℕ))) (n index : ℕ) → IsLeast p cert → n ≡ length p.tasks
+    → ((t : ℕ) → t < n → is_some (mask_at (list_of cert t) index) ≡ false) → IsMember p index → ⊥
+not_member p cert n index least end none m =
+    let less : m.task < length p.tasks = slice_get_within p.tasks m.task m.descriptor m.is_there in
+    both (is_some (mask_at (list_of cert m.task) index)) (((least.least m.task m.descriptor m.is_there).reached index).1 m.reached) (none m.task (omega arith))
+
+-- what one task lacks
+pub lacks_exact : (p : Listing) (cert : List (List (ℕ × ℕ))) (t index set : ℕ) (d : Descriptor) (subset : Bool) → IsLeast p cert → slice_get p.tasks t ≡ Some d
+    → is_some (mask_at (list_of cert t) index) ≡ true → ((subset ≡ true) ↔ ((r : ℕ) → has set r ≡ true → has d.create r ≡ true))
+    → (not subset ≡ true) ↔ TaskLacks p t index set
+lacks_exact p cert t index set d true least there masked within =
+    refused (λ (l : TaskLacks p t index set). let same : l.descriptor ≡ d = cc (l.is_there, there) in
+    l.lacks (subst (λ (x : Descriptor). (r : ℕ) → has set r ≡ true → has x.create r ≡ true) (sym same) (within.0 refl)))
+lacks_exact p cert t index set d false least there masked within =
+    certain (record { descriptor = d; is_there = there; reached = ((least.least t d there).reached index).0 masked; lacks = λ all. no (within.1 all) })
+  where
+    no : false ≡ true → ⊥
+    no h = cc
+
+pub unmasked : (p : Listing) (cert : List (List (ℕ × ℕ))) (t index set : ℕ) → IsLeast p cert → is_some (mask_at (list_of cert t) index) ≡ false → TaskLacks p t index set → ⊥
+unmasked p cert t index set least none l =
+    both (is_some (mask_at (list_of cert t) index)) (((least.least t l.descriptor l.is_there).reached index).1 l.reached) none
+
+pub none_lacks : (p : Listing) (n index set : ℕ) → n ≡ length p.tasks → ((t : ℕ) → t < n → TaskLacks p t index set → ⊥) → SomeTaskLacks p index set → ⊥
+none_lacks p n index set end none some =
+    let l = some.lacking in
+    let less : some.task < length p.tasks = slice_get_within p.tasks some.task l.descriptor l.is_there in
+    none some.task (omega arith) l
+
+-- where code that no task reaches begins
+pub begins_first : (p : Listing) (index : ℕ) → index ≡ 0 → index < length p.code → (IsMember p index → ⊥) → BeginsUnreached p index
+begins_first p index first within none = record { within = within; unreached = none; first = λ before e. absurd (omega arith) }
+
+pub begins_behind : (p : Listing) (index : ℕ) (member : Bool) → (index ≡ 0 → ⊥) → index < length p.code → (IsMember p index → ⊥) → ((member ≡ true) ↔ IsMember p (index - 1))
+    → (member ≡ true) ↔ BeginsUnreached p index
+begins_behind p index member later within none exact = (
+  λ h. record {
+    within = within;
+    unreached = none;
+    first = λ before e. let same : index - 1 ≡ before = omega arith in subst (λ (i : ℕ). IsMember p i) same (exact.0 h);
+  },
+  λ b. exact.1 (b.first (index - 1) (omega arith)),
+)
+
+-- what a task produces stands in its list
+pub produces_exact : (p : Listing) (cert : List (List (ℕ × ℕ))) (t set : ℕ) (d : Descriptor) (list : List (ℕ × ℕ)) (r : ℕ) → IsLeast p cert → slice_get p.tasks t ≡ Some d → list ≡ list_of cert t
+    → ((has set r ≡ true) ↔ ProducedAt p.code (indices_of list) r) → (has set r ≡ true) ↔ Produces p d r
+produces_exact p cert t set d list r least there is exact = (
+  λ h. let w = exact.0 h in
+      record { place = w.place; reached = (listed_reached p d list least_list w.place).0 w.listed; at = w.at; is_there = w.is_there; produced = w.produced },
+  λ w. exact.1 (record { place = w.place; listed = (listed_reached p d list least_list w.place).1 w.reached; at = w.at; is_there = w.is_there; produced = w.produced }),
+)
+  where
+    least_list : LeastList p d list
+    least_list = subst (λ (xs : List (ℕ × ℕ)). LeastList p d xs) (sym is) (least.least t d there)
