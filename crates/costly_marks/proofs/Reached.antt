@@ -1,6 +1,6 @@
 -- The lists of the least certificate tell which tasks reach an instruction.
-use Rattle.std.proofs.Common.{◌≡◌, ℕ, ◌+◌, ◌-◌, ◌<◌, ◌↔◌, Bool, true, false, not, Option, Some, None, List, length, slice_get, refl, sym, ◌∙◌, ap, subst, arith}
-use Rattle.std.specs.Prelude.{is_some, is_none, IsSome}
+use Rattle.std.proofs.Common.{◌≡◌, ℕ, ◌+◌, ◌-◌, ◌<◌, ◌↔◌, Bool, true, false, not, ◌&&◌, Option, Some, None, List, length, slice_get, refl, sym, ◌∙◌, ap, subst, arith}
+use Rattle.std.specs.Prelude.{is_some, is_none, IsSome, IfSome, IfNone}
 use Rattle.std.proofs.lemmas.Option.{slice_get_within}
 use Rattle.mips_plain.specs.Words.{has}
 use Rattle.task_descriptor.specs.Listing.{Listing}
@@ -12,7 +12,7 @@ use Rattle.annotator.specs.Proposed.{IsMember, Produces}
 use Rattle.annotator.specs.Marking.{indices_of, ProducedAt}
 use Rattle.annotator.proofs.MarkLemmas.{listed_reached}
 use Rattle.annotator.proofs.LeastMasks.{some_task}
-use Rattle.costly_marks.specs.Costly.{BeginsUnreached}
+use Rattle.costly_marks.specs.Costly.{BeginsUnreached, IsNeverProduced}
 use Rattle.costly_marks.specs.Steps.{TaskLacks, SomeTaskLacks}
 
 -- a test that fails refuses what does not hold
@@ -85,3 +85,35 @@ produces_exact p cert t set d list r least there is exact = (
   where
     least_list : LeastList p d list
     least_list = subst (λ (xs : List (ℕ × ℕ)). LeastList p d xs) (sym is) (least.least t d there)
+
+-- a register of the create mask that is not among those
+pub never_exact : (p : Listing) (task r create set spare : ℕ) (d : Descriptor) (b : Bool) → slice_get p.tasks task ≡ Some d → create ≡ d.create
+    → has spare r ≡ (has create r && not (has set r)) → ((has set r ≡ true) ↔ Produces p d r) → b ≡ has spare r → (b ≡ true) ↔ IsNeverProduced p task r
+never_exact p task r create set spare d b there same members exact is = (
+  λ yes. let h = parts (has create r) (has set r) (sym members ∙ (sym is ∙ yes)) in
+      record {
+        descriptor = d;
+        is_there = there;
+        created = subst (λ (k : ℕ). has k r ≡ true) same h.0;
+        never = λ w. both (has set r) (exact.1 w) h.1;
+      },
+  λ n. let same_task : n.descriptor ≡ d = cc (n.is_there, there) in
+      let created : has create r ≡ true = subst (λ (k : ℕ). has k r ≡ true) (sym same) (subst (λ (x : Descriptor). has x.create r ≡ true) same_task n.created) in
+      is ∙ members ∙ joined (has create r) (has set r) created (λ h. n.never (subst (λ (x : Descriptor). Produces p x r) (sym same_task) (exact.0 h))),
+)
+  where
+    parts : (a b : Bool) → (a && not b) ≡ true → (a ≡ true) × (b ≡ false)
+    parts true false h = (refl, refl)
+    parts true true h = absurd (cc)
+    parts false b h = absurd (cc)
+
+    joined : (a b : Bool) → a ≡ true → (b ≡ true → ⊥) → (a && not b) ≡ true
+    joined true false h no = refl
+    joined true true h no = absurd (no refl)
+    joined false b h no = absurd (cc)
+
+-- whether an option holds a task
+pub member_exact : (p : Listing) (cert : List (List (ℕ × ℕ))) (index : ℕ) (o : Option ℕ) (b : Bool) → IsLeast p cert → b ≡ is_some o
+    → IfSome o (λ t. t < length p.tasks) → IfSome o (λ t. IsSome (mask_at (list_of cert t) index)) → IfNone o (IsMember p index → ⊥) → (b ≡ true) ↔ IsMember p index
+member_exact p cert index None b least is there reaches no = (λ yes. absurd (cc), λ m. absurd (no m))
+member_exact p cert index (Some t) b least is there reaches no = (λ yes. member_of p cert t index least there reaches, λ m. is)

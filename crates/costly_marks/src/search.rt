@@ -73,12 +73,12 @@ fn add_of_task(
     ensures { OnOk result (Adds program.now (of_task task) list.old.items list.new.items) }
 {
     let create = program.tasks()[task as usize].create;
-    let produced = produced(program, cert, task);
+    let spare = create.minus(produced(program, cert, task));
     for number in 0..REGISTERS as u8 {
         let Some(register) = Reg::new(number) else {
             unreachable!()
         };
-        let is_costly = create.has(register) && !produced.has(register);
+        let is_costly = spare.has(register);
         add(
             list,
             CostlyMark::NeverProduced { task, register },
