@@ -1,5 +1,5 @@
 -- Behind an instruction that a task reaches, the task's masks tell what may be written again.
-use Rattle.std.proofs.Common.{◌≡◌, ℕ, ◌<◌, ◌↔◌, ◌||◌, Bool, true, false, not, Option, Some, None, List, length, slice_get, refl, sym, ◌∙◌, ap, subst}
+use Rattle.std.proofs.Common.{◌≡◌, ℕ, ◌<◌, ◌↔◌, ◌||◌, Bool, true, false, not, Option, Some, None, List, length, slice_get, refl, sym, ◌∙◌, ap, subst, inl, inr}
 use Rattle.std.specs.Prelude.{is_some}
 use Rattle.std.proofs.lemmas.Bool.{or_cases, or_left, or_right, cases_Bool, eq-eqb, eqb-true}
 use Rattle.mips_plain.specs.Words.{has}
@@ -83,9 +83,9 @@ created : (p : Listing) (index written : ℕ) (m : Marked) → ((r : ℕ) → ha
     → (t : ℕ) (d : Descriptor) (r : ℕ) → slice_get p.tasks t ≡ Some d → Reaches p d.entry index → dests m.op r ≡ true → has d.create r ≡ true
 created p index written m writes none t d r there reached w = elim (cases_Bool (has d.create r)) [
   | inl yes ↦ yes
-  | inr no ↦ absurd (none (record {
+  | inr fails ↦ absurd (none (record {
     task = t;
-    lacking = record { descriptor = d; is_there = there; reached = reached; lacks = λ all. both (has d.create r) (all r (writes r ∙ w)) no };
+    lacking = record { descriptor = d; is_there = there; reached = reached; lacks = λ all. both (has d.create r) (all r (writes r ∙ w)) fails };
   }))
 ]
   where
@@ -118,9 +118,9 @@ has_bit p index m there bit n =
     no h = cc
 
 pub not_last : (p : Listing) (index : ℕ) (m : Marked) (last : Bool) → slice_get p.code index ≡ Some m → last ≡ false → ((last ≡ true) ↔ WritesLast p index m.op) → IsNotForwarded p index → ⊥
-not_last p index m last there no exact n =
+not_last p index m last there fails exact n =
     let same : n.at ≡ m = cc (n.is_there, there) in
-    both last (exact.1 (subst (λ (x : Marked). WritesLast p index x.op) same n.last)) no
+    both last (exact.1 (subst (λ (x : Marked). WritesLast p index x.op) same n.last)) fails
   where
     both : (b : Bool) → b ≡ true → b ≡ false → ⊥
     both b x y = cc

@@ -6,10 +6,10 @@ use Rattle.costly_marks.specs.Costly.{IsCostly}
 use Rattle.costly_marks.specs.Candidates.{up_to, Picked, none, taken, left}
 use Rattle.costly_marks.specs.Steps.{Adds}
 
-picked_append : (P : CostlyMark → Type 0) (one picked two more : List CostlyMark) → Picked P one picked → Picked P two more → Picked P (one ++ two) (picked ++ more)
-picked_append P [] [] two more none rest = rest
-picked_append P (m ∷ one) (m ∷ picked) two more (taken holds front) rest = taken holds (picked_append P one picked two more front rest)
-picked_append P (m ∷ one) picked two more (left fails front) rest = left fails (picked_append P one picked two more front rest)
+picked_append : (P : CostlyMark → Type 0) {one picked : List CostlyMark} (two more : List CostlyMark) → Picked P one picked → Picked P two more → Picked P (one ++ two) (picked ++ more)
+picked_append P two more none rest = rest
+picked_append P two more (taken holds front) rest = taken holds (picked_append P two more front rest)
+picked_append P two more (left fails front) rest = left fails (picked_append P two more front rest)
 
 one_picked : (P : CostlyMark → Type 0) (m : CostlyMark) (b : Bool) → ((b ≡ true) ↔ P m) → Picked P (m ∷ []) (if b then m ∷ [] else [])
 one_picked P m true exact = taken (exact.0 refl) none
@@ -24,7 +24,7 @@ adds_none p list from picked = subst (λ (xs : List CostlyMark). Picked (IsCostl
 pub adds_one : (p : Listing) (mark : CostlyMark) (b : Bool) (old new : List CostlyMark) → new ≡ old ++ (if b then mark ∷ [] else []) → ((b ≡ true) ↔ IsCostly p mark) → Adds p (mark ∷ []) old new
 adds_one p mark b old new is exact from picked =
     subst (λ (xs : List CostlyMark). Picked (IsCostly p) (from ++ mark ∷ []) xs) (sym is)
-    (picked_append (IsCostly p) from old (mark ∷ []) (if b then mark ∷ [] else []) picked (one_picked (IsCostly p) mark b exact))
+    (picked_append (IsCostly p) (mark ∷ []) (if b then mark ∷ [] else []) picked (one_picked (IsCostly p) mark b exact))
 
 pub adds_more : (p : Listing) (one two old middle new : List CostlyMark) → Adds p one old middle → Adds p two middle new → Adds p (one ++ two) old new
 adds_more p one two old middle new first second from picked =

@@ -17,12 +17,12 @@ use Rattle.costly_marks.specs.Steps.{TaskLacks, SomeTaskLacks}
 
 -- a test that fails refuses what does not hold
 pub refused : {X : Type 0} → (X → ⊥) → (false ≡ true) ↔ X
-refused no = (λ h. absurd (cc), λ x. absurd (no x))
+refused fails = (λ h. absurd (cc), λ x. absurd (fails x))
 
 pub certain : {X : Type 0} → X → (true ≡ true) ↔ X
 certain x = (λ h. x, λ y. refl)
 
-both : (b : Bool) → b ≡ true → b ≡ false → ⊥
+pub both : (b : Bool) → b ≡ true → b ≡ false → ⊥
 both b t f = cc
 
 pub member_of : (p : Listing) (cert : List (List (ℕ × ℕ))) (t index : ℕ) → IsLeast p cert → t < length p.tasks → is_some (mask_at (list_of cert t) index) ≡ true → IsMember p index
@@ -108,12 +108,17 @@ never_exact p task r create set spare d b there same members exact is = (
     parts false b h = absurd (cc)
 
     joined : (a b : Bool) → a ≡ true → (b ≡ true → ⊥) → (a && not b) ≡ true
-    joined true false h no = refl
-    joined true true h no = absurd (no refl)
-    joined false b h no = absurd (cc)
+    joined true false h fails = refl
+    joined true true h fails = absurd (fails refl)
+    joined false b h fails = absurd (cc)
 
 -- whether an option holds a task
 pub member_exact : (p : Listing) (cert : List (List (ℕ × ℕ))) (index : ℕ) (o : Option ℕ) (b : Bool) → IsLeast p cert → b ≡ is_some o
     → IfSome o (λ t. t < length p.tasks) → IfSome o (λ t. IsSome (mask_at (list_of cert t) index)) → IfNone o (IsMember p index → ⊥) → (b ≡ true) ↔ IsMember p index
-member_exact p cert index None b least is there reaches no = (λ yes. absurd (cc), λ m. absurd (no m))
-member_exact p cert index (Some t) b least is there reaches no = (λ yes. member_of p cert t index least there reaches, λ m. is)
+member_exact p cert index None b least is there reaches none = (λ yes. absurd (cc), λ m. absurd (none m))
+member_exact p cert index (Some t) b least is there reaches none = (λ yes. member_of p cert t index least there reaches, λ m. is)
+
+-- what is not none is some
+pub some_mask : (o mask : Option ℕ) (b : Bool) → o ≡ mask → b ≡ is_none o → b ≡ false → is_some mask ≡ true
+some_mask o None b same is fails = absurd (both b (is ∙ ap (λ (x : Option ℕ). is_none x) same) fails)
+some_mask o (Some k) b same is fails = refl

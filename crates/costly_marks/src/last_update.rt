@@ -31,10 +31,11 @@ pub(crate) fn is_not_forwarded(program: &Program, cert: &Cert, index: u32) -> bo
     let Some(task) = task_reaching(program, cert, index) else {
         return false;
     };
-    if !writes_last(program, cert, task, &marked.op, index) {
-        return false;
+    if writes_last(program, cert, task, &marked.op, index) {
+        !some_task_lacks(program, cert, index, marked.op.dests())
+    } else {
+        false
     }
-    !some_task_lacks(program, cert, index, marked.op.dests())
 }
 
 /// Whether the instruction, which the task reaches, has a destination, and none of them may be written again
