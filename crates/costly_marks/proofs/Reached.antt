@@ -1,6 +1,6 @@
 -- The lists of the least certificate tell which tasks reach an instruction.
 use Rattle.std.proofs.Common.{◌≡◌, ℕ, ◌+◌, ◌-◌, ◌<◌, ◌↔◌, Bool, true, false, not, ◌&&◌, Option, Some, None, List, length, slice_get, refl, sym, ◌∙◌, ap, subst, arith}
-use Rattle.std.specs.Prelude.{is_some, is_none, IsSome, IfSome, IfNone}
+use Rattle.std.specs.Prelude.{is_some, IsSome, IfSome, IfNone}
 use Rattle.std.proofs.lemmas.Option.{slice_get_within}
 use Rattle.mips_plain.specs.Words.{has}
 use Rattle.task_descriptor.specs.Listing.{Listing}
@@ -119,6 +119,5 @@ member_exact p cert index None b least is there reaches none = (λ yes. absurd (
 member_exact p cert index (Some t) b least is there reaches none = (λ yes. member_of p cert t index least there reaches, λ m. is)
 
 -- what is not none is some
-pub some_mask : (o mask : Option ℕ) (b : Bool) → o ≡ mask → b ≡ is_none o → b ≡ false → is_some mask ≡ true
-some_mask o None b same is fails = absurd (both b (is ∙ ap (λ (x : Option ℕ). is_none x) same) fails)
-some_mask o (Some k) b same is fails = refl
+pub some_mask : (o mask : Option ℕ) (b : Bool) → o ≡ mask → is_some o ≡ not b → b ≡ false → is_some mask ≡ true
+some_mask o mask b same is fails = sym (ap (λ (x : Option ℕ). is_some x) same) ∙ (is ∙ ap (λ (x : Bool). not x) fails)
