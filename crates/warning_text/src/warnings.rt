@@ -134,7 +134,9 @@ pub fn warnings(
     ensures { IfOk result (λ said. AreTold file.now text.now program.now (sources_in map.now) (string_bytes said)) }
 {
     let list = costly_marks(alloc, program)?;
-    let rows = lines_of(alloc, text)?;
-    let said = text_of(alloc, file, &rows, program, map, &list, MOST_SHOWN)?;
+    let lines = lines_of(alloc, text)?;
+    let marks = list.as_slice();
+    let rows = lines.as_slice();
+    let said = text_of(alloc, file, rows, program, map, marks, MOST_SHOWN)?;
     Ok(said)
 }
