@@ -107,20 +107,3 @@ not_forwarded_exact p index written m false there bare member last writes exact 
   where
     no : false ≡ true → ⊥
     no h = cc
-
--- what refuses
-pub has_bit : (p : Listing) (index : ℕ) (m : Marked) → slice_get p.code index ≡ Some m → m.forward ≡ true → IsNotForwarded p index → ⊥
-has_bit p index m there bit n =
-    let same : n.at ≡ m = cc (n.is_there, there) in
-    no (sym (subst (λ (x : Marked). x.forward ≡ false) same n.unmarked) ∙ bit)
-  where
-    no : false ≡ true → ⊥
-    no h = cc
-
-pub not_last : (p : Listing) (index : ℕ) (m : Marked) (last : Bool) → slice_get p.code index ≡ Some m → last ≡ false → ((last ≡ true) ↔ WritesLast p index m.op) → IsNotForwarded p index → ⊥
-not_last p index m last there fails exact n =
-    let same : n.at ≡ m = cc (n.is_there, there) in
-    both last (exact.1 (subst (λ (x : Marked). WritesLast p index x.op) same n.last)) fails
-  where
-    both : (b : Bool) → b ≡ true → b ≡ false → ⊥
-    both b x y = cc

@@ -1,5 +1,4 @@
 mod Reached
 mod LastUpdates
 mod Unsent
-mod Tables
 mod Picking

@@ -1,5 +1,5 @@
 -- The lists of the least certificate tell which tasks reach an instruction.
-use Rattle.std.proofs.Common.{◌≡◌, ℕ, ◌+◌, ◌-◌, ◌<◌, ◌↔◌, Bool, true, false, not, ◌&&◌, Option, Some, None, List, length, slice_get, refl, sym, ◌∙◌, ap, subst, arith}
+use Rattle.std.proofs.Common.{◌≡◌, ℕ, ◌<◌, ◌↔◌, Bool, true, false, not, ◌&&◌, Option, Some, None, List, length, slice_get, refl, sym, ◌∙◌, ap, subst, arith}
 use Rattle.std.specs.Prelude.{is_some, IsSome, IfSome, IfNone}
 use Rattle.std.proofs.lemmas.Option.{slice_get_within}
 use Rattle.mips_plain.specs.Words.{has}
@@ -12,7 +12,7 @@ use Rattle.annotator.specs.Proposed.{IsMember, Produces}
 use Rattle.annotator.specs.Marking.{indices_of, ProducedAt}
 use Rattle.annotator.proofs.MarkLemmas.{listed_reached}
 use Rattle.annotator.proofs.LeastMasks.{some_task}
-use Rattle.costly_marks.specs.Costly.{BeginsUnreached, IsNeverProduced}
+use Rattle.costly_marks.specs.Costly.{IsNeverProduced}
 use Rattle.costly_marks.specs.Steps.{TaskLacks, SomeTaskLacks}
 
 -- a test that fails refuses what does not hold
@@ -49,30 +49,11 @@ lacks_exact p cert t index set d false least there masked within =
     no : false ≡ true → ⊥
     no h = cc
 
-pub unmasked : (p : Listing) (cert : List (List (ℕ × ℕ))) (t index set : ℕ) → IsLeast p cert → is_some (mask_at (list_of cert t) index) ≡ false → TaskLacks p t index set → ⊥
-unmasked p cert t index set least none l =
-    both (is_some (mask_at (list_of cert t) index)) (((least.least t l.descriptor l.is_there).reached index).1 l.reached) none
-
 pub none_lacks : (p : Listing) (n index set : ℕ) → n ≡ length p.tasks → ((t : ℕ) → t < n → TaskLacks p t index set → ⊥) → SomeTaskLacks p index set → ⊥
 none_lacks p n index set end none some =
     let l = some.lacking in
     let less : some.task < length p.tasks = slice_get_within p.tasks some.task l.descriptor l.is_there in
     none some.task (omega arith) l
-
--- where code that no task reaches begins
-pub begins_first : (p : Listing) (index : ℕ) → index ≡ 0 → index < length p.code → (IsMember p index → ⊥) → BeginsUnreached p index
-begins_first p index first within none = record { within = within; unreached = none; first = λ before e. absurd (omega arith) }
-
-pub begins_behind : (p : Listing) (index : ℕ) (member : Bool) → (index ≡ 0 → ⊥) → index < length p.code → (IsMember p index → ⊥) → ((member ≡ true) ↔ IsMember p (index - 1))
-    → (member ≡ true) ↔ BeginsUnreached p index
-begins_behind p index member later within none exact = (
-  λ h. record {
-    within = within;
-    unreached = none;
-    first = λ before e. let same : index - 1 ≡ before = omega arith in subst (λ (i : ℕ). IsMember p i) same (exact.0 h);
-  },
-  λ b. exact.1 (b.first (index - 1) (omega arith)),
-)
 
 -- what a task produces stands in its list
 pub produces_exact : (p : Listing) (cert : List (List (ℕ × ℕ))) (t set : ℕ) (d : Descriptor) (list : List (ℕ × ℕ)) (r : ℕ) → IsLeast p cert → slice_get p.tasks t ≡ Some d → list ≡ list_of cert t
