@@ -82,7 +82,7 @@ behind_exact p cert t index r next first second joined least inside masked among
 created : (p : Listing) (index written : ℕ) (m : Marked) → ((r : ℕ) → has written r ≡ dests m.op r) → (SomeTaskLacks p index written → ⊥)
     → (t : ℕ) (d : Descriptor) (r : ℕ) → slice_get p.tasks t ≡ Some d → Reaches p d.entry index → dests m.op r ≡ true → has d.create r ≡ true
 created p index written m writes none t d r there reached w = elim (cases_Bool (has d.create r)) [
-  | inl yes ↦ yes
+  | inl has_it ↦ has_it
   | inr fails ↦ absurd (none (record {
     task = t;
     lacking = record { descriptor = d; is_there = there; reached = reached; lacks = λ all. both (has d.create r) (all r (writes r ∙ w)) fails };

@@ -1,6 +1,6 @@
 -- One register more.
-use Rattle.std.proofs.Common.{◌≡◌, ◌<◌, ◌∷◌, [], ℕ, Some, List, length, slice_get, refl, sym, subst, arith}
-use Rattle.std.proofs.lemmas.Option.{slice_get_read}
+use Rattle.std.proofs.Common.{◌≡◌, ◌<◌, ◌∷◌, [], ℕ, Some, List, length, get_or, slice_get, refl, sym, subst, arith}
+use Rattle.std.proofs.lemmas.Option.{slice_get-get_or}
 use Rattle.task_descriptor.specs.declared.descriptor.Descriptor.{Descriptor}
 use Rattle.costly_marks.specs.declared.mark.CostlyMark.TheVariants.{NeverProduced}
 use Rattle.costly_marks.specs.Candidates.{up_to, of_task}
@@ -20,10 +20,10 @@ loop-number-preserved c =
     let middle = c.loop-number.list.items in
     let new = c.add.new.list.items in
     let tasks = c.tasks.result.now in
-    let d = c.index-tasks-task.result in
+    let d = get_or tasks of c.index-tasks-task.result in
     let inside : of < length tasks = subst (λ (ts : List Descriptor). of < length ts) (sym c.tasks.ensures.value) c.requires.there in
     let there : slice_get p.tasks of ≡ Some d =
-    subst (λ (ts : List Descriptor). slice_get ts of ≡ Some d) c.tasks.ensures.value (slice_get_read tasks (length tasks) of d refl inside c.index-tasks-task.is) in
+    subst (λ (ts : List Descriptor). slice_get ts of ≡ Some d) c.tasks.ensures.value (slice_get-get_or tasks of c.index-tasks-task.result inside) in
     let one : Adds p (NeverProduced of register ∷ []) middle new = adds_one p (NeverProduced of register) c.has-is_costly.result middle new c.in_ok-add.ensures (never_exact p of register d.create c.produced.result c.minus-spare.result d c.has-is_costly.result there refl
     (c.minus-spare.ensures.members register) (c.produced.ensures d there register) c.has-is_costly.ensures.member) in
     up_to_more p (λ r. NeverProduced of r ∷ []) c.loop-number.number c.args.list.now.items middle new c.loop-number.invariant
