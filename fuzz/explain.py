@@ -221,7 +221,7 @@ REFUSAL = re.compile(r"(.*):(\d+):(\d+): error: [^\n]+ \[([^\n\]]+)\]\n((?: *\d+
 def shown_so(text, line, column, rows):
     """Whether the rows show the line with a caret below the column, and tildes below what stands behind it."""
     text = "".join(c if ord(c) < 128 else "?" for c in text).replace("\r\n", "\n").removesuffix("\r")
-    front = "\n".join(excerpt(text, line, column))
+    front = "\n".join(excerpt(text, line, column, 1))
     return rows.startswith(front) and re.fullmatch(r"~*\n" if front else "", rows[len(front):]) is not None
 
 

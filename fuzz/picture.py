@@ -167,6 +167,12 @@ def run(program, *words):
     return subprocess.run([program, *map(str, words)], capture_output=True).stdout
 
 
+def accepts(program, folder):
+    """Whether nothing is found in an example with its certificate."""
+    texts = [folder / "program.s", folder / "certificate.cert2"]
+    return subprocess.run([program, "check", *texts], capture_output=True).returncode == 0
+
+
 def pictures_of(program, folder):
     """Pictures of runs of an example, with their scripts and numbers of units."""
     texts = [folder / "program.s", folder / "certificate.cert2"]
@@ -189,7 +195,8 @@ def main():
     if given.svg and given.script:
         cases = [(given.svg.name, given.units, given.script.read_text(), given.svg.read_bytes())]
     elif given.program:
-        folders = given.folders or sorted(path.parent for path in TOP.glob("examples/*/certificate.cert2"))
+        folders = given.folders or sorted(
+            path.parent for path in TOP.glob("examples/*/certificate.cert2") if accepts(given.program, path.parent))
         cases = ((folder.name, *case) for folder in folders for case in pictures_of(given.program, folder))
     else:
         options.error("give --svg and --script, or --program")
