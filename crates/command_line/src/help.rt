@@ -76,9 +76,9 @@ use; a finding that no path shows has no note:
   FILE:LINE:COLUMN: error: .. [rule R]
   FILE:LINE:COLUMN: note: ..
   FILE:LINE:COLUMN: help: ..
-Of a text that is no program it writes the first fault, and what would be right:
-  FILE:LINE: error: .. [K Name line N]
-  FILE:LINE: help: ..
+Of a text that is no program it writes the first fault and those of further lines, and what would be right:
+  FILE:LINE:COLUMN: error: .. [K Name line N]
+  FILE:LINE:COLUMN: help: ..
 With CERT it says, too, why that text is no certificate, or that it is none of the program as it stands,
 and how to make it anew.
 
