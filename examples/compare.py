@@ -2,9 +2,9 @@
 """Runs the program on the examples and compares what it prints.
 
 PROGRAM is the built `multiscalar`; without folders every example is run. Each
-line of FOLDER/expected/commands has a file beside it, the exit status that is
-wanted, and the words to run the program with, in FOLDER. A command whose first
-word is no subcommand of PROGRAM is passed over and counted.
+line of FOLDER/expected/commands has a file beside it, or a picture of docs/pictures,
+the exit status that is wanted, and the words to run the program with, in FOLDER. A
+command whose first word is no subcommand of PROGRAM is passed over and counted.
 """
 import argparse
 import pathlib
@@ -12,6 +12,8 @@ import subprocess
 import sys
 
 HERE = pathlib.Path(__file__).resolve().parent
+# How many lines of an output that differs are shown.
+MOST_LINES = 40
 
 
 def commands(folder):
@@ -50,7 +52,10 @@ def main():
             print(f"  status {run.returncode}, wanted {status}")
             if run.stdout != file.read_bytes():
                 print(f"  output is not that of {file.relative_to(folder)}:")
-                print("    " + run.stdout.decode("ascii", "replace").replace("\n", "\n    "))
+                lines = run.stdout.decode("ascii", "replace").splitlines()
+                print(*[f"    {line}" for line in lines[:MOST_LINES]], sep="\n")
+                if len(lines) > MOST_LINES:
+                    print(f"    and {len(lines) - MOST_LINES} more lines")
             if run.stderr:
                 print("  standard error: " + run.stderr.decode("utf-8", "replace").strip())
     print(f"{passed} as expected, {failed} not, {absent} of subcommands that are not there")

@@ -1,0 +1,12 @@
+.start LOOP
+.task LOOP create=$8,$9,$10,$11 targets=LOOP,DONE
+.task DONE create=- targets=-
+LOOP:
+addiu $8,$8,1 !f
+sll $9,$8,1 !f
+addu $10,$10,$9 !f
+slti $11,$8,4 !f
+bne $11,$0,LOOP !s
+DONE:
+out $10
+halt
