@@ -45,6 +45,11 @@ def large(folder):
     for units in ("1", "4", "16"):
         yield ["run", *of("steady.s", "steady.cert2"), "--units", units, "--budget", "20000"]
     yield ["run", *of("long300000.s", "long.cert2"), "--units", "1"]
+    for emit in ("script", "svg"):
+        yield ["run", *of("steady.s", "steady.cert2"), "--schedule", "steps", "--budget", "300000", "--emit", emit]
+    yield ["replay", *of("steady.s", "steady.cert2", "steady4.events"), "--emit", "svg"]
+    yield ["explain", *of("maximal.s", "maximal.cert2")]
+    yield ["check", "--least", *of("maximal.s")]
 
 
 def heed_signals():

@@ -5,7 +5,8 @@ Takes random programs whose marks are right, plants wrong marks, and lays the te
 lines of their own or before their statement, blanks, comments, blank lines. For each it compares the
 diagnostics with the model's: places, sentences, that each path is a path inside the task, that it leads
 where the rule says, and that none is shorter. Then it follows each help alone, and that finding must be
-gone. PROGRAM is the built `multiscalar`.
+gone. Every third program is explained together with a certificate: that of the program, one with a wrong mask
+or a line too few, or a text that is none. PROGRAM is the built `multiscalar`.
 """
 import argparse
 import collections
@@ -19,7 +20,7 @@ import time
 
 import accepted as generator
 from accepted import accepted
-from model import Fault, TOK, assemble, certify, dests, exits, inner, print_program, verdict
+from model import CertFault, Fault, TOK, assemble, cert_parse, cert_text, certify, dests, exits, inner, print_program, verdict
 
 R = random.Random()
 WRITTEN = {5, 6, 7}
@@ -28,7 +29,7 @@ MOST_SHOWN = 1000
 
 def columns(line):
     """The columns at which the tokens of a line begin, from 1."""
-    starts, pos = [], 0
+    starts, pos, line = [], 0, line.removesuffix("\r")
     while pos < len(line):
         match = TOK.match(line, pos)
         if match.lastgroup not in ("ws", "comment"):
@@ -92,7 +93,8 @@ def instructions(head, starts):
         return 2
     if head != "li":
         return 1
-    value = int(next(t for _, t in starts if re.fullmatch(r"-?(0x[0-9a-f]+|\d+)", t)), 0) & 0xFFFFFFFF
+    sign, digits = next(it.groups() for it in (re.fullmatch(r"(-?)(0x[0-9a-fA-F]+|\d+)", t) for _, t in starts) if it)
+    value = int(digits, 16 if digits.startswith("0x") else 10) * (-1 if sign else 1) & 0xFFFFFFFF
     return 1 if value < 0x10000 or value >= 0xFFFF8000 else 2
 
 
@@ -129,8 +131,8 @@ def sentence(program, finding):
 
 def excerpt(text, line, column, width):
     """The two rows that show a part of a line of a text; none of a line that is too long."""
-    shown, number = text.split("\n")[line - 1], str(line)
-    if len(shown.removesuffix("\r")) > 1000:
+    shown, number = text.split("\n")[line - 1].removesuffix("\r"), str(line)
+    if len(shown) > 1000:
         return []
     below = "".join("\t" if c == "\t" else " " for c in shown[:column - 1])
     return [f"{number:>5} | {shown}", f"{' ' * max(5, len(number))} | {below}^{'~' * (width - 1)}"]
@@ -247,6 +249,34 @@ def refused_so(fault, text, name, said):
     return 0 < len(lines) <= 20 and (at == len(said) or (len(lines) == 20 and more is not None))
 
 
+CERTIFICATE_FAULTS = {
+    1: ("the first line is neither cert 2 nor cert 1", "a certificate begins with the line cert 2, or with cert 1 where its masks have 8 digits"),
+    2: ("this is no line of a certificate", "a line is task NAME, or an index of at most 5 digits, one blank and a mask: in cert 2 of 16 lower-case "
+        "hexadecimal digits, in cert 1 of 8, with no bit above 33"),
+    3: ("this is not the program's next task", "a certificate has one line task NAME for each task of the program, in the order of the program"),
+    4: ("a task of the program is missing", "a certificate has one line task NAME for each task of the program, in the order of the program"),
+    5: ("the indices of a task do not rise, or one of them is above 4095", "within a task each index is larger than the one before it, and at most 4095"),
+}
+
+
+def remark(program, name, file, text):
+    """What is said of a certificate in a file of this name, behind what is said of the marks."""
+    anew = f"{file}: help: make it anew: multiscalar annotate --emit keep {name} > {file}\n"
+    try:
+        found = verdict(program, cert_parse(text, program))
+    except CertFault as fault:
+        line = 1 if fault.k == 1 else fault.n
+        at = f"{file}:{line}: " if line else f"{file}: "
+        told = fault.text()[len("certificate refused: "):-1]
+        sentence, expected = CERTIFICATE_FAULTS[fault.k]
+        return f"{at}error: {sentence} [{told}]\n{at}help: {expected}\n{anew}"
+    least = verdict(program, certify(program))
+    if len(found) <= len(least) and all(rule > 4 for _, _, rule, _ in found):
+        return ""
+    return (f"{file}: error: this is not a certificate of {name} as it stands; findings with it: {len(found)}, "
+            f"with the least certificate: {len(least)}\n{anew}")
+
+
 def label_of(program, index):
     """A place as a program text names it."""
     for name, entry, _, _ in program.tasks:
@@ -315,6 +345,23 @@ def plant(text):
     return text
 
 
+def spoiled(certificate):
+    """The certificate, or one that does not fit or is none."""
+    lines, kind = certificate.split("\n")[:-1], R.randrange(7)
+    k = R.randrange(len(lines))
+    if kind == 1:
+        lines[k] = re.sub(r"[0-9a-f]$", lambda m: f"{int(m.group(), 16) ^ 1 << R.randrange(4):x}", lines[k])
+    elif kind == 2:
+        del lines[k]
+    elif kind == 3:
+        lines[k] = R.choice(["", "cert 3", "task", "task NONE", "5", "0 0000000000000000", "4096 0000000000000000", lines[k] + " "])
+    elif kind == 4:
+        lines = lines[:k]
+    elif kind == 5:
+        lines.insert(k, R.choice(lines))
+    return "\n".join(lines) + ("\n" if lines and R.random() < .95 else "")
+
+
 def laid_out(text):
     """The same program in another layout."""
     lines, held = [], ""
@@ -337,11 +384,25 @@ class Bench:
         self.folder = tempfile.mkdtemp(prefix="explain")
         self.counts = collections.Counter()
 
-    def explain(self, text):
+    def explain(self, text, certificate=None):
         with open(os.path.join(self.folder, "p.s"), "w") as file:
             file.write(text)
-        run = subprocess.run([self.program, "explain", "p.s"], cwd=self.folder, capture_output=True)
+        if certificate is not None:
+            with open(os.path.join(self.folder, "c"), "wb") as file:
+                file.write(certificate)
+        words = ["explain", "p.s"] + (["c"] if certificate is not None else [])
+        run = subprocess.run([self.program, *words], cwd=self.folder, capture_output=True)
         return run.stdout.decode("latin-1"), run.returncode, run.stderr.decode("latin-1")
+
+    def wrong_certificate(self, text, program, said):
+        """What is wrong with what is said of a certificate: behind what is said without one stands the remark."""
+        certificate = spoiled(cert_text(certify(program), program)).encode()
+        wanted = said + remark(program, "p.s", "c", certificate)
+        given = self.explain(text, certificate)
+        self.counts["certificates"] += 1
+        self.counts["certificates that do not fit"] += wanted != said
+        if given != (wanted, 1 if wanted else 0, ""):
+            return f"of the certificate {certificate!r}: {given[0][len(said):]!r}, status {given[1]}"
 
     def wrong(self, text):
         said, status, complaint = self.explain(text)
@@ -355,7 +416,8 @@ class Bench:
         self.counts["findings"] += len(findings)
         if status != (1 if findings else 0) or complaint:
             return f"status {status}, {len(findings)} findings"
-        return differs(program, text, "p.s", said) or self.unmended(program, text, findings)
+        beside = self.wrong_certificate(text, program, said) if R.random() < 1 / 3 else None
+        return beside or differs(program, text, "p.s", said) or self.unmended(program, text, findings)
 
     def unmended(self, program, text, findings):
         for finding in findings:

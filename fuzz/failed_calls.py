@@ -42,7 +42,9 @@ EXPECTED = {
     "the other streams closed": "the status and the bytes of standard output as ever",
     "slow pipes, FIFOs as inputs": "the answer as ever",
     "standard input for a file": "a file of the name `-`, from a file or a pipe: the answer as ever; for two files status 2, nothing on standard output, `multiscalar: 5 InputTwice`",
-    "inputs without end": "of /dev/zero and /dev/full: program: `1 TooLong`, status 1; other files: status 2, the file named; in memory at most 16 MB above the limit",
+    "standard input that fails": "a read of it fails or is interrupted 1,001 times, it is closed, a folder, or open for writing: status 2, nothing on standard output, "
+                                 "`multiscalar: file -`, for `explain` with the reason; 1,000 interruptions: the answer as ever; an early end: the answer for the bytes that were read",
+    "inputs without end": "of /dev/zero and /dev/full, also as standard input: program: `1 TooLong`, status 1; other files: status 2, the file named; in memory at most 16 MB above the limit",
     "empty inputs": "the answer for an empty file, of /dev/null and of an empty FIFO",
     "a missing file, a folder, a bad path": "status 2, nothing on standard output, `multiscalar: file PATH`, for `explain` with the reason",
     "a file of another user, as nobody": "status 2, nothing on standard output, `multiscalar: file PATH`, for `explain` with the reason",
@@ -66,7 +68,7 @@ WRITE_ERRORS = [errno.EIO, errno.ENOSPC, errno.EPIPE, errno.EBADF, errno.EAGAIN,
 INTERRUPTED = errno.EINTR
 OTHER_REASON = "cannot be read"
 REASONS = {errno.ENOENT: "no such file", errno.EISDIR: "is a directory", errno.EACCES: "no permission", errno.EPERM: "no permission",
-           errno.ENOMEM: "out of memory"}
+           errno.ENOMEM: "out of memory", errno.EFBIG: "longer than 134217728 bytes"}
 PROGRAM_LIMIT, FILE_LIMIT = 4194304, 134217728
 WRITE_FAILED, NO_TEXT = b"multiscalar: 2 Write\n", b"multiscalar: 1 Words\n"
 INPUT_TWICE = b"multiscalar: 5 InputTwice: only one file can be - (standard input)\n"
@@ -89,15 +91,38 @@ class Case:
 
 
 def named(words, path, why):
-    """The answer where a file cannot be read; only `explain` says why: `why` is the system's error, or 0."""
+    """The answer where a file cannot be read; only `explain` says why: `why` is the system's error, or EFBIG for a file that is too long."""
     if words[0] != "explain":
         return 2, b"", f"multiscalar: file {path}\n".encode()
     return 2, b"", f"multiscalar: file {path}: {REASONS.get(why, OTHER_REASON)}\n".encode()
 
 
 def unnamed(words, out):
-    """What was written, without the name of the file that `explain` puts before a diagnostic."""
-    return re.sub(rb"(?m)^\S+?:(?=\d+:| )", b"FILE:", out) if words[0] == "explain" else out
+    """What was written, without the names of the files that `explain` puts before a diagnostic and into those of a certificate."""
+    if words[0] != "explain":
+        return out
+    out = re.sub(rb"(?m)^\S+?:(?=\d+:| )", b"FILE:", out)
+    return re.sub(rb"--emit keep \S+ > \S+|a certificate of \S+ as it stands", b"FILE", out)
+
+
+# Examples over which each way of running is tried, beside the subcommands that are tried over all.
+SOME = ("count", "diamond", "five-findings")
+
+
+def ways_of(folder, program, certificate):
+    """Runs in steps, pictures, tables, the least certificate, and certificates that are explained."""
+    yield ["explain", program, certificate]
+    yield ["explain", program, str(TOP / "examples" / "pair" / "certificate.cert2")]
+    yield ["explain", program, str(TOP / "examples" / "README.md")]
+    yield ["check", "--least", program]
+    yield ["run", "--least", program]
+    yield ["run", "--units", "1", "--emit", "svg", program, certificate]
+    for emit in ("report", "script", "summary", "svg"):
+        yield ["run", "--schedule", "steps", "--emit", emit, program, certificate]
+    yield ["run", "--schedule", "steps", "--least", "--units", "16", "--predict", "1,0", "--emit", "summary", program]
+    for script in sorted(folder.glob("s*.events")):
+        yield from (["replay", "--emit", emit, program, certificate, str(script)] for emit in ("summary", "svg"))
+        yield ["replay", "--least", program, str(script)]
 
 
 def cases(bench):
@@ -110,6 +135,8 @@ def cases(bench):
             words += [["check", program, certificate], ["check", "--workers", "4", program, certificate]]
             words += [["replay", program, certificate, str(script)] for script in sorted(folder.glob("*.events"))]
             words += [["run", program, certificate, *(["--budget", "2000"] if folder.name == "spin" else [])]]
+        if folder.name in SOME:
+            words += ways_of(folder, program, certificate)
         yield from (Case(bench, w) for w in words)
 
 
@@ -354,24 +381,60 @@ def standard_input(part, every, draw):
                 part.expect(words, f"- for files {which - 1} and {which}", from_input(part, words, file), (2, b"", INPUT_TWICE))
 
 
-def measured(part, words):
+def with_input(part, case, which, *faults_of):
+    """A run that has the file of this number on standard input."""
+    with open(case.files[which], "rb") as file:
+        return part.bench.run(case.with_file(which, "-"), *faults_of, given=file)
+
+
+def failing_input(part, every, draw):
+    """Reads of standard input that fail, and standard inputs that cannot be read."""
+    hows = [*READ_ERRORS, "interrupted 1,000 times", "interrupted 1,001 times", "ends early", "closed", "a folder", "open for writing"]
+    for (case, which), how in part.each([(one, how) for one in inputs(every) for how in hows], draw):
+        words = case.with_file(which, "-")
+        reads = [n for n, file in enumerate(with_input(part, case, which, fault(READ, 1, EVERY, "s", 100)).read_of, 1) if file == 0]
+        n, wanted = draw.choice(reads), named(words, "-", how)
+        if how == "closed":
+            ended = part.bench.run(words, limit=lambda: os.close(0))
+            wanted = named(words, "-", errno.EBADF)
+        elif how in ("a folder", "open for writing"):
+            file = os.open(part.bench.folder, os.O_RDONLY) if how == "a folder" else os.open("/dev/null", os.O_WRONLY)
+            ended = part.bench.run(words, given=file)
+            os.close(file)
+            wanted = named(words, "-", errno.EISDIR if how == "a folder" else errno.EBADF)
+        else:
+            count = 1000 if "1,000" in str(how) else 1001
+            which_fault = (fault(READ, n, n, "z") if how == "ends early" else
+                           fault(READ, n, n + count - 1, "e", INTERRUPTED) if isinstance(how, str) else fault(READ, n, n, "e", how))
+            ended = with_input(part, case, which, fault(READ, 1, EVERY, "s", 100), which_fault)
+            if how == "ends early":
+                wanted = prefix_answer(case, which, 100 * reads.index(n))
+            elif isinstance(how, str):
+                wanted = case.right[:3] if count == 1000 else named(words, "-", INTERRUPTED)
+        part.expect(words, f"{how}, read {n}", ended, wanted)
+
+
+def measured(part, words, path=None):
     """How a run ends, and the most memory that it had, in bytes. A script that stays small starts it: what a
-    child has touched counts from where its parent stood when it began."""
+    child has touched counts from where its parent stood when it began. `path` is of standard input."""
     text = ("import resource, subprocess, sys\nstatus = subprocess.run(sys.argv[1:]).returncode\n"
             "print(status, resource.getrusage(resource.RUSAGE_CHILDREN).ru_maxrss, file=sys.stderr)\n")
-    done = subprocess.run([sys.executable, "-c", text, part.bench.program, *words], capture_output=True, timeout=120)
+    with open(path or "/dev/null", "rb") as given:
+        done = subprocess.run([sys.executable, "-c", text, part.bench.program, *words], stdin=given, capture_output=True, timeout=120)
     *told, last = done.stderr.splitlines(keepends=True)
     status, kilobytes = map(int, last.split())
     return faults.Ended(status, done.stdout, b"".join(told), None, None), kilobytes * 1024
 
 
 def endless(part, every, draw):
-    chosen = [case for case in every if len(case.files) == 3][:1] + [case for case in every if case.words[0] != "replay"][:8]
+    # one case of each subcommand and number of files, and a check by several threads
+    chosen = list({(case.words[0], len(case.files), "--workers" in case.words): case for case in every}.values())
     most = 0
-    for (case, which), path in part.each([(one, path) for one in inputs(chosen) for path in ("/dev/zero", "/dev/full")], draw):
-        ended, memory = measured(part, case.with_file(which, path))
+    jobs = [(one, path, name) for one in inputs(chosen) for path in ("/dev/zero", "/dev/full") for name in (path, "-")]
+    for (case, which), path, name in part.each(jobs, draw):
+        ended, memory = measured(part, case.with_file(which, name), path)
         refused = None if case.words[0] == "explain" else b"program refused: 1 TooLong\n"
-        part.expect(case.words, f"{path} for file {which}", ended, named(case.words, path, 0) if which else (1, refused, b""))
+        part.expect(case.words, f"{path} as {name} for file {which}", ended, named(case.words, name, errno.EFBIG) if which else (1, refused, b""))
         limit = FILE_LIMIT if which else PROGRAM_LIMIT
         most = max(most, memory - limit)
         if memory > limit + 16e6:
@@ -392,7 +455,8 @@ def no_files(bench):
     loop = folder / "loop"
     if not loop.is_symlink():
         loop.symlink_to(loop)
-    return [(folder / "missing", errno.ENOENT), (folder, errno.EISDIR), (loop, errno.ELOOP), (folder / "counts" / "below", errno.ENOTDIR),
+        (folder / "file").write_bytes(b"")
+    return [(folder / "missing", errno.ENOENT), (folder, errno.EISDIR), (loop, errno.ELOOP), (folder / "file" / "below", errno.ENOTDIR),
             ("", errno.ENOENT), (folder / ("n" * 300), errno.ENAMETOOLONG), ("/" + "d/" * 3000, errno.ENAMETOOLONG), ("/proc/self/mem", errno.EIO)]
 
 
@@ -432,7 +496,7 @@ def limits(part, every, draw):
     for which, above in part.each([(which, above) for which in range(3) for above in (0, 1)], draw):
         with open(path, "wb") as file:
             file.truncate((FILE_LIMIT if which else PROGRAM_LIMIT) + above)
-        wanted = named(three.words, path, 0) if which and above else (1, b"program refused: 1 TooLong\n" if above else judged[which], b"")
+        wanted = named(three.words, path, errno.EFBIG) if which and above else (1, b"program refused: 1 TooLong\n" if above else judged[which], b"")
         part.expect(three.words, f"zeros for file {which}, {above} above", part.bench.run(three.with_file(which, path)), wanted)
 
 
@@ -573,7 +637,7 @@ def wrong_size(part, every, draw):
 
 RUNS = [short_reads, interrupted_read, interrupted_reads(1000), interrupted_reads(1001), failing_read, early_end,
         changed_while_read("t", ""), changed_while_read("a", "# more\n"), failing_open, interrupted_open, short_writes, interrupted_write,
-        failing_write, failing_telling, bad_outputs, bad_streams, pipes, standard_input, endless, empty, unreadable, forbidden, limits, not_text,
+        failing_write, failing_telling, bad_outputs, bad_streams, pipes, standard_input, failing_input, endless, empty, unreadable, forbidden, limits, not_text,
         short_places, failing_place, failing_place_and_read, early_place, changed_places("t", ""), changed_places("a", "# more\n"), least_shared,
         no_size, wrong_size]
 

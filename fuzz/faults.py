@@ -169,7 +169,7 @@ void _exit(int status) {
 """
 
 # How a run ended. `counts` has the number of calls of each kind and, last, of opens for writing, `read_of` the
-# number of the file, from 1, that each read was of, and `places` where each read from a place began and what it
+# number of the file, from 1, that each read was of (0 is standard input), and `places` where each read from a place began and what it
 # answered; they are None where the process ended by a signal.
 Ended = collections.namedtuple("Ended", "status out told counts read_of places", defaults=[None])
 
@@ -203,12 +203,12 @@ class Bench:
     def environment(self, *faults, **more):
         return dict(os.environ, LD_PRELOAD=str(self.library), COUNTS=str(self.counts), FAULTS="".join(faults), **more)
 
-    def run(self, words, *faults, limit=None, **more):
-        """A run with these faults; `more` goes to its environment, and `limit` is called before it begins. A run
-        that does not end has status None."""
+    def run(self, words, *faults, limit=None, given=subprocess.DEVNULL, **more):
+        """A run with these faults and this file as standard input; `more` goes to its environment, and `limit` is called
+        before it begins. A run that does not end has status None."""
         self.counts.unlink(missing_ok=True)
         try:
-            done = subprocess.run([self.program, *words], stdin=subprocess.DEVNULL, stdout=subprocess.PIPE, stderr=subprocess.PIPE,
+            done = subprocess.run([self.program, *words], stdin=given, stdout=subprocess.PIPE, stderr=subprocess.PIPE,
                                   env=self.environment(*faults, **more), timeout=120, close_fds=False, preexec_fn=limit)
         except subprocess.TimeoutExpired:
             return Ended(None, b"", b"did not end", None, None)

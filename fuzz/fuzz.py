@@ -24,13 +24,17 @@ SUBS = [s for s in O.subs.split(',') if known(s)]
 print('subcommands', SUBS, flush=True)
 def model(words, files):
     f = [lat(x) for x in files]
-    opt = dict(zip(words[1::2], words[2::2]))
-    w = words[0]
+    w, least = words[0], '--least' in words
+    given = [x for x in words if x != '--least']
+    opt = dict(zip(given[1::2], given[2::2]))
+    if least: f.insert(1, least_cert(f[0]))
     if w == 'seq': return seq_text(f[0], int(opt.get('--budget', 1000000)))
     if w == 'print': return print_text(f[0])
     if w == 'check': return check_text(*f)
     if w == 'annotate': return annotate_text(f[0], opt.get('--emit', 'text'))
     if w == 'replay': return replay_text(*f, int(opt.get('--units', 4)), opt.get('--emit', 'answers'))
+    if w == 'run' and opt.get('--schedule') == 'steps':
+        return steps_text(f[0], f[1], int(opt['--units']), int(opt['--budget']), opt['--predict'], opt['--emit'])
     if w == 'run': return run_text(f[0], f[1])
 found = collections.Counter(); nfound = 0
 def differs(words, files):
@@ -86,6 +90,9 @@ if O.large:
     for n, t in large():
         for s in text_sub[:2]: case([s] + (['--budget', '200'] if s == 'seq' else []), [t], n)
 end = time.time() + O.seconds
+# a third of the checks, replays and runs make the least certificate themselves
+def certified(words, t, c, *rest):
+    return case(words, [t, c, *rest]) if R.random() < .67 else case([words[0], '--least', *words[1:]], [t, *rest])
 def mutate_cert(t):
     for _ in range(R.choice([1, 1, 2])):
         x = R.random(); ls = t.split('\n'); p = R.randrange(len(ls))
@@ -124,7 +131,10 @@ def one():
     sp = 2 if any(m >> 32 for l in lists for _, m in l) or R.random() < .5 else 1
     c = cert_text(lists, p, sp)
     if R.random() < (.3 if s == 'check' else .05): c = mutate_cert(c)
-    if s == 'check': return case(['check', '--workers', str(R.choice([1, 1, 2, 3, 16]))], [t, c])
+    if s == 'check': return certified(['check', '--workers', str(R.choice([1, 1, 2, 3, 16]))], t, c)
+    if s == 'run' and R.random() < .6:
+        return certified(['run', '--schedule', 'steps', '--units', str(R.choice([1, 2, 3, 4, 16])), '--budget', str(R.choice([1, 7, 60, 400, 3000])),
+                          '--predict', R.choice(['first', 'last', '1,0', '3,1,2,0,15']), '--emit', R.choice(['report', 'script', 'summary'])], t, c)
     if s == 'run':
         try: q = assemble(lat(t)); cert_parse(lat(c), q)
         except (Fault, CertFault): return
@@ -135,6 +145,6 @@ def one():
     ev = '\n'.join(events_for(Machine(p, u), R.choice([5, 30, 100, 300]))) + R.choice(['', '\n'])
     if R.random() < .1:
         k = R.randrange(len(ev) + 1); ev = ev[:k] + R.choice(['\n', ' ', 'x', '0', '-', '\r', '$', '34']) + ev[k + R.choice([0, 1]):]
-    return case(['replay', '--units', str(u)] + (['--emit', 'summary'] if R.random() < .3 else []), [t, c, ev])
+    return certified(['replay', '--units', str(u)] + (['--emit', 'summary'] if R.random() < .3 else []), t, c, ev)
 while time.time() < end and SUBS: one()
 finish()

@@ -1,15 +1,16 @@
 #!/usr/bin/env python3
 """Hostile bytes: the program on inputs that a fuzzer kept, and on those that are worst for time.
 
-    hostile.py PROGRAM [--minutes M] [--seed N] [--only WORD] [--kept FOLDER] [--fuzzer FILE]
+    hostile.py PROGRAM [--minutes M] [--seed N] [--only WORD] [--kept FOLDERS] [--fuzzer FILE] [--cases N] [--keep FOLDER]
 
 Three parts. `fuzzed`: libFuzzer over the whole program in one process (entry/README.md); it needs the
-fuzzer that entry/build.sh makes, named by --fuzzer or HOSTILE_FUZZER, and is left out without one. `model`: each case
+fuzzer that entry/build.sh makes, named by --fuzzer or HOSTILE_FUZZER, and is left out without one; with --cases it goes on
+until it has made so many, however long that takes, and --keep names the folder that keeps what it finds. `model`: each case
 that the fuzzer kept (--kept or HOSTILE_KEPT) is given to PROGRAM, and bytes and status are compared with model.py, and with
 the rules of the command line below; all kept cases are, however long it takes, on all cores. Without kept cases, those of
 entry/seeds.py are, until the minutes are over. `time`: inputs that are worst for
 time, each at sizes n, 2n and 4n: four times the size may take eight times as long at most, and none more than a
-second. Needs python3. It is no part of the tests.
+second. Where the answer grows more than the input does, as that of `explain` with its paths, its bytes are the size. Needs python3. It is no part of the tests.
 """
 import argparse
 import collections
@@ -24,20 +25,28 @@ import subprocess
 import sys
 import tempfile
 import time
+import traceback
 
 HERE = pathlib.Path(__file__).resolve().parent
 sys.path.insert(0, str(HERE / "entry"))
 import explain
+import picture
 import seeds
-from model import CertFault, Fault, annotate_text, assemble, cert_parse, certify, check_text, print_text, replay_text, run_text, seq_text, verdict
+from model import (CertFault, Fault, ScriptFault, Steps, accepted_program, allowed_script, annotate_text, assemble, certify, check_text,
+                   least_cert, print_text, replay_text, run_text, seq_text, verdict)
 
 UNITS, BUDGETS = (1, 2, 3, 4, 16), (1, 7, 60, 400, 3000)
 EMITS, PREDICTS = ("text", "cert", "keep"), ("first", "last", "1,0", "3,1,2,0,15")
-FILES = {"seq": 1, "print": 1, "annotate": 1, "explain": 1, "check": 2, "run": 2, "replay": 3}
+RUN_EMITS = ("report", "script", "summary", "svg")
+# The least and the greatest number of files; `--least` stands in the place of one of `check`, `run` and `replay`.
+FILES = {"seq": (1, 1), "print": (1, 1), "annotate": (1, 1), "explain": (1, 2), "check": (1, 2), "run": (1, 2), "replay": (2, 3)}
 NUMBERS = {"budget": 1000000, "units": 16, "workers": 16}
-OPTIONS = {"seq": ("budget",), "print": (), "annotate": ("emit",), "explain": (), "check": ("workers",), "replay": ("units", "emit"),
-           "run": ("units", "workers", "budget", "predict", "emit")}
-CHOICES = {"annotate": EMITS, "replay": ("answers", "summary"), "run": ("report", "script", "summary")}
+OPTIONS = {"seq": ("budget",), "print": (), "annotate": ("emit",), "explain": (), "check": ("least", "workers"), "replay": ("least", "units", "emit"),
+           "run": ("least", "schedule", "units", "workers", "budget", "predict", "emit")}
+CHOICES = {"annotate": EMITS, "replay": ("answers", "summary", "svg"), "run": RUN_EMITS}
+VERSION = "multiscalar 0.1.0\n"
+# The model goes no further than so many events, and says nothing of longer runs but how they may end.
+MODEL_EVENTS = 6000
 
 
 def parts_of(case):
@@ -57,24 +66,34 @@ def jobs_of(case):
     """The words of each call that a case stands for, and its three texts."""
     if len(case) < 2:
         return [], []
-    job, options = case[0] % 8, case[1]
+    job, options = case[0] % 16, case[1]
     first, *others = parts_of(case[2:])
-    units, budget = str(UNITS[options % 5]), str(BUDGETS[options // 5 % 5])
     if job == 6:
         words = first[:4095].split(b"\0")[0]
         return [words.split(b"\n")[:-1] if words.endswith(b"\n") else words.split(b"\n") if words else []], others
-    texts = [first, *others[:2]]
-    words = [["seq", "--budget", budget, "p"], ["print", "p"], ["annotate", "--emit", EMITS[options % 3], "p"],
-             ["check", "--workers", str(options % 16 + 1), "p", "c"], ["replay", "--units", units, "p", "c", "s"],
-             ["run", "--units", units, "--workers", "1", "--budget", budget, "--predict", PREDICTS[options % 4],
-              "--emit", "script" if options & 16 else "report", "p", "c"]]
-    if job == 7:
-        return [[w.encode() for w in call] for call in (["seq", "--budget", "1500", "p"], words[1], ["annotate", "--emit", "keep", "p"], ["explain", "p"])], texts
-    return [[w.encode() for w in words[job]]], texts
+    return [[w.encode() for w in call] for call in calls_of(job, options)], [first, *others[:2]]
+
+
+def calls_of(job, options):
+    """The calls of a job, as entry.c makes them; of those jobs whose answers must agree, some."""
+    units, budget, guess = ["--units", str(UNITS[options % 5])], ["--budget", str(BUDGETS[options // 5 % 5])], ["--predict", PREDICTS[options % 4]]
+    run, steps = ["run", *units, "--workers", "1", *budget, *guess], ["run", "--schedule", "steps", *units, *budget, *guess]
+    if job in (7, 15):
+        return [["seq", "--budget", "1500", "p"], ["print", "p"], ["annotate", "--emit", "keep", "p"], ["explain", "p"]]
+    if job == 14:
+        steps = ["run", "--schedule", "steps", "--least", *units, "--budget", "600", "--predict", PREDICTS[options // 5 % 4]]
+        return [["explain", "p"], ["check", "--least", "p"], *([*steps, "--emit", emit, "p"] for emit in RUN_EMITS)]
+    least = [["check", "--least", "--workers", str(options % 16 + 1), "p"], [*run, "--least", "p"], ["replay", "--least", *units, "p", "s"]]
+    return [{0: ["seq", *budget, "p"], 1: ["print", "p"], 2: ["annotate", "--emit", EMITS[options % 3], "p"],
+             3: ["check", "--workers", str(options % 16 + 1), "p", "c"], 4: ["replay", *units, "p", "c", "s"],
+             5: [*run, "--emit", "script" if options & 16 else "report", "p", "c"],
+             8: ["explain", "p", "c"], 9: [*steps, "--emit", RUN_EMITS[options // 25 % 4], "p", "c"],
+             10: ["replay", *units, "--emit", "svg" if options & 16 else "summary", "p", "c", "s"],
+             11: [*run, "--emit", "svg" if options & 16 else "summary", "p", "c"], 12: least[options // 16 % 3], 13: ["explain", "p"]}[job]]
 
 
 def asked(words):
-    """What the words ask for: None for wrong words, "help", or the job with its options and files."""
+    """What the words ask for: None for wrong words, "help", "version", or the job with its options and files."""
     try:
         words = [w.decode() for w in words]
     except UnicodeDecodeError:
@@ -82,8 +101,10 @@ def asked(words):
     if not words:
         return None
     name, rest = words[0], words[1:]
-    if name in ("-h", "--help") or name.startswith("-h"):
-        return "help"
+    if name in ("--help", "--version"):
+        return name[2:]
+    if name[:2] in ("-h", "-V"):
+        return {"-h": "help", "-V": "version"}[name[:2]]
     if name == "help":
         return "help" if not rest or rest[0] in ("help", *FILES) and len(rest) == 1 else None
     if name not in FILES:
@@ -98,22 +119,29 @@ def asked(words):
             key, has, value = word[2:].partition("=")
             if key == "help":
                 return None if has else "help"
-            if key not in OPTIONS[name] or key in options:
+            if key not in OPTIONS[name] or key in options or key == "least" and has:
                 return None
-            if not has:
+            if not has and key != "least":
                 if at == len(rest) or rest[at].startswith("-") and rest[at] != "-":
                     return None
                 value, at = rest[at], at + 1
             if not is_value(name, key, value):
-                return None
+                # a number is judged where it stands, the other values behind all words
+                if key in NUMBERS:
+                    return None
+                value = None
             options[key] = value
         elif not plain and word.startswith("-") and word != "-":
             return "help" if word[1] == "h" else None
-        elif len(files) == FILES[name]:
+        elif len(files) == FILES[name][1]:
             return None
         else:
             files.append(word)
-    return (name, options, files) if len(files) == FILES[name] else None
+    least, most = FILES[name]
+    wants = most - ("least" in options) if "least" in OPTIONS[name] else max(least, len(files))
+    if len(files) != wants or files.count("-") > 1 or None in options.values():
+        return None
+    return name, options, files
 
 
 def is_value(name, key, value):
@@ -121,7 +149,9 @@ def is_value(name, key, value):
         return bool(re.fullmatch(r"\+?[0-9]+", value)) and 1 <= int(value) <= NUMBERS[key]
     if key == "emit":
         return value in CHOICES[name]
-    return value in ("first", "last") or bool(re.fullmatch(r"\+?[0-9]+(,\+?[0-9]+){0,63}", value)) and all(int(it) <= 15 for it in value.split(","))
+    if key == "schedule":
+        return value in ("threads", "steps")
+    return key == "least" or value in ("first", "last") or bool(re.fullmatch(r"[0-9]{1,2}(,[0-9]{1,2}){0,63}", value)) and all(int(it) <= 15 for it in value.split(","))
 
 
 def wanted(words, texts):
@@ -131,11 +161,16 @@ def wanted(words, texts):
         return lambda out, status: status == 2 and not out
     if what == "help":
         return lambda out, status: status == 0 and "Usage:" in out
+    if what == "version":
+        return VERSION, 0
     name, options, files = what
-    held = dict(zip("pcs", texts))
+    # standard input is the program's text
+    held = {**dict(zip("pcs", texts)), "-": texts[0]}
     if any(it not in held for it in files):
         return lambda out, status: status == 2 and not out
     given = [held[it] for it in files]
+    if "least" in options:
+        given.insert(1, least_cert(given[0]))
     if name == "seq":
         return seq_text(given[0], int(options.get("budget", 1000000)))
     if name == "print":
@@ -145,46 +180,99 @@ def wanted(words, texts):
     if name == "check":
         return check_text(*given)
     if name == "explain":
-        return wanted_explanation(files[0], given[0])
+        return wanted_explanation(files, given)
     if name == "replay":
-        return replay_text(*given, int(options.get("units", 4)), options.get("emit", "answers"))
+        return wanted_replay(options, given)
     return wanted_run(options, given)
 
 
-def wanted_explanation(name, text):
-    """The model's findings, told as explain.py has it; of a refused text its first fault."""
+def wanted_explanation(files, given):
+    """The model's findings, told as explain.py has it, and what is said of a certificate; of a refused text its faults."""
+    name, text = files[0], given[0].decode("latin-1")
     try:
-        program = assemble(text)
+        program = assemble(given[0])
     except Fault as fault:
-        return lambda out, status: status == 1 and explain.refused_so(fault, text.decode("latin-1"), name, out)
+        first = fault
+        return lambda out, status: status == 1 and explain.refused_so(first, text, name, out)
     findings = len(verdict(program, certify(program)))
+    remark = explain.remark(program, name, files[1], given[1]) if len(files) > 1 else ""
 
     def fits(out, status):
-        return status == min(findings, 1) and bool(out) == bool(findings) and not explain.differs(program, text.decode("latin-1"), name, out)
+        marks = out.removesuffix(remark)
+        return (status == (1 if findings or remark else 0) and out.endswith(remark) and bool(marks) == bool(findings)
+                and not explain.differs(program, text, name, marks))
 
     return fits
 
 
+def is_picture(out, script, units):
+    """Whether a text is the picture of a script."""
+    try:
+        return not list(picture.faults_of(out, script, units))
+    except (picture.tree.ParseError, AttributeError, TypeError, ValueError):
+        return False
+
+
+def wanted_replay(options, given):
+    """What `replay` writes; a picture is that of the events that were allowed."""
+    units, emit = int(options.get("units", 4)), options.get("emit", "answers")
+    program, _ = accepted_program(*given[:2])
+    if emit != "svg" or not program:
+        return replay_text(*given, units, emit)
+    try:
+        script, stands = allowed_script(program, given[2], units)
+    except ScriptFault as fault:
+        return fault.text(), 1
+    return lambda out, status: status == stands and is_picture(out, script, units)
+
+
 def wanted_run(options, given):
-    """A run ends as one unit does, if its budget allows; a script is replayed by the model."""
-    one = run_text(*given, 6000)
-    script = options.get("emit") == "script"
-    judged = one[1] == 1 and ("refused" in one[0]) and not one[0].startswith("retired")
-    if judged:
-        return one
+    """A run in steps is known; one of threads ends as one unit does, if its budget allows, and its script is replayed by the model."""
+    units, budget, emit = int(options.get("units", 4)), int(options.get("budget", 1000000)), options.get("emit", "report")
+    program, said = accepted_program(*given)
+    if not program:
+        return said, 1
+    if options.get("schedule") == "steps":
+        return wanted_steps(Steps(program, units, budget, options.get("predict", "first"), MODEL_EVENTS), units, emit)
+    one = run_text(*given, MODEL_EVENTS)
 
     def fits(out, status):
-        if options.get("emit") == "summary":
-            return status in (one[1], 3) and out.startswith("assigned  retired ")
-        if script:
-            closing = replay_text(*given, out.encode(), int(options.get("units", 4)))
-            return "refused" not in closing[0] and (status in (0, 1, 3))
+        if emit in ("summary", "svg"):
+            return status in (one[1], 3) and (is_summary(out, one) if emit == "summary" else is_well_formed(out))
+        if emit == "script":
+            closing = replay_text(*given, out.encode(), units)
+            return "refused" not in closing[0] and status in (0, 1, 3)
         if status == 3:
             words = out.splitlines()
             return words[-1] == "out of budget" and one[0].splitlines()[:len(words) - 1] == words[:-1]
         return (out, status) == one or one[1] == 3
 
     return fits
+
+
+def is_summary(out, one):
+    """Whether a table has as many retired tasks and instructions as one unit has, if the run of that ended."""
+    first, *_, last = out.splitlines()
+    retired = re.search(r"(?m)^retired (\d+) c (\d+) h", one[0])
+    columns = last.split()
+    return first.startswith("assigned  retired ") and columns[-1] == "(all)" and (one[1] == 3 or [columns[1], columns[5]] == list(retired.groups()))
+
+
+def is_well_formed(out):
+    """Whether a text is XML that is a picture."""
+    try:
+        return picture.tree.fromstring(out).tag == picture.SVG + "svg"
+    except picture.tree.ParseError:
+        return False
+
+
+def wanted_steps(run, units, emit):
+    """What a run in steps writes, unless the model gave it up."""
+    if not run.over():
+        return lambda out, status: status in (0, 1, 3)
+    if emit == "svg":
+        return lambda out, status: status == run.status() and is_picture(out, run.script(), units)
+    return {"report": run.report, "script": run.script, "summary": run.summary}[emit](), run.status()
 
 
 class Runner:
@@ -198,7 +286,8 @@ class Runner:
             (self.folder / name).write_bytes(text)
         before = resource.getrusage(resource.RUSAGE_CHILDREN)
         try:
-            done = subprocess.run([self.program, *words], cwd=self.folder, capture_output=True, timeout=limit)
+            with open(self.folder / "p", "rb") as program:
+                done = subprocess.run([self.program, *words], cwd=self.folder, stdin=program, capture_output=True, timeout=limit)
         except subprocess.TimeoutExpired:
             return None, b"", b""
         finally:
@@ -233,7 +322,10 @@ def compare(program, end, cases):
                 break
             calls, texts = jobs_of(case)
             for words in calls:
-                seen, fault = difference(runner, words, texts)
+                try:
+                    seen, fault = difference(runner, words, texts)
+                except Exception:
+                    seen, fault = "the model failed", traceback.format_exc().strip().splitlines()[-1]
                 answers[seen] += 1
                 if fault:
                     differences.append(f"case {case.hex() if len(case) < 200 else case[:60].hex() + '..'}: {fault}")
@@ -257,37 +349,55 @@ def compared(program, kept, minutes, seed):
     return f"{'kept cases of hostile bytes' if kept else 'seeds of hostile bytes'} beside the model ({done:,} of {len(cases):,})", sum(answers.values()), dict(answers), differences
 
 
-def fuzzed(fuzzer, kept, minutes, seed):
-    """libFuzzer for some minutes: the calls of the program that it made, by job and status."""
-    end = time.monotonic() + 60 * minutes
-    calls, answers, differences = 0, collections.Counter(), []
+# A case is kept where it comes to a new edge; shorter ones are as good, and quicker.
+FUZZING = ["-entropic=0", "-max_len=2048", "-timeout=120", "-rss_limit_mb=4000", "-reload=0"]
+
+
+def begun(corpus, kept, seed):
+    """Puts cases to begin with into a folder: the kept ones, or else seeds."""
+    for number, from_folder in enumerate(kept.split(os.pathsep) if kept else ()):
+        for it in pathlib.Path(from_folder).iterdir():
+            shutil.copy(it, corpus / f"{number}-{it.name}")
+    if not kept:
+        for k, case in enumerate(seeds.cases(2000, seed)):
+            (corpus / f"seed-{k}").write_bytes(case)
+
+
+def fuzzed(fuzzer, kept, minutes, seed, cases=None, keep=None):
+    """libFuzzer for some minutes, or for so many cases: the calls of the program that it made, by job and status. What it
+    keeps goes to the folder `keep`, if one is named."""
+    end = float("inf") if cases else time.monotonic() + 60 * minutes
+    done, calls, most, answers, differences = 0, 0, [0.0, 0], collections.Counter(), []
     with tempfile.TemporaryDirectory() as name:
         folder = pathlib.Path(name)
-        corpus = folder / "corpus"
-        corpus.mkdir()
-        for number, from_folder in enumerate(kept.split(os.pathsep) if kept else ()):
-            for it in pathlib.Path(from_folder).iterdir():
-                shutil.copy(it, corpus / f"{number}-{it.name}")
-        if not kept:
-            for k, case in enumerate(seeds.cases(500, seed)):
-                (corpus / f"seed-{k}").write_bytes(case)
+        corpus = pathlib.Path(keep or folder / "corpus")
+        corpus.mkdir(exist_ok=True)
+        if not any(corpus.iterdir()):
+            begun(corpus, kept, seed)
         (folder / "dictionary").write_text(seeds.dictionary())
-        while time.monotonic() < end - 1 and len(differences) < 20:
+        while (done < cases if cases else time.monotonic() < end - 1) and len(differences) < 20:
             status = folder / "status"
-            words = [fuzzer, "-entropic=0", "-max_len=3072", f"-dict={folder}/dictionary", "-timeout=120", "-rss_limit_mb=4000", "-reload=0",
-                     f"-seed={seed + len(differences) + 1}", f"-max_total_time={max(1, int(end - time.monotonic()))}", f"-artifact_prefix={folder}/", str(corpus)]
-            done = subprocess.run(words, capture_output=True, env=dict(os.environ, HOSTILE_STATUS=str(status)))
-            told = dict(line.split() for line in status.read_text().splitlines()) if status.exists() else {}
-            calls += int(told.get("calls", 0))
+            length = [f"-runs={cases - done}"] if cases else [f"-max_total_time={max(1, int(end - time.monotonic()))}"]
+            words = [fuzzer, *FUZZING, *length, f"-dict={folder}/dictionary", f"-seed={seed + len(differences) + 1}", f"-artifact_prefix={folder}/", str(corpus)]
+            with open(folder / "log", "wb") as log:
+                code = subprocess.run(words, stdout=log, stderr=log, env=dict(os.environ, HOSTILE_STATUS=os.environ.get("HOSTILE_STATUS", str(status)))).returncode
+            status = pathlib.Path(os.environ.get("HOSTILE_STATUS", status))
+            told = dict(line.rsplit(" ", 1) for line in status.read_text().splitlines()) if status.exists() else {}
+            done, calls = done + int(told.get("cases", 0)), calls + int(told.get("calls", 0))
+            most = [max(most[0], float(told.get("worst_seconds", 0))), max(most[1], int(told.get("worst_peak", 0)))]
             for key, count in told.items():
                 if ":" in key:
                     answers[key.replace(":", ": status ")] += int(count)
-            if done.returncode:
-                why = re.search(rb"HOSTILE: [^\n]*|SUMMARY: [^\n]*", done.stderr)
+            if code:
+                why = re.search(rb"HOSTILE: [^\n]*|SUMMARY: [^\n]*", (folder / "log").read_bytes())
                 for it in sorted(folder.glob("crash-*")) + sorted(folder.glob("timeout-*")) + sorted(folder.glob("oom-*")):
                     differences.append(f"{why.group().decode('latin-1') if why else 'ended'}: case {it.read_bytes().hex()}")
                     it.unlink()
-    return "fuzzed in one process, by libFuzzer", calls, dict(answers), differences
+                if not told or not int(told.get("cases", 0)):
+                    differences.append("the fuzzer ends before its first case")
+                    break
+    name = f"fuzzed in one process, by libFuzzer: {done:,} cases, at most {most[0]:.2f} s and {most[1] / 1e6:.0f} MB of heap"
+    return name, calls, dict(answers), differences
 
 
 ALL = ",".join(f"${k}" for k in range(8, 28))
@@ -327,8 +437,14 @@ def findings(runner, text, n):
     return re.sub(rb"(?m)^(\d+) [0-9a-f]{16}$", lambda it: it.group(1) + (b" 00000003ffffffff" if int(it.group(1)) % 2 else b" 0000000000000000"), made)
 
 
-# Each: a name, the words, the size n, the program text of a size, and if need be its certificate and script.
+def late_writes(count):
+    """Releases of a register that is written at the end alone: each finding's path goes there."""
+    return ".task A create=$9 targets=A\nA: " + "release $9\n" * (count - 2) + "addiu $9,$9,1 !f\nj A !s\n"
+
+
+# Each: a name, the words, where {n} is the size, the size n, the program text of a size, and if need be its certificate and script.
 RING = many_tasks(8)
+STEPS = "run --schedule steps --units 16 --budget {n} --emit"
 WORST = [
     ("labels on one line", "seq", 100000, lambda n: labels(n) + HEAD, None, None),
     ("labels, a line each", "print", 100000, lambda n: labels(n).replace(":", ":\n") + HEAD, None, None),
@@ -364,7 +480,22 @@ WORST = [
     ("events by the name of the last task", "replay", 200000, lambda n: many_tasks(1024), keep, lambda n: b"assign T1023\n" * n),
     ("tasks that come and go", "replay", 100000, lambda n: RING, keep, lambda n: b"assign T0\nassign T1\nexec 1\ndrop 1\ndrop 0\nexec 0\nretire\n" * (n // 7)),
     ("one line of a script", "replay", 2000000, lambda n: RING, keep, lambda n: b"x" * n),
-    ("a loop that does not end", "seq", 250000, lambda n: ".task B create=- targets=-\nB: lui $11,4097\nA: mult $8,$9\nlw $10,0($11)\nsw $8,0($11)\nbne $8,$9,A\nj A\n", None, None),
+    ("findings with long paths", "explain", 1000, late_writes, None, None),
+    ("lines with a fault, explained", "explain", 50000, lambda n: HEAD + "nop $8\n" * n, None, None),
+    ("a label that is near one of many", "explain", 50000, lambda n: HEAD + labels(n).replace(":", ":\n") + "j L\n", None, None),
+    ("findings of every register, explained", "explain", 1000, nested, findings, None),
+    ("lines of a certificate, out of order, explained", "explain", 500000, lambda n: HEAD, lambda r, t, n: b"cert 2\ntask A\n" + b"0 0000000000000000\n" * n, None),
+    ("loops one in the other, with the least certificate", "check --least", 1000, nested, None, None),
+    ("a chain taken backwards, with the least certificate", "check --least", 1000, backwards, None, None),
+    ("a run in steps", STEPS + " report", 100000, lambda n: RING, keep, None),
+    ("a run in steps, its script", STEPS + " script", 100000, lambda n: RING, keep, None),
+    ("a run in steps, its table", STEPS + " summary", 100000, lambda n: RING, keep, None),
+    ("a run in steps, its picture", STEPS + " svg", 100000, lambda n: RING, keep, None),
+    ("a short run in steps, its picture", STEPS + " svg", 500, lambda n: RING, keep, None),
+    ("a run in steps of 1,024 tasks, its picture", STEPS + " svg", 100000, lambda n: many_tasks(1024, 16), keep, None),
+    ("tasks that come and go, as a table", "replay --emit summary", 100000, lambda n: RING, keep, lambda n: b"assign T0\nassign T1\nexec 1\ndrop 1\ndrop 0\nexec 0\nretire\n" * (n // 7)),
+    ("tasks that come and go, as a picture", "replay --emit svg", 100000, lambda n: RING, keep, lambda n: b"assign T0\nassign T1\nexec 1\ndrop 1\ndrop 0\nexec 0\nretire\n" * (n // 7)),
+    ("a loop that does not end", "seq --budget {n}", 250000, lambda n: ".task B create=- targets=-\nB: lui $11,4097\nA: mult $8,$9\nlw $10,0($11)\nsw $8,0($11)\nbne $8,$9,A\nj A\n", None, None),
     ("labels that collide", "print", 8192, None, None, None),
 ]
 
@@ -387,9 +518,6 @@ def texts_of(runner, n, text, certificate, script, found):
     return given
 
 
-TIMES = []  # what was measured last, for who calls this script by itself
-
-
 def timed(program, minutes, seed, only=""):
     """Inputs that are worst for time: the time at n, 2n and 4n, the least of three."""
     end = time.monotonic() + 60 * minutes
@@ -404,22 +532,22 @@ def timed(program, minutes, seed, only=""):
             found = colliding(folder, 4 * size) if text is None else None
             if text is None and found is None:
                 continue
-            took, first, slow = [1e9] * 3, b"", 0
+            took, sizes, first, slow = [1e9] * 3, [1] * 3, b"", 0
             for _ in range(3):  # again where other work may have made it slow
                 for k, n in enumerate((size, 2 * size, 4 * size)):
                     given = texts_of(runner, n, text, certificate, script, found)
-                    words = [job, *(["--budget", str(n)] if title == "a loop that does not end" else []), *"pcs"[:len(given)]]
+                    words = [*job.replace("{n}", str(n)).split(), *"pcs"[:len(given)]]
                     for _ in range(3):
                         status, out, told = runner(words, given)
                         tried, first = tried + 1, out[:24].split(b"\n")[0]
                         if status not in (0, 1, 3) or told:
                             differences.append(f"{title}, n = {n}: status {status}, {told[:60]!r}")
-                        took[k] = min(took[k], max(runner.seconds - begins, 0.0002))
-                slow = took[2] / took[0] / 4
+                        took[k], sizes[k] = min(took[k], max(runner.seconds - begins, 0.0002)), sum(map(len, given)) + len(out)
+                slow = took[2] / took[0] / max(4, sizes[2] / sizes[0])
                 if took[2] <= 1 and (slow <= 2 or took[2] <= 0.005):
                     break
             said = f"{title} ({job}: {first.decode('latin-1')!r}): " + ", ".join(f"{it:.4f}" for it in took)
-            TIMES.append(said)
+            print(said, file=sys.stderr, flush=True)
             is_slow = took[2] > 1 or (slow > 2 and took[2] > 0.005)
             answers["beyond" if is_slow else "at most twice linear"] += 1
             if is_slow:
@@ -427,14 +555,14 @@ def timed(program, minutes, seed, only=""):
     return "inputs that are worst for time, at n, 2n and 4n", tried, dict(answers), differences
 
 
-def run(program, minutes, seed, only="", kept=None, fuzzer=None):
+def run(program, minutes, seed, only="", kept=None, fuzzer=None, cases=None):
     """Rows for the table: (part, cases, answers seen, differences)."""
     kept, fuzzer = kept or os.environ.get("HOSTILE_KEPT"), fuzzer or os.environ.get("HOSTILE_FUZZER")
     rows = []
     if only in "time":
         rows.append(timed(program, minutes / 4 if not only else minutes, seed))
     if only in "fuzzed" and fuzzer:
-        rows.append(fuzzed(fuzzer, kept, minutes / 2 if not only else minutes, seed))
+        rows.append(fuzzed(fuzzer, kept, minutes / 2 if not only else minutes, seed, cases))
     if only in "model":
         rows.append(compared(program, kept, minutes * (1 if only else 1 / 4 if fuzzer else 3 / 4), seed))
     return rows
@@ -448,10 +576,13 @@ def main():
     options.add_argument("--only", default="", choices=("", "time", "fuzzed", "model"))
     options.add_argument("--kept", help="folders of kept cases, parted by colons")
     options.add_argument("--fuzzer")
+    options.add_argument("--cases", type=int, help="go on fuzzing until so many cases are made")
+    options.add_argument("--keep", help="the folder of the cases that fuzzing keeps")
     given = options.parse_args()
-    rows = run(os.path.abspath(given.program), given.minutes, given.seed, given.only, given.kept, given.fuzzer)
-    for it in TIMES:
-        print(it)
+    if given.cases:
+        rows = [fuzzed(os.path.abspath(given.fuzzer), given.kept, 0, given.seed, given.cases, given.keep)]
+    else:
+        rows = run(os.path.abspath(given.program), given.minutes, given.seed, given.only, given.kept, given.fuzzer)
     for part, cases, answers, differences in rows:
         print(f"{part}: {cases} cases, {len(differences)} differences")
         for it, count in sorted(answers.items()):

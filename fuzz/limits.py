@@ -4,9 +4,10 @@
     limits.py PROGRAM [--only WORD]
 
 A certificate of 134,217,728 bytes is judged and one of a byte more is not, by `check` with one worker and four, by
-`run` and by `replay`; so with an event script. Certificates and scripts without end are refused within the memory
+`explain`, by `run` and by `replay`; so with an event script. Certificates and scripts without end are refused within the memory
 of the limit. The other texts are those that were found to take the most memory: as many labels, targets or numbers
-as a program text can name, and as many entries, events and answers as the longest files give. Of each run the
+as a program text can name, and as many entries, events and answers as the longest files give; and the longest runs, by
+threads and in steps, with each `--emit`. Of each run the
 greatest memory is compared with BOUNDS, which README.md counts from the limits. The script ends with status 1 where
 an answer or the memory is another, and says the seconds, which depend on the machine. Needs python3, Linux, 400 MB
 in the temporary folder and 2 GB of memory; it is no part of the tests.
@@ -104,17 +105,22 @@ def certificates(folder):
     """Certificates at the limit and a byte above, and without end."""
     program, path = COUNT / "program.s", folder / "limit.cert2"
     kinds = [["check", program, path, "--workers", "1"], ["check", program, path, "--workers", "4"],
-             ["run", program, path], ["replay", program, path, COUNT / "script.events"]]
+             ["run", program, path], ["run", program, path, "--schedule", "steps", "--emit", "svg"],
+             ["replay", program, path, COUNT / "script.events"], ["explain", program, path]]
+
+    def refused(words, told, line=""):
+        return f"{path}:{line} error: ".encode() if words[0] == "explain" else f"certificate refused: {told}\n".encode()
+
     for name, mask in (("the longest certificate", "0" * 16), ("the longest certificate, short lines", "0" * 8)):
         certificate(path, mask)
         for words in kinds:
-            yield name, words, 1, b"certificate refused: 5 Shape\n", BOUNDS[words[0]]
+            yield name, words, 1, refused(words, "5 Shape"), BOUNDS[words[0]]
     lines = certificate(path)
     with open(path, "rb+") as file:
         file.seek(-1, os.SEEK_END)
         file.write(b" ")
     for words in kinds:
-        yield "the longest certificate, its last line wrong", words, 1, b"certificate refused: 2 Line %d\n" % lines, BOUNDS[words[0]]
+        yield "the longest certificate, its last line wrong", words, 1, refused(words, f"2 Line {lines}", f"{lines}:"), BOUNDS[words[0]]
     certificate(path, size=FILE_LIMIT + 1)
     for words in kinds:
         yield "a certificate of one byte more", words, 2, path, ENDLESS
@@ -129,6 +135,8 @@ def scripts(folder):
     words = ["replay", COUNT / "program.s", COUNT / "certificate.cert2", path]
     script(path)
     yield "the script of the most events", words, 0, b"1 refused", BOUNDS["replay"]
+    yield "the script of the most events", [*words, "--emit", "summary"], 0, b"assigned  retired ", BOUNDS["replay"]
+    yield "the script of the most events", [*words, "--emit", "svg"], 0, b"<svg ", BOUNDS["replay"]
     script(path, FILE_LIMIT + 1)
     yield "a script of one byte more", words, 2, path, ENDLESS
     yield "a script without end", [*words[:3], "/dev/zero"], 2, "/dev/zero", ENDLESS
@@ -146,17 +154,28 @@ def runs(folder):
         mask = "0000000000000100" if program == loop else "0" * 16
         cert = program.with_suffix(".cert2")
         cert.write_text("cert 2\ntask A\n" + "".join(f"{index} {mask if index < 3 else '0' * 16}\n" for index in range(entries)))
-        yield "the most output" if program == out else "the most events", ["seq", program], 3, None, BOUNDS["seq"]
-        for units in ("1", "16"):
-            for emit in ("report", "script"):
-                yield ("the most output" if program == out else "the most events",
-                       ["run", program, cert, "--units", units, "--emit", emit], 3, None, BOUNDS["run"])
+        kind = "the most output" if program == out else "the most events"
+        yield kind, ["seq", program], 3, None, BOUNDS["seq"]
+        for units, emit in itertools.product(("1", "16"), ("report", "script", "summary", "svg")):
+            for certified in ([cert], ["--least"]):
+                yield kind, ["run", program, *certified, "--units", units, "--emit", emit], 3, None, BOUNDS["run"]
+            yield f"{kind}, in steps", ["run", program, cert, "--schedule", "steps", "--units", units, "--emit", emit], 3, None, BOUNDS["run"]
+    yield from many_tasks(folder)
 
 
-def faults_of(ended, status, answer, bound):
+def many_tasks(folder):
+    """The most tasks that come and go: a third of a million lives."""
+    program = folder / "tiny.s"
+    program.write_text(".task A create=- targets=A\nA: j A !s\n")
+    for emit in ("report", "script", "summary", "svg"):
+        yield "the most tasks", ["run", program, "--least", "--units", "1", "--emit", emit], 3, None, BOUNDS["run"]
+        yield "the most tasks, in steps", ["run", program, "--least", "--schedule", "steps", "--units", "16", "--emit", emit], 3, None, BOUNDS["run"]
+
+
+def faults_of(ended, status, answer, bound, reason=""):
     """What is wrong with a run. The answer is how standard output begins, or the file that is refused, or left open."""
     if isinstance(answer, (str, pathlib.Path)):
-        right = (ended.out, ended.told) == (b"", f"multiscalar: file {answer}\n".encode())
+        right = (ended.out, ended.told) == (b"", f"multiscalar: file {answer}{reason}\n".encode())
     else:
         right = answer is None or (ended.out.startswith(answer) and ended.told == b"")
     if ended.status != status or not right:
@@ -176,7 +195,7 @@ def run(program, minutes=0, seed=0, only=""):
             ended = ran(program, [str(word) for word in words], folder)
             row = rows.setdefault((words[0], kind), [0, 0, 0, bound, []])
             row[0], row[1], row[2] = row[0] + 1, max(row[1], ended.memory), max(row[2], ended.seconds)
-            row[4] += [f"{' '.join(map(str, words))}: {fault}" for fault in faults_of(ended, status, answer, bound)]
+            row[4] += [f"{' '.join(map(str, words))}: {fault}" for fault in faults_of(ended, status, answer, bound, ": longer than 134217728 bytes" if words[0] == "explain" else "")]
     return [(f"`{subcommand}` of {kind}", count, {f"at most {memory:.0f} MB of {bound:.0f}, {seconds:.1f} s": count}, differences)
             for (subcommand, kind), (count, memory, seconds, bound, differences) in rows.items()]
 

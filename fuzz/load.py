@@ -14,7 +14,8 @@ refused. A run must end, and write what one unit with one worker writes, which i
 compared with `seq`: the words, how it ends, after how many instructions. Where
 means are refused it may also write nothing, name want of memory and end with
 status 2. One run in eight is recorded, and the replay of its script must end with
-the same lines. Beside each, `check` with 2 to 16 workers must write what one
+the same lines; some write a picture, which must be whole, or a table, which must have the retired tasks
+and instructions. One in three makes the least certificate itself. Beside each, `check` with 2 to 16 workers must write what one
 worker writes. Needs python3 and cc. It is no part of the tests.
 """
 import argparse
@@ -29,6 +30,7 @@ import tempfile
 import time
 
 import accepted
+import refused_growths
 import refused_threads
 import schedules
 
@@ -321,17 +323,22 @@ class Load:
         units = draw.randrange(1, 17)
         workers = draw.choice([1, 2, units, draw.randrange(1, 17)])
         kind = ["--units", str(units), "--workers", str(workers), "--predict", draw.choice(PREDICTIONS)]
-        records = draw.random() < 0.125
+        emit = draw.choices(("report", "script", "summary", "svg"), (12, 2, 1, 1))[0]
+        files = [given, draw.choice((made, made, "--least"))]
         env, begin, may_refuse = limited(how, draw, min(units, workers))
-        words = [self.program, "run", *kind, *(["--emit", "script"] if records else []), given, made]
+        words = [self.program, "run", *kind, "--emit", emit, *files]
         status, out, told = call(words, env, begin, self.shim if env else None)
-        what = f"{title}: run {' '.join(kind)}{' --emit script' if records else ''} {env}"
+        what = f"{title}: run {' '.join(words[2:-2])} {files[1]} {env}"
         if status == 2 and not out and told in no_memory([given, made]) and may_refuse:
             return self.note("run", how, "want of memory", None, what)
         if status not in (0, 1) or told:
             fault = f"status {status}, {told[:80]!r}, {len(out)} bytes out"
-        elif records:
+        elif emit == "script":
             fault = replayed(self.program, kind, out, self.folder, given, made, wanted)
+        elif emit == "svg":
+            fault = None if refused_growths.is_picture(out) is True else f"no picture: {out[-60:]!r}"
+        elif emit == "summary":
+            fault = None if is_table_of(out, wanted) else f"another table: {out[-120:]!r}"
         else:
             fault = None if out == wanted else f"writes {out[-60:]!r}, not {wanted[-60:]!r}"
         self.note("run", how, "as `seq`", fault, what)
@@ -342,6 +349,12 @@ class Load:
         given.write_bytes(source.read_bytes() if certificate else source.encode("latin-1") if isinstance(source, str) else source)
         made.write_bytes(certificate.read_bytes() if certificate else call([self.program, "annotate", "--emit", "keep", str(given)])[1])
         return str(given), str(made)
+
+
+def is_table_of(out, wanted):
+    """Whether the last row of a table has as many retired tasks and instructions as a run's closing lines."""
+    row, retired = out.splitlines()[-1].split(), wanted.splitlines()[-2].split()
+    return row[-1] == b"(all)" and (row[1], row[5]) == (retired[1], retired[3])
 
 
 def no_memory(files):

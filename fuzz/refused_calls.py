@@ -28,9 +28,9 @@ HERE = pathlib.Path(__file__).resolve().parent
 TOP = HERE.parent
 EXAMPLES = TOP / "examples"
 NAME = "calls_of_libraries"
-BELOW = ("mips_plain task_descriptor annotated_asm canonical_text canonical_round_trip task_graph mask_certificate mark_checker "
-         "annotator machine_events unit_core sequencer parallel_check threaded_runner event_script text_pieces shared_fetch jobs "
-         "command_line verdict_report")
+BELOW = ("mips_plain task_descriptor annotated_asm source_map refusal_text canonical_text canonical_round_trip task_graph "
+         "mask_certificate mark_checker annotator finding_paths certificate_remarks diagnostic_text machine_events unit_core sequencer "
+         "parallel_check threaded_runner synchronous_runner event_script text_pieces shared_fetch jobs command_line verdict_report")
 
 SOURCE = r"""
 #define _GNU_SOURCE
@@ -108,11 +108,11 @@ halt
 """
 # Calls on a program alone, on its certificate too, and those that make threads.
 ON_PROGRAM = ["Memory::new", "Program::plain", "Plain::new", "Plain::step", "Plain::run", "assemble", "print",
-              "print_and_assemble", "members", "propose", "certify", "is_sound"]
-ON_BOTH = ["certificate read", "certificate write", "check_task", "verdict", "Accepted::new", "fetch", "Text::append", "Text::pieces"]
+              "print_and_assemble", "members", "propose", "certify", "is_sound", "source_map", "shown_findings", "explain"]
+ON_BOTH = ["fitting", "certificate read", "certificate write", "check_task", "verdict", "Accepted::new", "fetch", "Text::append", "Text::pieces"]
 IN_THREADS = ["read_shared", "verdict_shared", "accepts_shared", "fetch_shared", "run_threads", "run_workers", "serve"]
 # Calls on an accepted program whose run ends.
-ON_ACCEPTED = ["Machine::new", "finish", "Burst::run", "apply_burst", "run_threads"]
+ON_ACCEPTED = ["Machine::new", "finish", "Burst::run", "apply_burst", "run_threads", "run_steps"]
 REFUSED = {"refused: unchanged", "refused: changed", "another fault"}
 
 Case = collections.namedtuple("Case", "call name program certificate script units workers words")
@@ -161,11 +161,13 @@ def of_example(folder, calls, units=2, workers=1):
 
 def served(folder, script="script.events"):
     """Cases of `job_of` and `serve`."""
-    lines = ["seq P", "print P", "annotate P", "annotate P --emit cert", "annotate P --emit keep", "check P C", "check P C --workers 4"]
+    lines = ["seq P", "print P", "annotate P", "annotate P --emit cert", "annotate P --emit keep", "explain P", "explain P C",
+             "check P C", "check P C --workers 4", "check P --least"]
     if folder.name != "five-findings":
-        lines += ["run P C --units 1", "run P C --units 4"]
+        lines += ["run P C --units 1", "run P C --units 4", "run P --least --units 1 --emit summary", "run P C --units 1 --emit svg"]
+        lines += [f"run P C --schedule steps --predict 1,0 --emit {emit}" for emit in ("report", "script", "summary", "svg")]
     if (folder / script).exists():
-        lines.append("replay P C S --units 2")
+        lines += ["replay P C S --units 2", "replay P C S --units 2 --emit summary", "replay P C S --units 2 --emit svg", "replay P --least S"]
     for line in lines:
         for call in ("serve", "job_of"):
             yield Case(call, f"{folder.name}, {line}", folder / "program.s", folder / "certificate.cert2",
@@ -188,8 +190,19 @@ def cases(folder):
             yield from of_example(example, ["run_workers"], units=4, workers=4)
     for name in ("count", "five-findings"):
         yield from served(EXAMPLES / name)
+    yield from refusals()
     yield from scripts()
     yield from made(folder)
+
+
+def refusals():
+    """Texts that are no programs, and one that is no certificate."""
+    for path in sorted((EXAMPLES / "refused").glob("*.s")):
+        if path.stat().st_size < 100_000:
+            yield Case("refusal", path.name, path, path, path, 1, 1, ())
+    program = EXAMPLES / "count" / "program.s"
+    for certificate in (EXAMPLES / "pair" / "certificate.cert2", EXAMPLES / "README.md", program):
+        yield Case("certificate refused", str(certificate.relative_to(EXAMPLES)), program, certificate, program, 1, 1, ())
 
 
 def scripts():

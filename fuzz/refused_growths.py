@@ -10,7 +10,7 @@ on; then one call in 10 or in 100, by a seed, from a drawn one on. For texts at 
 where there are too many calls, those that are refused are drawn. Last, the address
 space and the stack of the process are limited. Each run must either print the case's own bytes
 with its own status, or print nothing, end with status 2 and say one line on standard error:
-`OutOfMemory`, or the file, where the growth was one of reading it. Anything else
+`OutOfMemory`, or the file, where the growth was one of reading it (`explain` adds the reason). Anything else
 (a crash, a run that does not end, half an answer, another status) is told, and
 the script ends with status 1. If the minutes do not suffice, the runs are drawn.
 
@@ -21,7 +21,9 @@ second quarter of them, so that several processes, or several nights, share them
 
 `run` makes threads, and no two runs need ask for memory in the same order: so each
 number is refused three times. Of `run --emit script` no bytes are known
-beforehand: what it prints is replayed, and the replay must end as `run` does.
+beforehand: what it prints is replayed, and the replay must end as `run` does. Nor are those of a picture or a
+table of a run by several workers known: it must be whole, and the table must have the retired tasks and their
+instructions. Of a run by one worker, and of one in steps, all bytes are known.
 
 Needs python3, cc and a program that is linked with the C library of the system at
 run time; it is no part of the tests.
@@ -36,6 +38,7 @@ import resource
 import subprocess
 import sys
 import time
+import xml.etree.ElementTree as tree
 
 import faults
 from faults import EVERY, GROW, TOP, Row, fault
@@ -67,18 +70,34 @@ def example_cases():
             yield ["annotate", program, "--emit", emit]
         if not (folder / "certificate.cert2").exists():
             continue
+        yield ["explain", program, certificate]
         for workers in ("1", "4"):
             yield ["check", program, certificate, "--workers", workers]
-        for units, workers in ((1, 1), (4, 4), (16, 3)):
-            words = ["run", program, certificate, "--units", str(units), "--workers", str(workers)]
-            if folder.name == "spin":
-                words += ["--budget", "2000"]
-            yield words
-            yield [*words, "--emit", "script"]
-            if units == 1:
-                yield [*words, "--emit", "summary"]
+            yield ["check", program, "--least", "--workers", workers]
+        yield from run_cases(folder, program, certificate)
     for workers in ("1", "2", "3", "4", "16"):
         yield ["check", str(SHARED / "large.s"), str(SHARED / "large.cert2"), "--workers", workers]
+
+
+def run_cases(folder, program, certificate):
+    """The words of each run of an example, by threads and in steps, and of replays with pictures and tables."""
+    budget = ["--budget", "2000"] if folder.name == "spin" else []
+    for units, workers in ((1, 1), (4, 4), (16, 3)):
+        words = ["run", program, certificate, "--units", str(units), "--workers", str(workers), *budget]
+        yield words
+        for emit in ("summary", "svg", "script"):
+            if emit == "script" or units < 16:
+                yield [*words, "--emit", emit]
+    yield ["run", program, "--least", *budget]
+    for units in (1, 4, 16):
+        words = ["run", program, certificate, "--schedule", "steps", "--units", str(units), *budget]
+        yield words
+        yield from ([*words, "--emit", emit] for emit in ("summary", "svg", "script") if units == 4)
+    yield ["run", program, "--least", "--schedule", "steps", "--predict", "1,0", *budget, "--emit", "summary"]
+    if (folder / "script.events").exists():
+        script = str(folder / "script.events")
+        yield from (["replay", program, certificate, script, "--units", "2", "--emit", emit] for emit in ("summary", "svg"))
+        yield ["replay", program, "--least", script, "--units", "2"]
 
 
 def refused_cases(folder):
@@ -95,7 +114,14 @@ def refused_cases(folder):
     yield ["print", str(folder / "no-task.s")]
     yield ["explain", str(folder / "program.s")]
     yield ["explain", str(folder / "no-task.s")]
+    yield ["explain", program, str(folder / "no.cert2")]
+    yield ["explain", program, str(EXAMPLES / "pair" / "certificate.cert2")]
+    yield ["explain", str(EXAMPLES / "five-findings" / "program.s"), str(folder / "no.cert2")]
     yield ["check", program, str(folder / "no.cert2")]
+    yield ["check", program]
+    yield ["check", program, certificate, "--least"]
+    yield ["run", program, certificate, "--schedule", "step"]
+    yield ["--version"]
     yield ["replay", program, certificate, str(folder / "no.events")]
     yield ["seq", str(folder / "missing.s")]
 
@@ -119,7 +145,26 @@ def limit_cases(folder):
     yield ["replay", *of("steady.s", "steady.cert2", "steady4.events")]
     yield ["run", *of("steady.s", "steady.cert2"), "--units", "2", "--budget", "100000"]
     yield ["run", *of("steady.s", "steady.cert2"), "--units", "2", "--budget", "100000", "--emit", "script"]
+    for emit in ("report", "summary", "svg"):
+        yield ["run", *of("steady.s", "steady.cert2"), "--schedule", "steps", "--budget", "100000", "--emit", emit]
+    for emit in ("summary", "svg"):
+        yield ["replay", *of("steady.s", "steady.cert2", "steady4.events"), "--emit", emit]
+    yield ["explain", *of("maximal.s", "maximal.cert2")]
+    yield ["check", "--least", *of("maximal.s"), "--workers", "4"]
     yield ["run", *of("long300000.s", "long.cert2"), "--units", "1"]
+
+
+def is_picture(out):
+    """True of a whole picture; of another text, how it ends."""
+    try:
+        return tree.fromstring(out).tag == "{http://www.w3.org/2000/svg}svg"
+    except tree.ParseError:
+        return out[-60:]
+
+
+def retired(table):
+    """Of each row of a table the name, the retired tasks and their instructions."""
+    return [(row.split()[-1], row.split()[1], row.split()[5]) for row in table.splitlines()[1:]]
 
 
 class Case:
@@ -127,19 +172,28 @@ class Case:
 
     def __init__(self, bench, words):
         self.bench, self.words = bench, words
-        self.is_run = words[0] == "run"
+        self.is_run = words[0] == "run" and "steps" not in words
         self.shares = self.is_run or "--workers" in words and "1" not in words
-        self.emits_script = words[-1] == "script"
+        self.emit = words[-1] if self.is_run and words[-2] == "--emit" else None
         self.files = [word for word in words if "/" in word]
+        self.reason = ": out of memory" if words[0] == "explain" else ""
         runs = [bench.run(words) for _ in range(5 if self.shares else 1)]
         self.growths = max(ended.counts[GROW] for ended in runs)
         self.told = runs[0].told
         self.right = self.shown(runs[0])
 
     def shown(self, ended):
-        """Status and bytes; of a script, those of its replay."""
-        if not self.emits_script or ended.status not in (0, 1, 3) or b"refused " in ended.out:
+        """Status and bytes; of a script, those of its replay; of another picture or table, what is known."""
+        if not self.emit or ended.status not in (0, 1, 3) or b"refused " in ended.out:
             return ended.status, ended.out
+        if self.emit == "script":
+            return ended.status, self.replayed(ended)
+        if "1" in self.words:
+            return ended.status, ended.out
+        return ended.status, is_picture(ended.out) if self.emit == "svg" else retired(ended.out) if ended.status != 3 else ended.out[:80]
+
+    def replayed(self, ended):
+        """How the replay of a run's script ends."""
         events = self.bench.folder / "replayed.events"
         events.write_bytes(ended.out)
         units = self.words[self.words.index("--units") + 1]
@@ -148,12 +202,12 @@ class Case:
         count = len(ended.out.splitlines())
         answers, closing = said[:count], said[count:]
         if len(answers) != count or not all(line.endswith(b" ok\n") for line in answers):
-            return ended.status, b"events refused"
+            return b"events refused"
         if ended.status == 3:
             # out of budget: how many instructions were executed by then depends on the threads
             budget = int(self.words[self.words.index("--budget") + 1])
-            return ended.status, b"the budget is used" if count >= budget else b"the budget is left"
-        return ended.status, b"".join(closing)
+            return b"the budget is used" if count >= budget else b"the budget is left"
+        return b"".join(closing)
 
     def judge(self, row, ended, what):
         """Puts what a run answered into the row."""
@@ -162,7 +216,7 @@ class Case:
             row.seen("as with ample memory", self.words, what)
         elif (ended.status, ended.out) == (2, b"") and ended.told in lines:
             row.seen("want of memory", self.words, what)
-        elif (ended.status, ended.out) == (2, b"") and ended.told in [f"multiscalar: file {path}\n".encode() for path in self.files]:
+        elif (ended.status, ended.out) == (2, b"") and ended.told in [f"multiscalar: file {path}{self.reason}\n".encode() for path in self.files]:
             row.seen("want of memory, file named", self.words, what)
         elif ended.status is None:
             row.seen("did not end", self.words, what, True)
@@ -241,7 +295,7 @@ def complete(program, kind, part, of, minutes, only=""):
 
 def every_growth(program):
     """Each growth of the examples refused alone, in as many parts at once as there are cores, as one row."""
-    of = os.cpu_count()
+    of = len(os.sched_getaffinity(0))
     with concurrent.futures.ThreadPoolExecutor(of) as parts:
         rows = list(parts.map(lambda part: complete(program, "examples", part, of, 1e9), range(1, of + 1)))
     answers = sum((collections.Counter(row[2]) for row in rows), collections.Counter())

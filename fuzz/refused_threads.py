@@ -82,11 +82,16 @@ def run_cases(examples):
             continue  # it runs until its budget, and prints what depends on the threads
         for units, workers in ((1, 1), (2, 2), (4, 4), (16, 3), (16, 16)):
             yield ["run", *files, "--units", str(units), "--workers", str(workers)], workers
+        yield ["run", files[0], "--least", "--units", "4"], 4
+        # of a run by one worker each picture and table is the same
+        yield from ((["run", *files, "--units", "1", "--emit", emit], 1) for emit in ("summary", "svg"))
+        # a run in steps makes no thread, so none can be refused
+        yield ["run", *files, "--schedule", "steps"], 0
 
 
 def check_cases(files):
     """The words of each `check`, which can do without any thread."""
-    return [(["check", "--workers", workers, *files], 0) for workers in ("2", "3", "4", "16")]
+    return [(["check", "--workers", workers, *given], 0) for workers in ("2", "3", "4", "16") for given in (files, [files[0], "--least"])]
 
 
 def large_files(folder):
@@ -111,8 +116,10 @@ def runs(program, examples, folder, times, end=float("inf")):
     for words, needed in [*check_cases(shared), *run_cases(examples), *check_cases(large_files(folder))]:
         usual = run(program, words, shim, 0, False, counted)
         threads = int(counted.read_text())
-        if threads == 0:
+        if threads == 0 and "steps" not in words:
             continue  # the checker does not accept the marks
+        if threads and "steps" in words:
+            yield words[0], words, 0, False, (0, b"", b"a run in steps that makes threads"), False, threads
         for number in range(1, threads + 2):
             for onwards in (False, True):
                 for _ in range(times if words[0] == "run" else 1):

@@ -2,17 +2,17 @@
 """Runs everything that looks for faults, and prints one table.
 
     reliability.py --program PATH [--minutes M] [--seed N] [--only PART] [--whole] [--calls FILE] [--fuzzer FILE]
-                   [--kept FOLDERS] [--module FILE] [--write DOCUMENT]
+                   [--kept FOLDERS] [--cases N] [--module FILE] [--write DOCUMENT]
 
 The parts of SHARES are run one after another, each for its share of the minutes. A part that cannot be run, or of
 which something is missing, is named with the reason, in the table's heading. `--fuzzer` is the libFuzzer
 program that entry/build.sh makes, and `--kept` the folders of the cases that it kept (parted by colons): all of them
-are run beside the model, however long that takes, and fuzzing goes on from them. `--module` is the LLVM module of the
+are run beside the model, however long that takes, and fuzzing goes on from them, with `--cases` until so many are made. `--module` is the LLVM module of the
 program (entry/capture.py), for the thread sanitizer; `--calls` is the program of public calls that
 `refused_calls.py --keep` keeps. With `--whole`, each growth of the examples and of those calls is refused, however long
 that takes, and none is drawn. Each part's module has `run(program, minutes, seed)`, which answers
 rows: the part, the number of runs, how often each answer was seen, and the differences, one line each with what
-reproduces it. The table is printed in the form of docs/RELIABILITY.md; with --write it takes the place of the figures
+reproduces it; they go to standard error as soon as a part is done. The table is printed in the form of docs/RELIABILITY.md; with --write it takes the place of the figures
 that stand there. The script ends with status 1 if there is any difference. Needs python3, cc, and what the
 modules say.
 """
@@ -43,6 +43,7 @@ SHARES = {
     "races": 2,
     "model": 2,
     "hostile": 6,
+    "selftest": 1,
 }
 HERE = pathlib.Path(__file__).resolve().parent
 BEGIN, END = "<!-- figures -->\n", "<!-- end of figures -->\n"
@@ -122,7 +123,8 @@ def rows_of(name, part, program, minutes, seed):
     except Exception:
         rows = [(name, 0, {}, [f"the script failed: {traceback.format_exc().strip().splitlines()[-1]}"])]
     print(f"{name}: {(time.monotonic() - begin) / 60:.1f} minutes, {sum(row[1] for row in rows)} runs, "
-          f"{sum(len(row[3]) for row in rows)} differences", file=sys.stderr, flush=True)
+          f"{sum(len(row[3]) for row in rows)} differences", *list(table(rows))[2:-1], *(f"difference: {it}" for row in rows for it in row[3]),
+          sep="\n", file=sys.stderr, flush=True)
     return rows
 
 
@@ -178,6 +180,7 @@ def arguments():
     parser.add_argument("--calls", type=os.path.abspath, help="the program that refused_calls.py keeps")
     parser.add_argument("--fuzzer", type=os.path.abspath, help="the libFuzzer program")
     parser.add_argument("--kept", help="folders of kept cases, parted by colons")
+    parser.add_argument("--cases", type=int, help="go on fuzzing until so many cases are made")
     parser.add_argument("--module", type=os.path.abspath, help="the program's LLVM module")
     parser.add_argument("--write", type=pathlib.Path, metavar="DOCUMENT", help="put the table into this document")
     return parser.parse_args()
@@ -196,7 +199,8 @@ def main():
     more = {
         "refused_growths": {"whole": args.whole},
         "refused_calls": {"calls": args.calls, "whole": args.whole},
-        "hostile": {"fuzzer": args.fuzzer, "kept": args.kept},
+        "hostile": {"fuzzer": args.fuzzer, "kept": args.kept, "cases": args.cases},
+        "selftest": {"fuzzer": args.fuzzer, "calls": args.calls},
         "races": {"module": args.module},
     }
     there, left_out = chosen(args.only, more)

@@ -4,8 +4,8 @@
     schedules.py PROGRAM [--rounds N] [--random N] [--seconds S] [--only WORD]
 
 PROGRAM is the built `multiscalar`. Each example that is accepted is run with 1,
-2, 3, 4 and 16 units, each predictor, and one worker or one for each unit, in N
-rounds (50 by default). A run must put out the words of `seq`, end as
+2, 3, 4 and 16 units, each predictor, and one worker or one for each unit, or in
+steps, in N rounds (50 by default). A run must put out the words of `seq`, end as
 `seq` ends, and count as many instructions; a run that is out of budget must
 have put out a beginning of these words, and none may be where the program halts.
 One run of each kind is kept as an event script: its replay must end with the
@@ -131,6 +131,7 @@ class Prepared:
         for units, predict in itertools.product(UNITS, PREDICTIONS):
             for workers in sorted({1, units}):
                 yield ["--units", str(units), "--workers", str(workers), "--predict", predict, *self.budget]
+            yield ["--units", str(units), "--schedule", "steps", "--predict", predict, *self.budget]
 
     def run(self, kind):
         """What is wrong with a run, if anything is."""

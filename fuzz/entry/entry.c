@@ -3,7 +3,7 @@
  * The program's own `main` and the calls of C that it makes are renamed (build.sh): its words, files,
  * output and heap are those below. A case is two bytes of choices and then a program text, a
  * certificate and a script, parted by lines that are `%%`. The first byte picks the job, the second its
- * options. After each call the answer's form is tested; job 7 tests answers against one another.
+ * options. After each call the answer's form is tested; jobs 7, 14 and 15 test answers against one another.
  */
 #define _GNU_SOURCE
 #include <errno.h>
@@ -23,8 +23,8 @@ int product_main(int, char **);
 typedef struct { const char *at; size_t size; } Text;
 typedef struct { int status; char *out, *err; size_t out_size, err_size; } Answer;
 
-static Text files[3];          /* program, certificate, script: the names p, c and s */
-static size_t places[3];
+static Text files[3];          /* program, certificate, script: the names p, c and s; standard input is the program */
+static size_t places[4];
 static int reads, cut_reads, threads_inline;
 static const char *words[80];
 static size_t word_count;
@@ -60,14 +60,14 @@ int h_open(const char *path, int flags, ...) {
     return -1;
 }
 ssize_t h_read(int file, void *into, size_t size) {
-    if (file < 100 || file > 102) { errno = EBADF; return -1; }
+    if (file && (file < 100 || file > 102)) { errno = EBADF; return -1; }
     if (cut_reads && ++reads % 3 == 0) { errno = EINTR; return -1; }
-    Text *text = &files[file - 100];
-    size_t left = text->size - places[file - 100];
+    Text *text = &files[file ? file - 100 : 0];
+    size_t *place = &places[file ? file - 100 : 3], left = text->size - *place;
     if (size > left) size = left;
     if (cut_reads && size > 1) size = 1 + size * (reads % 7) / 8;
-    memcpy(into, text->at + places[file - 100], size);
-    places[file - 100] += size;
+    memcpy(into, text->at + *place, size);
+    *place += size;
     return size;
 }
 ssize_t h_write(int file, const void *from, size_t size) {
@@ -162,11 +162,11 @@ int h_pthread_detach(pthread_t thread) {
 
 /* What the fuzzer counts beside the edges: one place for each form of an answer. */
 #ifdef FUZZER
-__attribute__((section("__libfuzzer_extra_counters"))) static uint8_t forms[1 << 15];
+__attribute__((section("__libfuzzer_extra_counters"))) static uint8_t forms[1 << 14];
 #else
-static uint8_t forms[1 << 15];
+static uint8_t forms[1 << 14];
 #endif
-static void note(uint32_t form) { forms[form * 2654435761u >> 17] = 1; }
+static void note(uint32_t form) { forms[form * 2654435761u >> 18] = 1; }
 static void note_answer(int job) {
     uint32_t first = job * 8 + answer->status + 1, line = 0;
     for (size_t k = 0, lines = 0; k < answer->out_size && lines < 400; k++) {
@@ -180,7 +180,8 @@ static void note_answer(int job) {
 
 static double worst_seconds;
 static size_t worst_peak;
-static unsigned long cases, calls[8][4];
+enum { JOBS = 16 };
+static unsigned long cases, calls[JOBS][4];
 static double now(clockid_t which) { struct timespec t; clock_gettime(which, &t); return t.tv_sec + t.tv_nsec * 1e-9; }
 
 /* Tells the file HOSTILE_STATUS what was done: the calls of each job with each status, and the worst. */
@@ -189,18 +190,36 @@ static void tell(void) {
     FILE *file = name ? fopen(name, "w") : 0;
     if (!file) return;
     unsigned long all = 0;
-    for (int job = 0; job < 8; job++) for (int k = 0; k < 4; k++) all += calls[job][k];
+    for (int job = 0; job < JOBS; job++) for (int k = 0; k < 4; k++) all += calls[job][k];
     fprintf(file, "cases %lu\ncalls %lu\nworst_seconds %.3f\nworst_peak %zu\n", cases, all, worst_seconds, worst_peak);
-    static const char *const names[] = {"seq", "print", "annotate", "check", "replay", "run", "words", "explain"};
-    for (int job = 0; job < 8; job++)
+    static const char *const names[JOBS] = {"seq", "print", "annotate", "check", "replay", "run", "words", "explain", "explain with a certificate", "run in steps",
+                                            "replay as a picture or a table", "run as a picture or a table", "with --least"};
+    for (int job = 0; job < JOBS; job++)
         for (int k = 0; k < 4; k++) if (calls[job][k]) fprintf(file, "%s:%d %lu\n", names[job], k, calls[job][k]);
     fclose(file);
+}
+
+/* A fault that a self-test plants into each answer of a job, by HOSTILE_PLANT=KIND,JOB: what is found must be this. */
+static char planted_kind;
+static int planted_job;
+static void plant(Answer *into, double *took) {
+    switch (planted_kind) {
+    case 'h': if (into->out_size) into->out_size--; break;                /* half a line */
+    case 'd': for (size_t k = 0; k < into->out_size; k++) if (into->out[k] == '1') into->out[k] = '2'; break; /* other digits */
+    case 's': into->status = into->status == 1 ? 0 : 1; break;            /* another status */
+    case 'e': into->err[into->err_size++] = '!'; break;                   /* the other stream, too */
+    case 'b': blocks++; break;                                            /* a block that is not given back */
+    case 'm': peak += (size_t)96 << 20; break;                            /* too much memory */
+    case 't': *took += 21; break;                                         /* too long */
+    case 'c': abort();
+    }
 }
 
 static void call(Answer *into, int job) {
     answer = into;
     into->out_size = into->err_size = 0;
     reads = 0;
+    places[3] = 0;
     live = peak = blocks = 0;
     double begin = now(CLOCK_PROCESS_CPUTIME_ID);
     int left = setjmp(leave);
@@ -210,6 +229,7 @@ static void call(Answer *into, int job) {
         usleep(waits < 100 ? 20 : 1000);
     }
     double took = now(CLOCK_PROCESS_CPUTIME_ID) - begin;
+    if (planted_kind && job == planted_job) plant(into, &took);
     if (into->status >= 0 && into->status < 4) calls[job][into->status]++;
     if (took > worst_seconds) {
         worst_seconds = took;
@@ -229,7 +249,7 @@ static void call(Answer *into, int job) {
     if (into->status == 2 ? into->out_size || !into->err_size : into->err_size || (!into->out_size && !silent)) fail("the wrong stream");
     if (into->status != 2 && !silent && into->out[into->out_size - 1] != '\n') fail("half a line");
     if (job != 6 && into->status == 2) fail("status 2");
-    if (!left && blocks) fail("blocks that were not given back");
+    if (blocks) fail("blocks that were not given back");
     note_answer(job);
 }
 
@@ -317,9 +337,90 @@ static void agree(unsigned options) {
     }
 }
 
+static const char *const RUN_EMITS[] = {"report", "script", "summary", "svg"};
+/* A run in steps, by the certificate in the file or the least one. */
+static void in_steps(Answer *into, unsigned options, const char *emit, int least) {
+    const char *many = number(0, UNITS[options % 5]), *guess = PREDICTS[options / 5 % 4];
+    if (least) WORDS("run", "--schedule", "steps", "--least", "--units", many, "--budget", "600", "--predict", guess, "--emit", emit, "p");
+    else WORDS("run", "--schedule", "steps", "--units", many, "--budget", "600", "--predict", guess, "--emit", emit, "p", "c");
+    call(into, 9);
+}
+static void replay_of(Answer *into, unsigned options, const char *emit) {
+    WORDS("replay", "--units", number(0, UNITS[options % 5]), "--emit", emit, "p", "c", "s");
+    call(into, strcmp(emit, "answers") ? 10 : 4);
+}
+
+/* Answers that must agree: with the certificate of a program and with `--least`; of a run in steps and of its script. */
+static void agree_in_steps(unsigned options) {
+    WORDS("annotate", "--emit", "keep", "p");
+    call(&a, 2);
+    if (a.status) return;
+    files[1] = (Text){a.out, a.out_size};
+    WORDS("explain", "p");
+    call(&b, 7);
+    WORDS("explain", "p", "c");
+    call(&c, 8);
+    if (!same(&b, &c)) fail("explain finds a program's own certificate wrong");
+    WORDS("check", "p", "c");
+    call(&b, 3);
+    WORDS("check", "--least", "p");
+    call(&c, 12);
+    if (!same(&b, &c)) fail("check --least differs");
+    in_steps(&c, options, "report", 0);
+    in_steps(&d, options, "report", 1);
+    if (!same(&c, &d)) fail("run --least differs");
+    if (b.status) {
+        if (!same(&b, &c)) fail("a run in steps takes what check refuses");
+        return;
+    }
+    in_steps(&b, options, "script", 0);
+    files[2] = (Text){b.out, b.out_size};
+    replay_of(&c, options, "answers");
+    if (strstr(c.out, " refused ")) fail("an event of a run in steps is refused");
+    if (d.status != 3) {
+        const char *replay_end = c.out;
+        for (size_t k = 0; k < b.out_size; k++) if (b.out[k] == '\n') replay_end = strchr(replay_end, '\n') + 1;
+        if (strcmp(replay_end, d.out)) fail("a run in steps and its replay end otherwise");
+    }
+    int status = d.status;
+    in_steps(&c, options, "svg", 0);
+    replay_of(&d, options, "svg");
+    if (c.status != status || c.out_size != d.out_size || memcmp(c.out, d.out, c.out_size)) fail("the picture of a run is not that of its script");
+    in_steps(&c, options, "summary", 0);
+    replay_of(&d, options, "summary");
+    size_t steps = last_lines(&c, 1) - c.out;
+    if (c.status != status || steps != d.out_size || memcmp(c.out, d.out, steps) || strncmp(c.out + steps, "steps ", 6)) fail("the table of a run is not that of its script");
+}
+
+/* Whether an answer that is a refusal, after these words, is told by `explain`, whose answer begins, or goes on, with a line that
+ * ends with it in brackets. */
+static int is_told(const Answer *refused, const char *words, const Answer *said, int first) {
+    char tag[64], *at = said->out, *end;
+    size_t skip = strlen(words), size = refused->out_size - skip - 1;
+    if (strncmp(refused->out, words, skip)) return 1;
+    snprintf(tag, sizeof tag, " [%.*s]", (int)size, refused->out + skip);
+    for (; (end = strchr(at, '\n')); at = end + 1) {
+        size_t line = end - at;
+        if (line >= strlen(tag) && !memcmp(end - strlen(tag), tag, strlen(tag))) return 1;
+        if (first) return 0;
+    }
+    return 0;
+}
+/* What `explain` says beside what `check`, or `print`, says of the same texts. */
+static void explained(int with_certificate) {
+    if (with_certificate) WORDS("explain", "p", "c"); else WORDS("explain", "p");
+    call(&a, with_certificate ? 8 : 7);
+    if (with_certificate) WORDS("check", "p", "c"); else WORDS("print", "p");
+    call(&b, with_certificate ? 3 : 1);
+    if (!is_told(&b, "program refused: ", &a, 1)) fail("explain does not tell the refusal of the program");
+    if (!is_told(&b, "certificate refused: ", &a, 0)) fail("explain does not tell the refusal of the certificate");
+    if (b.status && !a.status) fail("explain finds nothing where something is wrong");
+    if (with_certificate && !b.status && a.status) fail("explain finds something where all is right");
+}
+
 static void one_job(unsigned job, unsigned options) {
     unsigned units = UNITS[options % 5];
-    const char *many = number(0, units), *budget = number(1, BUDGETS[options / 5 % 5]);
+    const char *many = number(0, units), *budget = number(1, BUDGETS[options / 5 % 5]), *guess = PREDICTS[options % 4];
     switch (job) {
     case 0: WORDS("seq", "--budget", budget, "p"); break;
     case 1: WORDS("print", "p"); break;
@@ -328,7 +429,17 @@ static void one_job(unsigned job, unsigned options) {
     case 4: WORDS("replay", "--units", many, "p", "c", "s"); break;
     case 5:
         threads_inline = options / 32 % 8 != 7 || files[0].size % 8;
-        WORDS("run", "--units", many, "--workers", threads_inline ? "1" : many, "--budget", budget, "--predict", PREDICTS[options % 4], "--emit", options & 16 ? "script" : "report", "p", "c");
+        WORDS("run", "--units", many, "--workers", threads_inline ? "1" : many, "--budget", budget, "--predict", guess, "--emit", options & 16 ? "script" : "report", "p", "c");
+        break;
+    case 8: explained(1); return;
+    case 13: explained(0); return;
+    case 9: WORDS("run", "--schedule", "steps", "--units", many, "--budget", budget, "--predict", guess, "--emit", RUN_EMITS[options / 25 % 4], "p", "c"); break;
+    case 10: WORDS("replay", "--units", many, "--emit", options & 16 ? "svg" : "summary", "p", "c", "s"); break;
+    case 11: WORDS("run", "--units", many, "--workers", "1", "--budget", budget, "--predict", guess, "--emit", options & 16 ? "svg" : "summary", "p", "c"); break;
+    default:
+        if (options / 16 % 3 == 0) WORDS("check", "--least", "--workers", number(2, options % 16 + 1), "p");
+        else if (options / 16 % 3 == 1) WORDS("run", "--least", "--units", many, "--workers", "1", "--budget", budget, "--predict", guess, "p");
+        else WORDS("replay", "--least", "--units", many, "p", "s");
     }
     call(&a, job);
 }
@@ -340,6 +451,7 @@ int LLVMFuzzerInitialize(int *count_of, char ***given) {
         all[k]->err = mmap(0, ROOM + 4096, PROT_READ | PROT_WRITE, MAP_PRIVATE | MAP_ANONYMOUS | MAP_NORESERVE, -1, 0);
     }
     main_thread = pthread_self();
+    if (getenv("HOSTILE_PLANT")) sscanf(getenv("HOSTILE_PLANT"), "%c,%d", &planted_kind, &planted_job);
     atexit(tell);
     return 0;
 }
@@ -347,7 +459,7 @@ int LLVMFuzzerInitialize(int *count_of, char ***given) {
 int LLVMFuzzerTestOneInput(const uint8_t *data, size_t size) {
     if (cases++ % 1024 == 1023) tell();
     if (size < 2) return 0;
-    unsigned job = data[0] % 8, options = data[1];
+    unsigned job = data[0] % JOBS, options = data[1];
     cut_reads = data[0] >> 7;
     threads_inline = 1;
     Text parts[4] = {{0}};
@@ -359,7 +471,8 @@ int LLVMFuzzerTestOneInput(const uint8_t *data, size_t size) {
         at = cut ? cut + 3 : end;
     }
     memcpy(files, parts, sizeof files);
-    if (job == 7) agree(options);
+    if (job == 7 || job == 15) agree(options);
+    else if (job == 14) agree_in_steps(options);
     else if (job == 6) {
         static char copy[4096];
         size_t used = parts[0].size < 4095 ? parts[0].size : 4095;
@@ -375,7 +488,10 @@ int LLVMFuzzerTestOneInput(const uint8_t *data, size_t size) {
         }
         /* Threads take long where other work is beside them: most runs get no certificate, and so make none. */
         threads_inline = word_count < 2 || strcmp(words[1], "run");
-        if (!threads_inline && files[0].size % 32) files[1].size = 0;
+        if (!threads_inline && files[0].size % 32) {
+            files[1].size = 0;
+            for (size_t k = 2; k < word_count; k++) if (!strcmp(words[k], "--least")) files[0].size = 0;
+        }
         call(&a, 6);
     } else one_job(job, options);
     return 0;

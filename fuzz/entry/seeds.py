@@ -6,18 +6,18 @@ from corners import corners
 from programs import TOKS
 lat = lambda s: s if isinstance(s, bytes) else s.encode('latin-1')
 def case(job, options, *texts): return bytes([job, options]) + b'%%\n'.join(t if t.endswith(b'\n') or k == len(texts) - 1 else t + b'\n' for k, t in enumerate(map(lat, texts)))
-WORDS = ['seq\np', 'seq\n--budget\n17\np', 'seq\n--budget=1000000\np', 'print\np', 'print\n--\np', 'explain\np', 'explain\n--\np', 'explain\n--help', 'explain\np\nc', 'annotate\n--emit\ntext\np', 'annotate\np\n--emit=cert', 'annotate\n--emit\nkeep\np', 'check\np\nc', 'check\n--workers\n16\np\nc', 'replay\n--units\n2\np\nc\ns', 'replay\np\nc\ns\n--emit\nsummary', 'run\n--units\n1\n--emit=summary\np\nc', 'run\np\nc\n--units=3\n--workers=2\n--predict=1,0\n--emit=script', 'run\n--units\n4\n--budget\n100\n--predict\nlast\np\nc', 'help', 'help\nrun', '--help', '-h', 'run\n-h', 'help\nhelp', 'seq\n--help', 'seq\nq', '--version', 'seq\n-x\np', 'seq\n--budget\n0\np', 'seq\n--budget\n1000001\np', 'run\n--predict\n16\np\nc', 'seq\np\np', 'se\np', 'check\n--worker\n2\np\nc', '', 'run\n--units\n\np\nc', 'replay\n--units=-1\np\nc\ns', 'seq\n--\n--budget', 'seq\n--budget\n3\n--budget\n4\np', 'seq\n\xff\xfe', 'seq\n' + 'x' * 3000]
+WORDS = ['seq\np', 'seq\n--budget\n17\np', 'seq\n--budget=1000000\np', 'print\np', 'print\n--\np', 'explain\np', 'explain\n--\np', 'explain\n--help', 'explain\np\nc', 'explain\n-', 'explain\nc\np', 'check\n--least\np', 'check\np\n-', 'check\n--least\n--workers=3\n-', 'check\n--least\np\nc', 'check\np', 'check\n-\n-', 'run\n--least\np', 'run\n--least\n--schedule\nsteps\np', 'run\n--schedule=steps\n--units=16\n--emit=svg\np\nc', 'run\n--schedule=steps\n--emit=summary\n--predict=3,1,2,0,15\n--least\np', 'run\n--schedule\nsteps\n--emit\nscript\n--budget\n60\np\nc', 'run\n--schedule\nstep\np\nc', 'run\n--schedule=threads\n--workers=2\np\nc', 'run\n--units=3\n--workers=1\n--emit=svg\np\nc', 'replay\n--least\np\ns', 'replay\n--least\n--emit=svg\np\ns', 'replay\n--emit\nsvg\n--units\n2\np\nc\ns', 'replay\n--least\np\nc\ns', 'replay\np\ns', '-V', 'run\n--least=1\np', 'annotate\n-', 'annotate\n--emit\ntext\np', 'annotate\np\n--emit=cert', 'annotate\n--emit\nkeep\np', 'check\np\nc', 'check\n--workers\n16\np\nc', 'replay\n--units\n2\np\nc\ns', 'replay\np\nc\ns\n--emit\nsummary', 'run\n--units\n1\n--emit=summary\np\nc', 'run\np\nc\n--units=3\n--workers=2\n--predict=1,0\n--emit=script', 'run\n--units\n4\n--budget\n100\n--predict\nlast\np\nc', 'help', 'help\nrun', '--help', '-h', 'run\n-h', 'help\nhelp', 'seq\n--help', 'seq\nq', '--version', 'seq\n-x\np', 'seq\n--budget\n0\np', 'seq\n--budget\n1000001\np', 'run\n--predict\n16\np\nc', 'seq\np\np', 'se\np', 'check\n--worker\n2\np\nc', '', 'run\n--units\n\np\nc', 'replay\n--units=-1\np\nc\ns', 'seq\n--\n--budget', 'seq\n--budget\n3\n--budget\n4\np', 'seq\n\xff\xfe', 'seq\n' + 'x' * 3000]
 def cases(count, seed):
     R.seed(seed)
     for w in WORDS:
         p, l = accepted(5); yield case(6, 0, w, print_program(p), cert_text(l, p, 2), '\n'.join(events_for(Machine(p, 4), 9)))
     some = corners(); R.shuffle(some)
-    for t in some[:count // 4]: yield case(R.choice([1, 1, 0, 2, 7]), R.randrange(256), t)
+    for t in some[:count // 4]: yield case(R.choice([1, 0, 2, 7, 13, 13, 14]), R.randrange(256), t)
     for _ in range(count):
         x = R.random()
-        if x < .3: yield case(R.choice([0, 1, 2, 7, 7]), R.randrange(256), program()); continue
+        if x < .3: yield case(R.choice([0, 1, 2, 7, 12, 13, 13]), R.randrange(256), program()); continue
         p, lists = accepted(R.choice([3, 5, 8, 12])); t = print_program(p)
-        if x < .5: yield case(7, R.randrange(256), t); continue
+        if x < .5: yield case(R.choice([7, 12, 14, 14]), R.randrange(256), t); continue
         sp = 2 if any(m >> 32 for l in lists for _, m in l) or R.random() < .5 else 1
         c = cert_text(lists, p, sp)
         if x < .7:
@@ -25,13 +25,13 @@ def cases(count, seed):
                 l = R.choice(lists)
                 if l: i = R.randrange(len(l)); l[i] = (l[i][0], l[i][1] ^ 1 << R.randrange(34))
             if not any(m >> 32 for l in lists for _, m in l) or sp == 2: c = cert_text(lists, p, sp)
-            yield case(3, R.randrange(256), t, c); continue
-        if x < .8: yield case(5, R.randrange(256), t, c); continue
+            yield case(R.choice([3, 8, 8]), R.randrange(256), t, c); continue
+        if x < .8: yield case(R.choice([5, 9, 9, 11]), R.randrange(256), t, c); continue
         k = R.randrange(5); u = [1, 2, 3, 4, 16][k]
-        yield case(4, k, t, c, '\n'.join(events_for(Machine(p, u), R.choice([5, 30, 60]))) + R.choice(['', '\n']))
+        yield case(R.choice([4, 10, 10, 12]), k + 5 * R.randrange(51), t, c, '\n'.join(events_for(Machine(p, u), R.choice([5, 30, 60]))) + R.choice(['', '\n']))
 def dictionary():
     words = set(TOKS) | set(THREE + SHIFTBY + SHIFTVAR + IMM + LOGIC + MULT + MOVEFROM + MOVETO + LOAD + STORE + BR2 + BR1)
-    words |= {'lui', 'jal', 'move', 'cert 1\n', 'cert 2\n', 'task T0\n', ' 0000000000000000\n', ' 00000000\n', '%%\n', '!s\n', ' !f', ' !st\n', ' !sn\n', 'halt\n', 'create=', 'targets=', '.task A create=- targets=-\n', 'A: ', '.start A\n', '@1', '$hi', '$lo', '.space 65536\n', '--budget\n', '--units\n', '--workers\n', '--predict\n', '--emit\n', '--emit=', 'script\n', 'report\n', 'first\n', 'last\n', 'seq\n', 'run\n', 'check\n', 'replay\n', 'annotate\n', 'explain\n', 'summary\n', 'answers\n', 'print\n', 'help\n', '--help\n', '-h\n', '--\n', '=', 'p\n', 'c\n', 's\n'}
+    words |= {'lui', 'jal', 'move', 'cert 1\n', 'cert 2\n', 'task T0\n', ' 0000000000000000\n', ' 00000000\n', '%%\n', '!s\n', ' !f', ' !st\n', ' !sn\n', 'halt\n', 'create=', 'targets=', '.task A create=- targets=-\n', 'A: ', '.start A\n', '@1', '$hi', '$lo', '.space 65536\n', '--budget\n', '--units\n', '--workers\n', '--predict\n', '--emit\n', '--emit=', 'script\n', 'report\n', 'first\n', 'last\n', 'seq\n', 'run\n', 'check\n', 'replay\n', 'annotate\n', 'explain\n', 'summary\n', 'svg\n', 'answers\n', '--least\n', '--schedule\n', '--schedule=', 'steps\n', 'threads\n', '-\n', '-V\n', '--version\n', 'print\n', 'help\n', '--help\n', '-h\n', '--\n', '=', 'p\n', 'c\n', 's\n'}
     words |= {w + '\n' for w in ('assign T0', 'assign T1', 'exec 0', 'exec 1', 'transfer 1 $8', 'drain 0 $8', 'squash 0', 'retire', 'fault', 'drop 1')}
     return ''.join('"%s"\n' % ''.join(chr(b) if 32 <= b < 127 and b not in b'"\\' else '\\x%02x' % b for b in lat(w)) for w in sorted(words) if w)
 if __name__ == '__main__':

@@ -1,0 +1,342 @@
+#!/usr/bin/env python3
+"""Plants faults, and looks whether the scripts of this folder find them.
+
+    selftest.py PROGRAM [--fuzzer FILE] [--calls FILE] [--only WORD]
+
+A script that finds nothing may look for nothing. So each script is given a program that has a fault in one kind of job:
+a runner, which is linked statically so that the libraries of faults.py leave it alone, starts PROGRAM and spoils what
+it answers. It does so only where the words of the command line have those that a plant names, such as `run steps svg`:
+so it is seen, too, that the script tries that job. For each script and job the table says what was planted and whether
+it was found. `--fuzzer` is that of entry/build.sh, `--calls` the program that refused_calls.py keeps. The script ends with
+status 1 if a fault was not found. Needs python3 and cc, and root for one part; it is no part of the tests.
+"""
+import argparse
+import contextlib
+import io
+import os
+import pathlib
+import random
+import subprocess
+import sys
+import tempfile
+import time
+
+import ended_runs
+import explain
+import failed_calls
+import faults
+import hostile
+import limits
+import load
+import picture
+import refused_calls
+import refused_growths
+import refused_threads
+import schedules
+
+HERE = pathlib.Path(__file__).resolve().parent
+
+# PROGRAM, KIND and WORDS: the program, what is planted, and the words that the command line must have.
+RUNNER = r"""
+#define _GNU_SOURCE
+#include <signal.h>
+#include <stdio.h>
+#include <stdlib.h>
+#include <string.h>
+#include <sys/wait.h>
+#include <time.h>
+#include <unistd.h>
+static int has(int count, char **words, const char *word, size_t size) {
+    for (int k = 1; k < count; k++) if (strlen(words[k]) >= size && memmem(words[k], strlen(words[k]), word, size)) return 1;
+    return 0;
+}
+static char *all(int file, size_t *size) {
+    size_t room = 1 << 16;
+    char *text = malloc(room);
+    for (ssize_t got; (got = read(file, text + *size, room - *size)) > 0;)
+        if ((*size += got) == room) text = realloc(text, room *= 2);
+    return text;
+}
+static void put(int file, const char *text, size_t size) {
+    for (ssize_t done; size && (done = write(file, text, size)) > 0; size -= done) text += done;
+}
+int main(int count, char **words) {
+    const char *kind = getenv("KIND"), *needed = getenv("WORDS"), *program = getenv("PROGRAM");
+    int is_meant = 1;
+    for (const char *at = needed; *at; at += strspn(at, " ")) {
+        size_t size = strcspn(at, " ");
+        is_meant &= has(count, words, at, size);
+        at += size;
+    }
+    if (getenv("ONLY_FAULTS") && !(getenv("FAULTS") && *getenv("FAULTS"))) is_meant = 0;
+    if (is_meant && !strcmp(kind, "deaf")) for (int k = 1; k < 32; k++) if (k != SIGPIPE) signal(k, SIG_IGN);
+    if (is_meant && !strcmp(kind, "large")) { size_t size = 2000 << 20; memset(malloc(size), 1, size); }
+    if (!is_meant || !strcmp(kind, "deaf") || !strcmp(kind, "large")) { execv(program, words); _exit(126); }
+    if (!strcmp(kind, "slow")) {  /* a time that grows with the square of the longest file */
+        double longest = 0;
+        for (int k = 2; k < count; k++) { FILE *file = fopen(words[k], "r"); if (file) { fseek(file, 0, SEEK_END); double size = ftell(file); if (size > longest) longest = size; fclose(file); } }
+        for (volatile double turns = longest * longest / 1e6; turns > 0; turns--) {}
+    }
+    int out[2], told[2], status;
+    if (pipe(out) || pipe(told)) _exit(126);
+    pid_t child = fork();
+    if (!child) {
+        dup2(out[1], 1); dup2(told[1], 2);
+        close(out[0]); close(out[1]); close(told[0]); close(told[1]);
+        execv(program, words);
+        _exit(126);
+    }
+    close(out[1]); close(told[1]);
+    size_t out_size = 0, told_size = 0;
+    char *text = all(out[0], &out_size), *errors = all(told[0], &told_size);
+    waitpid(child, &status, 0);
+    if (WIFSIGNALED(status)) { signal(WTERMSIG(status), SIG_DFL); raise(WTERMSIG(status)); }
+    status = WEXITSTATUS(status);
+    int seldom = !strcmp(kind, "seldom");
+    struct timespec now;
+    clock_gettime(CLOCK_REALTIME, &now);
+    if (!strcmp(kind, "digit") || (seldom && now.tv_nsec / 1000 % 8 == 0)) {
+        size_t at = 0;
+        while (at < out_size && !(text[at] >= '0' && text[at] <= '9')) at++;
+        if (at < out_size) text[at] = '0' + (text[at] - '0' + 1) % 10;
+        else { put(1, "1\n", 2); status = 1; }
+    }
+    if (!strcmp(kind, "wrong")) {  /* another status, and another byte of the answer */
+        status = status == 2 ? 1 : 2;
+        if (out_size) text[0] ^= 1;
+    }
+    if (status == 2 && !strcmp(kind, "crash")) raise(SIGSEGV);
+    if (status == 2 && !strcmp(kind, "half")) put(1, "retired", 7);
+    if (status == 2 && !strcmp(kind, "status")) status = 1;
+    if (status == 2 && !strcmp(kind, "silent")) told_size = 0;
+    put(1, text, out_size);
+    put(2, errors, told_size);
+    _exit(status);
+}
+"""
+
+# The kinds of jobs that a script has to try: a name, and words of the command line that only such a job has.
+RUNS = [("run by threads", "run cert"), ("run, script", "run script"), ("run, table", "run summary"), ("run, picture", "run svg"),
+        ("run in steps", "run steps"), ("run in steps, script", "run steps script"), ("run in steps, table", "run steps summary"), ("run in steps, picture", "run steps svg"),
+        ("run --least", "run --least")]
+JOBS = [("seq", "seq"), ("print", "print"), ("annotate", "annotate"), ("explain", "explain"), ("explain with a certificate", "explain cert"),
+        ("check", "check cert"), ("check --least", "check --least"), ("check by threads", "check 4"), ("replay", "replay cert"),
+        ("replay, table", "replay summary"), ("replay, picture", "replay svg"), ("replay --least", "replay --least"), *RUNS]
+
+
+class Planted:
+    """The runner, and the environment that plants a fault."""
+
+    def __init__(self, program, folder):
+        source, self.runner = folder / "runner.c", folder / "runner"
+        source.write_text(RUNNER)
+        subprocess.run(["cc", "-O1", "-static", "-w", "-o", self.runner, source], check=True)
+        folder.chmod(0o755)
+        os.environ["PROGRAM"] = str(pathlib.Path(program).resolve())
+
+    def plant(self, kind, words="", only_faults=False):
+        os.environ.update(KIND=kind, WORDS=words)
+        os.environ.pop("ONLY_FAULTS", None)
+        if only_faults:
+            os.environ["ONLY_FAULTS"] = "1"
+        return str(self.runner)
+
+
+def has(words, needed):
+    """Whether a command line has these words, as the runner sees it."""
+    return all(any(word in given for given in words[1:] + words[:1]) for word in needed.split())
+
+
+def first(cases, needed):
+    """The first command line that has these words, of an example that is not long."""
+    return next((words for words in cases if has(words, needed) and "spin" not in " ".join(words)), None)
+
+
+def growths(planted):
+    """refused_growths.py: in each job a crash, half an answer, or another status, where memory is refused."""
+    for (name, needed), kind in zip(JOBS, ["crash", "half", "status", "silent"] * 9):
+        with faults.Bench(planted.plant("none", "no such word")) as bench:
+            words = first(refused_growths.example_cases(), needed)
+            if not words:
+                yield name, kind, False
+                continue
+            case, row = refused_growths.Case(bench, words), faults.Row(name)
+            planted.plant(kind, needed)
+            for n in range(1, min(case.growths, 12) + 1):
+                case.judge(row, bench.run(words, refused_growths.refusal(n, n)), "")
+            yield name, kind, bool(row.differences)
+
+
+def calls(planted):
+    """failed_calls.py: each part, with another status and answer in all jobs; and each job, in the part of failing reads."""
+    draw = random.Random(1)
+    with faults.Bench(planted.plant("none", "no such word")) as good, faults.Bench(planted.runner) as bad:
+        every = [case for case in failed_calls.cases(good) if any(f"/{name}/" in " ".join(case.words) for name in ("count", "five-findings"))]
+        for name, runs in zip(failed_calls.EXPECTED, failed_calls.RUNS):
+            placed = name.startswith("reads by places") or "size of a file" in name
+            # what is right is known by other runs of the same program, which must answer as ever
+            needed = "4" if "about as long" in name else "null" if name == "empty inputs" else ""
+            planted.plant("wrong", needed, only_faults=placed and not needed or name in ("a read finds the end too early", "a file is cut while it is read", "a file grows while it is read"))
+            part = failed_calls.Part(name, bad, time.monotonic() + (20 if placed else 4))
+            runs(part, every[:] if not placed else [case for case in every if case.right.counts[faults.SIZE]], draw)
+            planted.plant("none", "no such word")
+            yield name, "another answer", bool(part.row.differences)
+        for name, needed in JOBS:
+            chosen = [case for case in every if has(case.words, needed)][:2]
+            planted.plant("wrong", needed)
+            part = failed_calls.Part(name, bad, time.monotonic() + 4)
+            failed_calls.failing_read(part, chosen, draw)
+            planted.plant("none", "no such word")
+            yield f"a read fails, {name}", "another answer", bool(part.row.differences)
+
+
+def signals(planted):
+    """ended_runs.py: a program that heeds no signal."""
+    for name, needed in (("seq", "seq"), ("run in steps", "run steps"), ("explain with a certificate", "explain cert")):
+        with faults.Bench(planted.plant("deaf", needed)) as bench:
+            bench.program, every = planted.plant("none", "no such word"), None
+            every = [case for case in failed_calls.cases(bench) if has(case.words, needed)]
+            row, planted_cases = faults.Row(name), failed_calls.cases
+            ended_runs.cases = lambda _: every
+            planted.plant("deaf", needed)
+            ended_runs.in_a_call(row, bench, random.Random(1), time.monotonic() + 3)
+            ended_runs.cases = planted_cases
+            yield name, "deaf to signals", bool(row.differences)
+
+
+def hostile_bytes(planted):
+    """hostile.py: in each job another digit; the fuzzer's own plants are in `fuzzer`."""
+    cases = list(hostile.seeds.cases(700, 3))
+    by_name = {"seq": (0,), "print": (1,), "annotate": (2,), "explain": (13,), "explain with a certificate": (8,), "check": (3,),
+               "check --least": (12, 14), "replay": (4,), "replay, table": (10,), "replay, picture": (10,), "replay --least": (12,), "run by threads": (5,),
+               "run, script": (5,), "run, table": (11,), "run, picture": (11,), "run in steps": (9,), "run in steps, script": (9, 14),
+               "run in steps, table": (9, 14), "run in steps, picture": (9, 14), "run --least": (12,)}
+    for name, needed in JOBS:
+        if name not in by_name:
+            continue
+        chosen = [case for case in cases if case[0] % 16 in by_name[name]][:150]
+        needed = needed.replace(" cert", " c" if "explain" not in needed else "")
+        runner = planted.plant("digit", needed)
+        _, _, differences, _ = hostile.compare(runner, time.monotonic() + 20, chosen)
+        yield name, "another digit", bool(differences)
+    *_, differences = hostile.timed(planted.plant("slow", "print"), 0.5, 1, "a long comment")
+    yield "inputs that are worst for time", "a time that grows with the square", bool(differences)
+
+
+def fuzzer(planted, program):
+    """The fuzzer: in each job half a line, another digit or status, the other stream, a block, memory, time, a crash."""
+    plants = ["h,0", "d,1", "t,2", "s,3", "d,4", "d,5", "d,7", "d,8", "s,8", "b,8", "d,9", "e,9", "d,10", "m,10", "h,11", "d,12", "c,6"]
+    with tempfile.TemporaryDirectory() as folder:
+        corpus = pathlib.Path(folder) / "corpus"
+        corpus.mkdir()
+        hostile.begun(corpus, None, 1)
+        for it in plants:
+            done = subprocess.run([program, *hostile.FUZZING, "-runs=3000", f"-artifact_prefix={folder}/", str(corpus)], capture_output=True,
+                                  env=dict(os.environ, HOSTILE_PLANT=it))
+            yield f"job {it[2:]}", {"h": "half a line", "d": "other digits", "s": "another status", "e": "the other stream", "b": "a block that is kept",
+                                    "m": "much memory", "t": "a long time", "c": "a crash"}[it[0]], done.returncode != 0
+
+
+def memory(planted):
+    """limits.py: a program that takes 2 GB."""
+    for kind, needed in (("the most tasks, in steps", "steps svg"), ("the most tasks", "summary")):
+        rows = limits.run(planted.plant("large", needed), only=kind)
+        yield kind, "2 GB of memory", any(row[3] for row in rows)
+
+
+def threads(planted):
+    """schedules.py, load.py and refused_threads.py: one run in eight with another digit, and another status for want of a thread."""
+    for name, needed in (("run by threads", "--workers"), ("run in steps", "steps")):
+        _, differences, _ = schedules.perform(planted.plant("seldom", f"run {needed}"), 3, 60, 0, "count")
+        yield f"schedules.py: {name}", "sometimes another digit", bool(differences)
+    for how, needed in (("all cores", "report"), ("calls that sleep", "script"), ("threads that stop at random moments", "summary"), ("all cores", "svg"), ("small stacks", "--least")):
+        rows = load.run(planted.plant("digit" if needed != "svg" else "wrong", f"run {needed} given"), 0.4, 1, kinds=[how])
+        yield f"load.py: {how}, {needed}", "another digit", any(row[3] for row in rows)
+    with tempfile.TemporaryDirectory() as folder:
+        for name, needed in (("run", "run count"), ("run --least", "run --least")):
+            found, runner = False, planted.plant("status", needed)
+            for *_, is_right, _ in refused_threads.runs(runner, faults.TOP / "examples", pathlib.Path(folder), 1, time.monotonic() + 30):
+                if not is_right:
+                    found = True
+                    break
+            yield f"refused_threads.py: {name}", "another status", found
+
+
+def beside_the_model(planted):
+    """fuzz.py, explain.py and picture.py: another digit."""
+    for name, needed in (("run in steps", "run steps"), ("replay", "replay"), ("check --least", "check --least")):
+        with tempfile.TemporaryDirectory() as folder:
+            done = subprocess.run([sys.executable, str(HERE / "fuzz.py"), planted.plant("digit", needed), "--seconds", "20", "--seed", "1", "--max", "1",
+                                   "--subs", needed.split()[0], "--out", f"{folder}/findings"], capture_output=True)
+        yield f"fuzz.py: {name}", "another digit", done.returncode == 1
+    for name, needed in (("explain", "explain"), ("explain with a certificate", "explain c")):
+        runner = planted.plant("digit", needed)
+        done = subprocess.run([sys.executable, str(HERE / "explain.py"), runner, "--seconds", "20", "--seed", "1"], capture_output=True)
+        yield f"explain.py: {name}", "another digit", done.returncode == 1
+    done = subprocess.run([sys.executable, str(HERE / "picture.py"), "--program", planted.plant("none", "no such word"), str(faults.TOP / "examples" / "count")], capture_output=True)
+    yield "picture.py: the pictures as they are", "nothing", done.returncode == 0
+    for needed in ("replay svg", "run steps svg"):
+        done = subprocess.run([sys.executable, str(HERE / "picture.py"), "--program", planted.plant("digit", needed), str(faults.TOP / "examples" / "count")], capture_output=True)
+        yield f"picture.py: {needed}", "another digit", done.returncode == 1
+
+
+def calls_of_libraries(planted, program):
+    """refused_calls.py: an answer that is another after a refusal."""
+    for call in ("assemble", "explain", "run_steps", "certificate refused", "fitting", "serve"):
+        os.environ["PROGRAM"] = str(program)
+        rows = refused_calls.run(planted.plant("none", "no such word"), 0.1, only=call)
+        good = sum(row.runs for row in rows) > 0 and not any(row.differences for row in rows)
+        rows = []
+        with contextlib.suppress(Exception):
+            rows = refused_calls.run(planted.plant("digit", call.split()[0]), 0.1, only=call)
+        yield call, "another digit", good and any(row.differences for row in rows)
+
+
+def parts_of(fuzzer_of, calls_of):
+    """The parts, and what plants faults for each."""
+    parts = {"refused_growths": growths, "failed_calls": calls, "ended_runs": signals, "hostile": hostile_bytes, "limits": memory,
+             "threads": threads, "model": beside_the_model}
+    if fuzzer_of:
+        parts["fuzzer"] = lambda planted: fuzzer(planted, fuzzer_of)
+    if calls_of:
+        parts["refused_calls"] = lambda planted: calls_of_libraries(planted, calls_of)
+    return parts
+
+
+def run(program, minutes, seed, fuzzer=None, calls=None):
+    """The row for the table, however long it takes: how many faults were planted, and which were not found."""
+    tried, missed, kept = 0, [], dict(os.environ)
+    with tempfile.TemporaryDirectory(prefix="multiscalar-planted-") as name:
+        planted = Planted(program, pathlib.Path(name))
+        for part, plants in parts_of(fuzzer, calls).items():
+            for where, what, found in plants(planted):
+                tried += 1
+                missed += [] if found else [f"{part}, {where}: {what} was not found"]
+    os.environ.clear()
+    os.environ.update(kept)
+    return [("faults planted, to see whether these scripts find them", tried, {"found": tried - len(missed)}, missed)]
+
+
+def main():
+    parser = argparse.ArgumentParser(description=__doc__, formatter_class=argparse.RawDescriptionHelpFormatter)
+    parser.add_argument("program", metavar="PROGRAM")
+    parser.add_argument("--fuzzer", type=os.path.abspath)
+    parser.add_argument("--calls", type=os.path.abspath)
+    parser.add_argument("--only", default="", help="only the parts whose name has this")
+    given = parser.parse_args()
+    missed = tried = 0
+    with tempfile.TemporaryDirectory(prefix="multiscalar-planted-") as name:
+        planted = Planted(given.program, pathlib.Path(name))
+        print("| Script | Where | Planted | Found |\n|---|---|---|---|")
+        for part, plants in parts_of(given.fuzzer, given.calls).items():
+            if given.only not in part:
+                continue
+            for where, what, found in plants(planted):
+                tried, missed = tried + 1, missed + (not found)
+                print(f"| {part} | {where} | {what} | {'yes' if found else 'NO'} |", flush=True)
+    print(f"{tried} planted, {missed} not found")
+    return 1 if missed else 0
+
+
+if __name__ == "__main__":
+    sys.exit(main())
