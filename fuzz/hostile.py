@@ -350,7 +350,7 @@ def compared(program, kept, minutes, seed):
 
 
 # A case is kept where it comes to a new edge; shorter ones are as good, and quicker.
-FUZZING = ["-entropic=0", "-max_len=2048", "-timeout=120", "-rss_limit_mb=4000", "-reload=0"]
+FUZZING = ["-entropic=0", "-max_len=2048", "-timeout=900", "-rss_limit_mb=4000", "-reload=0"]
 
 
 def begun(corpus, kept, seed):

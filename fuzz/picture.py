@@ -6,7 +6,7 @@
 
 The first form reads a picture and the event script that it shows. The second
 runs the built `multiscalar`: for each example that has a certificate it records
-runs on 1, 2, 4 and 16 units, and draws the replay of each. From the script alone,
+runs on 1, 2, 4 and 16 units, and draws the replay of each; runs in steps are drawn, too. From the script alone,
 by a model of its own, this computes the lives of the tasks, the instructions, the
 registers passed on and the squashes. The picture must be well-formed XML with no
 script and no reference outside, and must have exactly these: for each life one bar
@@ -182,6 +182,9 @@ def pictures_of(program, folder):
             file.write(script)
             file.flush()
             yield units, script.decode(), run(program, "replay", "--emit", "svg", "--units", units, *texts, file.name)
+        # a run in steps is the same each time
+        steps = ["run", "--schedule", "steps", "--units", units, *texts, "--emit"]
+        yield units, run(program, *steps, "script").decode(), run(program, *steps, "svg")
 
 
 def main():

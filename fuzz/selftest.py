@@ -250,12 +250,12 @@ def threads(planted):
         _, differences, _ = schedules.perform(planted.plant("seldom", f"run {needed}"), 3, 60, 0, "count")
         yield f"schedules.py: {name}", "sometimes another digit", bool(differences)
     for how, needed in (("all cores", "report"), ("calls that sleep", "script"), ("threads that stop at random moments", "summary"), ("all cores", "svg"), ("small stacks", "--least")):
-        rows = load.run(planted.plant("digit" if needed != "svg" else "wrong", f"run {needed} given"), 0.4, 1, kinds=[how])
+        rows = load.run(planted.plant("digit" if needed != "svg" else "wrong", f"run {needed} given"), 2, 1, kinds=[how])
         yield f"load.py: {how}, {needed}", "another digit", any(row[3] for row in rows)
     with tempfile.TemporaryDirectory() as folder:
         for name, needed in (("run", "run count"), ("run --least", "run --least")):
             found, runner = False, planted.plant("status", needed)
-            for *_, is_right, _ in refused_threads.runs(runner, faults.TOP / "examples", pathlib.Path(folder), 1, time.monotonic() + 30):
+            for *_, is_right, _ in refused_threads.runs(runner, faults.TOP / "examples", pathlib.Path(folder), 1, time.monotonic() + 120):
                 if not is_right:
                     found = True
                     break
@@ -288,8 +288,8 @@ def calls_of_libraries(planted, program):
         good = sum(row.runs for row in rows) > 0 and not any(row.differences for row in rows)
         rows = []
         with contextlib.suppress(Exception):
-            rows = refused_calls.run(planted.plant("digit", call.split()[0]), 0.1, only=call)
-        yield call, "another digit", good and any(row.differences for row in rows)
+            rows = refused_calls.run(planted.plant("seldom", call.split()[0]), 0.5, only=call)
+        yield call, "sometimes another digit", good and any(row.differences for row in rows)
 
 
 def parts_of(fuzzer_of, calls_of):
