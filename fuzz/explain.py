@@ -5,7 +5,7 @@ Takes random programs whose marks are right, plants wrong marks, and lays the te
 lines of their own or before their statement, blanks, comments, blank lines. For each it compares the
 diagnostics with the model's: places, sentences, that each path is a path inside the task, that it leads
 where the rule says, and that none is shorter. Then it follows each help alone, and that finding must be
-gone. PROGRAM is the built `multiscalar`.
+gone. It asks for no warnings, which `costly_marks.py` compares. PROGRAM is the built `multiscalar`.
 """
 import argparse
 import collections
@@ -337,14 +337,14 @@ class Bench:
         self.folder = tempfile.mkdtemp(prefix="explain")
         self.counts = collections.Counter()
 
-    def explain(self, text):
+    def explain(self, text, *options):
         with open(os.path.join(self.folder, "p.s"), "w") as file:
             file.write(text)
-        run = subprocess.run([self.program, "explain", "p.s"], cwd=self.folder, capture_output=True)
+        run = subprocess.run([self.program, "explain", *options, "p.s"], cwd=self.folder, capture_output=True)
         return run.stdout.decode("latin-1"), run.returncode, run.stderr.decode("latin-1")
 
     def wrong(self, text):
-        said, status, complaint = self.explain(text)
+        said, status, complaint = self.explain(text, "--no-warnings")
         try:
             program = assemble(text.encode("latin-1"))
         except Fault as fault:

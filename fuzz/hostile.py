@@ -27,6 +27,7 @@ import time
 
 HERE = pathlib.Path(__file__).resolve().parent
 sys.path.insert(0, str(HERE / "entry"))
+import costly_marks
 import explain
 import seeds
 from model import CertFault, Fault, annotate_text, assemble, cert_parse, certify, check_text, print_text, replay_text, run_text, seq_text, verdict
@@ -152,7 +153,7 @@ def wanted(words, texts):
 
 
 def wanted_explanation(name, text):
-    """The model's findings, told as explain.py has it; of a refused text its first fault."""
+    """The model's findings or its warnings, told as explain.py and costly_marks.py have them; of a refused text its first fault."""
     try:
         program = assemble(text)
     except Fault as fault:
@@ -160,7 +161,9 @@ def wanted_explanation(name, text):
     findings = len(verdict(program, certify(program)))
 
     def fits(out, status):
-        return status == min(findings, 1) and bool(out) == bool(findings) and not explain.differs(program, text.decode("latin-1"), name, out)
+        if not findings:
+            return status == 0 and out == costly_marks.told(program, text.decode("latin-1"), name)
+        return status == 1 and not explain.differs(program, text.decode("latin-1"), name, out)
 
     return fits
 
