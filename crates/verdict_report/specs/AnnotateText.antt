@@ -10,7 +10,7 @@ use Rattle.mask_certificate.specs.CertificateReading.{names_of}
 use Rattle.annotator.specs.Least.{IsLeast}
 use Rattle.annotator.specs.Proposed.{IsProposed}
 use Rattle.jobs.specs.declared.job.Emit.{Emit}
-use Rattle.jobs.specs.declared.job.Emit.TheVariants.{Text, Cert, Keep}
+use Rattle.jobs.specs.declared.job.Emit.TheVariants.{Text, Cert, Keep, Marks}
 use Rattle.verdict_report.specs.OutputTexts.{Report, program_refused}
 
 -- the bytes are the canonical text of the program that is proposed for p
@@ -36,6 +36,7 @@ abbrev pub IsAnnotation : Emit → Listing → List ℕ → Type 0
 IsAnnotation Text p bytes = IsProposalText p bytes
 IsAnnotation Cert p bytes = IsProposalCertificate p bytes
 IsAnnotation Keep p bytes = IsLeastText p bytes
+IsAnnotation Marks p bytes = IsProposalText p bytes
 
 abbrev pub IsAnnotateRead : Emit → Result Listing AsmFault → Report → Type 0
 IsAnnotateRead emit (Ok p) report = IsAnnotation emit p report.bytes × (report.status ≡ 0)

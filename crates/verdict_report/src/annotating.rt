@@ -32,6 +32,7 @@ fn annotation(alloc: Global, emit: Emit, program: Program) -> Result<Vec<u8>, Al
         Emit::Text => proposal(alloc, program),
         Emit::Cert => certificate_of_proposal(alloc, program),
         Emit::Keep => least_certificate(alloc, &program),
+        Emit::Marks => proposal(alloc, program),
     }
 }
 
