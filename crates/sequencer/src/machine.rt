@@ -11,6 +11,7 @@ use processor_steps::processor::{MOST_EVENTS, Processor};
 use std::alloc::Global;
 use std::marker::Model;
 use unit_core::read_log::ReadLog;
+use unit_core::unit::Unit;
 
 /// The most units of a machine.
 pub const MOST_UNITS: u32 = 16;
@@ -47,7 +48,8 @@ impl<'a> Model for Machine<'a> {
 impl<'a> Machine<'a> {
     ghost use Rattle.std.specs.Prelude.{◌≡◌, ℕ, ◌+◌, ◌%◌, ◌<◌, ◌≤◌, ◌⊎◌, ◌↔◌, List, [], ◌∷◌, ◌++◌, length, slice_get, nat_lt, if◌then◌else◌, Ok, Err, Some, None, IfOk, IfErr, OnOk, OnErr, IfSome, IfNone, IsSome, IsTrue, true, false};
     ghost use Rattle.std.specs.List.{All};
-    ghost use Rattle.std.specs.Option.{option_and_then};
+    ghost use Rattle.std.specs.Option.{option_and_then, option_copied, option_map};
+    ghost use Rattle.unit_core.specs.Units.{active_of};
     ghost use Rattle.machine_model.specs.Machine.{State, opening, value as value_of};
     ghost use Rattle.machine_model.specs.Step.{Next};
     ghost use Rattle.machine_model.specs.Answer.{after, refusal, most_events};
@@ -373,6 +375,24 @@ impl<'a> Machine<'a> {
             Some(unit) => unit.value(register),
             None => None,
         }
+    }
+
+    /// How many units are at work.
+    pub fn active(&self) -> u32
+        ensures active { result ≡ length (state self.now).queue }
+        ensures within { result ≤ 16 }
+    {
+        // The number of places tells its range.
+        let _ = self.processor.places();
+        self.processor.active()
+    }
+
+    /// The unit at a position from the head, 0 being the head: its task, where it stands, what arrived and
+    /// what it sent. `None` behind the tail.
+    pub fn unit(&self, position: u32) -> Option<&Unit>
+        ensures { option_map active_of (option_copied result) ≡ slice_get (state self.now).queue position }
+    {
+        self.processor.unit(position)
     }
 
     /// The position of a unit of the ring, by its number: an Exec at that position belongs to it. `None`

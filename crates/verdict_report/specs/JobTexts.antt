@@ -12,11 +12,12 @@ use Rattle.verdict_report.specs.SeqText.{seq_text}
 use Rattle.verdict_report.specs.CheckText.{check_text}
 use Rattle.verdict_report.specs.ReplayText.{replay_text}
 use Rattle.verdict_report.specs.RunText.{IsRunText}
+use Rattle.verdict_report.specs.CurveText.{IsCurveText}
 use Rattle.verdict_report.specs.AnnotateText.{IsAnnotateReport}
 use Rattle.verdict_report.specs.CertificateTexts.{OfCertificate}
 use Rattle.verdict_report.specs.ExplainText.{IsExplainReport}
 use Rattle.jobs.specs.declared.job.Job.{Job}
-use Rattle.jobs.specs.declared.job.Job.TheVariants.{Seq, Print, Annotate, Explain, Check, Replay, Run}
+use Rattle.jobs.specs.declared.job.Job.TheVariants.{Seq, Print, Annotate, Explain, Check, Replay, Run, Curve}
 use Rattle.jobs.specs.declared.job.Texts.{Texts}
 
 abbrev pub print_read : Result Listing AsmFault → Report
@@ -33,8 +34,8 @@ abbrev pub IsReportOf : Job → Texts → Report → Type 0
 IsReportOf (Seq budget) texts report = report ≡ seq_text budget texts.program.items
 IsReportOf Print texts report = report ≡ print_text texts.program.items
 IsReportOf (Annotate emit) texts report = IsAnnotateReport emit texts.program.items report
-IsReportOf (Explain name certificate) texts report =
-    IsExplainReport (string_bytes name) (option_map string_bytes certificate) texts.program.items texts.certificate report
+IsReportOf (Explain name certificate warnings format) texts report =
+    IsExplainReport (string_bytes name) (option_map string_bytes certificate) warnings texts.program.items texts.certificate report
 IsReportOf (Check source workers) texts report =
     OfCertificate source texts.program.items texts.certificate (λ certificate. report ≡ check_text texts.program.items certificate)
 IsReportOf (Replay source units emit) texts report =
@@ -42,6 +43,9 @@ IsReportOf (Replay source units emit) texts report =
 IsReportOf (Run source schedule units workers budget predict emit) texts report =
     OfCertificate source texts.program.items texts.certificate (λ certificate.
     IsRunText schedule units budget predict emit texts.program.items certificate report)
+IsReportOf (Curve source units budget predict) texts report =
+    OfCertificate source texts.program.items texts.certificate (λ certificate.
+    IsCurveText units budget predict texts.program.items certificate report)
 
 -- a job is done: a report of it was added to what the writer holds, and the status is its
 pub record IsDone (job : Job) (texts : Texts) (status : ℕ) (old new : Option (List ℕ)) : Type 0 where

@@ -9,6 +9,7 @@ pub mod ExplainText
 pub mod MachineText
 pub mod ReplayText
 pub mod RunText
+pub mod CurveText
 pub mod JobTexts
 pub mod Judging
 pub mod Playing

@@ -7,6 +7,7 @@
 
 pub mod annotating;
 pub mod checking;
+pub mod curving;
 pub mod event_text;
 pub mod explaining;
 pub mod fault;

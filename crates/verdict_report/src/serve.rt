@@ -5,6 +5,7 @@ ghost use Rattle.verdict_report.specs.JobTexts.{IsDone, IsReportOf, print_text};
 
 use crate::annotating::annotate;
 use crate::checking::check;
+use crate::curving::curve;
 use crate::explaining::explain;
 use crate::fault::ServeFault;
 use crate::ran::Extent;
@@ -56,7 +57,12 @@ fn report_of<R: Threads + Wait + Sync>(
         Job::Seq { budget } => Ok(seq(alloc, *budget, program)?),
         Job::Print => Ok(print(alloc, program)?),
         Job::Annotate { emit } => Ok(annotate(alloc, *emit, program)?),
-        Job::Explain { name, certificate } => Ok(explain(alloc, name, certificate, texts)?),
+        Job::Explain {
+            name,
+            certificate,
+            warnings,
+            format: _,
+        } => Ok(explain(alloc, name, certificate, *warnings, texts)?),
         Job::Check {
             certificate,
             workers,
@@ -83,6 +89,12 @@ fn report_of<R: Threads + Wait + Sync>(
             };
             run(rt, alloc, extent, predict, *emit, *certificate, texts)
         }
+        Job::Curve {
+            certificate,
+            units,
+            budget,
+            predict,
+        } => Ok(curve(alloc, *units, *budget, predict, *certificate, texts)?),
     }
 }
 
