@@ -6,7 +6,7 @@ lines of their own or before their statement, blanks, comments, blank lines. For
 diagnostics with the model's: places, sentences, that each path is a path inside the task, that it leads
 where the rule says, and that none is shorter. Then it follows each help alone, and that finding must be
 gone. Every third program is explained together with a certificate: that of the program, one with a wrong mask
-or a line too few, or a text that is none. PROGRAM is the built `multiscalar`.
+or a line too few, or a text that is none. It asks for no warnings, which `costly_marks.py` compares. PROGRAM is the built `multiscalar`.
 """
 import argparse
 import collections
@@ -384,13 +384,13 @@ class Bench:
         self.folder = tempfile.mkdtemp(prefix="explain")
         self.counts = collections.Counter()
 
-    def explain(self, text, certificate=None):
+    def explain(self, text, *options, certificate=None):
         with open(os.path.join(self.folder, "p.s"), "w") as file:
             file.write(text)
         if certificate is not None:
             with open(os.path.join(self.folder, "c"), "wb") as file:
                 file.write(certificate)
-        words = ["explain", "p.s"] + (["c"] if certificate is not None else [])
+        words = ["explain", *options, "p.s"] + (["c"] if certificate is not None else [])
         run = subprocess.run([self.program, *words], cwd=self.folder, capture_output=True)
         return run.stdout.decode("latin-1"), run.returncode, run.stderr.decode("latin-1")
 
@@ -398,14 +398,14 @@ class Bench:
         """What is wrong with what is said of a certificate: behind what is said without one stands the remark."""
         certificate = spoiled(cert_text(certify(program), program)).encode()
         wanted = said + remark(program, "p.s", "c", certificate)
-        given = self.explain(text, certificate)
+        given = self.explain(text, "--no-warnings", certificate=certificate)
         self.counts["certificates"] += 1
         self.counts["certificates that do not fit"] += wanted != said
         if given != (wanted, 1 if wanted else 0, ""):
             return f"of the certificate {certificate!r}: {given[0][len(said):]!r}, status {given[1]}"
 
     def wrong(self, text):
-        said, status, complaint = self.explain(text)
+        said, status, complaint = self.explain(text, "--no-warnings")
         try:
             program = assemble(text.encode("latin-1"))
         except Fault as fault:

@@ -12,6 +12,8 @@ mod certificates;
 #[cfg(test)]
 mod checker;
 #[cfg(test)]
+mod costly_marks;
+#[cfg(test)]
 mod count;
 #[cfg(test)]
 mod descriptors;

@@ -1,8 +1,10 @@
-//! `explain`: what is said of wrong marks and of refused texts, and nothing of right marks.
+//! `explain`: what is said of wrong marks, of refused texts and of marks that cost speed, and nothing of marks
+//! that are right and cost nothing.
 
 use crate::answers::{EMPTY, Row};
 use test_programs::programs::{
-    COUNT, COUNT_CREATES_LESS, DIAMOND, FIVE_FINDINGS, PRODUCT, READ_ONLY, RELEASE, SPIN,
+    COUNT, COUNT_CREATES_LESS, COUNT_FORWARDED, DIAMOND, FIVE_FINDINGS, PRODUCT, READ_ONLY,
+    RELEASE, RELEASE_CREATES_MORE, SPIN, UNLISTED_JUMP,
 };
 
 const EXPLAIN: Row<'static> = Row {
@@ -12,8 +14,61 @@ const EXPLAIN: Row<'static> = Row {
 
 #[test]
 fn says_nothing_of_right_marks(rt: HostRuntime) {
-    for program in [COUNT, DIAMOND, PRODUCT, READ_ONLY, RELEASE, SPIN] {
+    for program in [COUNT_FORWARDED, DIAMOND, PRODUCT, READ_ONLY, RELEASE, SPIN] {
         let row = Row { program, ..EXPLAIN };
+        row.runs(&rt, rt.alloc());
+    }
+}
+
+// Programs with right marks, and what is said of those that cost speed.
+const COSTLY: [(&str, &str); 3] = [
+    (
+        COUNT,
+        "a.s:7:1: warning: this is a last update without !f: later tasks wait for what it writes
+    7 | slti $10,$8,4
+      | ^~~~~~~~~~~~~
+a.s:7:1: help: add !f here
+",
+    ),
+    (
+        RELEASE_CREATES_MORE,
+        "a.s:1:9: warning: no instruction of task A writes or releases $7, which its create mask has
+    1 | .task A create=$7,$8,$9 targets=B
+      |         ^~~~~~~~~~~~~~~
+a.s:1:9: help: remove $7 from the create mask of task A
+",
+    ),
+    // No task waits for what this one writes, since it has no target.
+    (
+        UNLISTED_JUMP,
+        "a.s:4:1: warning: no task reaches the code from here on
+    4 | halt
+      | ^~~~
+a.s:4:1: help: remove it up to the next instruction that a task reaches, or let a task go on to it
+",
+    ),
+];
+
+#[test]
+fn warns_of_marks_that_cost_speed(rt: HostRuntime) {
+    for &(program, expected) in &COSTLY {
+        let row = Row {
+            program,
+            expected,
+            ..EXPLAIN
+        };
+        row.runs(&rt, rt.alloc());
+    }
+}
+
+#[test]
+fn says_nothing_of_them_without_warnings(rt: HostRuntime) {
+    for program in [COUNT, RELEASE_CREATES_MORE, UNLISTED_JUMP] {
+        let row = Row {
+            words: "explain --no-warnings a.s",
+            program,
+            ..EMPTY
+        };
         row.runs(&rt, rt.alloc());
     }
 }

@@ -91,7 +91,8 @@ const PROGRAMS: [Row<'static>; 6] = [
     },
 ];
 
-const READ_ONLY_TRAPS: &str = ".task A create=$8 targets=B,C
+/// A program whose head takes the way on which a load traps.
+pub const READ_ONLY_TRAPS: &str = ".task A create=$8 targets=B,C
 .task B create=$9,$10 targets=C
 .task C create=- targets=-
 .rodata

@@ -37,7 +37,7 @@ pub refused_with_any : (source : CertificateSource) (program file : List ℕ) (f
 refused_with_any File program file fault is = ap (λ (r : Result Listing AsmFault). program_judged r file) is
 refused_with_any Least program file fault is = (
   program_refused fault,
-  subst (λ (r : Result Listing AsmFault). IsAnnotateRead Keep r (program_refused fault)) (sym is) refl,
+  subst (λ (r : Result Listing AsmFault). IsAnnotateRead Keep program r (program_refused fault)) (sym is) refl,
   ap (λ (r : Result Listing AsmFault). program_judged r (program_refused fault).bytes) is,
 )
 
@@ -49,7 +49,7 @@ pub judged_by_kept : (program file : List ℕ) (p : Listing) (cert : List (List 
     → OfCertificate Least program file (λ text. judgement program text ≡ findings_judged p (all_rules p cert))
 judged_by_kept program file p cert is kept = (
   kept_text p cert,
-  subst (λ (r : Result Listing AsmFault). IsAnnotateRead Keep r (kept_text p cert)) (sym is)
+  subst (λ (r : Result Listing AsmFault). IsAnnotateRead Keep program r (kept_text p cert)) (sym is)
       (record { certificate = cert; least = kept.least; written = refl }, refl),
   ap (λ (r : Result Listing AsmFault). program_judged r (cert_text cert (names_of p))) is ∙ ap (certificate_judged p) kept.read,
 )

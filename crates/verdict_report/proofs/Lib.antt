@@ -2,3 +2,4 @@ mod Addresses
 mod Kept
 mod PlainRuns
 mod Plays
+mod Silence

@@ -9,8 +9,10 @@ pub mod ExplainText
 pub mod MachineText
 pub mod ReplayText
 pub mod RunText
+pub mod CurveText
 pub mod JobTexts
 pub mod Judging
 pub mod Playing
 pub mod Runs
 pub mod Examples
+pub mod LogText

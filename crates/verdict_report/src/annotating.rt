@@ -1,6 +1,6 @@
 //! The job `annotate`.
-ghost use Rattle.std.specs.Prelude.{◌≡◌, IfOk};
-ghost use Rattle.verdict_report.specs.AnnotateText.{IsAnnotateReport, IsAnnotation, IsLeastText, IsProposalCertificate, IsProposalText};
+ghost use Rattle.std.specs.Prelude.{◌≡◌, Some, Err, IfOk};
+ghost use Rattle.verdict_report.specs.AnnotateText.{IsAnnotateReport, IsAnnotation, IsLeastText, IsMarksAnswer, IsMarksReport, IsProposalCertificate, IsProposalText, marks_report};
 
 use crate::report::{Report, refused_program};
 use annotated_asm::assembler::assemble;
@@ -9,6 +9,8 @@ use annotator::certify::certify;
 use annotator::propose::propose;
 use canonical_text::print::print;
 use jobs::job::Emit;
+use marks_in_text::fault::MarksFault;
+use marks_in_text::marking::with_marks_of;
 use mask_certificate::writing::write;
 use std::alloc::{AllocError, Global};
 use task_descriptor::program::Program;
@@ -18,20 +20,26 @@ pub fn annotate(alloc: Global, emit: Emit, text: &[u8]) -> Result<Report, AllocE
     ensures { IfOk result (λ report. IsAnnotateReport emit text.now report) }
 {
     match assemble(alloc, text) {
-        Ok(program) => Ok(Report::new(annotation(alloc, emit, program)?, 0)),
+        Ok(program) => annotation(alloc, emit, text, program),
         Err(AsmFault::OutOfMemory) => Err(AllocError),
         Err(fault) => refused_program(alloc, fault),
     }
 }
 
-// What `annotate` writes of a program.
-fn annotation(alloc: Global, emit: Emit, program: Program) -> Result<Vec<u8>, AllocError>
-    ensures { IfOk result (λ v. IsAnnotation emit program v.items) }
+// What `annotate` writes of a text that spells a program.
+fn annotation(
+    alloc: Global,
+    emit: Emit,
+    text: &[u8],
+    program: Program,
+) -> Result<Report, AllocError>
+    ensures { IfOk result (λ report. IsAnnotation emit text.now program report) }
 {
     match emit {
-        Emit::Text => proposal(alloc, program),
-        Emit::Cert => certificate_of_proposal(alloc, program),
-        Emit::Keep => least_certificate(alloc, &program),
+        Emit::Text => Ok(Report::new(proposal(alloc, program)?, 0)),
+        Emit::Cert => Ok(Report::new(certificate_of_proposal(alloc, program)?, 0)),
+        Emit::Keep => Ok(Report::new(least_certificate(alloc, &program)?, 0)),
+        Emit::Marks => marked(alloc, text, program),
     }
 }
 
@@ -61,4 +69,38 @@ fn least_certificate(alloc: Global, program: &Program) -> Result<Vec<u8>, AllocE
 {
     let cert = certify(alloc, program)?;
     write(alloc, &cert, program)
+}
+
+// The text itself, with the marks that are proposed for its program.
+fn marked(alloc: Global, text: &[u8], program: Program) -> Result<Report, AllocError>
+    ensures { IfOk result (λ report. IsMarksReport text.now program report) }
+{
+    match propose(alloc, program) {
+        Ok((proposed, _)) => marks_report(alloc, text, &proposed),
+        Err(_) => Err(AllocError),
+    }
+}
+
+// The text with the marks of a program, or why there is none.
+fn marks_report(alloc: Global, text: &[u8], program: &Program) -> Result<Report, AllocError>
+    ensures { IfOk result (λ report. IsMarksAnswer text.now program.now report) }
+{
+    match with_marks_of(alloc, text, program) {
+        Ok(bytes) => Ok(Report::new(bytes, 0)),
+        Err(fault) => refused_marks(alloc, fault),
+    }
+}
+
+// Why a text does not get its marks.
+fn refused_marks(alloc: Global, fault: MarksFault) -> Result<Report, AllocError>
+    ensures { IfOk result (λ report. marks_report (Err fault) ≡ Some report) }
+{
+    let why = match fault {
+        MarksFault::TooLong => "1 TooLong",
+        MarksFault::Differs => "2 Differs",
+        MarksFault::OutOfMemory => return Err(AllocError),
+    };
+    let mut text = String::new(alloc);
+    writeln!(text, "marks refused: {why}")?;
+    Ok(Report::new(text.into_bytes(), 1))
 }

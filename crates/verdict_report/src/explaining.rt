@@ -1,5 +1,5 @@
 //! The job `explain`.
-ghost use Rattle.std.specs.Prelude.{◌≡◌, Ok, IfOk};
+ghost use Rattle.std.specs.Prelude.{◌≡◌, ◌&&◌, ◌++◌, Ok, IfOk};
 ghost use Rattle.std.specs.Option.{option_map};
 ghost use Rattle.std.specs.String.{string_bytes};
 ghost use Rattle.annotated_asm.specs.ProgramText.{parse};
@@ -7,7 +7,7 @@ ghost use Rattle.diagnostic_text.specs.Diagnostics.{IsExplained};
 ghost use Rattle.mask_certificate.specs.CertificateReading.{cert_parse, names_of};
 ghost use Rattle.mark_checker.specs.Rules.{all_rules};
 ghost use Rattle.certificate_remarks.specs.Remarks.{fitting_text};
-ghost use Rattle.verdict_report.specs.ExplainText.{IsCertificateSaid, IsExplainReport, IsFittingSaid, IsProgramExplained, IsReadSaid, said_status};
+ghost use Rattle.verdict_report.specs.ExplainText.{AreWarningsSaid, IsCertificateSaid, IsExplainReport, IsFittingSaid, IsProgramExplained, IsReadSaid, is_silent, said_status};
 
 use crate::judging::read;
 use crate::report::Report;
@@ -25,9 +25,10 @@ use refusal_text::refusal::refusal;
 use std::alloc::{AllocError, Global};
 use task_descriptor::program::Program;
 use text_pieces::text::Text;
+use warning_text::warnings::warnings;
 
-/// What `explain` writes of a program text, whose file has this name, and of the text of a certificate, if a
-/// file of one is named.
+/// What `explain` writes of a program text, whose file has this name, with warnings or without, and of the
+/// text of a certificate, if a file of one is named.
 ///
 /// # Errors
 ///
@@ -36,14 +37,23 @@ pub fn explain(
     alloc: Global,
     name: &str,
     file: &Option<String>,
+    warnings: bool,
     texts: &Texts,
 ) -> Result<Report, AllocError>
-    ensures { IfOk result (λ report. IsExplainReport name.now (option_map string_bytes file.now)
+    ensures { IfOk result (λ report. IsExplainReport name.now (option_map string_bytes file.now) warnings
         texts.now.program.items texts.now.certificate report) }
 {
     let text = texts.program.as_slice();
     match assemble(alloc, text) {
-        Ok(program) => explain_program(alloc, name, file, text, &texts.certificate, &program),
+        Ok(program) => explain_program(
+            alloc,
+            name,
+            file,
+            warnings,
+            text,
+            &texts.certificate,
+            &program,
+        ),
         Err(AsmFault::OutOfMemory) => Err(AllocError),
         Err(fault) => Ok(Report::new(refusal(alloc, name, text, fault)?.into_bytes(), 1)),
     }
@@ -54,20 +64,50 @@ fn explain_program(
     alloc: Global,
     name: &str,
     file: &Option<String>,
+    warnings: bool,
     text: &[u8],
     certificate: &Text,
     program: &Program,
 ) -> Result<Report, AllocError>
     requires { parse text.now ≡ Ok program.now }
-    ensures { IfOk result (λ report. IsProgramExplained name.now (option_map string_bytes file.now)
+    ensures { IfOk result (λ report. IsProgramExplained name.now (option_map string_bytes file.now) warnings
         text.now certificate.now program.now report) }
 {
-    let mut said = explain_marks(alloc, name, text, program)?;
+    let marks = explain_marks(alloc, name, text, program)?;
+    let asked = is_asked(warnings, marks.as_str());
+    let costly = explain_costly(alloc, name, text, program, asked)?;
     let beside = explain_certificate(alloc, name, file, program, certificate)?;
-    said.push_str(beside.as_str())?;
-    let said = said.into_bytes();
-    let status = status_of(said.as_slice());
-    Ok(Report::new(said, status))
+    let said = report_of(marks, costly.as_str(), beside.as_str())?;
+    Ok(said)
+}
+
+// The report of what is said of marks, of marks that cost speed, and of the certificate.
+fn report_of(mut marks: String, costly: &str, beside: &str) -> Result<Report, AllocError>
+    ensures bytes { IfOk result (λ report. report.bytes ≡ string_bytes marks ++ (costly.now ++ beside.now)) }
+    ensures status { IfOk result (λ report. report.status ≡ said_status (string_bytes marks ++ beside.now)) }
+{
+    let status = status_of(marks.as_str(), beside);
+    marks.push_str(costly)?;
+    marks.push_str(beside)?;
+    Ok(Report::new(marks.into_bytes(), status))
+}
+
+// What is said of marks that cost speed, where that is asked for.
+fn explain_costly(
+    alloc: Global,
+    name: &str,
+    text: &[u8],
+    program: &Program,
+    asked: bool,
+) -> Result<String, AllocError>
+    requires { parse text.now ≡ Ok program.now }
+    ensures { IfOk result (λ said. AreWarningsSaid asked name.now text.now program.now (string_bytes said)) }
+{
+    if asked {
+        warnings(alloc, name, text, program)
+    } else {
+        Ok(String::new(alloc))
+    }
 }
 
 // What is said of the marks of the program that a text spells.
@@ -155,11 +195,39 @@ fn compare(
     fitting(alloc, name, file, found, wanted.findings.as_slice())
 }
 
+// Whether nothing is said.
+fn is_silent(said: &str) -> bool
+    ensures { result ≡ is_silent said.now }
+{
+    match said.as_bytes() {
+        [] => true,
+        _ => false,
+    }
+}
+
+// Whether warnings are to be told: they are asked for, and nothing is said of the marks.
+fn is_asked(warnings: bool, marks: &str) -> bool
+    ensures { result ≡ (warnings && is_silent marks.now) }
+{
+    warnings && is_silent(marks)
+}
+
+// The status of what is said of the marks and of the certificate: 0 where it is nothing.
+fn status_of(marks: &str, beside: &str) -> u8
+    ensures { result ≡ said_status (marks.now ++ beside.now) }
+{
+    if is_silent(marks) {
+        status_alone(beside)
+    } else {
+        1
+    }
+}
+
 // The status of what is said: 0 where it is nothing.
-fn status_of(said: &[u8]) -> u8
+fn status_alone(said: &str) -> u8
     ensures { result ≡ said_status said.now }
 {
-    match said {
+    match said.as_bytes() {
         [] => 0,
         _ => 1,
     }

@@ -7,10 +7,12 @@
 
 pub mod annotating;
 pub mod checking;
+pub mod curving;
 pub mod event_text;
 pub mod explaining;
 pub mod fault;
 pub mod judging;
+pub mod logging;
 pub mod machine_text;
 pub mod plain_text;
 pub mod ran;

@@ -145,8 +145,8 @@ fn ended_as(how: StepsHow) -> How
     }
 }
 
-// The predictor that is asked for.
-fn predictor_of(alloc: Global, predict: &Prediction) -> Result<Predictor, AllocError>
+/// The predictor that is asked for.
+pub(crate) fn predictor_of(alloc: Global, predict: &Prediction) -> Result<Predictor, AllocError>
     ensures { IfOk result (λ predictor. predictor ≡ predictor_of predict.now) }
 {
     match predict {

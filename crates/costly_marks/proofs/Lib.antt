@@ -1,0 +1,4 @@
+mod Reached
+mod LastUpdates
+mod Unsent
+mod Picking
