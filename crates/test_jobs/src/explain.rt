@@ -131,7 +131,7 @@ fn explains_wrong_marks(rt: HostRuntime) {
 }
 
 // Texts that are refused, and what is said of them.
-const REFUSED: [(&str, &str); 8] = [
+const REFUSED: [(&str, &str); 11] = [
     (
         "foo $8",
         "a.s:1:1: error: there is no instruction or directive `foo` here [4 Mnemonic line 1]
@@ -145,7 +145,42 @@ a.s:1:1: help: in .text stand instructions and .start, .task, .text, .data and .
         "a.s:3:1: error: `A` stands a second time [8 Duplicate line 3]
     3 | A: nop
       | ^
+a.s:2:1: note: it stands here first
+    2 | A: halt
+      | ^
 a.s:3:1: help: a label and a task of one name stand once, and .start stands once
+",
+    ),
+    // The second of the line's names stood before, on the same line.
+    (
+        ".task A create=- targets=-\nB: A: C: A: halt\n",
+        "a.s:2:10: error: `A` stands a second time [8 Duplicate line 2]
+    2 | B: A: C: A: halt
+      |          ^
+a.s:2:4: note: it stands here first
+    2 | B: A: C: A: halt
+      |    ^
+a.s:2:10: help: a label and a task of one name stand once, and .start stands once
+",
+    ),
+    // `li` is two instructions, so `Odd` and `Loop` both are index 2.
+    (
+        ".task Loop create=- targets=-\n  .task Odd create=- targets=-\nli $8,70000\nOdd: Loop: halt\n",
+        "a.s:2:9: error: two tasks begin at one instruction [10 Build 4 DuplicateEntry]
+    2 |   .task Odd create=- targets=-
+      |         ^~~
+a.s:1:7: note: this task begins there, too
+    1 | .task Loop create=- targets=-
+      |       ^~~~
+a.s:2:9: help: each task begins at an instruction of its own
+",
+    ),
+    (
+        ".task A create=- targets=-\nA: halt\n.data\n.space 65535\n.byte 1\n B: .byte 2\n",
+        "a.s:6:5: error: the program has more than 65536 bytes of .data [10 Build 1 TooMany]
+    6 |  B: .byte 2
+      |     ^~~~~
+a.s:6:5: help: at most 4096 instructions, 1024 tasks, 16 targets of a task, 65536 bytes of .data and 65536 of .rodata
 ",
     ),
     (
