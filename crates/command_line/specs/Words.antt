@@ -9,7 +9,7 @@ use Rattle.jobs.specs.declared.job.Emit.TheVariants.{Text, Cert, Keep, Marks}
 use Rattle.jobs.specs.declared.job.Format.{Format}
 use Rattle.jobs.specs.declared.job.Format.TheVariants as format
 use Rattle.jobs.specs.declared.job.RunEmit.{RunEmit}
-use Rattle.jobs.specs.declared.job.RunEmit.TheVariants.{Report, Script, Summary, Picture}
+use Rattle.jobs.specs.declared.job.RunEmit.TheVariants.{Report, Script, Summary, Picture, Trace}
 use Rattle.jobs.specs.declared.job.ReplayEmit.{ReplayEmit}
 use Rattle.jobs.specs.declared.job.ReplayEmit.TheVariants as replay
 use Rattle.jobs.specs.declared.job.Schedule.{Schedule}
@@ -70,11 +70,13 @@ run_emit_of text =
     if bytes_eq text (codes "report") then Some Report
     else (if bytes_eq text (codes "script") then Some Script
     else (if bytes_eq text (codes "summary") then Some Summary
-    else (if bytes_eq text (codes "svg") then Some Picture else None)))
+    else (if bytes_eq text (codes "svg") then Some Picture
+    else (if bytes_eq text (codes "trace") then Some Trace else None))))
 
 -- the value of `--emit` of `replay`
 abbrev pub replay_emit_of : List ℕ → Option ReplayEmit
 replay_emit_of text =
     if bytes_eq text (codes "answers") then Some replay.Answers
     else (if bytes_eq text (codes "summary") then Some replay.Summary
-    else (if bytes_eq text (codes "svg") then Some replay.Picture else None))
+    else (if bytes_eq text (codes "svg") then Some replay.Picture
+    else (if bytes_eq text (codes "trace") then Some replay.Trace else None)))

@@ -155,8 +155,8 @@ first fault and its line:
   script refused: K Name LINE
 
 With `--emit summary` it writes a table instead of the answers and of how the run stands: that of
-`run --emit summary`, of the events that were allowed. With `--least` it makes the certificate itself,
-that of `annotate --emit keep`.
+`run --emit summary`, of the events that were allowed. With `--emit trace` it writes below each answer what
+the event changed. With `--least` it makes the certificate itself, that of `annotate --emit keep`.
 
 For example:
   ./multiscalar replay --least --units 2 examples/count/program.s examples/count/script.events";
@@ -199,7 +199,8 @@ tasks overlap. It is no model of the time of a processor.
 
 With `--least` it makes the certificate itself, that of `annotate --emit keep`.
 
-With `--emit svg` it writes a picture of the run, a lane for each unit and a bar for each task on it.
+With `--emit svg` it writes a picture of the run, a lane for each unit and a bar for each task on it. With
+`--emit trace` it writes each event and, below it, what it changed.
 
 For example:
   ./multiscalar run --least examples/count/program.s
@@ -247,12 +248,14 @@ program as it stands) or marks (your own text with the proposed marks)";
 /// `--emit` of `replay`.
 pub const REPLAY_EMIT: &str =
     "What is written: answers (what the machine says of each event, and how it then stands), summary
-(how often each task was assigned, and how that ended) or svg (the allowed events as a picture)";
+(how often each task was assigned, and how that ended), svg (the allowed events as a picture) or trace
+(each event with its answer and what it changed)";
 
 /// `--emit` of `run`.
 pub const RUN_EMIT: &str =
     "What is written: report (the words that were put out, and how the run ended), script (the events
-of the run), summary (how often each task was assigned, and how that ended) or svg (a picture)";
+of the run), summary (how often each task was assigned, and how that ended), svg (a picture) or trace
+(each event with what it changed)";
 
 /// `--least`.
 pub const LEAST: &str = "Makes the least certificate of the program as it stands, in place of CERT";

@@ -31,7 +31,7 @@ pub enum UsageFault {
     #[error("2 Predict")]
     Predict,
     /// 3: the value of `--emit` is none of `text`, `cert`, `keep` and `marks`; for `replay` none of `answers`,
-    /// `summary` and `svg`; for `run` none of `report`, `script`, `summary` and `svg`.
+    /// `summary`, `svg` and `trace`; for `run` none of `report`, `script`, `summary`, `svg` and `trace`.
     #[error("3 Emit")]
     Emit,
     /// 4: memory ran out.
@@ -533,6 +533,7 @@ fn read_replay_emit(text: &str) -> Option<ReplayEmit>
         "answers" => Some(ReplayEmit::Answers),
         "summary" => Some(ReplayEmit::Summary),
         "svg" => Some(ReplayEmit::Picture),
+        "trace" => Some(ReplayEmit::Trace),
         _ => None,
     }
 }
@@ -546,6 +547,7 @@ fn read_run_emit(text: &str) -> Option<RunEmit>
         "script" => Some(RunEmit::Script),
         "summary" => Some(RunEmit::Summary),
         "svg" => Some(RunEmit::Picture),
+        "trace" => Some(RunEmit::Trace),
         _ => None,
     }
 }

@@ -45,6 +45,8 @@ pub enum RunEmit {
     Summary,
     /// The run as a picture, in SVG.
     Picture,
+    /// Each event of the history with what it changed.
+    Trace,
 }
 
 /// What `replay` writes of a script.
@@ -56,6 +58,8 @@ pub enum ReplayEmit {
     Summary,
     /// The events that were allowed as a picture, in SVG.
     Picture,
+    /// Each event of the script with what the machine answers to it, and what it changed.
+    Trace,
 }
 
 /// How `run` guesses the next task behind a running one (the paper, section 2.1, leaves it open).

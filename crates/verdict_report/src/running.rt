@@ -12,7 +12,9 @@ ghost use Rattle.event_script.specs.ScriptText.{script_text};
 
 use crate::fault::ServeFault;
 use crate::judging::{Judged, judge};
-use crate::machine_text::{picture_of, standing_status_of, summary_of, write_machine};
+use crate::machine_text::{
+    picture_of, standing_status_of, summary_of, trace_of_history, write_machine,
+};
 use crate::plain_text::write_words;
 use crate::ran::{Extent, Ran};
 use crate::report::Report;
@@ -47,25 +49,29 @@ pub fn run<R: Threads + Wait + Sync>(
 {
     match judge(alloc, source, texts)? {
         Judged::Refused(report) => Ok(report),
-        Judged::Accepted(accepted) => run_accepted(rt, alloc, extent, predict, emit, &accepted),
+        Judged::Accepted(accepted) => {
+            let text = texts.program.as_slice();
+            run_accepted(rt, alloc, extent, predict, emit, text, &accepted)
+        }
     }
 }
 
-// What `run` writes of an accepted program.
+// What `run` writes of an accepted program with its text.
 fn run_accepted<R: Threads + Wait + Sync>(
     rt: &R,
     alloc: Global,
     extent: Extent,
     predict: &Prediction,
     emit: RunEmit,
+    text: &[u8],
     accepted: &Accepted,
 ) -> Result<Report, ServeFault>
-    ensures report { IfOk result (λ report. IsRunReport extent.schedule extent.units extent.budget predict.now emit accepted.now.program report) }
+    ensures report { IfOk result (λ report. IsRunReport extent.schedule extent.units extent.budget predict.now emit text.now accepted.now.program report) }
     ensures fault { result ≢ Err ServeFault.Write }
     ensures own { result ≢ Err ServeFault.Foreign }
 {
     let ran = run_scheduled(rt, alloc, extent, predict, accepted)?;
-    Ok(report_of_run(alloc, emit, extent.units, &ran, accepted)?)
+    Ok(report_of_run(alloc, emit, extent.units, &ran, text, accepted)?)
 }
 
 // What is written of a run, and the status.
@@ -74,11 +80,12 @@ fn report_of_run(
     emit: RunEmit,
     units: Units,
     ran: &Ran<'_>,
+    text: &[u8],
     accepted: &Accepted,
 ) -> Result<Report, AllocError>
     requires over { ran.now.machine.accepted ≡ accepted.now }
     requires units { (units_of ran.now.machine ≤ 16) × (units_of ran.now.machine ≡ units) }
-    ensures bytes { IfOk result (λ report. IsWrittenOf emit units accepted.now.program (run_of ran.now) report.bytes) }
+    ensures bytes { IfOk result (λ report. IsWrittenOf emit units text.now accepted.now.program (run_of ran.now) report.bytes) }
     ensures status { IfOk result (λ report. report.status ≡ ending_status ran.now.how (state ran.now.machine)) }
 {
     let bytes = match emit {
@@ -86,6 +93,7 @@ fn report_of_run(
         RunEmit::Script => script(alloc, ran, accepted)?,
         RunEmit::Summary => summary(alloc, units, ran, accepted)?,
         RunEmit::Picture => picture_of(alloc, units, &ran.machine, accepted.program())?,
+        RunEmit::Trace => trace_of_history(alloc, units, &ran.machine, accepted, text)?,
     };
     Ok(Report::new(bytes, ending_status_of(ran)))
 }
