@@ -7,8 +7,8 @@ use Rattle.speed_curve.specs.Curve.{AreRows}
 use Rattle.speed_curve.specs.TableText.{table_text}
 use Rattle.speed_curve.specs.declared.row.Row.{Row}
 use Rattle.jobs.specs.declared.job.Prediction.{Prediction}
-use Rattle.verdict_report.specs.OutputTexts.{Report}
-use Rattle.verdict_report.specs.JudgedTexts.{Judgement, refused, accepted, judgement}
+use Rattle.report_texts.specs.OutputTexts.{Report}
+use Rattle.report_texts.specs.JudgedTexts.{Judgement, refused, accepted, judgement}
 use Rattle.verdict_report.specs.RunText.{predictor_of}
 
 -- the status that `run` has for a run that ended so; one that still goes on was out of budget

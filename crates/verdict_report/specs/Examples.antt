@@ -13,9 +13,9 @@ use Rattle.mark_checker.specs.Rules.{each}
 use Rattle.machine_model.specs.Answer.{least}
 use Rattle.machine_model.specs.Examples.{unlisted_jump, jump_unlisted}
 use Rattle.jobs.specs.declared.job.ReplayEmit.TheVariants as emit
-use Rattle.verdict_report.specs.OutputTexts.{Report}
-use Rattle.verdict_report.specs.JudgedTexts.{goes_on, program_judged}
-use Rattle.verdict_report.specs.SeqText.{seq_read, seq_text}
+use Rattle.report_texts.specs.OutputTexts.{Report}
+use Rattle.report_texts.specs.JudgedTexts.{goes_on, program_judged}
+use Rattle.report_texts.specs.SeqText.{seq_read, seq_text}
 use Rattle.verdict_report.specs.ReplayText.{events_report, script_report, replay_text}
 
 -- lines, each with its LF

@@ -7,16 +7,16 @@ use Rattle.task_descriptor.specs.Listing.{Listing}
 use Rattle.annotated_asm.specs.declared.fault.AsmFault.{AsmFault}
 use Rattle.annotated_asm.specs.ProgramText.{parse}
 use Rattle.canonical_text.specs.CanonicalText.{canonical_text}
-use Rattle.verdict_report.specs.OutputTexts.{Report, program_refused}
-use Rattle.verdict_report.specs.SeqText.{seq_text}
-use Rattle.verdict_report.specs.CheckText.{check_text}
+use Rattle.report_texts.specs.OutputTexts.{Report, program_refused}
+use Rattle.report_texts.specs.SeqText.{seq_text}
+use Rattle.report_texts.specs.CheckText.{check_text}
 use Rattle.verdict_report.specs.ReplayText.{replay_text}
 use Rattle.verdict_report.specs.RunText.{IsRunText}
 use Rattle.verdict_report.specs.CurveText.{IsCurveText}
-use Rattle.verdict_report.specs.AnnotateText.{IsAnnotateReport}
-use Rattle.verdict_report.specs.CertificateTexts.{OfCertificate}
-use Rattle.verdict_report.specs.ExplainText.{IsExplainReport}
-use Rattle.verdict_report.specs.LogText.{IsLogReport}
+use Rattle.report_texts.specs.AnnotateText.{IsAnnotateReport}
+use Rattle.report_texts.specs.CertificateTexts.{OfCertificate}
+use Rattle.explain_report.specs.ExplainText.{IsExplainReport}
+use Rattle.explain_report.specs.LogText.{IsLogReport}
 use Rattle.jobs.specs.declared.job.Format.{Format}
 use Rattle.jobs.specs.declared.job.Format.TheVariants.{Text, Sarif}
 use Rattle.jobs.specs.declared.job.Job.{Job}

@@ -18,8 +18,8 @@ use Rattle.event_trace.specs.Entries.{places_of}
 use Rattle.event_trace.specs.Trace.{trace_text}
 use Rattle.jobs.specs.declared.job.ReplayEmit.{ReplayEmit}
 use Rattle.jobs.specs.declared.job.ReplayEmit.TheVariants as emit
-use Rattle.verdict_report.specs.OutputTexts.{Report}
-use Rattle.verdict_report.specs.JudgedTexts.{judged}
+use Rattle.report_texts.specs.OutputTexts.{Report}
+use Rattle.report_texts.specs.JudgedTexts.{judged}
 use Rattle.verdict_report.specs.MachineText.{machine_text, standing_status}
 
 abbrev pub script_refused : ScriptFault → Report

@@ -26,8 +26,8 @@ use Rattle.jobs.specs.declared.job.Prediction.{Prediction}
 use Rattle.jobs.specs.declared.job.Prediction.TheVariants as prediction
 use Rattle.jobs.specs.declared.job.RunEmit.{RunEmit}
 use Rattle.jobs.specs.declared.job.RunEmit.TheVariants as emit
-use Rattle.verdict_report.specs.OutputTexts.{Report, words_text}
-use Rattle.verdict_report.specs.JudgedTexts.{Judgement, refused, accepted, judgement}
+use Rattle.report_texts.specs.OutputTexts.{Report, words_text}
+use Rattle.report_texts.specs.JudgedTexts.{Judgement, refused, accepted, judgement}
 use Rattle.verdict_report.specs.MachineText.{machine_text, standing_status}
 
 -- a run: the events that were applied, what they left, how it ended, and in how many steps, if it went in

@@ -3,15 +3,15 @@ ghost use Rattle.std.specs.Prelude.{◌≡◌, ◌≤◌, IfOk};
 ghost use Rattle.speed_curve.specs.Curve.{AreRows};
 ghost use Rattle.verdict_report.specs.RunText.{predictor_of as predictor_by};
 ghost use Rattle.verdict_report.specs.CurveText.{IsCurveReport, IsCurveText, end_status as end_status_of, rows_status as rows_status_of};
-ghost use Rattle.verdict_report.specs.CertificateTexts.{OfCertificate};
+ghost use Rattle.report_texts.specs.CertificateTexts.{OfCertificate};
 
-use crate::judging::{Judged, judge};
-use crate::report::Report;
 use crate::scheduled::predictor_of;
 use jobs::job::{CertificateSource, Prediction, Texts};
 use jobs::ranges::{Budget, Units};
 use machine_events::event::Standing;
 use mark_checker::accept::Accepted;
+use report_texts::judging::{Judged, judge};
+use report_texts::report::Report;
 use speed_curve::row::{Row, row_of};
 use speed_curve::table::write;
 use std::alloc::{AllocError, Global};

@@ -9,11 +9,11 @@ ghost use Rattle.event_trace.specs.Entries.{places_of};
 ghost use Rattle.event_trace.specs.Trace.{trace_text};
 ghost use Rattle.verdict_report.specs.MachineText.{machine_text, retired_text, standing_status, standing_text};
 
-use crate::plain_text::write_words;
 use event_trace::trace::trace;
 use jobs::ranges::Units;
 use machine_events::event::{Event, Standing};
 use mark_checker::accept::Accepted;
+use report_texts::plain_text::write_words;
 use run_picture::drawing::draw;
 use run_picture::events::single_events;
 use sequencer::machine::Machine;

@@ -3,15 +3,13 @@ ghost use Rattle.std.specs.Prelude.{◌≡◌, ◌++◌, List, [], ◌∷◌, Re
 ghost use Rattle.machine_model.specs.Answer.{play, play_event};
 ghost use Rattle.machine_events.specs.declared.event.Refused.{Refused};
 ghost use Rattle.sequencer.specs.Seen.{SameRing, state, units_of};
-ghost use Rattle.verdict_report.specs.CertificateTexts.{OfCertificate};
+ghost use Rattle.report_texts.specs.CertificateTexts.{OfCertificate};
 ghost use Rattle.verdict_report.specs.MachineText.{machine_text};
 ghost use Rattle.verdict_report.specs.Playing.{played_so_far};
 ghost use Rattle.verdict_report.specs.ReplayText.{allowed, answers_text, events_report, replay_text, script_report};
 
 use crate::event_text::{refused_script, write_answers};
-use crate::judging::{Judged, judge};
 use crate::machine_text::{picture_of, standing_status_of, summary_of, trace_of, write_machine};
-use crate::report::Report;
 use event_script::fault::ScriptFault;
 use event_script::reading::read;
 use jobs::job::{CertificateSource, ReplayEmit, Texts};
@@ -19,6 +17,8 @@ use jobs::ranges::Units;
 use machine_events::event::{Event, Refused};
 use machine_model::laws::next_is_after;
 use mark_checker::accept::Accepted;
+use report_texts::judging::{Judged, judge};
+use report_texts::report::Report;
 use sequencer::machine::Machine;
 use std::alloc::{AllocError, Global};
 

@@ -3,7 +3,7 @@ ghost use Rattle.std.specs.Prelude.{◌≡◌, ◌≢◌, ◌≤◌, ◌++◌, E
 ghost use Rattle.std.specs.String.{string_bytes};
 ghost use Rattle.sequencer.specs.Seen.{state, units_of};
 ghost use Rattle.verdict_report.specs.RunText.{IsRunReport, IsRunText, IsWrittenOf, ending_status, ending_text, steps_text};
-ghost use Rattle.verdict_report.specs.CertificateTexts.{OfCertificate};
+ghost use Rattle.report_texts.specs.CertificateTexts.{OfCertificate};
 ghost use Rattle.verdict_report.specs.Runs.{run_of};
 ghost use Rattle.task_lives.specs.Lives.{lives_of};
 ghost use Rattle.run_summary.specs.SummaryText.{summary_text};
@@ -11,18 +11,18 @@ ghost use Rattle.event_script.specs.EventScript.{script_of};
 ghost use Rattle.event_script.specs.ScriptText.{script_text};
 
 use crate::fault::ServeFault;
-use crate::judging::{Judged, judge};
 use crate::machine_text::{
     picture_of, standing_status_of, summary_of, trace_of_history, write_machine,
 };
-use crate::plain_text::write_words;
 use crate::ran::{Extent, Ran};
-use crate::report::Report;
 use crate::scheduled::run_scheduled;
 use event_script::writing::write;
 use jobs::job::{CertificateSource, Prediction, RunEmit, Texts};
 use jobs::ranges::Units;
 use mark_checker::accept::Accepted;
+use report_texts::judging::{Judged, judge};
+use report_texts::plain_text::write_words;
+use report_texts::report::Report;
 use std::alloc::{AllocError, Global};
 use std::sync::Wait;
 use std::thread::Threads;
