@@ -61,10 +61,12 @@ fn report_of<R: Threads + Wait + Sync>(
         Job::Print => Ok(print(alloc, program)?),
         Job::Annotate { emit } => Ok(annotate(alloc, *emit, program)?),
         Job::Explain {
-            name,               certificate,
+            name,
+            certificate,
             warnings,
             format,
-        } => Ok(explain_in(alloc, *format, name, certificate, *warnings, texts)?),
+        } => Ok(explain_in(alloc, *format, name,
+            certificate, *warnings, texts)?),
         Job::Check {
             certificate,
             workers,
