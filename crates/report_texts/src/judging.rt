@@ -80,8 +80,8 @@ fn judge_program(alloc: Global, program: Program, certificate: &Text) -> Result<
     }
 }
 
-/// What the text of a certificate says of a program.
-pub(crate) fn read(alloc: Global, certificate: &Text, program: &Program) -> Result<Cert, CertFault>
+/// What the text of a certificate says of a program: the certificate, or the fault of its text.
+pub fn read(alloc: Global, certificate: &Text, program: &Program) -> Result<Cert, CertFault>
     ensures { (result ≡ Err CertFault.OutOfMemory) ⊎ (result ≡ cert_parse certificate.now (names_of program.now)) }
 {
     let pieces = certificate.pieces(alloc)?;
