@@ -5,20 +5,20 @@ ghost use Rattle.std.specs.Option.{option_map};
 ghost use Rattle.std.specs.String.{string_bytes};
 ghost use Rattle.verdict_report.specs.JobTexts.{IsDone, IsExplainedIn, IsReportOf, print_text};
 
-use report_texts::annotating::annotate;
-use report_texts::checking::check;
 use crate::curving::curve;
-use explain_report::explaining::explain;
 use crate::fault::ServeFault;
-use explain_report::logging::explain_log;
 use crate::ran::Extent;
 use crate::replaying::replay;
-use report_texts::report::{Report, refused_program};
 use crate::running::run;
-use report_texts::sequential::seq;
 use annotated_asm::assembler::assemble;
 use annotated_asm::fault::AsmFault;
+use explain_report::explaining::explain;
+use explain_report::logging::explain_log;
 use jobs::job::{Format, Job, Texts};
+use report_texts::annotating::annotate;
+use report_texts::checking::check;
+use report_texts::report::{Report, refused_program};
+use report_texts::sequential::seq;
 use std::alloc::{AllocError, Global};
 use std::io::Write;
 use std::sync::Wait;
@@ -65,8 +65,7 @@ fn report_of<R: Threads + Wait + Sync>(
             certificate,
             warnings,
             format,
-        } => Ok(explain_in(alloc, *format, name,
-            certificate, *warnings, texts)?),
+        } => Ok(explain_in(alloc, *format, name, certificate, *warnings, texts)?),
         Job::Check {
             certificate,
             workers,
