@@ -6,7 +6,7 @@ lines of their own or before their statement, blanks, comments, blank lines. For
 diagnostics with the model's: places, sentences, that each path is a path inside the task, that it leads
 where the rule says, and that none is shorter. Then it follows each help alone, and that finding must be
 gone. Every third program is explained together with a certificate: that of the program, one with a wrong mask
-or a line too few, or a text that is none. PROGRAM is the built `multiscalar`.
+or a line too few, or a text that is none. It asks for no warnings, which `costly_marks.py` compares. PROGRAM is the built `multiscalar`.
 """
 import argparse
 import collections
@@ -227,8 +227,89 @@ def shown_so(text, line, column, rows):
     return rows.startswith(front) and re.fullmatch(r"~*\n" if front else "", rows[len(front):]) is not None
 
 
+def added(head, starts):
+    """How many bytes a line with this directive adds."""
+    numbers = [t for _, t in starts[1:] if t != ","]
+    return int(numbers[0], 0) if head == ".space" else len(numbers) * {".word": 4, ".byte": 1}.get(head, 0)
+
+
+def places_of_whole(text):
+    """For each kind of fault of the whole program that the text has, the token that shows it and the one of its note.
+
+    A token is line, column and width. The kinds are 8, and 1, 3, 4, 5 and 7 of `10 Build`, not in the order in
+    which they are judged.
+    """
+    first, tasks, start, code, found = {}, [], None, 0, {}
+    section, sizes = ".text", {".text": 0, ".data": 0, ".rodata": 0}
+    for number, line in enumerate(text.split("\n"), 1):
+        starts = columns(line)
+        token = lambda k: (number, starts[k][0], len(starts[k][1]))
+        def define(key, k):
+            if key in first:
+                found.setdefault(8, (token(k), first[key]))
+            return first.setdefault(key, token(k))
+        while len(starts) >= 2 and starts[1][1] == ":":
+            define(("label", starts[0][1]), 0)
+            first.setdefault(("index", starts[0][1]), sizes[".text"])
+            starts = starts[2:]
+        if not starts:
+            continue
+        head = starts[0][1]
+        if head in sizes:
+            section = head
+        elif head == ".start":
+            define("start", 0)
+            start = start or token(1)
+        elif head == ".task":
+            define(("task", starts[1][1]), 1)
+            words = [t for _, t in starts]
+            if "$0" in words or "$zero" in words:
+                found.setdefault(5, (token(2), None))
+            targets = words[max(k for k, t in enumerate(words) if t == "=") + 1:]
+            if len(tasks) == 1024 or len(targets) > 2 * 16:
+                found.setdefault(1, (token(1), None))
+            tasks.append((starts[1][1], token(1)))
+        else:
+            sizes[section] += added(head, starts) if head.startswith(".") else instructions(head, starts)
+            if section == ".text":
+                code = code or token(0)
+            if sizes[section] > (4096 if section == ".text" else 65536):
+                found.setdefault(1, (token(0), None))
+    begins = {}
+    for task, at in tasks:
+        index = first.get(("index", task))
+        if index is not None and index >= sizes[".text"]:
+            found.setdefault(3, (at, first[("label", task)]))
+        if index in begins:
+            found.setdefault(4, (at, begins[index]))
+        begins.setdefault(index, at)
+    found[7] = (start or code, None)
+    return found
+
+
+NOTES = {8: "it stands here first", 3: "its label stands here, with no instruction behind it",
+         4: "this task begins there, too"}
+
+
+def whole_so(fault, text, name, said):
+    """Whether what is said of a fault of the whole program is told at the token that shows it."""
+    kind = fault.sub or fault.k
+    (line, column, width), note = places_of_whole(text)[kind]
+    told, rows = fault.text()[len("program refused: "):-1], said.split("\n")[:-1]
+    at = f"{name}:{line}:{column}: "
+    if not rows or not rows[0].startswith(f"{at}error: ") or not rows.pop(0).endswith(f" [{told}]"):
+        return False
+    if not cut(rows, excerpt(text, line, column, width)):
+        return False
+    if note and not cut(rows, [f"{name}:{note[0]}:{note[1]}: note: {NOTES[kind]}", *excerpt(text, *note)]):
+        return False
+    return len(rows) == 1 and rows[0].startswith(f"{at}help: ")
+
+
 def refused_so(fault, text, name, said):
     """Whether what is said tells the first fault of a text, at its line if it has one, and then those of later lines."""
+    if fault.k == 8 or fault.sub in (1, 3, 4, 5, 7):
+        return whole_so(fault, text, name, said)
     line = places(text)[1][fault.index][0] if fault.index is not None else fault.line
     told = fault.text()[len("program refused: "):-1]
     if not line:
@@ -362,6 +443,39 @@ def spoiled(certificate):
     return "\n".join(lines) + ("\n" if lines and R.random() < .95 else "")
 
 
+def plant_fault(text):
+    """The text with something that may be a fault of the program as a whole."""
+    lines = text.split("\n")
+    tasks = [line.split()[1] for line in lines if line.startswith(".task")]
+    other, kind = R.choice(tasks + ["Odd"]), R.randrange(8)
+    at = R.randrange(len(lines))
+    if kind == 0:
+        lines[at] = R.choice([f"{other}: ", f"X: {other}: ", f"X: Y: X: {other}: "]) + lines[at]
+    elif kind == 1:
+        lines.insert(at, R.choice([f".task {other} create=- targets=-", f".start {other}", f"Z: .start {other}"]))
+    elif kind == 2:
+        lines = [*lines, ".text", f"{other}4:", f".task {other}4 create=- targets=-"]
+    elif kind == 3:
+        again = [k for k, line in enumerate(lines) if line.startswith(f"{other}:")]
+        if again:
+            lines[again[0]] = f"Twin: {lines[again[0]]}"
+            lines.insert(R.randrange(len(lines)), ".task Twin create=$8 targets=-")
+    elif kind == 4:
+        lines = [line.replace("create=", R.choice(["create=$0,", "create=$8,$zero,"])).replace(",-", "")
+                 if R.random() < .5 else line for line in lines]
+    elif kind == 5:
+        lines = [line for line in lines if not line.startswith(".start")]
+        lines.insert(at, f"{R.choice(['', 'Q: '])}nop")
+    elif kind == 6:
+        what, count = R.choice([("  nop", 4097), ("li $8,70000", 2049), (".task T{} create=- targets=-", 1025)])
+        lines[at:at] = [what.format(k) for k in range(count)]
+        if what.startswith(".task"):
+            lines += [".text", *(f"T{k}: nop" for k in range(count))]
+    else:
+        lines += [R.choice([".data", ".rodata"]), *R.choices([".space 30000", ".byte 1,2", ".word 7", "D: .space 40000"], k=6)]
+    return "\n".join(lines)
+
+
 def laid_out(text):
     """The same program in another layout."""
     lines, held = [], ""
@@ -384,13 +498,13 @@ class Bench:
         self.folder = tempfile.mkdtemp(prefix="explain")
         self.counts = collections.Counter()
 
-    def explain(self, text, certificate=None):
+    def explain(self, text, *options, certificate=None):
         with open(os.path.join(self.folder, "p.s"), "w") as file:
             file.write(text)
         if certificate is not None:
             with open(os.path.join(self.folder, "c"), "wb") as file:
                 file.write(certificate)
-        words = ["explain", "p.s"] + (["c"] if certificate is not None else [])
+        words = ["explain", *options, "p.s"] + (["c"] if certificate is not None else [])
         run = subprocess.run([self.program, *words], cwd=self.folder, capture_output=True)
         return run.stdout.decode("latin-1"), run.returncode, run.stderr.decode("latin-1")
 
@@ -398,14 +512,14 @@ class Bench:
         """What is wrong with what is said of a certificate: behind what is said without one stands the remark."""
         certificate = spoiled(cert_text(certify(program), program)).encode()
         wanted = said + remark(program, "p.s", "c", certificate)
-        given = self.explain(text, certificate)
+        given = self.explain(text, "--no-warnings", certificate=certificate)
         self.counts["certificates"] += 1
         self.counts["certificates that do not fit"] += wanted != said
         if given != (wanted, 1 if wanted else 0, ""):
             return f"of the certificate {certificate!r}: {given[0][len(said):]!r}, status {given[1]}"
 
     def wrong(self, text):
-        said, status, complaint = self.explain(text)
+        said, status, complaint = self.explain(text, "--no-warnings")
         try:
             program = assemble(text.encode("latin-1"))
         except Fault as fault:
@@ -443,7 +557,8 @@ def main():
     generator.R.seed(given.seed)
     bench, end = Bench(given.program), time.time() + given.seconds
     while time.time() < end:
-        text = laid_out(plant(print_program(accepted()[0])))
+        text = plant(print_program(accepted()[0]))
+        text = laid_out(plant_fault(text) if R.random() < .5 else text)
         what = bench.wrong(text)
         if what:
             print(f"seed {given.seed}: {what}\n{text}{bench.explain(text)[0]}")

@@ -126,7 +126,7 @@ def ways_of(folder, program, certificate):
 
 
 def cases(bench):
-    """Each subcommand over the examples; what `run` prints must be known, and of right marks `explain` says nothing."""
+    """Each subcommand over the examples; what `run` prints must be known."""
     for folder in sorted(p for p in (TOP / "examples").iterdir() if (p / "program.s").exists()):
         program, certificate = str(folder / "program.s"), str(folder / "certificate.cert2")
         words = [["seq", program], ["print", program], ["annotate", "--emit", "cert", program]]

@@ -145,6 +145,6 @@ def one():
     ev = '\n'.join(events_for(Machine(p, u), R.choice([5, 30, 100, 300]))) + R.choice(['', '\n'])
     if R.random() < .1:
         k = R.randrange(len(ev) + 1); ev = ev[:k] + R.choice(['\n', ' ', 'x', '0', '-', '\r', '$', '34']) + ev[k + R.choice([0, 1]):]
-    return certified(['replay', '--units', str(u)] + (['--emit', 'summary'] if R.random() < .3 else []), t, c, ev)
+    return certified(['replay', '--units', str(u)] + R.choice([[], [], ['--emit', 'summary'], ['--emit', 'trace']]), t, c, ev)
 while time.time() < end and SUBS: one()
 finish()

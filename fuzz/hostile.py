@@ -29,6 +29,7 @@ import traceback
 
 HERE = pathlib.Path(__file__).resolve().parent
 sys.path.insert(0, str(HERE / "entry"))
+import costly_marks
 import explain
 import picture
 import seeds
@@ -187,7 +188,7 @@ def wanted(words, texts):
 
 
 def wanted_explanation(files, given):
-    """The model's findings, told as explain.py has it, and what is said of a certificate; of a refused text its faults."""
+    """The model's findings or its warnings, told as explain.py and costly_marks.py have them, and what is said of a certificate; of a refused text its faults."""
     name, text = files[0], given[0].decode("latin-1")
     try:
         program = assemble(given[0])
@@ -199,8 +200,11 @@ def wanted_explanation(files, given):
 
     def fits(out, status):
         marks = out.removesuffix(remark)
-        return (status == (1 if findings or remark else 0) and out.endswith(remark) and bool(marks) == bool(findings)
-                and not explain.differs(program, text, name, marks))
+        if status != (1 if findings or remark else 0) or not out.endswith(remark):
+            return False
+        if not findings:
+            return marks == costly_marks.told(program, text, name)
+        return not explain.differs(program, text, name, marks)
 
     return fits
 

@@ -61,7 +61,7 @@ def example_cases():
         program, certificate = str(folder / "program.s"), str(folder / "certificate.cert2")
         for line in (folder / "expected" / "commands").read_text().splitlines() if (folder / "expected").exists() else []:
             words = [str(folder / word) if (folder / word).is_file() else word for word in line.split()[2:]]
-            if words[0] in ("check", "replay") or words[:2] == ["seq", "--budget"]:
+            if words[0] in ("check", "replay", "curve") or words[:2] == ["seq", "--budget"]:
                 yield words
         yield ["seq", program]
         yield ["print", program]

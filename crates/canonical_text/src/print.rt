@@ -24,7 +24,8 @@ fn write_task(text: &mut String, labels: &Labels, task: &Descriptor) -> Result<(
     Ok(())
 }
 
-fn write_create(text: &mut String, create: RegSet) -> Result<(), AllocError>
+/// Writes a create mask as a list: its registers, rising, or a `-`.
+pub fn write_create(text: &mut String, create: RegSet) -> Result<(), AllocError>
     ensures { OnOk result (string_bytes text.new ≡ string_bytes text.old ++ listed (map register_text (members create))) }
 {
     if !write_registers(text, create)? {

@@ -1,6 +1,6 @@
 -- Which job the words of a command line ask for, over which files, or why none (own choice). Which
 -- subcommand the words name, and with which values, is what `clap` makes of them.
-use Rattle.std.specs.Prelude.{◌≡◌, ◌≢◌, ◌⊎◌, ℕ, Bool, true, false, List, [], Option, is_none, Some, None, Result, IsSome, IsSomeAnd, ⊤, if◌then◌else◌, codes, option_and_then, MatchResult, unwrap_or}
+use Rattle.std.specs.Prelude.{◌≡◌, ◌≢◌, ◌⊎◌, ℕ, Bool, true, false, not, List, [], Option, is_none, Some, None, Result, IsSome, IsSomeAnd, ⊤, if◌then◌else◌, codes, option_and_then, MatchResult, unwrap_or}
 use Rattle.std.specs.String.{string_bytes}
 use Rattle.std.specs.Option.{option_map, option_map_or}
 use Rattle.std.specs.Str.{bytes_eq}
@@ -17,14 +17,15 @@ use Rattle.jobs.specs.Files.{HasFilesOf, has_certificate, has_script}
 use Rattle.jobs.specs.declared.job.CertificateSource.{CertificateSource}
 use Rattle.jobs.specs.declared.job.CertificateSource.TheVariants.{File, Least}
 use Rattle.jobs.specs.declared.job.Emit.{Emit}
+use Rattle.jobs.specs.declared.job.Format.{Format}
 use Rattle.jobs.specs.declared.job.ReplayEmit.{ReplayEmit}
 use Rattle.jobs.specs.declared.job.RunEmit.{RunEmit}
 use Rattle.jobs.specs.declared.job.Schedule.{Schedule}
 use Rattle.jobs.specs.declared.job.Prediction.{Prediction}
 use Rattle.jobs.specs.declared.job.Job.{Job}
-use Rattle.jobs.specs.declared.job.Job.TheVariants.{Seq, Print, Annotate, Explain, Check, Replay, Run}
+use Rattle.jobs.specs.declared.job.Job.TheVariants.{Seq, Print, Annotate, Explain, Check, Replay, Run, Curve}
 use Rattle.jobs.specs.declared.job.Paths.{Paths}
-use Rattle.command_line.specs.Words.{emit_of, prediction_of, replay_emit_of, run_emit_of, schedule_of}
+use Rattle.command_line.specs.Words.{emit_of, format_of, prediction_of, replay_emit_of, run_emit_of, schedule_of}
 use Rattle.command_line.specs.CommandLine.{command_line}
 use Rattle.command_line.specs.declared.words.UsageFault.{UsageFault}
 use Rattle.command_line.specs.declared.words.UsageFault.TheVariants.{Words, Predict, Emit as EmitFault, OutOfMemory}
@@ -38,7 +39,7 @@ abbrev pub number_of : Text → Option ℕ
 number_of text =
     if is_unsigned_in 0 4294967295 text then Some (digits_value 10 (without_leading_plus text)) else None
 
--- the values of an option with a number, of `--predict`, of `--schedule` and of `--emit`
+-- the values of an option with a number, of `--predict`, of `--schedule`, of `--format` and of `--emit`
 abbrev pub number_at : Text → List Row → Option ℕ
 number_at id values = option_and_then number_of (one_of id values)
 
@@ -47,6 +48,9 @@ predict_in values = option_and_then prediction_of (first_of (codes "predict") va
 
 abbrev pub schedule_in : List Row → Option Schedule
 schedule_in values = option_and_then schedule_of (first_of (codes "schedule") values)
+
+abbrev pub format_in : List Row → Option Format
+format_in values = option_and_then format_of (first_of (codes "format") values)
 
 abbrev pub emit_in : List Row → Option Emit
 emit_in values = option_and_then emit_of (first_of (codes "emit") values)
@@ -86,15 +90,20 @@ IsMisfit last values fault =
 abbrev pub IsNoSchedule : List Row → UsageFault → Type 0
 IsNoSchedule values fault = IsOfKind kind.InvalidValue fault × (schedule_in values ≡ None)
 
+-- the value of `--format` stands for nothing
+abbrev pub IsNoFormat : List Row → UsageFault → Type 0
+IsNoFormat values fault = IsOfKind kind.InvalidValue fault × (format_in values ≡ None)
+
 -- a subcommand of this name with these values gives the job
 abbrev pub Gives : Text → List Row → Job → Type 0
 Gives name values (Seq budget) =
     (name ≡ codes "seq") × (number_at (codes "budget") values ≡ Some budget)
 Gives name values Print = name ≡ codes "print"
 Gives name values (Annotate emit) = (name ≡ codes "annotate") × (emit_in values ≡ Some emit)
-Gives name values (Explain file certificate) = (name ≡ codes "explain")
+Gives name values (Explain file certificate warnings format) = (name ≡ codes "explain")
     × (first_of (codes "program") values ≡ Some (string_bytes file))
     × (first_of (codes "certificate") values ≡ option_map string_bytes certificate)
+    × (warnings ≡ not (is_given (codes "no-warnings") values)) × (format_in values ≡ Some format)
 Gives name values (Check source workers) = (name ≡ codes "check")
     × IsSource (codes "certificate") values source × (number_at (codes "workers") values ≡ Some workers)
 Gives name values (Replay source units emit) = (name ≡ codes "replay") × IsSource (codes "script") values source
@@ -105,6 +114,9 @@ Gives name values (Run source schedule units workers budget predict emit) = (nam
     × (workers ≡ unwrap_or (number_at (codes "workers") values) units)
     × (number_at (codes "budget") values ≡ Some budget)
     × (predict_in values ≡ Some predict) × (run_emit_in values ≡ Some emit)
+Gives name values (Curve source units budget predict) = (name ≡ codes "curve")
+    × IsSource (codes "certificate") values source × (number_at (codes "units") values ≡ Some units)
+    × (number_at (codes "budget") values ≡ Some budget) × (predict_in values ≡ Some predict)
 
 -- where the script stands: without a certificate, in its place
 abbrev pub place_of_script : Job → Text
@@ -137,15 +149,18 @@ Fits last values = is_none (first_of last values) ≡ is_least values
 -- why a subcommand with these values gives no job
 abbrev pub Refuses : Text → List Row → UsageFault → Type 0
 Refuses name values Predict =
-    (name ≡ codes "run") × Fits (codes "certificate") values × IsSome (schedule_in values) × (predict_in values ≡ None)
+    ((name ≡ codes "run") × Fits (codes "certificate") values × IsSome (schedule_in values) × (predict_in values ≡ None))
+    ⊎ ((name ≡ codes "curve") × Fits (codes "certificate") values × (predict_in values ≡ None))
 Refuses name values EmitFault = ((name ≡ codes "annotate") × (emit_in values ≡ None))
     ⊎ ((name ≡ codes "replay") × Fits (codes "script") values × (replay_emit_in values ≡ None))
     ⊎ ((name ≡ codes "run") × Fits (codes "certificate") values × IsSome (schedule_in values) × IsSome (predict_in values) × (run_emit_in values ≡ None))
 Refuses name values fault = IsNoJob fault
+    ⊎ ((name ≡ codes "explain") × IsNoFormat values fault)
     ⊎ ((name ≡ codes "check") × IsMisfit (codes "certificate") values fault)
     ⊎ ((name ≡ codes "replay") × IsMisfit (codes "script") values fault)
     ⊎ ((name ≡ codes "run") × IsMisfit (codes "certificate") values fault)
     ⊎ ((name ≡ codes "run") × Fits (codes "certificate") values × IsNoSchedule values fault)
+    ⊎ ((name ≡ codes "curve") × IsMisfit (codes "certificate") values fault)
 
 -- what reading a subcommand with these values comes to
 abbrev pub Reads : Text → List Row → Result (Job × Paths) UsageFault → Type 0

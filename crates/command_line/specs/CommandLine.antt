@@ -54,11 +54,19 @@ free_script = free_file (codes "script")
 abbrev pub least : Rule
 least = flag (codes "least")
 
+-- no warnings of marks that are right but cost speed
+abbrev pub no_warnings : Rule
+no_warnings = flag (codes "no-warnings")
+
 abbrev pub budget : Rule
 budget = number (codes "budget") 1000000 (codes "1000000")
 
 abbrev pub units : Rule
 units = number (codes "units") 16 (codes "4")
+
+-- the units of the last of several runs
+abbrev pub most_units : Rule
+most_units = number (codes "units") 16 (codes "16")
 
 -- the threads of a check, and those of a run
 abbrev pub checkers : Rule
@@ -66,6 +74,10 @@ checkers = number (codes "workers") 16 (codes "1")
 
 abbrev pub workers : Rule
 workers = free_number (codes "workers") 16
+
+-- how what is said of a program is laid out
+abbrev pub layout : Rule
+layout = word (codes "format") (codes "text")
 
 -- how the units of a run take turns
 abbrev pub schedule : Rule
@@ -84,7 +96,7 @@ abbrev pub annotate : Shape
 annotate = subcommand (codes "annotate") (program ∷ word (codes "emit") (codes "text") ∷ [])
 
 abbrev pub explain : Shape
-explain = subcommand (codes "explain") (program ∷ free_certificate ∷ [])
+explain = subcommand (codes "explain") (program ∷ free_certificate ∷ no_warnings ∷ layout ∷ [])
 
 abbrev pub check : Shape
 check = subcommand (codes "check") (program ∷ free_certificate ∷ least ∷ checkers ∷ [])
@@ -97,6 +109,10 @@ abbrev pub run : Shape
 run = subcommand (codes "run") (program ∷ free_certificate ∷ least ∷ schedule ∷ units ∷ workers ∷ budget
     ∷ word (codes "predict") (codes "first") ∷ word (codes "emit") (codes "report") ∷ [])
 
+abbrev pub curve : Shape
+curve = subcommand (codes "curve") (program ∷ free_certificate ∷ least ∷ most_units ∷ budget
+    ∷ word (codes "predict") (codes "first") ∷ [])
+
 -- the program, which has a version, and of which a subcommand is wanted
 abbrev pub program_name : Shape
 program_name = record (new_shape (codes "multiscalar")) { has_version = true; subcommand_required = true }
@@ -104,7 +120,7 @@ program_name = record (new_shape (codes "multiscalar")) { has_version = true; su
 abbrev pub command_line : App
 command_line = record {
   top = record program_name { is_leaf = false };
-  subs = seq ∷ print ∷ annotate ∷ explain ∷ check ∷ replay ∷ run ∷ [];
+  subs = seq ∷ print ∷ annotate ∷ explain ∷ check ∷ replay ∷ run ∷ curve ∷ [];
 }
 
 -- the command is the subcommand s, without an argument that is global

@@ -1,13 +1,15 @@
--- What the values of `--predict`, `--schedule` and `--emit` stand for (own choice).
+-- What the values of `--predict`, `--schedule`, `--format` and `--emit` stand for (own choice).
 use Rattle.std.specs.Prelude.{ℕ, ◌+◌, ◌-◌, ◌*◌, ◌==◌, ◌&&◌, nat_le, if◌then◌else◌, List, [], ◌∷◌, length, map, Option, Some, None, codes}
 use Rattle.std.specs.Char.{is_ascii_digit}
 use Rattle.std.specs.Option.{option_map}
 use Rattle.std.specs.List.{slice_split}
 use Rattle.std.specs.Str.{bytes_eq}
 use Rattle.jobs.specs.declared.job.Emit.{Emit}
-use Rattle.jobs.specs.declared.job.Emit.TheVariants.{Text, Cert, Keep}
+use Rattle.jobs.specs.declared.job.Emit.TheVariants.{Text, Cert, Keep, Marks}
+use Rattle.jobs.specs.declared.job.Format.{Format}
+use Rattle.jobs.specs.declared.job.Format.TheVariants as format
 use Rattle.jobs.specs.declared.job.RunEmit.{RunEmit}
-use Rattle.jobs.specs.declared.job.RunEmit.TheVariants.{Report, Script, Summary, Picture}
+use Rattle.jobs.specs.declared.job.RunEmit.TheVariants.{Report, Script, Summary, Picture, Trace}
 use Rattle.jobs.specs.declared.job.ReplayEmit.{ReplayEmit}
 use Rattle.jobs.specs.declared.job.ReplayEmit.TheVariants as replay
 use Rattle.jobs.specs.declared.job.Schedule.{Schedule}
@@ -48,12 +50,19 @@ schedule_of text =
     if bytes_eq text (codes "threads") then Some Threads
     else (if bytes_eq text (codes "steps") then Some Steps else None)
 
+-- the value of `--format`
+abbrev pub format_of : List ℕ → Option Format
+format_of text =
+    if bytes_eq text (codes "text") then Some format.Text
+    else (if bytes_eq text (codes "sarif") then Some format.Sarif else None)
+
 -- the value of `--emit` of `annotate`
 abbrev pub emit_of : List ℕ → Option Emit
 emit_of text =
     if bytes_eq text (codes "text") then Some Text
     else (if bytes_eq text (codes "cert") then Some Cert
-    else (if bytes_eq text (codes "keep") then Some Keep else None))
+    else (if bytes_eq text (codes "keep") then Some Keep
+    else (if bytes_eq text (codes "marks") then Some Marks else None)))
 
 -- the value of `--emit` of `run`
 abbrev pub run_emit_of : List ℕ → Option RunEmit
@@ -61,11 +70,13 @@ run_emit_of text =
     if bytes_eq text (codes "report") then Some Report
     else (if bytes_eq text (codes "script") then Some Script
     else (if bytes_eq text (codes "summary") then Some Summary
-    else (if bytes_eq text (codes "svg") then Some Picture else None)))
+    else (if bytes_eq text (codes "svg") then Some Picture
+    else (if bytes_eq text (codes "trace") then Some Trace else None))))
 
 -- the value of `--emit` of `replay`
 abbrev pub replay_emit_of : List ℕ → Option ReplayEmit
 replay_emit_of text =
     if bytes_eq text (codes "answers") then Some replay.Answers
     else (if bytes_eq text (codes "summary") then Some replay.Summary
-    else (if bytes_eq text (codes "svg") then Some replay.Picture else None))
+    else (if bytes_eq text (codes "svg") then Some replay.Picture
+    else (if bytes_eq text (codes "trace") then Some replay.Trace else None)))

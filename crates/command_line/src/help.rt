@@ -19,11 +19,11 @@ whole before any text is judged. One of them may be -, standard input.";
 pub const STATUS: &str = "Exit status:
   0  accepted, nothing found wrong, printed, halted, or a replay that is still running; help; version
   1  a text or an annotation refused or found wrong; trapped; ended at an address that is not listed
-  2  wrong words, or a file, the memory or the output that failed
+  2  wrong usage, a file that cannot be read, out of memory, or output that cannot be written
   3  out of budget
 
 Results and refusals of texts go to standard output. A fault of status 2 is one line on standard
-error; wrong words are explained there.";
+error; wrong usage is explained there.";
 
 /// `seq`, in one line.
 pub const SEQ: &str = "Runs a program, one instruction after another";
@@ -45,7 +45,7 @@ pub const PRINT: &str = "Writes a program in canonical text";
 
 /// `print`.
 pub const PRINT_LONG: &str =
-    "Writes a program in canonical text, which reads back as the same program. Of a text that is no
+    "Writes a program in canonical text, which reads back as the same program. For a text that is not a
 program it writes the first fault and its line:
   program refused: K Name line N
 
@@ -60,8 +60,13 @@ pub const ANNOTATE_LONG: &str =
     "Proposes which registers each task creates and where values are forwarded; stops, releases and
 targets stay as they are. The proposal is not trusted: `check` judges it like any other.
 
+With `--emit marks` it writes your own text with the proposed create masks and forward bits; comments,
+labels and layout stay as they are.
+
 For example, a certificate of the program as it stands:
-  ./multiscalar annotate --emit keep examples/count/program.s";
+  ./multiscalar annotate --emit keep examples/count/program.s
+and a text with new marks in place of the old:
+  ./multiscalar annotate --emit marks examples/five-findings/program.s";
 
 /// `explain`, in one line.
 pub const EXPLAIN: &str = "Says which of a program's annotations are wrong, and why";
@@ -69,24 +74,31 @@ pub const EXPLAIN: &str = "Says which of a program's annotations are wrong, and 
 /// `explain`.
 pub const EXPLAIN_LONG: &str =
     "Says which of a program's annotations are wrong, and why. It needs no certificate: it makes the least
-one itself, so it finds something exactly where the annotations are wrong.
+one itself, so it finds something exactly if the annotations are wrong.
 
 Writes for each finding what is wrong, which path shows it, and what to do, in the form that compilers
 use; a finding that no path shows has no note:
   FILE:LINE:COLUMN: error: .. [rule R]
   FILE:LINE:COLUMN: note: ..
   FILE:LINE:COLUMN: help: ..
-Of a text that is no program it writes the first fault and those of further lines, and what would be right:
+For a text that is not a program it writes the first fault and those of further lines, and what would be right:
   FILE:LINE:COLUMN: error: .. [K Name line N]
   FILE:LINE:COLUMN: help: ..
+Where the annotations are right, it warns of those that cost speed, and of code that no task reaches:
+  FILE:LINE:COLUMN: warning: ..
+  FILE:LINE:COLUMN: help: ..
+With `--format sarif` it writes the same, without the warnings, as a log in SARIF 2.1.0, which editors and
+code hosts read.
 With CERT it says, too, why that text is no certificate, or that it is none of the program as it stands,
 and how to make it anew.
 
-The exit status is 0 where nothing is wrong, and 1 where something is or a text is refused. Where a file
-cannot be read, it says why: multiscalar: file FILE: no such file
+The exit status is 0 where nothing is wrong, with warnings too, and 1 where something is or a text is
+refused. Where a file cannot be read, it says why: multiscalar: file FILE: no such file
 
 For example:
-  ./multiscalar explain examples/five-findings/program.s";
+  ./multiscalar explain examples/five-findings/program.s
+  ./multiscalar explain examples/warnings/program.s
+  ./multiscalar explain --format sarif examples/five-findings/program.s > findings.sarif";
 
 /// `check`, in one line.
 pub const CHECK: &str = "Checks a program with its certificate";
@@ -144,8 +156,8 @@ first fault and its line:
   script refused: K Name LINE
 
 With `--emit summary` it writes a table instead of the answers and of how the run stands: that of
-`run --emit summary`, of the events that were allowed. With `--least` it makes the certificate itself,
-that of `annotate --emit keep`.
+`run --emit summary`, of the events that were allowed. With `--emit trace` it writes below each answer what
+the event changed. With `--least` it makes the certificate itself, that of `annotate --emit keep`.
 
 For example:
   ./multiscalar replay --least --units 2 examples/count/program.s examples/count/script.events";
@@ -188,7 +200,8 @@ tasks overlap. It is no model of the time of a processor.
 
 With `--least` it makes the certificate itself, that of `annotate --emit keep`.
 
-With `--emit svg` it writes a picture of the run, a lane for each unit and a bar for each task on it.
+With `--emit svg` it writes a picture of the run, a lane for each unit and a bar for each task on it. With
+`--emit trace` it writes each event and, below it, what it changed.
 
 For example:
   ./multiscalar run --least examples/count/program.s
@@ -196,20 +209,54 @@ For example:
   ./multiscalar run --least --schedule steps --emit summary examples/count/program.s
   ./multiscalar run --least --units 8 --predict last --emit summary examples/diamond/program.s";
 
+/// `curve`, in one line.
+pub const CURVE: &str = "Runs a program in steps on 1, 2, 3 units and more, and compares the runs";
+
+/// The usage of `curve`.
+pub const CURVE_USAGE: &str = "multiscalar curve [OPTIONS] PROGRAM CERT
+       multiscalar curve [OPTIONS] --least PROGRAM";
+
+/// `curve`.
+pub const CURVE_LONG: &str =
+    "Runs a program on machines of 1, 2, 3 units and more, after the check, each time in steps, as
+`run --schedule steps` does. Writes a table with a row for each run, in which one more unit shows how much
+more the annotations let tasks overlap:
+  units  steps  retired  per step  speed-up  wasted  end
+`retired` counts the instructions of the tasks that retired, and `per step` how many of them there are for
+each step. `speed-up` says how many times as many steps the run on one unit took; it is - unless both runs
+ended. `wasted` is the share of instructions that were thrown away: of those of tasks that retired, were
+squashed or were dropped, how many in a hundred were of tasks that were squashed or dropped. `end` is
+halted, trapped, unlisted (an address that is not listed) or out of budget; `run` says more. Numbers with
+decimals are rounded to the nearest.
+
+The same words give the same table. It is no model of the time of a processor: an instruction is one step
+whatever it does, and so is a register that goes from one unit to the next.
+
+The exit status is that of the first run that did not halt, else 0. With `--least` it makes the certificate
+itself, that of `annotate --emit keep`.
+
+For example:
+  ./multiscalar curve --least --units 4 examples/count/program.s";
+
+/// `--budget` of `curve`.
+pub const CURVE_BUDGET: &str = "How many events end a run, 1 to 1000000";
+
 /// `--emit` of `annotate`.
 pub const ANNOTATE_EMIT: &str =
-    "What is written: text (the proposed program), cert (its certificate) or keep (the certificate of
-the program as it stands)";
+    "What is written: text (the proposed program), cert (its certificate), keep (the certificate of the
+program as it stands) or marks (your own text with the proposed marks)";
 
 /// `--emit` of `replay`.
 pub const REPLAY_EMIT: &str =
     "What is written: answers (what the machine says of each event, and how it then stands), summary
-(how often each task was assigned, and how that ended) or svg (the allowed events as a picture)";
+(how often each task was assigned, and how that ended), svg (the allowed events as a picture) or trace
+(each event with its answer and what it changed)";
 
 /// `--emit` of `run`.
 pub const RUN_EMIT: &str =
     "What is written: report (the words that were put out, and how the run ended), script (the events
-of the run), summary (how often each task was assigned, and how that ended) or svg (a picture)";
+of the run), summary (how often each task was assigned, and how that ended), svg (a picture) or trace
+(each event with what it changed)";
 
 /// `--least`.
 pub const LEAST: &str = "Makes the least certificate of the program as it stands, in place of CERT";
@@ -219,6 +266,9 @@ pub const CERTIFICATE: &str = "The certificate of the program; none with --least
 
 /// CERT of `explain`.
 pub const EXPLAIN_CERTIFICATE: &str = "A certificate of the program, which is explained, too";
+
+/// `--no-warnings`.
+pub const NO_WARNINGS: &str = "Says nothing of annotations that are right but cost speed";
 
 /// Why words with neither a certificate nor `--least` give no job.
 pub const FILE_MISSING: &str = "a file is missing: give CERT, or --least in its place";
@@ -230,6 +280,12 @@ pub const FILE_TOO_MANY: &str = "there is a file too many: with --least there is
 pub const SCHEDULE: &str =
     "How the units take turns: threads (in any order) or steps (on one thread, in steps in which each unit
 does at most one event: the same run every time)";
+
+/// `--format` of `explain`.
+pub const FORMAT: &str = "How it is laid out: text (for a person) or sarif (a log in SARIF 2.1.0)";
+
+/// Why another value of `--format` gives no job.
+pub const NO_FORMAT: &str = "the value of --format is text or sarif";
 
 /// Why another value of `--schedule` gives no job.
 pub const NO_SCHEDULE: &str = "the value of --schedule is threads or steps";

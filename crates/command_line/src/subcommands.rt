@@ -4,9 +4,9 @@ ghost use Rattle.clap.specs.Words.{app_of, new_app, rule_of};
 ghost use Rattle.clap.specs.declared.builder.command.Command.TheViews.{out-Command as fields_of};
 ghost use Rattle.command_line.specs.CommandLine.{IsSubcommand, command_line, program_name as program_name_shape, file as file_rule, flag as flag_rule, free_file as free_file_rule, word as word_rule};
 ghost use Rattle.command_line.specs.CommandLine.{free_number as free_number_rule, number as number_rule};
-ghost use Rattle.command_line.specs.CommandLine.{program as program_rule, certificate as certificate_rule, free_certificate as free_certificate_rule, free_script as free_script_rule, least as least_rule, schedule as schedule_rule};
-ghost use Rattle.command_line.specs.CommandLine.{budget as budget_rule, units as units_rule, checkers as checkers_rule, workers as workers_rule};
-ghost use Rattle.command_line.specs.CommandLine.{seq as seq_shape, print as print_shape, annotate as annotate_shape, explain as explain_shape, check as check_shape, replay as replay_shape, run as run_shape};
+ghost use Rattle.command_line.specs.CommandLine.{program as program_rule, certificate as certificate_rule, free_certificate as free_certificate_rule, free_script as free_script_rule, least as least_rule, no_warnings as no_warnings_rule, layout as layout_rule, schedule as schedule_rule};
+ghost use Rattle.command_line.specs.CommandLine.{budget as budget_rule, units as units_rule, most_units as most_units_rule, checkers as checkers_rule, workers as workers_rule};
+ghost use Rattle.command_line.specs.CommandLine.{seq as seq_shape, print as print_shape, annotate as annotate_shape, explain as explain_shape, check as check_shape, replay as replay_shape, run as run_shape, curve as curve_shape};
 
 use crate::help;
 use clap::{Arg, ArgAction, Command, value_parser};
@@ -24,7 +24,8 @@ pub(crate) fn command<'a>(alloc: Global) -> Result<Command<'a>, AllocError>
         .subcommand(explain(alloc)?)?
         .subcommand(check(alloc)?)?
         .subcommand(replay(alloc)?)?
-        .subcommand(run(alloc)?)
+        .subcommand(run(alloc)?)?
+        .subcommand(curve(alloc)?)
 }
 
 // The program, with no subcommand yet.
@@ -139,6 +140,20 @@ fn least<'a>(alloc: Global) -> Arg<'a>
     flag(alloc, "least", help::LEAST)
 }
 
+fn no_warnings<'a>(alloc: Global) -> Arg<'a>
+    ensures rule { rule_of result ≡ no_warnings_rule }
+    ensures local { result.global ≡ false }
+{
+    flag(alloc, "no-warnings", help::NO_WARNINGS)
+}
+
+fn layout<'a>(alloc: Global) -> Arg<'a>
+    ensures rule { rule_of result ≡ layout_rule }
+    ensures local { result.global ≡ false }
+{
+    word(alloc, "format", "HOW", help::FORMAT, "text")
+}
+
 fn schedule<'a>(alloc: Global) -> Arg<'a>
     ensures rule { rule_of result ≡ schedule_rule }
     ensures local { result.global ≡ false }
@@ -159,6 +174,14 @@ fn units<'a>(alloc: Global) -> Arg<'a>
 {
     let text = "How many units the machine has, 1 to 16";
     number(alloc, "units", text, MOST_UNITS, "4")
+}
+
+fn most_units<'a>(alloc: Global) -> Arg<'a>
+    ensures rule { rule_of result ≡ most_units_rule }
+    ensures local { result.global ≡ false }
+{
+    let text = "How many units the machine of the last run has, 1 to 16";
+    number(alloc, "units", text, MOST_UNITS, "16")
 }
 
 fn checkers<'a>(alloc: Global) -> Arg<'a>
@@ -220,7 +243,9 @@ fn explain<'a>(alloc: Global) -> Result<Command<'a>, AllocError>
 {
     subcommand(alloc, "explain", help::EXPLAIN, help::EXPLAIN_LONG)
         .arg(program(alloc))?
-        .arg(free_certificate(alloc, help::EXPLAIN_CERTIFICATE))
+        .arg(free_certificate(alloc, help::EXPLAIN_CERTIFICATE))?
+        .arg(no_warnings(alloc))?
+        .arg(layout(alloc))
 }
 
 fn check<'a>(alloc: Global) -> Result<Command<'a>, AllocError>
@@ -261,4 +286,17 @@ fn run<'a>(alloc: Global) -> Result<Command<'a>, AllocError>
         .arg(budget(alloc, help::RUN_BUDGET))?
         .arg(word(alloc, "predict", "HOW", help::PREDICT, "first"))?
         .arg(word(alloc, "emit", "WHAT", help::RUN_EMIT, "report"))
+}
+
+fn curve<'a>(alloc: Global) -> Result<Command<'a>, AllocError>
+    ensures { IfOk result (IsSubcommand curve_shape) }
+{
+    let command = subcommand(alloc, "curve", help::CURVE, help::CURVE_LONG);
+    with_usage(command, help::CURVE_USAGE)
+        .arg(program(alloc))?
+        .arg(free_certificate(alloc, help::CERTIFICATE))?
+        .arg(least(alloc))?
+        .arg(most_units(alloc))?
+        .arg(budget(alloc, help::CURVE_BUDGET))?
+        .arg(word(alloc, "predict", "HOW", help::PREDICT, "first"))
 }

@@ -3,8 +3,8 @@ ghost use Rattle.std.specs.Prelude.{◌≡◌, ◌≤◌, ◌==◌, IfErr, IfOk,
 ghost use Rattle.std.specs.String.{string_bytes};
 ghost use Rattle.std.specs.List.{slice_split};
 ghost use Rattle.clap.specs.Words.{first_of};
-ghost use Rattle.command_line.specs.Asked.{AskFor, IsFaultOf, IsFrom, IsMisfit, IsNoJob, IsNoSchedule, IsOfKind, IsSource, Reads, is_given, emit_in, number_at, predict_in, replay_emit_in, run_emit_in, schedule_in, values_in};
-ghost use Rattle.command_line.specs.Words.{answer_of, answers_of, all_there, emit_of, prediction_of, replay_emit_of, run_emit_of, schedule_of};
+ghost use Rattle.command_line.specs.Asked.{AskFor, IsFaultOf, IsFrom, IsMisfit, IsNoFormat, IsNoJob, IsNoSchedule, IsOfKind, IsSource, Reads, is_given, emit_in, format_in, number_at, predict_in, replay_emit_in, run_emit_in, schedule_in, values_in};
+ghost use Rattle.command_line.specs.Words.{answer_of, answers_of, all_there, emit_of, format_of, prediction_of, replay_emit_of, run_emit_of, schedule_of};
 ghost use Rattle.jobs.specs.Files.{HasFilesOf, is_in_file};
 ghost use Rattle.command_line.specs.declared.words.UsageFault.TheVariants.{OutOfMemory, Predict, Emit as EmitFault};
 
@@ -12,7 +12,9 @@ use crate::help;
 use crate::subcommands::command;
 use clap::ArgMatches;
 use clap::error::ErrorKind;
-use jobs::job::{CertificateSource, Emit, Job, Paths, Prediction, ReplayEmit, RunEmit, Schedule};
+use jobs::job::{
+    CertificateSource, Emit, Format, Job, Paths, Prediction, ReplayEmit, RunEmit, Schedule,
+};
 use jobs::ranges::{Answers, Budget, MOST_ANSWER, MOST_ANSWERS, Units, Workers};
 use std::alloc::{AllocError, Global};
 use thiserror::Error;
@@ -21,15 +23,15 @@ use thiserror::Error;
 #[derive(Debug, Drop, Error)]
 pub enum UsageFault {
     /// 1: the words are none of the program's, or ask for help or for the version; or there is neither a
-    /// certificate nor `--least`, or both; or the value of `--schedule` is neither `threads` nor `steps`. The
-    /// fault is `clap`'s, with its text.
+    /// certificate nor `--least`, or both; or the value of `--schedule` is neither `threads` nor `steps`, or that
+    /// of `--format` neither `text` nor `sarif`. The fault is `clap`'s, with its text.
     #[error("1 Words")]
     Words(clap::Error),
     /// 2: the value of `--predict` is neither `first`, `last` nor 1 to 64 numbers 0..=15.
     #[error("2 Predict")]
     Predict,
-    /// 3: the value of `--emit` is none of `text`, `cert` and `keep`; for `replay` none of `answers`, `summary`
-    /// and `svg`; for `run` none of `report`, `script`, `summary` and `svg`.
+    /// 3: the value of `--emit` is none of `text`, `cert`, `keep` and `marks`; for `replay` none of `answers`,
+    /// `summary`, `svg` and `trace`; for `run` none of `report`, `script`, `summary`, `svg` and `trace`.
     #[error("3 Emit")]
     Emit,
     /// 4: memory ran out.
@@ -58,7 +60,7 @@ impl From<clap::Error> for UsageFault {
 
 /// The job that a command line asks for, and the names of its files. The first word is the program's
 /// own name. What `clap` decides comes first, then whether there are as many files as `--least` asks for,
-/// then the value of `--schedule`, then that of `--predict`, then that of `--emit`.
+/// then the value of `--format` or `--schedule`, then that of `--predict`, then that of `--emit`.
 /// (own choice)
 pub fn job_of(alloc: Global, words: &[String]) -> Result<(Job, Paths), UsageFault>
     ensures files { IfOk result (λ r. HasFilesOf r.0 r.1) }
@@ -104,6 +106,7 @@ fn read_job(alloc: Global, name: &str, values: &ArgMatches<'_>) -> Result<(Job, 
         "check" => read_check(alloc, values),
         "replay" => read_replay(alloc, values),
         "run" => read_run(alloc, values),
+        "curve" => read_curve(alloc, values),
         _ => Err(no_job(alloc)),
     }
 }
@@ -313,9 +316,12 @@ fn read_explain(alloc: Global, values: &ArgMatches<'_>) -> Result<(Job, Paths), 
     ensures { Reads (codes "explain") (values_in values.now) result }
 {
     let paths = explained_paths(alloc, values)?;
+    let format = read_format(alloc, values)?;
     let job = Job::Explain {
         name: path(alloc, values, "program")?,
         certificate: free_path(alloc, values, "certificate")?,
+        warnings: !is_given(values, "no-warnings"),
+        format,
     };
     Ok((job, paths))
 }
@@ -370,6 +376,45 @@ fn read_run(alloc: Global, values: &ArgMatches<'_>) -> Result<(Job, Paths), Usag
         emit,
     };
     Ok((job, certified_paths(alloc, values, certificate)?))
+}
+
+fn read_curve(alloc: Global, values: &ArgMatches<'_>) -> Result<(Job, Paths), UsageFault>
+    ensures { Reads (codes "curve") (values_in values.now) result }
+{
+    let certificate = read_source(alloc, values, "certificate")?;
+    let units = read_units(alloc, values)?;
+    let budget = read_budget(alloc, values)?;
+    let Some(predict) = read_predict(alloc, values)? else {
+        return Err(UsageFault::Predict);
+    };
+    let job = Job::Curve {
+        certificate,
+        units,
+        budget,
+        predict,
+    };
+    Ok((job, certified_paths(alloc, values, certificate)?))
+}
+
+// What the value of `--format` stands for.
+fn read_format(alloc: Global, values: &ArgMatches<'_>) -> Result<Format, UsageFault>
+    ensures { MatchResult result (λ f. format_in (values_in values.now) ≡ Some f) (IsNoFormat (values_in values.now)) }
+{
+    match text(values, "format").and_then(format_named) {
+        Some(format) => Ok(format),
+        None => Err(fault_of_kind(alloc, ErrorKind::InvalidValue, help::NO_FORMAT)),
+    }
+}
+
+// The form of this name.
+fn format_named(text: &str) -> Option<Format>
+    ensures { result ≡ format_of text.now }
+{
+    match text {
+        "text" => Some(Format::Text),
+        "sarif" => Some(Format::Sarif),
+        _ => None,
+    }
 }
 
 // What the value of `--schedule` stands for.
@@ -475,6 +520,7 @@ fn read_emit(text: &str) -> Option<Emit>
         "text" => Some(Emit::Text),
         "cert" => Some(Emit::Cert),
         "keep" => Some(Emit::Keep),
+        "marks" => Some(Emit::Marks),
         _ => None,
     }
 }
@@ -487,6 +533,7 @@ fn read_replay_emit(text: &str) -> Option<ReplayEmit>
         "answers" => Some(ReplayEmit::Answers),
         "summary" => Some(ReplayEmit::Summary),
         "svg" => Some(ReplayEmit::Picture),
+        "trace" => Some(ReplayEmit::Trace),
         _ => None,
     }
 }
@@ -500,6 +547,7 @@ fn read_run_emit(text: &str) -> Option<RunEmit>
         "script" => Some(RunEmit::Script),
         "summary" => Some(RunEmit::Summary),
         "svg" => Some(RunEmit::Picture),
+        "trace" => Some(RunEmit::Trace),
         _ => None,
     }
 }

@@ -47,8 +47,12 @@ fn write_error(
     writeln!(text, " [rule {number}]")
 }
 
-/// Adds the text to write, where that is plain.
-fn write_text_to_write(
+/// Adds the text to write in place of the list that a finding is about, where that is plain.
+///
+/// # Errors
+///
+/// `AllocError` where memory was refused.
+pub fn write_text_to_write(
     alloc: Global,
     text: &mut String,
     program: &Program,
@@ -102,7 +106,11 @@ fn write_steps(text: &mut String, map: &SourceMap, path: &[u32]) -> Result<(), A
 }
 
 /// Adds a path, by the lines of its instructions.
-fn write_path(text: &mut String, map: &SourceMap, path: &[u32]) -> Result<(), AllocError>
+///
+/// # Errors
+///
+/// `AllocError` where memory was refused.
+pub fn write_path(text: &mut String, map: &SourceMap, path: &[u32]) -> Result<(), AllocError>
     ensures { OnOk result (string_bytes text.new ≡ string_bytes text.old ++ path_text (sources_in map.now) path.now) }
 {
     match path {

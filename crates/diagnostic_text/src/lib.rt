@@ -3,6 +3,6 @@
 #![tactic(auto)]
 
 pub mod diagnostics;
-mod list;
-mod place;
-mod sentence;
+pub mod list;
+pub mod place;
+pub mod sentence;

@@ -11,8 +11,8 @@ use mips_plain::number::{Place, Reg, RegSet};
 use std::alloc::{AllocError, Global};
 use task_descriptor::program::Program;
 
-/// The name of the task of this number.
-pub(crate) fn task_name(program: &Program, task: u32) -> &str
+/// The name of the task of this number; empty where there is none.
+pub fn task_name(program: &Program, task: u32) -> &str
     ensures { result.now ≡ task_name (slice_get program.now.tasks task) }
 {
     match program.tasks().get(task as usize) {

@@ -35,8 +35,8 @@ pub(crate) fn line_of(map: &SourceMap, index: u32) -> u32
     place_of(map, index).line
 }
 
-/// The instruction of an index, whole.
-pub(crate) fn instruction_stretch(map: &SourceMap, index: u32) -> Stretch
+/// The instruction of an index, whole; the text's first byte where the map has no such instruction.
+pub fn instruction_stretch(map: &SourceMap, index: u32) -> Stretch
     ensures { result ≡ instruction_stretch (sources_in map.now) index }
 {
     Stretch {
@@ -45,8 +45,8 @@ pub(crate) fn instruction_stretch(map: &SourceMap, index: u32) -> Stretch
     }
 }
 
-/// `create=` of a task.
-fn create_stretch(map: &SourceMap, task: u32) -> Stretch
+/// `create=` of a task; the text's first byte where the map has no such task.
+pub fn create_stretch(map: &SourceMap, task: u32) -> Stretch
     ensures { result ≡ create_in (slice_get (sources_in map.now).lists task) }
 {
     match map.lists.get(task as usize) {
@@ -114,7 +114,7 @@ fn target_stretch(program: &Program, map: &SourceMap, task: u32) -> Stretch
 }
 
 /// What a finding is about.
-pub(crate) fn stretch_by(program: &Program, map: &SourceMap, finding: &Finding) -> Stretch
+pub fn stretch_by(program: &Program, map: &SourceMap, finding: &Finding) -> Stretch
     ensures { result ≡ stretch_by finding.now.rule program.now (sources_in map.now) finding.now.task finding.now.index }
 {
     match finding.rule {
@@ -139,7 +139,7 @@ fn index_in(index: Option<&u32>) -> u32
 }
 
 /// The instruction at which a path is told: its last, where the register is written, or else its first.
-pub(crate) fn note_index(rule: Rule, path: &[u32]) -> u32
+pub fn note_index(rule: Rule, path: &[u32]) -> u32
     ensures { result ≡ note_index rule path.now }
 {
     match rule {
@@ -151,7 +151,7 @@ pub(crate) fn note_index(rule: Rule, path: &[u32]) -> u32
 }
 
 /// What is said of that instruction.
-pub(crate) fn note_words(rule: Rule) -> &'static str
+pub fn note_words(rule: Rule) -> &'static str
     ensures { result.now ≡ note_words rule }
 {
     match rule {

@@ -9,7 +9,7 @@ use mips_plain::number::Reg;
 use std::alloc::AllocError;
 
 /// The number of a finding's register; 0 where its rule has none.
-pub(crate) fn number_in(register: Option<Reg>) -> u8
+pub fn number_in(register: Option<Reg>) -> u8
     ensures { result ≡ number_in register }
 {
     match register {
@@ -91,12 +91,11 @@ fn write_exit(text: &mut String, rule: Rule, task: &str) -> Result<(), AllocErro
 }
 
 /// Adds what is wrong by a rule, of the task with this name and of the register of this number.
-pub(crate) fn write_sentence(
-    text: &mut String,
-    rule: Rule,
-    task: &str,
-    r: u8,
-) -> Result<(), AllocError>
+///
+/// # Errors
+///
+/// `AllocError` where memory was refused.
+pub fn write_sentence(text: &mut String, rule: Rule, task: &str, r: u8) -> Result<(), AllocError>
     ensures { OnOk result (string_bytes text.new ≡ string_bytes text.old ++ sentence_text rule task.now r) }
 {
     match rule {
@@ -109,8 +108,12 @@ pub(crate) fn write_sentence(
     }
 }
 
-/// Adds what to do.
-pub(crate) fn write_help(text: &mut String, rule: Rule, task: &str, r: u8) -> Result<(), AllocError>
+/// Adds what to do where a rule finds something, of the task with this name and of the register of this number.
+///
+/// # Errors
+///
+/// `AllocError` where memory was refused.
+pub fn write_help(text: &mut String, rule: Rule, task: &str, r: u8) -> Result<(), AllocError>
     ensures { OnOk result (string_bytes text.new ≡ string_bytes text.old ++ help_text rule task.now r) }
 {
     match rule {

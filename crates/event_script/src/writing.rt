@@ -21,8 +21,8 @@ pub fn written_is_read(program: &Program)
     let _ = program.tasks();
 }
 
-// The name of the task of this number.
-fn task_name(program: &Program, task: u32) -> &str
+/// The name of the task of this number; empty where there is no such task.
+pub fn task_name(program: &Program, task: u32) -> &str
     ensures { result.now ≡ name_at (slice_get program.now.tasks task) }
 {
     match program.tasks().get(task as usize) {
@@ -31,8 +31,8 @@ fn task_name(program: &Program, task: u32) -> &str
     }
 }
 
-// Adds an event.
-fn write_event(text: &mut String, program: &Program, event: Event) -> Result<(), AllocError>
+/// Adds an event, without its LF. An error says that memory was refused.
+pub fn write_event(text: &mut String, program: &Program, event: Event) -> Result<(), AllocError>
     ensures text { OnOk result (string_bytes text.new ≡ string_bytes text.old ++ event_text program.now event) }
     ensures register { OnOk result (NamesRegister event) }
 {

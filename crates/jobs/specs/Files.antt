@@ -4,7 +4,7 @@ use Rattle.std.specs.String.{string_bytes}
 use Rattle.jobs.specs.declared.job.CertificateSource.{CertificateSource}
 use Rattle.jobs.specs.declared.job.CertificateSource.TheVariants.{File, Least}
 use Rattle.jobs.specs.declared.job.Job.{Job}
-use Rattle.jobs.specs.declared.job.Job.TheVariants.{Explain, Check, Replay, Run}
+use Rattle.jobs.specs.declared.job.Job.TheVariants.{Explain, Check, Replay, Run, Curve}
 use Rattle.jobs.specs.declared.job.Paths.{Paths}
 
 -- the certificate is in a file
@@ -14,10 +14,11 @@ is_in_file Least = false
 
 -- the job has a file with a certificate beside its program
 abbrev pub has_certificate : Job → Bool
-has_certificate (Explain name certificate) = is_some certificate
+has_certificate (Explain name certificate warnings format) = is_some certificate
 has_certificate (Check source workers) = is_in_file source
 has_certificate (Replay source units emit) = is_in_file source
 has_certificate (Run source schedule units workers budget predict emit) = is_in_file source
+has_certificate (Curve source units budget predict) = is_in_file source
 has_certificate _ = false
 
 -- the job has an event script

@@ -21,6 +21,17 @@ pub enum Emit {
     Cert,
     /// The certificate of the program as it stands.
     Keep,
+    /// The author's own text, with the proposed create masks and forward bits.
+    Marks,
+}
+
+/// How `explain` lays out what it says.
+#[derive(Clone, Copy, Debug, PartialEq, Eq)]
+pub enum Format {
+    /// Lines for a person, in the form that compilers use.
+    Text,
+    /// A log in SARIF 2.1.0, for machines.
+    Sarif,
 }
 
 /// What `run` writes of a run.
@@ -34,6 +45,8 @@ pub enum RunEmit {
     Summary,
     /// The run as a picture, in SVG.
     Picture,
+    /// Each event of the history with what it changed.
+    Trace,
 }
 
 /// What `replay` writes of a script.
@@ -45,6 +58,8 @@ pub enum ReplayEmit {
     Summary,
     /// The events that were allowed as a picture, in SVG.
     Picture,
+    /// Each event of the script with what the machine answers to it, and what it changed.
+    Trace,
 }
 
 /// How `run` guesses the next task behind a running one (the paper, section 2.1, leaves it open).
@@ -86,6 +101,10 @@ pub enum Job {
         name: String,
         /// The certificate's file as the words have it, where one is to be explained, too.
         certificate: Option<String>,
+        /// Whether marks that are right but cost speed are told, too.
+        warnings: bool,
+        /// How what is said is laid out.
+        format: Format,
     },
     /// Checks the program against its certificate.
     Check {
@@ -109,6 +128,14 @@ pub enum Job {
         predict: Prediction,
         emit: RunEmit,
     },
+    /// Runs the program in steps on machines of 1, 2, 3 units and more, up to so many, each run up to this
+    /// many events.
+    Curve {
+        certificate: CertificateSource,
+        units: Units,
+        budget: Budget,
+        predict: Prediction,
+    },
 }
 
 impl Job {
@@ -124,6 +151,7 @@ impl Job {
             Job::Check { certificate, .. } => matches!(certificate, CertificateSource::File),
             Job::Replay { certificate, .. } => matches!(certificate, CertificateSource::File),
             Job::Run { certificate, .. } => matches!(certificate, CertificateSource::File),
+            Job::Curve { certificate, .. } => matches!(certificate, CertificateSource::File),
             _ => false,
         }
     }
@@ -141,7 +169,7 @@ impl Job {
 pub struct Paths {
     /// The program text.
     pub program: String,
-    /// The certificate: of `explain`, `check`, `replay` and `run`, where it is in a file.
+    /// The certificate: of `explain`, `check`, `replay`, `run` and `curve`, where it is in a file.
     pub certificate: String,
     /// The event script: of `replay`.
     pub script: String,
@@ -152,7 +180,7 @@ pub struct Paths {
 pub struct Texts {
     /// The program text.
     pub program: Vec<u8>,
-    /// The certificate: of `explain`, `check`, `replay` and `run`, where it is in a file.
+    /// The certificate: of `explain`, `check`, `replay`, `run` and `curve`, where it is in a file.
     pub certificate: Text,
     /// The event script: of `replay`.
     pub script: Vec<u8>,

@@ -3,7 +3,7 @@ ghost use Rattle.std.specs.Prelude.{ℕ, ◌≡◌, ◌≤◌, ◌↔◌, IsSome
 
 use std::marker::Model;
 
-/// The most instructions of `seq`, and the most events of `run`.
+/// The most instructions of `seq`, and the most events of a run of `run` and `curve`.
 pub const MOST_BUDGET: u32 = 1_000_000;
 
 /// The most units, and the most workers.
@@ -15,7 +15,7 @@ pub const MOST_ANSWERS: usize = 64;
 /// The greatest number in a list of predictions: the last of 16 targets.
 pub const MOST_ANSWER: u32 = 15;
 
-/// How far a run goes at most, 1..=1,000,000: instructions for `seq`, events for `run` (own choice).
+/// How far a run goes at most, 1..=1,000,000: instructions for `seq`, events for `run` and `curve` (own choice).
 #[derive(Clone, Copy, Debug, PartialEq, Eq)]
 pub struct Budget {
     most: u32,

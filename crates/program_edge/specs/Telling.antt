@@ -71,7 +71,7 @@ IsTold fault status is_told output output' errors errors' =
 
 -- what is told of a file that gives no text: only `explain` says why
 abbrev pub unread_fault : Job → Unread → Fault
-unread_fault (Explain name certificate) unread = Explained unread
+unread_fault (Explain name certificate warnings format) unread = Explained unread
 unread_fault _ unread = File unread.path
 
 -- what is told of a fault of the words; the text of `clap`'s own faults is `clap`'s

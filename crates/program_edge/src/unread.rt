@@ -14,8 +14,8 @@ pub enum Reason {
     IsDirectory,
     /// The system does not permit reading it.
     NotPermitted,
-    /// It is longer than 134,217,728 bytes. A program text that is too long is cut instead, so `explain`,
-    /// which reads no other file, never says this.
+    /// It is longer than 134,217,728 bytes. A program text that is too long is cut instead, so this is said
+    /// of certificates and scripts alone.
     TooLong,
     /// Memory ran out while it was read.
     OutOfMemory,

@@ -4,3 +4,4 @@ pub mod LineTexts
 pub mod NameFaults
 pub mod Reading
 pub mod Refusals
+pub mod MeantTexts

@@ -1,6 +1,6 @@
 -- What is said of a fault of one line (own words): what is wrong with the bytes that are meant, and what
 -- would be right there.
-use Rattle.std.specs.Prelude.{ℕ, List, [], ◌∷◌, ◌++◌, map, take, length, slice_get, codes, Bool, true, false, Option, Some, None, unwrap_or, is_some, Result, Ok, Err, nat_lt, if◌then◌else◌}
+use Rattle.std.specs.Prelude.{ℕ, List, [], ◌++◌, map, take, length, slice_get, codes, Bool, true, false, Option, Some, None, unwrap_or, is_some, Result, Ok, Err, nat_lt, if◌then◌else◌}
 use Rattle.std.specs.Fmt.{decimal}
 use Rattle.program_tokens.specs.Grammar.{line_tokens}
 use Rattle.program_tokens.specs.Spans.{line_spans}

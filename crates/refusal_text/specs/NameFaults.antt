@@ -1,19 +1,17 @@
--- What is said of a name that stands a second time, or is no label of the kind that is wanted (own choice):
--- which name is meant, where the line tells it.
-use Rattle.std.specs.Prelude.{ℕ, ◌+◌, List, [], ◌∷◌, ◌++◌, map, take, drop, length, nat_lt, codes, Bool, true, false, not, Option, Some, None, Result, Ok, Err, if◌then◌else◌, ◌==◌, ◌&&◌, ◌||◌}
+-- What is said of a name that is no label of the kind that is wanted (own choice): which name is meant, where
+-- the line tells it.
+use Rattle.std.specs.Prelude.{ℕ, ◌+◌, List, [], ◌∷◌, ◌++◌, map, take, drop, length, nat_lt, codes, Bool, true, false, Option, Some, None, Result, Ok, Err, if◌then◌else◌, ◌||◌}
 use Rattle.std.specs.List.{list_any}
 use Rattle.std.specs.Str.{bytes_eq}
 use Rattle.program_tokens.specs.Spans.{line_spans}
 use Rattle.program_tokens.specs.declared.span.Span.{Span}
 use Rattle.program_tokens.specs.declared.token.Token.{Token}
 use Rattle.program_tokens.specs.declared.token.Token.TheVariants as token
-use Rattle.program_tokens.specs.declared.token.Directive.TheVariants as directive
 use Rattle.annotated_asm.specs.declared.fault.AsmFault.{AsmFault}
-use Rattle.annotated_asm.specs.declared.fault.AsmFault.TheVariants.{Duplicate, Unknown}
 use Rattle.source_map.specs.declared.position.Position.{Position}
 use Rattle.source_map.specs.declared.position.LabelSource.{LabelSource}
-use Rattle.source_map.specs.Sources.{Sources, sources_of}
-use Rattle.source_excerpt.specs.Excerpt.{position_text, excerpt_text}
+use Rattle.source_map.specs.Sources.{Sources}
+use Rattle.source_excerpt.specs.Excerpt.{excerpt_text}
 use Rattle.line_faults.specs.Near.{nearest}
 use Rattle.line_faults.specs.Bytes.{span, bytes_at}
 use Rattle.line_faults.specs.Meant.{label_tokens, span_at}
@@ -25,24 +23,6 @@ use Rattle.refusal_text.specs.Faults.{fault_sentence, fault_help}
 abbrev pub labels_in : Result Sources AsmFault → List LabelSource
 labels_in (Ok sources) = sources.labels
 labels_in (Err fault) = []
-
--- Which token stands a second time, if the line has only one that can: its one label, or the name of its
--- task, or its `.start`.
-
-abbrev pub defines : List Token → Bool
-defines (token.Directive directive.Task ∷ rest) = true
-defines (token.Directive directive.Start ∷ rest) = true
-defines _ = false
-
-abbrev pub defined_index : List Token → Option ℕ
-defined_index (token.Directive directive.Task ∷ rest) = Some 1
-defined_index (token.Directive directive.Start ∷ rest) = Some 0
-defined_index _ = None
-
-abbrev pub second_index : List Token → Option ℕ
-second_index tokens =
-    if label_tokens tokens == 0 then defined_index tokens
-    else (if label_tokens tokens == 2 && not (defines (drop 2 tokens)) then Some 0 else None)
 
 -- Which token is no label at all: the first name that is none, from this index on. A name before a `=` is a
 -- word of the statement.
@@ -65,11 +45,6 @@ abbrev pub unknown_index : List LabelSource → List Token → Option ℕ
 unknown_index labels tokens =
     unknown_from (label_tokens tokens + 1) labels (take 100 (drop 1 (drop (label_tokens tokens) tokens)))
 
-unfoldable pub name_index : AsmFault → List LabelSource → List Token → Option ℕ
-name_index (Duplicate n) labels tokens = second_index tokens
-name_index (Unknown n) labels tokens = unknown_index labels tokens
-name_index _ labels tokens = None
-
 -- the bytes that are meant; the line's first where the line does not tell which
 unfoldable pub name_span : Option ℕ → List Span → Span
 name_span None spans = span 1 1
@@ -79,9 +54,7 @@ name_span (Some index) spans = span_at spans index
 
 unfoldable pub name_sentence : AsmFault → Option ℕ → (name : List ℕ) → List ℕ
 name_sentence fault None name = fault_sentence fault
-name_sentence (Duplicate n) (Some index) name = quoted name ++ codes " stands a second time"
-name_sentence (Unknown n) (Some index) name = quoted name ++ codes " is no label"
-name_sentence fault (Some index) name = fault_sentence fault
+name_sentence fault (Some index) name = quoted name ++ codes " is no label"
 
 -- the first label that is near to a name; to a name of one letter none is
 abbrev pub near_label : List LabelSource → (name : List ℕ) → Option (List ℕ)
@@ -93,8 +66,8 @@ near_help fault (Some near) = codes "did you mean " ++ (near ++ codes "?")
 
 -- a label that is near, where one is
 unfoldable pub name_help : AsmFault → Option ℕ → List LabelSource → (name : List ℕ) → List ℕ
-name_help (Unknown n) (Some index) labels name = near_help (Unknown n) (near_label labels name)
-name_help fault index labels name = fault_help fault
+name_help fault None labels name = fault_help fault
+name_help fault (Some index) labels name = near_help fault (near_label labels name)
 
 -- What is said.
 
@@ -110,7 +83,7 @@ name_position n at = record { line = n; column = at.column }
 abbrev pub name_text : (file : List ℕ) → (rows : List (List ℕ)) → List LabelSource → (n : ℕ) → AsmFault → List ℕ
 name_text file rows labels n fault =
     let line = row_at rows n in
-    let index = name_index fault labels (tokens_in line) in
+    let index = unknown_index labels (tokens_in line) in
     let at = name_span index (line_spans line) in
     named_text file rows (name_position n at) at.len
     (name_sentence fault index (bytes_at line at)) (name_help fault index labels (bytes_at line at)) fault

@@ -4,6 +4,7 @@
 
 mod line_sentence;
 mod line_text;
+mod meant_text;
 mod name_fault;
 mod reading;
 pub mod refusal;

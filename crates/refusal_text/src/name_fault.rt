@@ -1,11 +1,11 @@
-//! What is said of a name that stands a second time, or is no label of the kind that is wanted.
+//! What is said of a name that is no label of the kind that is wanted.
 
 ghost use Rattle.std.specs.Prelude.{◌≡◌, ◌++◌, ◌+◌, ◌<◌, ◌^◌, ◌||◌, length, take, drop, map, IfOk, OnOk};
 ghost use Rattle.std.specs.Option.{option_map};
 ghost use Rattle.std.specs.String.{string_bytes};
 ghost use Rattle.line_faults.specs.Near.{nearest};
 ghost use Rattle.source_map.specs.Sources.{sources_of};
-ghost use Rattle.refusal_text.specs.NameFaults.{labels_in, defines, defined_index, second_index, begins_with_equals, is_label, unknown_from, unknown_index, name_index, name_span, name_sentence, near_label, near_help, name_help, named_text, name_position, name_text};
+ghost use Rattle.refusal_text.specs.NameFaults.{labels_in, begins_with_equals, is_label, unknown_from, unknown_index, name_span, name_sentence, near_label, near_help, name_help, named_text, name_position, name_text};
 
 use crate::line_sentence::write_quoted;
 use crate::line_text::{read_or_none, row_at, write_error, write_help};
@@ -15,7 +15,7 @@ use line_faults::bytes::bytes_at;
 use line_faults::meant::{label_tokens, span_at};
 use line_faults::near::is_near;
 use program_tokens::span::{Span, read_spans};
-use program_tokens::token::{Directive, Token};
+use program_tokens::token::Token;
 use source_excerpt::excerpt::write_excerpt;
 use source_map::position::{LabelSource, Position};
 use source_map::reading::source_map;
@@ -40,27 +40,6 @@ pub(crate) fn labels_in(alloc: Global, text: &[u8]) -> Result<Vec<LabelSource>, 
     }
 }
 
-/// Whether a statement is a `.task` or a `.start`.
-fn defines(tokens: &[Token]) -> bool
-    ensures { result ≡ defines tokens.now }
-{
-    matches!(
-        tokens,
-        [Token::Directive(Directive::Task | Directive::Start), ..]
-    )
-}
-
-/// Which token of a statement is the name that it defines.
-fn defined_index(tokens: &[Token]) -> Option<usize>
-    ensures { result ≡ defined_index tokens.now }
-{
-    match tokens {
-        [Token::Directive(Directive::Task), ..] => Some(1),
-        [Token::Directive(Directive::Start), ..] => Some(0),
-        _ => None,
-    }
-}
-
 /// What is behind the first tokens.
 fn behind_tokens(tokens: &[Token], count: usize) -> &[Token]
     ensures { result.now ≡ drop count tokens.now }
@@ -81,20 +60,6 @@ fn front_tokens(tokens: &[Token], count: usize) -> &[Token]
     } else {
         tokens
     }
-}
-
-/// Which token stands a second time, if the line has only one that can.
-fn second_index(tokens: &[Token]) -> Option<usize>
-    ensures { result ≡ second_index tokens.now }
-{
-    let labels = label_tokens(tokens);
-    if labels == 0 {
-        return defined_index(tokens);
-    }
-    if labels == 2 && !defines(behind_tokens(tokens, 2)) {
-        return Some(0);
-    }
-    None
 }
 
 /// Whether a name is a label.
@@ -160,26 +125,6 @@ fn unknown_index(labels: &[LabelSource], tokens: &[Token]) -> Option<usize>
     unknown_from(count + 1, labels, front_tokens(rest, MOST_TOKENS))
 }
 
-/// Which token is meant by a fault of a name, if the line tells it.
-#[tactic(auto, unfolding(crate::specs::NameFaults::name_index))]
-fn name_index(fault: AsmFault, labels: &[LabelSource], tokens: &[Token]) -> Option<usize>
-    ensures { result ≡ name_index fault labels.now tokens.now }
-{
-    match fault {
-        AsmFault::Duplicate(_) => second_index(tokens),
-        AsmFault::Unknown(_) => unknown_index(labels, tokens),
-        AsmFault::TooLong
-        | AsmFault::NotAscii(_)
-        | AsmFault::Token(_)
-        | AsmFault::Mnemonic(_)
-        | AsmFault::Operand(_)
-        | AsmFault::Number(_)
-        | AsmFault::Mark(_)
-        | AsmFault::Build(_)
-        | AsmFault::OutOfMemory => None,
-    }
-}
-
 /// The bytes that are meant; the line's first where the line does not tell which.
 #[tactic(auto, unfolding(crate::specs::NameFaults::name_span))]
 fn name_span(index: Option<usize>, spans: &[Span]) -> Span
@@ -204,25 +149,8 @@ fn write_name_sentence(
     if index.is_none() {
         return said.push_str(fault_sentence(fault));
     }
-    match fault {
-        AsmFault::Duplicate(_) => {
-            write_quoted(said, name)?;
-            write!(said, " stands a second time")
-        }
-        AsmFault::Unknown(_) => {
-            write_quoted(said, name)?;
-            write!(said, " is no label")
-        }
-        AsmFault::TooLong
-        | AsmFault::NotAscii(_)
-        | AsmFault::Token(_)
-        | AsmFault::Mnemonic(_)
-        | AsmFault::Operand(_)
-        | AsmFault::Number(_)
-        | AsmFault::Mark(_)
-        | AsmFault::Build(_)
-        | AsmFault::OutOfMemory => said.push_str(fault_sentence(fault)),
-    }
+    write_quoted(said, name)?;
+    write!(said, " is no label")
 }
 
 /// The first label that is near to a name; to a name of one letter none is.
@@ -274,19 +202,7 @@ fn write_name_help(
     if index.is_none() {
         return said.push_str(fault_help(fault));
     }
-    match fault {
-        AsmFault::Unknown(_) => write_near_help(said, fault, near_label(labels, name)),
-        AsmFault::Duplicate(_)
-        | AsmFault::TooLong
-        | AsmFault::NotAscii(_)
-        | AsmFault::Token(_)
-        | AsmFault::Mnemonic(_)
-        | AsmFault::Operand(_)
-        | AsmFault::Number(_)
-        | AsmFault::Mark(_)
-        | AsmFault::Build(_)
-        | AsmFault::OutOfMemory => said.push_str(fault_help(fault)),
-    }
+    write_near_help(said, fault, near_label(labels, name))
 }
 
 /// Adds what is said of a fault at a place.
@@ -336,7 +252,7 @@ pub(crate) fn write_name_fault(
     let mut spans = Vec::new(alloc);
     read_or_none(&mut tokens, row)?;
     read_spans(&mut spans, row)?;
-    let index = name_index(fault, labels, &tokens);
+    let index = unknown_index(labels, &tokens);
     let at = name_span(index, &spans);
     let name = bytes_at(row, at);
     let mut sentence = String::new(alloc);

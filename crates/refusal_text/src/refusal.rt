@@ -6,12 +6,14 @@ ghost use Rattle.program_tokens.specs.Lines.{lines};
 ghost use Rattle.source_map.specs.Sources.{sources_of};
 ghost use Rattle.refusal_text.specs.LineTexts.{lines_text};
 ghost use Rattle.refusal_text.specs.NameFaults.{labels_in, name_text};
-ghost use Rattle.refusal_text.specs.Refusals.{whole_text, instruction_place, placed_text, build_text, refusal_text};
+ghost use Rattle.refusal_text.specs.Refusals.{whole_text, instruction_place, placed_text, program_text, build_text, line_start, refusal_text};
 
 use crate::line_text::write_lines;
+use crate::meant_text::write_meant;
 use crate::name_fault::{labels_in, write_name_fault, write_named};
 use crate::sentence::{fault_help, fault_sentence};
 use annotated_asm::fault::AsmFault;
+use program_places::fault_place::fault_place;
 use source_excerpt::excerpt::lines_of;
 use source_map::position::Position;
 use source_map::reading::source_map;
@@ -95,6 +97,25 @@ fn placed_text(
     Ok(said)
 }
 
+/// What is said of a fault of the program as a whole: at the token that is meant, if one is, else at a place.
+fn program_text(
+    alloc: Global,
+    file: &str,
+    text: &[u8],
+    place: Option<Position>,
+    fault: AsmFault,
+) -> Result<String, AllocError>
+    ensures { IfOk result (λ said. string_bytes said ≡ program_text file.now (lines text.now) place fault) }
+{
+    let rows = lines_of(alloc, text)?;
+    let Some(meant) = fault_place(alloc, &rows, fault)? else {
+        return placed_text(alloc, file, text, place, fault);
+    };
+    let mut said = String::new(alloc);
+    write_meant(alloc, &mut said, file, &rows, meant, fault)?;
+    Ok(said)
+}
+
 /// What is said of parts that make no program.
 fn build_text(
     alloc: Global,
@@ -109,19 +130,27 @@ fn build_text(
             let place = instruction_place(alloc, text, index)?;
             placed_text(alloc, file, text, place, AsmFault::Build(fault))
         }
+        BuildFault::NoTask => whole_text(alloc, file, AsmFault::Build(fault)),
         BuildFault::TooMany
-        | BuildFault::NoTask
         | BuildFault::BadEntry
         | BuildFault::DuplicateEntry
         | BuildFault::BadMask
-        | BuildFault::BadStart => whole_text(alloc, file, AsmFault::Build(fault)),
+        | BuildFault::BadStart => program_text(alloc, file, text, None, AsmFault::Build(fault)),
     }
+}
+
+/// The beginning of a line.
+fn line_start(line: u32) -> Position
+    ensures { result ≡ line_start line }
+{
+    Position { line, column: 1 }
 }
 
 /// What is said of a text, in a file of this name, whose first fault this is, in the form of gcc and clang:
 /// where it is, what is wrong, the fault's number and name, the line with the bytes that are meant, and what
 /// would be right there. Where the fault is one of 2 to 7, the same is said of up to 19 further lines with
-/// such a fault, and how many more there are. A fault of the whole text has no line.
+/// such a fault, and how many more there are. A fault of the program as a whole is told where it shows, with
+/// what else it is about; a text that is too long and a program without a task have no line.
 ///
 /// # Errors
 ///
@@ -141,9 +170,10 @@ pub fn refusal(
         | AsmFault::Operand(line)
         | AsmFault::Number(line)
         | AsmFault::Mark(line) => lines_text(alloc, file, text, line, fault),
-        AsmFault::Duplicate(line) | AsmFault::Unknown(line) => {
-            name_text(alloc, file, text, line, fault)
+        AsmFault::Duplicate(line) => {
+            program_text(alloc, file, text, Some(line_start(line)), fault)
         }
+        AsmFault::Unknown(line) => name_text(alloc, file, text, line, fault),
         AsmFault::Build(fault) => build_text(alloc, file, text, fault),
         AsmFault::TooLong | AsmFault::OutOfMemory => whole_text(alloc, file, fault),
     }

@@ -6,8 +6,8 @@ ghost use Rattle.machine_events.specs.Runs.{events_of};
 use machine_events::event::{Event, EventRun};
 use std::alloc::{AllocError, Global};
 
-/// The events of some runs, in order.
-pub(crate) fn single_events(alloc: Global, runs: &[EventRun]) -> Result<Vec<Event>, AllocError>
+/// The events of some runs, in order. An error says that memory was refused.
+pub fn single_events(alloc: Global, runs: &[EventRun]) -> Result<Vec<Event>, AllocError>
     ensures { IfOk result (λ events. events.items ≡ events_of runs.now) }
 {
     let mut events = Vec::new(alloc);

@@ -4,7 +4,7 @@
 
 mod bars;
 pub mod drawing;
-mod events;
+pub mod events;
 mod lanes;
 mod marks;
 mod pixels;

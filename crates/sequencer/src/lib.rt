@@ -8,3 +8,4 @@ mod known;
 pub mod machine;
 pub mod predict;
 mod ready;
+mod units;

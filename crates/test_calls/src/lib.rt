@@ -34,6 +34,8 @@ mod round_trip;
 #[cfg(test)]
 mod source_maps;
 #[cfg(test)]
+mod speed_marks;
+#[cfg(test)]
 mod statements;
 #[cfg(test)]
 mod tokens;

@@ -9,8 +9,8 @@ use test_programs::programs::{
     READ_ONLY, RELEASE, SPIN, UNLISTED_JUMP, WRONG_PATH_LOAD, WRONG_PATH_SPIN,
 };
 
-// All three values of `--emit`. The proposal forwards $10 as well, since no path writes it again.
-const PROPOSALS: [Row<'static>; 4] = [
+// All four values of `--emit`. The proposal forwards $10 as well, since no path writes it again.
+const PROPOSALS: [Row<'static>; 5] = [
     Row {
         words: "annotate a.s",
         program: COUNT_BARE,
@@ -35,7 +35,20 @@ const PROPOSALS: [Row<'static>; 4] = [
         expected: COUNT_CERTIFICATE_WIDE,
         ..EMPTY
     },
+    Row {
+        words: "annotate --emit marks a.s",
+        program: LAID_OUT,
+        expected: LAID_OUT_MARKED,
+        ..EMPTY
+    },
 ];
+
+// Register 8 is written last by the second instruction of `li`, register 9 by the one behind it.
+const LAID_OUT: &str =
+    ".task A create=- targets=B # !f\r\n.task B create=$5 targets=-\r\nA:\tli $t0, 70000\t# two\r\naddiu $9,$8,1!s\nB: out $9\nhalt\n";
+
+const LAID_OUT_MARKED: &str =
+    ".task A create=$8,$9 targets=B # !f\r\n.task B create=- targets=-\r\nA:\tli $t0, 70000 !f\t# two\r\naddiu $9,$8,1 !f!s\nB: out $9\nhalt\n";
 
 #[test]
 fn annotates_count(rt: HostRuntime) {
@@ -44,10 +57,11 @@ fn annotates_count(rt: HostRuntime) {
     }
 }
 
-const REFUSING: [&str; 3] = [
+const REFUSING: [&str; 4] = [
     "annotate a.s",
     "annotate --emit cert a.s",
     "annotate --emit keep a.s",
+    "annotate --emit marks a.s",
 ];
 
 #[test]

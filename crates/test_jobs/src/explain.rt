@@ -1,8 +1,10 @@
-//! `explain`: what is said of wrong marks and of refused texts, and nothing of right marks.
+//! `explain`: what is said of wrong marks, of refused texts and of marks that cost speed, and nothing of marks
+//! that are right and cost nothing.
 
 use crate::answers::{EMPTY, Row};
 use test_programs::programs::{
-    COUNT, COUNT_CREATES_LESS, DIAMOND, FIVE_FINDINGS, PRODUCT, READ_ONLY, RELEASE, SPIN,
+    COUNT, COUNT_CREATES_LESS, COUNT_FORWARDED, DIAMOND, FIVE_FINDINGS, PRODUCT, READ_ONLY,
+    RELEASE, RELEASE_CREATES_MORE, SPIN, UNLISTED_JUMP,
 };
 
 const EXPLAIN: Row<'static> = Row {
@@ -12,8 +14,61 @@ const EXPLAIN: Row<'static> = Row {
 
 #[test]
 fn says_nothing_of_right_marks(rt: HostRuntime) {
-    for program in [COUNT, DIAMOND, PRODUCT, READ_ONLY, RELEASE, SPIN] {
+    for program in [COUNT_FORWARDED, DIAMOND, PRODUCT, READ_ONLY, RELEASE, SPIN] {
         let row = Row { program, ..EXPLAIN };
+        row.runs(&rt, rt.alloc());
+    }
+}
+
+// Programs with right marks, and what is said of those that cost speed.
+const COSTLY: [(&str, &str); 3] = [
+    (
+        COUNT,
+        "a.s:7:1: warning: this is a last update without !f: later tasks wait for what it writes
+    7 | slti $10,$8,4
+      | ^~~~~~~~~~~~~
+a.s:7:1: help: add !f here
+",
+    ),
+    (
+        RELEASE_CREATES_MORE,
+        "a.s:1:9: warning: no instruction of task A writes or releases $7, which its create mask has
+    1 | .task A create=$7,$8,$9 targets=B
+      |         ^~~~~~~~~~~~~~~
+a.s:1:9: help: remove $7 from the create mask of task A
+",
+    ),
+    // No task waits for what this one writes, since it has no target.
+    (
+        UNLISTED_JUMP,
+        "a.s:4:1: warning: no task reaches the code from here on
+    4 | halt
+      | ^~~~
+a.s:4:1: help: remove it up to the next instruction that a task reaches, or let a task go on to it
+",
+    ),
+];
+
+#[test]
+fn warns_of_marks_that_cost_speed(rt: HostRuntime) {
+    for &(program, expected) in &COSTLY {
+        let row = Row {
+            program,
+            expected,
+            ..EXPLAIN
+        };
+        row.runs(&rt, rt.alloc());
+    }
+}
+
+#[test]
+fn says_nothing_of_them_without_warnings(rt: HostRuntime) {
+    for program in [COUNT, RELEASE_CREATES_MORE, UNLISTED_JUMP] {
+        let row = Row {
+            words: "explain --no-warnings a.s",
+            program,
+            ..EMPTY
+        };
         row.runs(&rt, rt.alloc());
     }
 }
@@ -76,7 +131,7 @@ fn explains_wrong_marks(rt: HostRuntime) {
 }
 
 // Texts that are refused, and what is said of them.
-const REFUSED: [(&str, &str); 8] = [
+const REFUSED: [(&str, &str); 11] = [
     (
         "foo $8",
         "a.s:1:1: error: there is no instruction or directive `foo` here [4 Mnemonic line 1]
@@ -90,7 +145,42 @@ a.s:1:1: help: in .text stand instructions and .start, .task, .text, .data and .
         "a.s:3:1: error: `A` stands a second time [8 Duplicate line 3]
     3 | A: nop
       | ^
+a.s:2:1: note: it stands here first
+    2 | A: halt
+      | ^
 a.s:3:1: help: a label and a task of one name stand once, and .start stands once
+",
+    ),
+    // The second of the line's names stood before, on the same line.
+    (
+        ".task A create=- targets=-\nB: A: C: A: halt\n",
+        "a.s:2:10: error: `A` stands a second time [8 Duplicate line 2]
+    2 | B: A: C: A: halt
+      |          ^
+a.s:2:4: note: it stands here first
+    2 | B: A: C: A: halt
+      |    ^
+a.s:2:10: help: a label and a task of one name stand once, and .start stands once
+",
+    ),
+    // `li` is two instructions, so `Odd` and `Loop` both are index 2.
+    (
+        ".task Loop create=- targets=-\n  .task Odd create=- targets=-\nli $8,70000\nOdd: Loop: halt\n",
+        "a.s:2:9: error: two tasks begin at one instruction [10 Build 4 DuplicateEntry]
+    2 |   .task Odd create=- targets=-
+      |         ^~~
+a.s:1:7: note: this task begins there, too
+    1 | .task Loop create=- targets=-
+      |       ^~~~
+a.s:2:9: help: each task begins at an instruction of its own
+",
+    ),
+    (
+        ".task A create=- targets=-\nA: halt\n.data\n.space 65535\n.byte 1\n B: .byte 2\n",
+        "a.s:6:5: error: the program has more than 65536 bytes of .data [10 Build 1 TooMany]
+    6 |  B: .byte 2
+      |     ^~~~~
+a.s:6:5: help: at most 4096 instructions, 1024 tasks, 16 targets of a task, 65536 bytes of .data and 65536 of .rodata
 ",
     ),
     (

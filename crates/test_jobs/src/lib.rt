@@ -14,6 +14,8 @@ mod certificates;
 #[cfg(test)]
 mod check;
 #[cfg(test)]
+mod curve;
+#[cfg(test)]
 mod explain;
 #[cfg(test)]
 mod files;
@@ -21,6 +23,8 @@ mod files;
 mod least;
 #[cfg(test)]
 mod limits;
+#[cfg(test)]
+mod log;
 #[cfg(test)]
 mod print;
 #[cfg(test)]

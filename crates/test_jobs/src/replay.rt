@@ -234,3 +234,41 @@ fn judges_before_the_script(rt: HostRuntime) {
         }
     }
 }
+
+// Each event with what it changed; the jump leads to line 5, which A does not list.
+#[test]
+fn traces_a_script(rt: HostRuntime) {
+    let row = Row {
+        words: "replay --units 1 --emit trace a.s a.cert a.events",
+        program: UNLISTED_JUMP,
+        certificate: UNLISTED_JUMP_CERTIFICATE,
+        script: JUMP_UNLISTED,
+        expected: TRACE,
+        status: 1,
+    };
+    replays(&rt, rt.alloc(), &row);
+}
+
+const TRACE: &str = "1 assign A: ok
+    unit 0, task A: begins at line 2
+2 exec 0: ok
+    unit 0, task A: executes line 2
+    writes $31 = 4194304
+    goes on at line 2
+3 exec 0: ok
+    unit 0, task A: executes line 2
+    writes $31 = 4194320
+    goes on at line 3
+4 exec 0: ok
+    unit 0, task A: executes line 3
+    stops; its exit is line 5
+5 retire: refused 12 Unfinished $31
+6 drain 0 $31: ok
+    unit 0, task A: sends $31 = 4194320
+7 retire: refused 14 NotListed
+8 fault: ok
+    the run is unlisted: 0x400010
+9 fault: refused 1 Ended
+at the end: the run is unlisted: 0x400010
+    $31 = 4194320
+";

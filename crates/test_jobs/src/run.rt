@@ -91,7 +91,8 @@ const PROGRAMS: [Row<'static>; 6] = [
     },
 ];
 
-const READ_ONLY_TRAPS: &str = ".task A create=$8 targets=B,C
+/// A program whose head takes the way on which a load traps.
+pub const READ_ONLY_TRAPS: &str = ".task A create=$8 targets=B,C
 .task B create=$9,$10 targets=C
 .task C create=- targets=-
 .rodata
@@ -246,4 +247,26 @@ const SUMMARY_IN_STEPS: &str =
        1        0         0        0           1       0       0  B
        5        4         0        0           1      16       0  (all)
 steps 31, retired instructions 16
+";
+
+// A run in steps that comes to its budget, with what each event changed: `j A` goes on at itself.
+#[test]
+fn traces_a_run(rt: HostRuntime) {
+    let row = Row {
+        words: "run --units 1 --schedule steps --budget 2 --emit trace a.s a.cert",
+        program: SPIN,
+        certificate: SPIN_CERTIFICATE,
+        expected: TRACE,
+        status: 3,
+        ..RUN
+    };
+    row.runs(&rt, rt.alloc());
+}
+
+const TRACE: &str = "1 assign A: ok
+    unit 0, task A: begins at line 2
+2 exec 0: ok
+    unit 0, task A: executes line 2
+    goes on at line 2
+at the end: the run goes on
 ";

@@ -16,6 +16,7 @@ enum Wanted {
     Check(CertificateSource, u32),
     Replay(CertificateSource, u32, ReplayEmit),
     Run(WantedRun),
+    Curve(CertificateSource, u32, u32, Wanting),
 }
 
 use CertificateSource::{File, Least};
@@ -25,12 +26,14 @@ use CertificateSource::{File, Least};
 struct WantedExplain {
     names_program: bool,
     names_certificate: bool,
+    warnings: bool,
 }
 
 // `explain` with nothing but its program.
 const PLAIN_EXPLAIN: WantedExplain = WantedExplain {
     names_program: true,
     names_certificate: false,
+    warnings: true,
 };
 
 // What `run` takes.
@@ -85,9 +88,15 @@ impl Wanted {
             Job::Seq { budget } => Wanted::Seq(budget.get()),
             Job::Print => Wanted::Print,
             Job::Annotate { emit } => Wanted::Annotate(*emit),
-            Job::Explain { name, certificate } => Wanted::Explain(WantedExplain {
+            Job::Explain {
+                name,
+                certificate,
+                warnings,
+                ..
+            } => Wanted::Explain(WantedExplain {
                 names_program: name.as_str() == "a.s",
                 names_certificate: is_named(certificate, "a.cert"),
+                warnings: *warnings,
             }),
             Job::Check {
                 certificate,
@@ -115,6 +124,17 @@ impl Wanted {
                 predict: Wanting::of(predict),
                 emit: *emit,
             }),
+            Job::Curve {
+                certificate,
+                units,
+                budget,
+                predict,
+            } => Wanted::Curve(
+                *certificate,
+                units.get(),
+                budget.get(),
+                Wanting::of(predict),
+            ),
         }
     }
 
@@ -126,6 +146,7 @@ impl Wanted {
             Wanted::Check(File, _) => ("a.cert", ""),
             Wanted::Explain(explain) if explain.names_certificate => ("a.cert", ""),
             Wanted::Run(run) if run.certificate == File => ("a.cert", ""),
+            Wanted::Curve(File, ..) => ("a.cert", ""),
             _ => ("", ""),
         }
     }
@@ -140,7 +161,7 @@ fn is_named(file: &Option<String>, name: &str) -> bool {
 }
 
 // Words that give a job of the program `a.s`.
-const JOBS: [(&str, Wanted); 21] = [
+const JOBS: [(&str, Wanted); 25] = [
     ("seq a.s", Wanted::Seq(1_000_000)),
     ("seq --budget 17 a.s", Wanted::Seq(17)),
     ("print a.s", Wanted::Print),
@@ -149,6 +170,13 @@ const JOBS: [(&str, Wanted); 21] = [
         "explain a.s a.cert",
         Wanted::Explain(WantedExplain {
             names_certificate: true,
+            ..PLAIN_EXPLAIN
+        }),
+    ),
+    (
+        "explain --no-warnings a.s",
+        Wanted::Explain(WantedExplain {
+            warnings: false,
             ..PLAIN_EXPLAIN
         }),
     ),
@@ -189,6 +217,18 @@ const JOBS: [(&str, Wanted); 21] = [
     ("annotate --emit text a.s", Wanted::Annotate(Emit::Text)),
     ("annotate a.s --emit cert", Wanted::Annotate(Emit::Cert)),
     ("annotate --emit keep a.s", Wanted::Annotate(Emit::Keep)),
+    (
+        "curve a.s a.cert",
+        Wanted::Curve(File, 16, 1_000_000, Wanting::First),
+    ),
+    (
+        "curve --least a.s --units 1",
+        Wanted::Curve(Least, 1, 1_000_000, Wanting::First),
+    ),
+    (
+        "curve a.s --budget 7 a.cert --predict 3,2",
+        Wanted::Curve(File, 16, 7, Wanting::List(2, Some(3))),
+    ),
 ];
 
 // Words of `run`.
@@ -306,7 +346,7 @@ fn expect_path(rt: &impl Abort, line: &str, path: &String, expected: &str) {
     assert!(rt; path.as_str() == expected, "{line}");
 }
 
-const NO_JOBS: [&str; 31] = [
+const NO_JOBS: [&str; 35] = [
     "seq",
     "seq a.s b.s",
     "seq a.s --budget 0",
@@ -337,6 +377,10 @@ const NO_JOBS: [&str; 31] = [
     "run a.s a.cert --budget 0",
     "run a.s a.cert --schedule Steps",
     "replay a.s a.cert a.events --schedule steps",
+    "curve a.s a.cert b.cert",
+    "curve a.s a.cert --units 17",
+    "curve a.s a.cert --budget 0",
+    "curve a.s a.cert --workers 2",
     "foo",
 ];
 
@@ -349,13 +393,15 @@ fn refuses_words(rt: HostRuntime) {
 }
 
 // Files that do not fit `--least`, or its absence.
-const MISFITS: [&str; 6] = [
+const MISFITS: [&str; 8] = [
     "check a.s",
     "check --least a.s a.cert",
     "replay a.s a.events",
     "replay --least a.s a.cert a.events",
     "run a.s --predict 16 --emit xml",
     "run --least a.s a.cert",
+    "curve a.s --predict 16",
+    "curve --least a.s a.cert",
 ];
 
 #[test]
@@ -385,12 +431,13 @@ fn refuses_other_values_of_emit(rt: HostRuntime) {
 }
 
 // A value of `--predict` is looked at before that of `--emit`.
-const NO_PREDICTION: [&str; 5] = [
+const NO_PREDICTION: [&str; 6] = [
     "run a.s a.cert --predict 1,,0",
     "run a.s a.cert --predict 16",
     "run a.s a.cert --predict 001",
     "run a.s a.cert --predict Last",
     "run a.s a.cert --predict 1,,0 --emit xml",
+    "curve --least a.s --predict 16",
 ];
 
 #[test]

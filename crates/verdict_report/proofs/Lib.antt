@@ -1,4 +1,2 @@
 mod Addresses
-mod Kept
-mod PlainRuns
 mod Plays

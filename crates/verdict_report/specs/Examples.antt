@@ -13,9 +13,9 @@ use Rattle.mark_checker.specs.Rules.{each}
 use Rattle.machine_model.specs.Answer.{least}
 use Rattle.machine_model.specs.Examples.{unlisted_jump, jump_unlisted}
 use Rattle.jobs.specs.declared.job.ReplayEmit.TheVariants as emit
-use Rattle.verdict_report.specs.OutputTexts.{Report}
-use Rattle.verdict_report.specs.JudgedTexts.{goes_on, program_judged}
-use Rattle.verdict_report.specs.SeqText.{seq_read, seq_text}
+use Rattle.report_texts.specs.OutputTexts.{Report}
+use Rattle.report_texts.specs.JudgedTexts.{goes_on, program_judged}
+use Rattle.report_texts.specs.SeqText.{seq_read, seq_text}
 use Rattle.verdict_report.specs.ReplayText.{events_report, script_report, replay_text}
 
 -- lines, each with its LF
@@ -52,7 +52,7 @@ replayed units script = replay_text emit.Answers units count_text count_certific
 
 -- what is left to be computed once the program text is read
 abbrev counting : ℕ → List (List ℕ) → Result Listing AsmFault → Report
-counting units script read = goes_on (script_report emit.Answers units (lines script)) (program_judged read count_certificate)
+counting units script read = goes_on (script_report emit.Answers units count_text (lines script)) (program_judged read count_certificate)
 
 -- the second unit waits for register 8 until it has been transferred
 abbrev waiting : List (List ℕ)
@@ -87,10 +87,10 @@ lacking_certificate = lines (
 pub findings_first : replay_text emit.Answers 2 count_text lacking_certificate (codes "exec")
     ≡ report (codes "A 1 rule 3 $9" ∷ codes "refused 1" ∷ []) 1
 unfolding digits each
-findings_first = ap (λ (r : Result Listing AsmFault). goes_on (script_report emit.Answers 2 (codes "exec")) (program_judged r lacking_certificate)) count_is
+findings_first = ap (λ (r : Result Listing AsmFault). goes_on (script_report emit.Answers 2 count_text (codes "exec")) (program_judged r lacking_certificate)) count_is
 
 -- a run that ends at an address that no task lists
-pub jump_is_unlisted : events_report emit.Answers 1 unlisted_jump jump_unlisted
+pub jump_is_unlisted : events_report emit.Answers 1 [] unlisted_jump jump_unlisted
     ≡ report (codes "1 ok" ∷ codes "2 ok" ∷ codes "3 ok" ∷ codes "4 ok" ∷ codes "5 refused 12 Unfinished $31" ∷ codes "6 ok" ∷ codes "7 refused 14 NotListed" ∷ codes "8 ok" ∷ codes "9 refused 1 Ended" ∷ codes "retired 0 c 0 h 3" ∷ codes "unlisted 00400010" ∷ []) 1
 unfolding digits address index_of region effective least
 jump_is_unlisted = refl

@@ -1,5 +1,5 @@
 -- What a job writes of its texts, and the status (own choice).
-use Rattle.std.specs.Prelude.{◌≡◌, ℕ, List, Option, Result, Ok, Err}
+use Rattle.std.specs.Prelude.{◌≡◌, ℕ, Bool, List, Option, Result, Ok, Err}
 use Rattle.std.specs.Io.KnownBytes.{Appends}
 use Rattle.std.specs.Option.{option_map}
 use Rattle.std.specs.String.{string_bytes}
@@ -7,16 +7,20 @@ use Rattle.task_descriptor.specs.Listing.{Listing}
 use Rattle.annotated_asm.specs.declared.fault.AsmFault.{AsmFault}
 use Rattle.annotated_asm.specs.ProgramText.{parse}
 use Rattle.canonical_text.specs.CanonicalText.{canonical_text}
-use Rattle.verdict_report.specs.OutputTexts.{Report, program_refused}
-use Rattle.verdict_report.specs.SeqText.{seq_text}
-use Rattle.verdict_report.specs.CheckText.{check_text}
+use Rattle.report_texts.specs.OutputTexts.{Report, program_refused}
+use Rattle.report_texts.specs.SeqText.{seq_text}
+use Rattle.report_texts.specs.CheckText.{check_text}
 use Rattle.verdict_report.specs.ReplayText.{replay_text}
 use Rattle.verdict_report.specs.RunText.{IsRunText}
-use Rattle.verdict_report.specs.AnnotateText.{IsAnnotateReport}
-use Rattle.verdict_report.specs.CertificateTexts.{OfCertificate}
-use Rattle.verdict_report.specs.ExplainText.{IsExplainReport}
+use Rattle.verdict_report.specs.CurveText.{IsCurveText}
+use Rattle.report_texts.specs.AnnotateText.{IsAnnotateReport}
+use Rattle.report_texts.specs.CertificateTexts.{OfCertificate}
+use Rattle.explain_report.specs.ExplainText.{IsExplainReport}
+use Rattle.explain_report.specs.LogText.{IsLogReport}
+use Rattle.jobs.specs.declared.job.Format.{Format}
+use Rattle.jobs.specs.declared.job.Format.TheVariants.{Text, Sarif}
 use Rattle.jobs.specs.declared.job.Job.{Job}
-use Rattle.jobs.specs.declared.job.Job.TheVariants.{Seq, Print, Annotate, Explain, Check, Replay, Run}
+use Rattle.jobs.specs.declared.job.Job.TheVariants.{Seq, Print, Annotate, Explain, Check, Replay, Run, Curve}
 use Rattle.jobs.specs.declared.job.Texts.{Texts}
 
 abbrev pub print_read : Result Listing AsmFault → Report
@@ -27,14 +31,19 @@ print_read (Err fault) = program_refused fault
 abbrev pub print_text : List ℕ → Report
 print_text text = print_read (parse text)
 
+-- what `explain` writes in a format; the log has no warnings
+abbrev pub IsExplainedIn : Format → (name : List ℕ) → (file : Option (List ℕ)) → (warnings : Bool) → (text certificate : List ℕ) → Report → Type 0
+IsExplainedIn Text name file warnings text certificate report = IsExplainReport name file warnings text certificate report
+IsExplainedIn Sarif name file warnings text certificate report = IsLogReport name file text certificate report
+
 -- what a job may write of its texts; how many threads there are does not matter. With the least certificate
 -- it is what the job writes with the text of `annotate --emit keep` in its place
 abbrev pub IsReportOf : Job → Texts → Report → Type 0
 IsReportOf (Seq budget) texts report = report ≡ seq_text budget texts.program.items
 IsReportOf Print texts report = report ≡ print_text texts.program.items
 IsReportOf (Annotate emit) texts report = IsAnnotateReport emit texts.program.items report
-IsReportOf (Explain name certificate) texts report =
-    IsExplainReport (string_bytes name) (option_map string_bytes certificate) texts.program.items texts.certificate report
+IsReportOf (Explain name certificate warnings format) texts report =
+    IsExplainedIn format (string_bytes name) (option_map string_bytes certificate) warnings texts.program.items texts.certificate report
 IsReportOf (Check source workers) texts report =
     OfCertificate source texts.program.items texts.certificate (λ certificate. report ≡ check_text texts.program.items certificate)
 IsReportOf (Replay source units emit) texts report =
@@ -42,6 +51,9 @@ IsReportOf (Replay source units emit) texts report =
 IsReportOf (Run source schedule units workers budget predict emit) texts report =
     OfCertificate source texts.program.items texts.certificate (λ certificate.
     IsRunText schedule units budget predict emit texts.program.items certificate report)
+IsReportOf (Curve source units budget predict) texts report =
+    OfCertificate source texts.program.items texts.certificate (λ certificate.
+    IsCurveText units budget predict texts.program.items certificate report)
 
 -- a job is done: a report of it was added to what the writer holds, and the status is its
 pub record IsDone (job : Job) (texts : Texts) (status : ℕ) (old new : Option (List ℕ)) : Type 0 where

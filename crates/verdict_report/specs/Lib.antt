@@ -1,16 +1,8 @@
-pub mod OutputTexts
-pub mod SeqText
-pub mod VerdictTexts
-pub mod JudgedTexts
-pub mod CheckText
-pub mod AnnotateText
-pub mod CertificateTexts
-pub mod ExplainText
 pub mod MachineText
 pub mod ReplayText
 pub mod RunText
+pub mod CurveText
 pub mod JobTexts
-pub mod Judging
 pub mod Playing
 pub mod Runs
 pub mod Examples

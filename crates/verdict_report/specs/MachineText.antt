@@ -6,7 +6,7 @@ use Rattle.machine_model.specs.Claims.{count_c, count_h}
 use Rattle.machine_events.specs.declared.event.Standing.{Standing}
 use Rattle.machine_events.specs.declared.event.Standing.TheVariants.{Running, Halted, Trapped, Unlisted}
 use Rattle.mips_plain.specs.TrapText.{trap_text}
-use Rattle.verdict_report.specs.OutputTexts.{words_text}
+use Rattle.report_texts.specs.OutputTexts.{words_text}
 
 -- an address in 8 lower-case hexadecimal digits
 abbrev pub address_text : ℕ → List ℕ

@@ -14,10 +14,12 @@ use Rattle.event_script.specs.EventScript.{script_of}
 use Rattle.task_lives.specs.Lives.{lives_of}
 use Rattle.run_summary.specs.SummaryText.{summary_text}
 use Rattle.run_picture.specs.Picture.{picture_text}
+use Rattle.event_trace.specs.Entries.{places_of}
+use Rattle.event_trace.specs.Trace.{trace_text}
 use Rattle.jobs.specs.declared.job.ReplayEmit.{ReplayEmit}
 use Rattle.jobs.specs.declared.job.ReplayEmit.TheVariants as emit
-use Rattle.verdict_report.specs.OutputTexts.{Report}
-use Rattle.verdict_report.specs.JudgedTexts.{judged}
+use Rattle.report_texts.specs.OutputTexts.{Report}
+use Rattle.report_texts.specs.JudgedTexts.{judged}
 use Rattle.verdict_report.specs.MachineText.{machine_text, standing_status}
 
 abbrev pub script_refused : ScriptFault → Report
@@ -46,29 +48,31 @@ allowed (event ∷ events) (Ok done ∷ answers) = event ∷ allowed events answ
 allowed (event ∷ events) (Err refusal ∷ answers) = allowed events answers
 
 -- what is written of events that were played: the answers, and how the machine stands; or what the tasks
--- came to that the allowed events assigned, as `run` sums them up; or a picture of the allowed events
-abbrev pub played_text : ReplayEmit → (units : ℕ) → Listing → List Event → Played → List ℕ
-played_text emit.Answers units p events played = answers_text played.answers ++ machine_text played.state
-played_text emit.Summary units p events played = summary_text p (lives_of units (allowed events played.answers))
-played_text emit.Picture units p events played = picture_text p units (allowed events played.answers)
+-- came to that the allowed events assigned, as `run` sums them up; or a picture of the allowed events; or
+-- their trace, by the lines of the program text
+abbrev pub played_text : ReplayEmit → (units : ℕ) → (text : List ℕ) → Listing → List Event → Played → List ℕ
+played_text emit.Answers units text p events played = answers_text played.answers ++ machine_text played.state
+played_text emit.Summary units text p events played = summary_text p (lives_of units (allowed events played.answers))
+played_text emit.Picture units text p events played = picture_text p units (allowed events played.answers)
+played_text emit.Trace units text p events played = trace_text p (places_of text) units events played.state
 
 -- what `replay` writes of the events of a script, where an event that is refused changes nothing
-abbrev pub events_report : ReplayEmit → (units : ℕ) → Listing → List Event → Report
-events_report emitted units p events =
+abbrev pub events_report : ReplayEmit → (units : ℕ) → (text : List ℕ) → Listing → List Event → Report
+events_report emitted units text p events =
     let played = play p units events in
     record {
-      bytes = played_text emitted units p events played;
+      bytes = played_text emitted units text p events played;
       status = standing_status played.state.outcome;
     }
 
-abbrev pub script_read : ReplayEmit → (units : ℕ) → Listing → Result (List Event) ScriptFault → Report
-script_read emitted units p (Ok events) = events_report emitted units p events
-script_read emitted units p (Err fault) = script_refused fault
+abbrev pub script_read : ReplayEmit → (units : ℕ) → (text : List ℕ) → Listing → Result (List Event) ScriptFault → Report
+script_read emitted units text p (Ok events) = events_report emitted units text p events
+script_read emitted units text p (Err fault) = script_refused fault
 
--- what `replay` writes of a program in which nothing is found, and the text of a script
-abbrev pub script_report : ReplayEmit → (units : ℕ) → (script : List ℕ) → Listing → Report
-script_report emitted units script p = script_read emitted units p (script_of p script)
+-- what `replay` writes of the text of a program in which nothing is found, and the text of a script
+abbrev pub script_report : ReplayEmit → (units : ℕ) → (text script : List ℕ) → Listing → Report
+script_report emitted units text script p = script_read emitted units text p (script_of p script)
 
 -- what `replay` writes of a program text, the text of its certificate and the text of a script
 abbrev pub replay_text : ReplayEmit → (units : ℕ) → (program certificate script : List ℕ) → Report
-replay_text emitted units program certificate script = judged (script_report emitted units script) program certificate
+replay_text emitted units program certificate script = judged (script_report emitted units program script) program certificate

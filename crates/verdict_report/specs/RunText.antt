@@ -13,6 +13,8 @@ use Rattle.event_script.specs.ScriptText.{script_text}
 use Rattle.task_lives.specs.Lives.{lives_of}
 use Rattle.run_summary.specs.SummaryText.{summary_text}
 use Rattle.run_picture.specs.Picture.{picture_text}
+use Rattle.event_trace.specs.Entries.{places_of}
+use Rattle.event_trace.specs.Trace.{trace_text}
 use Rattle.threaded_runner.specs.declared.report.How.{How}
 use Rattle.threaded_runner.specs.declared.report.How.TheVariants.{Ended, OutOfBudget}
 use Rattle.synchronous_runner.specs.Steps.{beginning, after_steps, Takes}
@@ -24,8 +26,8 @@ use Rattle.jobs.specs.declared.job.Prediction.{Prediction}
 use Rattle.jobs.specs.declared.job.Prediction.TheVariants as prediction
 use Rattle.jobs.specs.declared.job.RunEmit.{RunEmit}
 use Rattle.jobs.specs.declared.job.RunEmit.TheVariants as emit
-use Rattle.verdict_report.specs.OutputTexts.{Report, words_text}
-use Rattle.verdict_report.specs.JudgedTexts.{Judgement, refused, accepted, judgement}
+use Rattle.report_texts.specs.OutputTexts.{Report, words_text}
+use Rattle.report_texts.specs.JudgedTexts.{Judgement, refused, accepted, judgement}
 use Rattle.verdict_report.specs.MachineText.{machine_text, standing_status}
 
 -- a run: the events that were applied, what they left, how it ended, and in how many steps, if it went in
@@ -76,26 +78,28 @@ steps_text None s = []
 steps_text (Some count) s = codes "steps " ++ (decimal count ++ (codes ", retired instructions " ++ (decimal (count_c s) ++ 10 ∷ [])))
 
 -- what is written of a run: its end; its history as a script, which is read as that history; or what the
--- tasks that it assigned came to, and its steps; or a picture of its history
-abbrev pub IsWrittenOf : RunEmit → (units : ℕ) → Listing → Run → List ℕ → Type 0
-IsWrittenOf emit.Report units p run bytes = bytes ≡ ending_text run.how run.state
-IsWrittenOf emit.Script units p run bytes = (bytes ≡ script_text p run.history) × (script_of p bytes ≡ Ok run.history)
-IsWrittenOf emit.Summary units p run bytes = bytes ≡ summary_text p (lives_of units run.history) ++ steps_text run.steps run.state
-IsWrittenOf emit.Picture units p run bytes = bytes ≡ picture_text p units run.history
+-- tasks that it assigned came to, and its steps; or a picture of its history; or the trace of its history, by
+-- the lines of the program text
+abbrev pub IsWrittenOf : RunEmit → (units : ℕ) → (text : List ℕ) → Listing → Run → List ℕ → Type 0
+IsWrittenOf emit.Report units text p run bytes = bytes ≡ ending_text run.how run.state
+IsWrittenOf emit.Script units text p run bytes = (bytes ≡ script_text p run.history) × (script_of p bytes ≡ Ok run.history)
+IsWrittenOf emit.Summary units text p run bytes = bytes ≡ summary_text p (lives_of units run.history) ++ steps_text run.steps run.state
+IsWrittenOf emit.Picture units text p run bytes = bytes ≡ picture_text p units run.history
+IsWrittenOf emit.Trace units text p run bytes = bytes ≡ trace_text p (places_of text) units run.history run.state
 
--- the report of some run of a program in which nothing is found
-pub record IsRunReport (schedule : Schedule) (units budget : ℕ) (predict : Prediction) (emitted : RunEmit) (p : Listing) (report : Report) : Type 0 where
+-- the report of some run of a program in which nothing is found, and which this text spells
+pub record IsRunReport (schedule : Schedule) (units budget : ℕ) (predict : Prediction) (emitted : RunEmit) (text : List ℕ) (p : Listing) (report : Report) : Type 0 where
   pub run : Run
   pub right : IsRunOf p units budget run
   pub scheduled : IsScheduled schedule p units budget predict run
-  pub written : IsWrittenOf emitted units p run report.bytes
+  pub written : IsWrittenOf emitted units text p run report.bytes
   pub answered : report.status ≡ ending_status run.how run.state
 
-abbrev pub IsRunJudged : Schedule → (units budget : ℕ) → Prediction → RunEmit → Judgement → Report → Type 0
-IsRunJudged schedule units budget predict emitted (refused said) report = report ≡ said
-IsRunJudged schedule units budget predict emitted (accepted p) report = IsRunReport schedule units budget predict emitted p report
+abbrev pub IsRunJudged : Schedule → (units budget : ℕ) → Prediction → RunEmit → (text : List ℕ) → Judgement → Report → Type 0
+IsRunJudged schedule units budget predict emitted text (refused said) report = report ≡ said
+IsRunJudged schedule units budget predict emitted text (accepted p) report = IsRunReport schedule units budget predict emitted text p report
 
 -- what `run` may write of a program text and the text of its certificate
 abbrev pub IsRunText : Schedule → (units budget : ℕ) → Prediction → RunEmit → (program certificate : List ℕ) → Report → Type 0
 IsRunText schedule units budget predict emitted program certificate report =
-    IsRunJudged schedule units budget predict emitted (judgement program certificate) report
+    IsRunJudged schedule units budget predict emitted program (judgement program certificate) report

@@ -3,9 +3,9 @@ ghost use Rattle.std.specs.Prelude.{◌≡◌, ◌++◌, OnOk, IfOk};
 ghost use Rattle.std.specs.String.{string_bytes};
 ghost use Rattle.verdict_report.specs.ReplayText.{answer_line, answers_text, script_refused};
 
-use crate::report::Report;
 use event_script::fault::ScriptFault;
 use machine_events::event::Refused;
+use report_texts::report::Report;
 use std::alloc::{AllocError, Global};
 
 /// What `replay` writes of a text that is no script.

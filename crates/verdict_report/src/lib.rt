@@ -5,19 +5,12 @@
 //! it, and by its arm in `serve`.
 #![tactic(auto)]
 
-pub mod annotating;
-pub mod checking;
+pub mod curving;
 pub mod event_text;
-pub mod explaining;
 pub mod fault;
-pub mod judging;
 pub mod machine_text;
-pub mod plain_text;
 pub mod ran;
 pub mod replaying;
-pub mod report;
 pub mod running;
 pub mod scheduled;
-pub mod sequential;
 pub mod serve;
-pub mod verdict_text;

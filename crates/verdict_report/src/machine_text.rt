@@ -5,12 +5,17 @@ ghost use Rattle.sequencer.specs.Seen.{state, units_of};
 ghost use Rattle.task_lives.specs.Lives.{lives_of};
 ghost use Rattle.run_summary.specs.SummaryText.{summary_text};
 ghost use Rattle.run_picture.specs.Picture.{picture_text};
+ghost use Rattle.event_trace.specs.Entries.{places_of};
+ghost use Rattle.event_trace.specs.Trace.{trace_text};
 ghost use Rattle.verdict_report.specs.MachineText.{machine_text, retired_text, standing_status, standing_text};
 
-use crate::plain_text::write_words;
+use event_trace::trace::trace;
 use jobs::ranges::Units;
-use machine_events::event::Standing;
+use machine_events::event::{Event, Standing};
+use mark_checker::accept::Accepted;
+use report_texts::plain_text::write_words;
 use run_picture::drawing::draw;
+use run_picture::events::single_events;
 use sequencer::machine::Machine;
 use std::alloc::{AllocError, Global};
 use task_descriptor::program::Program;
@@ -79,6 +84,37 @@ pub fn picture_of(
     histories_fit();
     let picture = draw(alloc, program, units.get(), machine.history())?;
     Ok(picture.into_bytes())
+}
+
+/// The trace of some events that leave a machine of so many units so, which runs this program.
+pub fn trace_of(
+    alloc: Global,
+    units: Units,
+    machine: &Machine<'_>,
+    accepted: &Accepted,
+    program_text: &[u8],
+    events: &[Event],
+) -> Result<Vec<u8>, AllocError>
+    ensures { IfOk result (λ bytes. bytes.items
+        ≡ trace_text accepted.now.program (places_of program_text.now) units events.now (state machine.now)) }
+{
+    let text = trace(alloc, accepted, units.get(), program_text, events, machine)?;
+    Ok(text.into_bytes())
+}
+
+/// The trace of the history of a machine of so many units, which runs this program.
+pub fn trace_of_history(
+    alloc: Global,
+    units: Units,
+    machine: &Machine<'_>,
+    accepted: &Accepted,
+    program_text: &[u8],
+) -> Result<Vec<u8>, AllocError>
+    ensures { IfOk result (λ bytes. bytes.items
+        ≡ trace_text accepted.now.program (places_of program_text.now) units machine.now.history (state machine.now)) }
+{
+    let events = single_events(alloc, machine.history())?;
+    trace_of(alloc, units, machine, accepted, program_text, &events)
 }
 
 /// The status of a run that stands so.

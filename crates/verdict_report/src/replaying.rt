@@ -3,15 +3,13 @@ ghost use Rattle.std.specs.Prelude.{◌≡◌, ◌++◌, List, [], ◌∷◌, Re
 ghost use Rattle.machine_model.specs.Answer.{play, play_event};
 ghost use Rattle.machine_events.specs.declared.event.Refused.{Refused};
 ghost use Rattle.sequencer.specs.Seen.{SameRing, state, units_of};
-ghost use Rattle.verdict_report.specs.CertificateTexts.{OfCertificate};
+ghost use Rattle.report_texts.specs.CertificateTexts.{OfCertificate};
 ghost use Rattle.verdict_report.specs.MachineText.{machine_text};
 ghost use Rattle.verdict_report.specs.Playing.{played_so_far};
 ghost use Rattle.verdict_report.specs.ReplayText.{allowed, answers_text, events_report, replay_text, script_report};
 
 use crate::event_text::{refused_script, write_answers};
-use crate::judging::{Judged, judge};
-use crate::machine_text::{picture_of, standing_status_of, summary_of, write_machine};
-use crate::report::Report;
+use crate::machine_text::{picture_of, standing_status_of, summary_of, trace_of, write_machine};
 use event_script::fault::ScriptFault;
 use event_script::reading::read;
 use jobs::job::{CertificateSource, ReplayEmit, Texts};
@@ -19,6 +17,8 @@ use jobs::ranges::Units;
 use machine_events::event::{Event, Refused};
 use machine_model::laws::next_is_after;
 use mark_checker::accept::Accepted;
+use report_texts::judging::{Judged, judge};
+use report_texts::report::Report;
 use sequencer::machine::Machine;
 use std::alloc::{AllocError, Global};
 
@@ -36,36 +36,41 @@ pub fn replay(
 {
     match judge(alloc, source, texts)? {
         Judged::Refused(report) => Ok(report),
-        Judged::Accepted(accepted) => replay_script(alloc, units, emit, &accepted, &texts.script),
+        Judged::Accepted(accepted) => {
+            let text = texts.program.as_slice();
+            replay_script(alloc, units, emit, text, &accepted, &texts.script)
+        }
     }
 }
 
-// What `replay` writes of an accepted program and the text of a script.
+// What `replay` writes of an accepted program with its text, and the text of a script.
 fn replay_script(
     alloc: Global,
     units: Units,
     emit: ReplayEmit,
+    text: &[u8],
     accepted: &Accepted,
     script: &[u8],
 ) -> Result<Report, AllocError>
-    ensures { IfOk result (λ report. report ≡ script_report emit units script.now accepted.now.program) }
+    ensures { IfOk result (λ report. report ≡ script_report emit units text.now script.now accepted.now.program) }
 {
     match read(alloc, script, accepted.program()) {
-        Ok(events) => replay_events(alloc, units, emit, accepted, events.as_slice()),
+        Ok(events) => replay_events(alloc, units, emit, text, accepted, events.as_slice()),
         Err(ScriptFault::OutOfMemory) => Err(AllocError),
         Err(fault) => refused_script(alloc, fault),
     }
 }
 
-// What `replay` writes of an accepted program and events.
+// What `replay` writes of an accepted program with its text, and events.
 fn replay_events(
     alloc: Global,
     units: Units,
     emit: ReplayEmit,
+    text: &[u8],
     accepted: &Accepted,
     events: &[Event],
 ) -> Result<Report, AllocError>
-    ensures { IfOk result (λ report. report ≡ events_report emit units accepted.now.program events.now) }
+    ensures { IfOk result (λ report. report ≡ events_report emit units text.now accepted.now.program events.now) }
 {
     let mut machine = Machine::new(alloc, accepted, units.get()).map_err(|_| AllocError)?;
     let answers = play_events(alloc, &mut machine, events)?;
@@ -73,6 +78,7 @@ fn replay_events(
         ReplayEmit::Answers => answers_of(alloc, &answers, &machine)?,
         ReplayEmit::Summary => summary_of(alloc, units, &machine, accepted.program())?,
         ReplayEmit::Picture => picture_of(alloc, units, &machine, accepted.program())?,
+        ReplayEmit::Trace => trace_of(alloc, units, &machine, accepted, text, events)?,
     };
     Ok(Report::new(bytes, standing_status_of(machine.outcome())))
 }

@@ -3,7 +3,7 @@ ghost use Rattle.std.specs.Prelude.{◌≡◌, ◌≢◌, ◌≤◌, ◌++◌, E
 ghost use Rattle.std.specs.String.{string_bytes};
 ghost use Rattle.sequencer.specs.Seen.{state, units_of};
 ghost use Rattle.verdict_report.specs.RunText.{IsRunReport, IsRunText, IsWrittenOf, ending_status, ending_text, steps_text};
-ghost use Rattle.verdict_report.specs.CertificateTexts.{OfCertificate};
+ghost use Rattle.report_texts.specs.CertificateTexts.{OfCertificate};
 ghost use Rattle.verdict_report.specs.Runs.{run_of};
 ghost use Rattle.task_lives.specs.Lives.{lives_of};
 ghost use Rattle.run_summary.specs.SummaryText.{summary_text};
@@ -11,16 +11,18 @@ ghost use Rattle.event_script.specs.EventScript.{script_of};
 ghost use Rattle.event_script.specs.ScriptText.{script_text};
 
 use crate::fault::ServeFault;
-use crate::judging::{Judged, judge};
-use crate::machine_text::{picture_of, standing_status_of, summary_of, write_machine};
-use crate::plain_text::write_words;
+use crate::machine_text::{
+    picture_of, standing_status_of, summary_of, trace_of_history, write_machine,
+};
 use crate::ran::{Extent, Ran};
-use crate::report::Report;
 use crate::scheduled::run_scheduled;
 use event_script::writing::write;
 use jobs::job::{CertificateSource, Prediction, RunEmit, Texts};
 use jobs::ranges::Units;
 use mark_checker::accept::Accepted;
+use report_texts::judging::{Judged, judge};
+use report_texts::plain_text::write_words;
+use report_texts::report::Report;
 use std::alloc::{AllocError, Global};
 use std::sync::Wait;
 use std::thread::Threads;
@@ -47,25 +49,29 @@ pub fn run<R: Threads + Wait + Sync>(
 {
     match judge(alloc, source, texts)? {
         Judged::Refused(report) => Ok(report),
-        Judged::Accepted(accepted) => run_accepted(rt, alloc, extent, predict, emit, &accepted),
+        Judged::Accepted(accepted) => {
+            let text = texts.program.as_slice();
+            run_accepted(rt, alloc, extent, predict, emit, text, &accepted)
+        }
     }
 }
 
-// What `run` writes of an accepted program.
+// What `run` writes of an accepted program with its text.
 fn run_accepted<R: Threads + Wait + Sync>(
     rt: &R,
     alloc: Global,
     extent: Extent,
     predict: &Prediction,
     emit: RunEmit,
+    text: &[u8],
     accepted: &Accepted,
 ) -> Result<Report, ServeFault>
-    ensures report { IfOk result (λ report. IsRunReport extent.schedule extent.units extent.budget predict.now emit accepted.now.program report) }
+    ensures report { IfOk result (λ report. IsRunReport extent.schedule extent.units extent.budget predict.now emit text.now accepted.now.program report) }
     ensures fault { result ≢ Err ServeFault.Write }
     ensures own { result ≢ Err ServeFault.Foreign }
 {
     let ran = run_scheduled(rt, alloc, extent, predict, accepted)?;
-    Ok(report_of_run(alloc, emit, extent.units, &ran, accepted)?)
+    Ok(report_of_run(alloc, emit, extent.units, &ran, text, accepted)?)
 }
 
 // What is written of a run, and the status.
@@ -74,11 +80,12 @@ fn report_of_run(
     emit: RunEmit,
     units: Units,
     ran: &Ran<'_>,
+    text: &[u8],
     accepted: &Accepted,
 ) -> Result<Report, AllocError>
     requires over { ran.now.machine.accepted ≡ accepted.now }
     requires units { (units_of ran.now.machine ≤ 16) × (units_of ran.now.machine ≡ units) }
-    ensures bytes { IfOk result (λ report. IsWrittenOf emit units accepted.now.program (run_of ran.now) report.bytes) }
+    ensures bytes { IfOk result (λ report. IsWrittenOf emit units text.now accepted.now.program (run_of ran.now) report.bytes) }
     ensures status { IfOk result (λ report. report.status ≡ ending_status ran.now.how (state ran.now.machine)) }
 {
     let bytes = match emit {
@@ -86,6 +93,7 @@ fn report_of_run(
         RunEmit::Script => script(alloc, ran, accepted)?,
         RunEmit::Summary => summary(alloc, units, ran, accepted)?,
         RunEmit::Picture => picture_of(alloc, units, &ran.machine, accepted.program())?,
+        RunEmit::Trace => trace_of_history(alloc, units, &ran.machine, accepted, text)?,
     };
     Ok(Report::new(bytes, ending_status_of(ran)))
 }

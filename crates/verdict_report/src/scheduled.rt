@@ -16,7 +16,7 @@ use synchronous_runner::predictor::Predictor;
 use synchronous_runner::report::{How as StepsHow, StepsFault, StepsReport};
 use synchronous_runner::runner::run_steps;
 use threaded_runner::gate::Open;
-use threaded_runner::report::{How, Report};
+use threaded_runner::report::{How, Report, RunFault};
 use threaded_runner::runner::run_workers;
 
 /// Runs an accepted program as the schedule and the predictor say that are asked for.
@@ -98,7 +98,8 @@ fn run_with<'a, P: Predict, R: Threads + Wait + Sync>(
             how,
             steps: None,
         }),
-        Err(_) => Err(ServeFault::OutOfMemory),
+        Err(RunFault::OutOfMemory) => Err(ServeFault::OutOfMemory),
+        Err(RunFault::Units | RunFault::Budget | RunFault::Foreign) => unreachable!(),
     }
 }
 
@@ -145,8 +146,8 @@ fn ended_as(how: StepsHow) -> How
     }
 }
 
-// The predictor that is asked for.
-fn predictor_of(alloc: Global, predict: &Prediction) -> Result<Predictor, AllocError>
+/// The predictor that is asked for.
+pub(crate) fn predictor_of(alloc: Global, predict: &Prediction) -> Result<Predictor, AllocError>
     ensures { IfOk result (λ predictor. predictor ≡ predictor_of predict.now) }
 {
     match predict {

@@ -1,20 +1,24 @@
 //! Doing a job: its text is built whole, and then written.
 ghost use Rattle.std.specs.Prelude.{◌≡◌, ◌≢◌, Err, IfOk, OnOk, OnErr};
 ghost use Rattle.std.specs.Io.KnownBytes.{Appends, Keeps};
-ghost use Rattle.verdict_report.specs.JobTexts.{IsDone, IsReportOf, print_text};
+ghost use Rattle.std.specs.Option.{option_map};
+ghost use Rattle.std.specs.String.{string_bytes};
+ghost use Rattle.verdict_report.specs.JobTexts.{IsDone, IsExplainedIn, IsReportOf, print_text};
 
-use crate::annotating::annotate;
-use crate::checking::check;
-use crate::explaining::explain;
+use crate::curving::curve;
 use crate::fault::ServeFault;
 use crate::ran::Extent;
 use crate::replaying::replay;
-use crate::report::{Report, refused_program};
 use crate::running::run;
-use crate::sequential::seq;
 use annotated_asm::assembler::assemble;
 use annotated_asm::fault::AsmFault;
-use jobs::job::{Job, Texts};
+use explain_report::explaining::explain;
+use explain_report::logging::explain_log;
+use jobs::job::{Format, Job, Texts};
+use report_texts::annotating::annotate;
+use report_texts::checking::check;
+use report_texts::report::{Report, refused_program};
+use report_texts::sequential::seq;
 use std::alloc::{AllocError, Global};
 use std::io::Write;
 use std::sync::Wait;
@@ -56,7 +60,12 @@ fn report_of<R: Threads + Wait + Sync>(
         Job::Seq { budget } => Ok(seq(alloc, *budget, program)?),
         Job::Print => Ok(print(alloc, program)?),
         Job::Annotate { emit } => Ok(annotate(alloc, *emit, program)?),
-        Job::Explain { name, certificate } => Ok(explain(alloc, name, certificate, texts)?),
+        Job::Explain {
+            name,
+            certificate,
+            warnings,
+            format,
+        } => Ok(explain_in(alloc, *format, name, certificate, *warnings, texts)?),
         Job::Check {
             certificate,
             workers,
@@ -83,6 +92,30 @@ fn report_of<R: Threads + Wait + Sync>(
             };
             run(rt, alloc, extent, predict, *emit, *certificate, texts)
         }
+        Job::Curve {
+            certificate,
+            units,
+            budget,
+            predict,
+        } => Ok(curve(alloc, *units, *budget, predict, *certificate, texts)?),
+    }
+}
+
+// What `explain` writes in this format. The log has no warnings.
+fn explain_in(
+    alloc: Global,
+    format: Format,
+    name: &str,
+    file: &Option<String>,
+    warnings: bool,
+    texts: &Texts,
+) -> Result<Report, AllocError>
+    ensures { IfOk result (λ report. IsExplainedIn format name.now (option_map string_bytes file.now) warnings
+        texts.now.program.items texts.now.certificate report) }
+{
+    match format {
+        Format::Text => explain(alloc, name, file, warnings, texts),
+        Format::Sarif => explain_log(alloc, name, file, texts),
     }
 }
 

@@ -11,4 +11,5 @@ returns c =
     let four = with_sub c.in_ok-subcommand-4.ensures three c.in_ok-explain.ensures in
     let five = with_sub c.in_ok-subcommand-5.ensures four c.in_ok-check.ensures in
     let six = with_sub c.in_ok-subcommand-6.ensures five c.in_ok-replay.ensures in
-    IfOk-weaker c.subcommand-7.result _ _ (λ _ h. with_sub h six c.in_ok-run.ensures) c.subcommand-7.ensures
+    let seven = with_sub c.in_ok-subcommand-7.ensures six c.in_ok-run.ensures in
+    IfOk-weaker c.subcommand-8.result _ _ (λ _ h. with_sub h seven c.in_ok-curve.ensures) c.subcommand-8.ensures

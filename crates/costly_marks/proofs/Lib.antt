@@ -1,0 +1,5 @@
+mod Reached
+mod LastUpdates
+mod Unsent
+mod Picking
+mod NotedTasks

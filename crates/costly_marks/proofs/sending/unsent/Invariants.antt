@@ -1,0 +1,14 @@
+-- The search, and that the entries are marked.
+use Rattle.std.proofs.Common.{None}
+use Rattle.task_graph.proofs.Searches.{left_to_do}
+use Rattle.costly_marks.proofs.Unsent.{Search, AreBegun}
+use Rattle.costly_marks.proofs.sending.unsent.Given as goal
+
+abbrev pub invariant-loop-i : goal.invariant-loop-i
+invariant-loop-i l = record {
+  begun : AreBegun l.program l.marks.items;
+  search : Search l.program l.register l.marks.items l.work.items None;
+}
+
+abbrev pub decreases-loop-i : goal.decreases-loop-i
+decreases-loop-i l = left_to_do l.marks.items l.work.items

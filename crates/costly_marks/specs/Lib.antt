@@ -1,0 +1,4 @@
+pub mod Costly
+pub mod Candidates
+pub mod Steps
+pub mod Examples

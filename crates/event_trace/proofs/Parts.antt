@@ -1,0 +1,62 @@
+-- Parts of a list, one behind the other.
+use Rattle.std.proofs.Common.{◌≡◌, ℕ, zero, suc, ◌+◌, List, [], ◌∷◌, ◌++◌, refl, ap, ◌∙◌, sym, append_assoc, append-nil, add-one, arith}
+use Rattle.std.specs.List.{range_with_len}
+use Rattle.std.specs.Prelude.{flat_map, Bool}
+use Rattle.event_trace.specs.declared.change.Change.{Change}
+use Rattle.event_trace.specs.Changes.{register_count, for_registers}
+use Rattle.event_trace.specs.Ending.{data_words}
+
+range_one_more : {A : Type 0} (f : ℕ → List A) (from n last : ℕ) → last ≡ from + n → flat_map f (range_with_len from (suc n)) ≡ flat_map f (range_with_len from n) ++ f last
+range_one_more f from zero last is =
+    let same : last ≡ from = omega (arith, is) in
+    append-nil (f from) ∙ ap f (sym same)
+range_one_more f from (suc n) last is =
+    ap (λ rest. f from ++ rest) (range_one_more f (from + 1) n last (omega (arith, is)))
+    ∙ sym (append_assoc (f from) (flat_map f (range_with_len (from + 1) n)) (f last))
+
+-- what there is for the numbers below n, and for n
+pub range_more : {A : Type 0} (f : ℕ → List A) (before : List A) (n : ℕ) → (before ++ flat_map f (range_with_len 0 n)) ++ f n ≡ before ++ flat_map f (range_with_len 0 (n + 1))
+range_more f before n =
+    append_assoc before (flat_map f (range_with_len 0 n)) (f n)
+    ∙ ap (λ rest. before ++ rest) (sym (range_one_more f 0 n n (omega arith)))
+    ∙ ap (λ m. before ++ flat_map f (range_with_len 0 m)) (sym (add-one n))
+
+all_registers : (n : ℕ) → n ≡ 34 → n ≡ register_count
+unfolding register_count
+all_registers n is = is
+
+all_words : (n : ℕ) → n ≡ 16384 → n ≡ data_words
+unfolding data_words
+all_words n is = is
+
+-- what there is for each register
+pub for_each_register : {A : Type 0} (f : ℕ → List A) (before now : List A) (n : ℕ) → n ≡ 34 → now ≡ before ++ flat_map f (range_with_len 0 n) → now ≡ before ++ flat_map f (range_with_len 0 register_count)
+for_each_register f before now n all is = is ∙ ap (λ k. before ++ flat_map f (range_with_len 0 k)) (all_registers n all)
+
+-- what there is for each word of data memory
+pub for_each_word : {A : Type 0} (f : ℕ → List A) (before now : List A) (n : ℕ) → n ≡ 16384 → now ≡ before ++ flat_map f (range_with_len 0 n) → now ≡ before ++ flat_map f (range_with_len 0 data_words)
+for_each_word f before now n all is = is ∙ ap (λ k. before ++ flat_map f (range_with_len 0 k)) (all_words n all)
+
+-- sets that have the same registers
+pub same_registers : (set wanted : ℕ → Bool) (change : ℕ → Change) → ((r : ℕ) → set r ≡ wanted r) → for_registers set change ≡ for_registers wanted change
+same_registers set wanted change same = λ j. for_registers (λ r. same r j) change
+
+-- four parts, told one after the other
+pub four_parts : (old one two three four p q r s : List Change) → one ≡ old ++ p → two ≡ one ++ q → three ≡ two ++ r → four ≡ three ++ s → four ≡ old ++ (p ++ (q ++ (r ++ s)))
+four_parts old one two three four p q r s first second third fourth =
+    fourth
+    ∙ ap (λ (front : List Change). front ++ s) (third ∙ ap (λ (front : List Change). front ++ r) (second ∙ ap (λ (front : List Change). front ++ q) first))
+    ∙ append_assoc ((old ++ p) ++ q) r s ∙ append_assoc (old ++ p) q (r ++ s) ∙ append_assoc old p (q ++ (r ++ s))
+
+-- the parts of the end of a trace, written one after the other
+pub end_parts : (old one two three opening standing registers memory : List ℕ)
+    → one ≡ old ++ (opening ++ (standing ++ 10 ∷ [])) → two ≡ one ++ registers → three ≡ two ++ memory
+    → three ≡ old ++ (opening ++ (standing ++ (10 ∷ (registers ++ memory))))
+end_parts old one two three opening standing registers memory first second third =
+    third ∙ ap (λ (front : List ℕ). front ++ memory) (second ∙ ap (λ (front : List ℕ). front ++ registers) first) ∙ simp append_assoc
+
+-- three parts, written one after the other
+pub three_parts : (old one two three p q r : List ℕ) → one ≡ old ++ p → two ≡ one ++ q → three ≡ two ++ r → three ≡ old ++ (p ++ (q ++ r))
+three_parts old one two three p q r first second third =
+    third ∙ ap (λ (front : List ℕ). front ++ r) (second ∙ ap (λ (front : List ℕ). front ++ q) first)
+    ∙ append_assoc (old ++ p) q r ∙ append_assoc old p (q ++ r)

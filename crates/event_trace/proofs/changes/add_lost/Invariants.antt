@@ -1,0 +1,10 @@
+-- What is told and what is left give what there was to tell.
+use Rattle.std.proofs.Common.{◌≡◌, ◌++◌, drop}
+use Rattle.sequencer.specs.Seen.{state}
+use Rattle.event_trace.specs.Changes.{lost}
+use Rattle.event_trace.proofs.changes.add_lost.Given as goal
+
+abbrev pub invariant-loop-position : goal.invariant-loop-position
+invariant-loop-position l =
+    l.changes.items ++ lost l.change l.position (drop l.position (state l.before).queue)
+    ≡ l.initial.changes.items ++ lost l.change l.from (drop l.from (state l.before).queue)

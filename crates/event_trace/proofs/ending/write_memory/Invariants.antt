@@ -1,0 +1,14 @@
+-- The words so far.
+use Rattle.std.proofs.Common.{◌≡◌, ◌*◌, ◌++◌}
+use Rattle.std.specs.Prelude.{flat_map}
+use Rattle.std.specs.List.{range_with_len}
+use Rattle.std.specs.String.{string_bytes}
+use Rattle.mips_plain.specs.Words.{byte_of}
+use Rattle.mips_plain.specs.MemoryMap.{number_at}
+use Rattle.event_trace.specs.Ending.{word_line}
+use Rattle.event_trace.proofs.ending.write_memory.Given as goal
+
+abbrev pub invariant-loop-number : goal.invariant-loop-number
+invariant-loop-number l =
+    string_bytes l.text ≡ string_bytes l.initial.text
+    ++ flat_map (λ n. word_line n (number_at 4 (byte_of l.start) (n * 4)) (number_at 4 (byte_of l.bytes) (n * 4))) (range_with_len 0 l.number)

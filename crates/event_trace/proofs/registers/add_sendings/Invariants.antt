@@ -1,0 +1,12 @@
+-- The registers so far.
+use Rattle.std.proofs.Common.{◌≡◌, [], ◌∷◌, ◌++◌}
+use Rattle.std.specs.Prelude.{flat_map, if◌then◌else◌, unwrap_or}
+use Rattle.std.specs.List.{range_with_len}
+use Rattle.mips_plain.specs.Words.{has}
+use Rattle.unit_core.specs.Units.{active_of}
+use Rattle.event_trace.specs.declared.change.Change.TheVariants.{Sent}
+use Rattle.event_trace.proofs.registers.add_sendings.Given as goal
+
+abbrev pub invariant-loop-number : goal.invariant-loop-number
+invariant-loop-number l =
+    l.changes.items ≡ l.initial.changes.items ++ flat_map (λ r. if has l.set r then Sent r (unwrap_or ((active_of l.unit).sent r) 0) ∷ [] else []) (range_with_len 0 l.number)

@@ -1,0 +1,13 @@
+-- The registers so far.
+use Rattle.std.proofs.Common.{◌≡◌, [], ◌∷◌, ◌++◌}
+use Rattle.std.specs.Prelude.{flat_map, if◌then◌else◌}
+use Rattle.std.specs.List.{range_with_len}
+use Rattle.mips_plain.specs.Words.{has}
+use Rattle.machine_model.specs.Answer.{operand}
+use Rattle.unit_core.specs.Units.{active_of}
+use Rattle.event_trace.specs.declared.change.Change.TheVariants.{Wrote}
+use Rattle.event_trace.proofs.registers.add_writes.Given as goal
+
+abbrev pub invariant-loop-number : goal.invariant-loop-number
+invariant-loop-number l =
+    l.changes.items ≡ l.initial.changes.items ++ flat_map (λ r. if has l.set r then Wrote r (operand (active_of l.unit) r) ∷ [] else []) (range_with_len 0 l.number)

@@ -1,0 +1,66 @@
+//! What an event of the machine changed.
+
+ghost use Rattle.std.specs.Prelude.{◌≡◌, ◌++◌, ◌∷◌, [], OnOk};
+
+use crate::unit_change::UnitChange;
+use machine_events::event::Standing;
+use mips_plain::number::Reg;
+use std::alloc::AllocError;
+
+/// What an event changed (own choice). A unit is known by its position, which counts from the head of the
+/// queue, the head being 0, and by the number of its task. Instructions are known by their index, and words
+/// are unsigned.
+#[derive(Clone, Copy, Debug, PartialEq, Eq)]
+pub enum Change {
+    /// A unit changed. What an instruction did stands behind the change of the unit that executed it.
+    AtUnit {
+        position: u32,
+        task: u32,
+        change: UnitChange,
+    },
+    /// The instruction loaded this word from this address: after its sign or zeros were extended.
+    Loaded {
+        address: u32,
+        word: u32,
+    },
+    /// The instruction stored at this address; the word has the bytes that it stored, and zeros above them.
+    Stored {
+        address: u32,
+        word: u32,
+    },
+    /// The instruction wrote this word to this register.
+    Wrote {
+        register: Reg,
+        word: u32,
+    },
+    /// The instruction sent this register, which was not sent before, with this word.
+    Sent {
+        register: Reg,
+        word: u32,
+    },
+    /// The instruction put out this word.
+    PutOut {
+        word: u32,
+    },
+    /// The unit goes on at the instruction of this index.
+    MovedTo {
+        index: u32,
+    },
+    /// The unit stopped, behind an exit of its task that leads to this address.
+    StoppedAt {
+        address: u32,
+    },
+    /// The run ended.
+    Ended {
+        standing: Standing,
+    },
+}
+
+/// Adds a change. An error says that memory was refused.
+pub(crate) fn add(changes: &mut Vec<Change>, change: Change) -> Result<(), AllocError>
+    ensures { OnOk result (changes.new.items ≡ changes.old.items ++ change ∷ []) }
+{
+    // `push` has no proof for a value of a type that holds another enum of the crate.
+    changes.extend_from_slice(&[change])?;
+    Ok(())
+}

@@ -1,0 +1,2 @@
+pub mod ExplainText
+pub mod LogText

@@ -1,0 +1,2 @@
+pub mod MarkedText
+pub mod Examples

@@ -1,0 +1,13 @@
+mod Cuts
+mod Replaced
+mod MarkLists
+mod Statements
+mod CodeParts
+mod TaskParts
+mod Touching
+mod Remarked
+mod OwnTokens
+mod CodeLines
+mod TaskLines
+mod Lines
+mod ReadBack

@@ -1,0 +1,3 @@
+pub mod PlacedItems
+pub mod FaultPlaces
+pub mod Examples

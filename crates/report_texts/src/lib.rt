@@ -1,0 +1,11 @@
+//! What `seq`, `annotate` and `check` write, and the judgement of a program and its certificate that `run`,
+//! `replay` and `curve` begin with.
+#![tactic(auto)]
+
+pub mod annotating;
+pub mod checking;
+pub mod judging;
+pub mod plain_text;
+pub mod report;
+pub mod sequential;
+pub mod verdict_text;

@@ -1,0 +1,54 @@
+//! What a job writes and the status, and the texts that refuse.
+ghost use Rattle.std.specs.Prelude.{◌≡◌, IfOk};
+ghost use Rattle.report_texts.specs.OutputTexts.{program_refused};
+
+use annotated_asm::fault::AsmFault;
+use std::alloc::{AllocError, Global};
+use std::marker::Model;
+
+/// What a job writes, and the status that the program ends with.
+#[derive(Debug, Drop)]
+pub struct Report {
+    bytes: Vec<u8>,
+    status: u8,
+}
+
+impl Model for Report {
+    ghost use Rattle.report_texts.specs.OutputTexts.{Report as Said};
+
+    ghost Value = { Said };
+
+    ghost view = { λ r. record { bytes = r.bytes.items; status = r.status } };
+}
+
+impl Report {
+    /// These bytes with this status.
+    pub fn new(bytes: Vec<u8>, status: u8) -> Report
+        ensures { result ≡ record { bytes = bytes.items; status = status } }
+    {
+        Report { bytes, status }
+    }
+
+    /// The bytes.
+    pub fn bytes(&self) -> &[u8]
+        ensures { result.now ≡ self.now.bytes }
+    {
+        self.bytes.as_slice()
+    }
+
+    /// The status.
+    pub fn status(&self) -> u8
+        ensures { result ≡ self.now.status }
+    {
+        self.status
+    }
+}
+
+/// What every job writes of a text that is no program.
+pub fn refused_program(alloc: Global, fault: AsmFault) -> Result<Report, AllocError>
+    ensures { IfOk result (λ report. report ≡ program_refused fault) }
+{
+    let mut text = String::new(alloc);
+    writeln!(text, "program refused: {fault}")?;
+    Ok(Report::new(text.into_bytes(), 1))
+}

@@ -1,0 +1,37 @@
+//! The job `seq`.
+ghost use Rattle.std.specs.Prelude.{◌≡◌, IfOk};
+ghost use Rattle.report_texts.specs.SeqText.{run_report, seq_text};
+
+use crate::plain_text::{closing_status_of, write_closing, write_words};
+use crate::report::{Report, refused_program};
+use annotated_asm::assembler::assemble;
+use annotated_asm::fault::AsmFault;
+use jobs::ranges::Budget;
+use std::alloc::{AllocError, Global};
+use task_descriptor::program::Program;
+
+/// What `seq` writes of a program text.
+pub fn seq(alloc: Global, budget: Budget, text: &[u8]) -> Result<Report, AllocError>
+    ensures { IfOk result (λ report. report ≡ seq_text budget text.now) }
+{
+    match assemble(alloc, text) {
+        Ok(program) => run(alloc, budget, &program),
+        Err(AsmFault::OutOfMemory) => Err(AllocError),
+        Err(fault) => refused_program(alloc, fault),
+    }
+}
+
+// What `seq` writes of a program.
+fn run(alloc: Global, budget: Budget, program: &Program) -> Result<Report, AllocError>
+    ensures { IfOk result (λ report. report ≡ run_report budget program.now) }
+{
+    let mut machine = program.plain(alloc).map_err(|_| AllocError)?;
+    machine
+        .run(u64::from(budget.get()))
+        .map_err(|_| AllocError)?;
+    let mut text = String::new(alloc);
+    write_words(&mut text, machine.output())?;
+    let outcome = machine.outcome();
+    write_closing(&mut text, outcome, machine.count())?;
+    Ok(Report::new(text.into_bytes(), closing_status_of(outcome)))
+}

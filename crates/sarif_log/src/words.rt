@@ -1,0 +1,40 @@
+//! A text that a log quotes.
+
+use std::marker::Model;
+
+/// A text, which a contract sees as its bytes.
+#[derive(Debug, Drop)]
+pub struct Words {
+    text: String,
+}
+
+impl Model for Words {
+    ghost use Rattle.std.specs.Prelude.{ℕ, List};
+    ghost use Rattle.std.specs.Coded.{coded_ℕ, coded_list};
+    ghost use Rattle.std.specs.String.{string_bytes};
+
+    ghost Value = { List ℕ };
+
+    ghost coded = { coded_list coded_ℕ };
+
+    ghost view = { λ words. string_bytes words.text };
+}
+
+impl Words {
+    ghost use Rattle.std.specs.Prelude.{◌≡◌};
+    ghost use Rattle.std.specs.String.{string_bytes};
+
+    /// These words.
+    pub fn new(text: String) -> Words
+        ensures { result ≡ string_bytes text }
+    {
+        Words { text }
+    }
+
+    /// The text.
+    pub fn as_str(&self) -> &str
+        ensures { result.now ≡ self.now }
+    {
+        self.text.as_str()
+    }
+}

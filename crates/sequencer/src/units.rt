@@ -1,0 +1,29 @@
+//! The units of a machine, as they are read.
+
+use crate::machine::Machine;
+use unit_core::unit::Unit;
+
+impl<'a> Machine<'a> {
+    ghost use Rattle.std.specs.Prelude.{◌≡◌, ◌≤◌, length, slice_get};
+    ghost use Rattle.std.specs.Option.{option_copied, option_map};
+    ghost use Rattle.unit_core.specs.Units.{active_of};
+    ghost use Rattle.sequencer.specs.Seen.{state};
+
+    /// How many units are at work.
+    pub fn active(&self) -> u32
+        ensures active { result ≡ length (state self.now).queue }
+        ensures within { result ≤ 16 }
+    {
+        // The number of places tells its range.
+        let _ = self.processor.places();
+        self.processor.active()
+    }
+
+    /// The unit at a position from the head, 0 being the head: its task, where it stands, what arrived and
+    /// what it sent. `None` behind the tail.
+    pub fn unit(&self, position: u32) -> Option<&Unit>
+        ensures { option_map active_of (option_copied result) ≡ slice_get (state self.now).queue position }
+    {
+        self.processor.unit(position)
+    }
+}

@@ -1,0 +1,3 @@
+mod Parts
+mod Determined
+pub mod Growing

@@ -1,0 +1,4 @@
+pub mod Curve
+pub mod TableText
+pub mod Laws
+pub mod Examples

@@ -1,0 +1,82 @@
+//! What a run in steps came to.
+
+ghost use Rattle.std.specs.Prelude.{◌≡◌, ◌≤◌, IfOk};
+ghost use Rattle.sequencer.specs.Seen.{state, units_of};
+ghost use Rattle.synchronous_runner.specs.Steps.{beginning, after_steps, Takes};
+ghost use Rattle.speed_curve.specs.Curve.{IsRowOf};
+
+use machine_events::event::Standing;
+use mark_checker::accept::Accepted;
+use run_summary::tally::add_up;
+use std::alloc::{AllocError, Global};
+use synchronous_runner::predictor::Predictor;
+use synchronous_runner::report::{StepsFault, StepsReport};
+use synchronous_runner::runner::run_steps;
+use task_lives::laws::{histories_fit, lives_add_up};
+use task_lives::lives::lives_of_runs;
+
+/// What a run of a program in steps came to.
+#[derive(Clone, Copy, Debug, PartialEq, Eq)]
+pub struct Row {
+    /// How many units the machine has, 1 to 16.
+    pub units: u32,
+    /// How many steps the run took, at most 1,000,000.
+    pub steps: u32,
+    /// How many instructions the tasks executed that retired, at most 1,000,000.
+    pub retired: u32,
+    /// How many instructions the tasks executed that were squashed or dropped, at most 1,000,000. What the
+    /// tasks executed that are unfinished counts neither here nor in `retired`.
+    pub wasted: u32,
+    /// How the run stands after the last step; one that still goes on is out of budget.
+    pub standing: Standing,
+}
+
+/// Runs the accepted program in steps, as `run_steps` does, on a machine of so many units, 1 to 16, up to
+/// this many events, 1 to 1,000,000, and says what the run came to. The error says that memory was refused.
+/// (own choice)
+pub fn row_of(
+    alloc: Global,
+    accepted: &Accepted,
+    units: u32,
+    budget: u32,
+    predictor: Predictor,
+) -> Result<Row, AllocError>
+    requires units { (1 ≤ units) × (units ≤ 16) }
+    requires budget { (1 ≤ budget) × (budget ≤ 1000000) }
+    ensures { IfOk result (IsRowOf accepted.now.program budget predictor units) }
+{
+    let report = run(alloc, accepted, units, budget, predictor)?;
+    histories_fit();
+    lives_add_up();
+    let lives = lives_of_runs(alloc, report.machine.history(), units)?;
+    let tally = add_up(&lives);
+    Ok(Row {
+        units,
+        steps: report.steps,
+        retired: tally.useful,
+        wasted: tally.wasted,
+        standing: report.machine.outcome(),
+    })
+}
+
+/// Runs the accepted program in steps. The error says that memory was refused.
+fn run<'a>(
+    alloc: Global,
+    accepted: &'a Accepted,
+    units: u32,
+    budget: u32,
+    predictor: Predictor,
+) -> Result<StepsReport<'a>, AllocError>
+    requires units { (1 ≤ units) × (units ≤ 16) }
+    requires budget { (1 ≤ budget) × (budget ≤ 1000000) }
+    ensures over { IfOk result (λ report. (report.machine.accepted ≡ accepted.now) × (units_of report.machine ≡ units)) }
+    ensures steps { IfOk result (λ report. Takes accepted.now.program units budget (beginning accepted.now.program predictor) report.steps) }
+    ensures state { IfOk result (λ report. state report.machine ≡ (after_steps accepted.now.program units budget report.steps (beginning accepted.now.program predictor)).state) }
+    ensures events { IfOk result (λ report. report.machine.history ≡ (after_steps accepted.now.program units budget report.steps (beginning accepted.now.program predictor)).events) }
+{
+    match run_steps(alloc, accepted, units, budget, predictor) {
+        Ok(report) => Ok(report),
+        Err(StepsFault::OutOfMemory) => Err(AllocError),
+        Err(StepsFault::Units | StepsFault::Budget) => unreachable!(),
+    }
+}

@@ -1,0 +1,50 @@
+//! Events that are played and traced.
+
+use annotated_asm::assembler::assemble;
+use annotator::certify::certify;
+use event_trace::trace::trace;
+use machine_events::event::Event;
+use mark_checker::accept::Accepted;
+use mips_plain::number::Reg;
+use sequencer::machine::Machine;
+use std::alloc::Global;
+use std::process::Abort;
+
+pub(crate) fn register(rt: &impl Abort, number: u8) -> Reg {
+    Reg::new(number).expect(rt, "a register")
+}
+
+fn accepted(rt: &impl Abort, alloc: Global, program: &str) -> Accepted {
+    let program = assemble(alloc, program.as_bytes()).ok();
+    let program = program.expect(rt, "a program");
+    let cert = certify(alloc, &program).ok();
+    let cert = cert.expect(rt, "a certificate");
+    Accepted::new(program, cert).ok().expect(rt, "accepted")
+}
+
+/// Plays the events on a machine of so many units, and compares their trace.
+pub(crate) fn expect_trace(
+    rt: &impl Abort,
+    alloc: Global,
+    program: &str,
+    units: u32,
+    events: &[Event],
+    expected: &str,
+) {
+    let accepted = accepted(rt, alloc, program);
+    let machine = Machine::new(alloc, &accepted, units).ok();
+    let mut machine = machine.expect(rt, "a machine");
+    for event in events {
+        let _ = machine.apply(*event);
+    }
+    let text = trace(
+        alloc,
+        &accepted,
+        units,
+        program.as_bytes(),
+        events,
+        &machine,
+    );
+    let text = text.ok().expect(rt, "room for a trace");
+    assert_eq!(rt; text.as_str(), expected);
+}

@@ -1,0 +1,2 @@
+pub mod WarningText
+pub mod Examples

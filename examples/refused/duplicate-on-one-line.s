@@ -1,0 +1,2 @@
+.task A create=- targets=-
+A: End: A: halt !s

@@ -1,0 +1,4 @@
+.task A create=- targets=-
+.start A
+A: halt !s
+B: .start B

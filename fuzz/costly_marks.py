@@ -1,0 +1,211 @@
+#!/usr/bin/env python3
+"""Compares the warnings of `explain` with a model that walks paths, and follows the help of each.
+
+Takes random programs, changes marks that cost speed (a register more in a create mask, a forward bit left out,
+a release, code that no task reaches), and compares what `explain` prints of right marks with the model, byte
+for byte; of wrong marks it must print no warning. Then it follows each help that names a change of marks: that
+warning must be gone, and marks that were right must still be right. PROGRAM is the built `multiscalar`; with
+`--model` only the helps are followed, and no program is needed.
+"""
+import argparse
+import collections
+import random
+import re
+import sys
+import time
+
+import accepted as generator
+import explain
+from accepted import accepted
+from explain import MOST_SHOWN, Bench, excerpt, laid_out, lists, places, plant
+from model import Fault, assemble, certify, dests, inner, print_program, verdict
+
+R = random.Random()
+
+
+def released(op):
+    return set(op[1]) if op[0] == "release" else set()
+
+
+def walk(program, starts, goes_on=lambda i: True):
+    """The instructions that paths from the starts come to, going on only from where it is said."""
+    seen, ahead = set(), [i for i in starts if i < len(program.code)]
+    while ahead:
+        i = ahead.pop()
+        if i not in seen:
+            seen.add(i)
+            ahead += [j for j in inner(program, i) if j < len(program.code)] if goes_on(i) else []
+    return seen
+
+
+def sends(program, i, register):
+    op, forward, _ = program.code[i]
+    return register in released(op) or (forward and register in dests(op))
+
+
+def last_update(program, i, reached):
+    """Whether the instruction could have a forward bit, and has none; a task without targets is the last one."""
+    op, forward, _ = program.code[i]
+    if forward or not dests(op) or not any(i in seen and task[3] for task, seen in zip(program.tasks, reached)):
+        return False
+    behind = walk(program, inner(program, i))
+    if any(dests(op) & dests(program.code[j][0]) for j in behind):
+        return False
+    return all(dests(op) <= create for (_, _, create, _), seen in zip(program.tasks, reached) if i in seen)
+
+
+def warnings(program):
+    """The marks that cost speed: (kind, task or index, register), in the order in which they are told."""
+    entries = [entry for _, entry, _, _ in program.tasks]
+    reached = [walk(program, [entry]) for entry in entries]
+    unsent = {r: walk(program, entries, lambda i: not sends(program, i, r)) for r in range(34)}
+    anywhere = set().union(*reached)
+    found = []
+    for t, (_, _, create, targets) in enumerate(program.tasks):
+        made = {r for i in reached[t] for r in dests(program.code[i][0]) | released(program.code[i][0])}
+        found += [("never", t, r) for r in sorted(create - made) if targets]
+    for i, (op, _, _) in enumerate(program.code):
+        if last_update(program, i, reached):
+            found.append(("last", i, None))
+        found += [("sent", i, r) for r in sorted(released(op)) if i in anywhere and i not in unsent[r]]
+    found += [("unreached", i, None) for i in range(len(program.code))
+              if i not in anywhere and (i == 0 or i - 1 in anywhere)]
+    return found
+
+
+def sentence(program, warning):
+    """What is said, and what to do."""
+    kind, number, register = warning
+    name = program.tasks[number][0] if kind == "never" else None
+    return {
+        "never": (f"no instruction of task {name} writes or releases ${register}, which its create mask has",
+                  f"remove ${register} from the create mask of task {name}"),
+        "last": ("this is a last update without !f: later tasks wait for what it writes",
+                 "add !f here"),
+        "sent": (f"${register} was sent before on each path to this release",
+                 f"remove ${register} from this release; if it names no other register, write nop in its place"),
+        "unreached": ("no task reaches the code from here on",
+                      "remove it up to the next instruction that a task reaches, or let a task go on to it"),
+    }[kind]
+
+
+def meant(text, warning):
+    """The line, the column and the width of what a warning is about."""
+    kind, number, _ = warning
+    tasks, code = places(text)
+    return (tasks[number][0], *lists(text)[number][0]) if kind == "never" else code[number]
+
+
+def told(program, text, name):
+    """All that is said of the marks that cost speed."""
+    found, lines = warnings(program), []
+    for warning in found[:MOST_SHOWN]:
+        line, column, width = meant(text, warning)
+        said, todo = sentence(program, warning)
+        at = f"{name}:{line}:{column}: "
+        lines += [f"{at}warning: {said}", *excerpt(text, line, column, width), f"{at}help: {todo}"]
+    more = len(found) - MOST_SHOWN
+    if more > 0:
+        lines.append(f"{name}: note: {more} more warning{'s' if more > 1 else ''}")
+    return "".join(line + "\n" for line in lines)
+
+
+def numbers(listed):
+    """The registers that a list names, by number."""
+    return [int({"$hi": "32", "$lo": "33"}.get(r, r[1:])) for r in re.findall(r"\$\w+", listed)]
+
+
+def without(listed, register):
+    return ",".join(f"${n}" for n in numbers(listed) if n != register)
+
+
+def followed(text, warning):
+    """The text with what the help of a warning says; None where it speaks of code."""
+    kind, number, register = warning
+    tasks, code = places(text)
+    lines = text.split("\n")
+    at = (tasks if kind == "never" else code)[number][0] - 1
+    if kind == "never":
+        lines[at] = re.sub(r"create=([$\w,]+)", lambda m: "create=" + (without(m.group(1), register) or "-"), lines[at])
+    elif kind == "last":
+        lines[at] = re.sub(r"(\s*#.*)?$", lambda m: " !f" + (m.group(1) or ""), lines[at], count=1)
+    elif kind == "sent":
+        kept = lambda m: "release " + without(m.group(1), register) if without(m.group(1), register) else "nop"
+        lines[at] = re.sub(r"release\s+(\$\w+(?:\s*,\s*\$\w+)*)", kept, lines[at], count=1)
+    else:
+        return None
+    return "\n".join(lines)
+
+
+def loosened(text):
+    """The text with marks that may cost speed."""
+    for _ in range(R.choice([1, 2, 3])):
+        lines = text.split("\n")
+        k, kind = R.randrange(len(lines)), R.randrange(4)
+        if kind == 0:
+            more = f"${R.choice([8, 9, 10, 11, 12, 31, 33])}"
+            lines[k] = lines[k].replace("create=-", f"create={more}").replace("create=$", f"create={more},$")
+        elif kind == 1:
+            lines[k] = lines[k].replace(" !f", "")
+        elif kind == 2 and not lines[k].startswith("."):
+            chosen = ",".join(f"${r}" for r in R.sample([8, 9, 10, 11, 12, 31], R.choice([1, 1, 2])))
+            lines.insert(k, "release " + chosen)
+        elif kind == 3:
+            lines[-1:-1] = ["nop", "halt"]
+        text = "\n".join(lines)
+    return text
+
+
+def wrong(bench, text, counts):
+    """What is wrong with what is said of a text; None where nothing is."""
+    try:
+        program = assemble(text.encode("latin-1"))
+    except Fault:
+        return None
+    counts["programs"] += 1
+    was_right = not verdict(program, certify(program))
+    if bench:
+        said, status, complaint = bench.explain(text)
+        wanted = told(program, text, "p.s")
+        if was_right and (said, status, complaint) != (wanted, 0, ""):
+            return "other warnings:\n" + wanted
+        if was_right and bench.explain(text, "--no-warnings") != ("", 0, ""):
+            return "something is said without warnings"
+        if not was_right and bench.explain(text, "--no-warnings") != (said, status, complaint):
+            return "a warning of wrong marks"
+        counts["right" if was_right else "wrong"] += 1
+    for warning in warnings(program):
+        counts[warning[0]] += 1
+        after = followed(text, warning)
+        if after is None:
+            continue
+        new = assemble(after.encode("latin-1"))
+        if warning in warnings(new):
+            return f"{warning} is there after its help"
+        if was_right and verdict(new, certify(new)):
+            return f"wrong marks after the help of {warning}"
+    return None
+
+
+def main():
+    options = argparse.ArgumentParser(description=__doc__, formatter_class=argparse.RawDescriptionHelpFormatter)
+    options.add_argument("program", metavar="PROGRAM", nargs="?")
+    options.add_argument("--model", action="store_true")
+    options.add_argument("--seconds", type=float, default=60)
+    options.add_argument("--seed", type=int, default=int(time.time()))
+    given = options.parse_args()
+    for chooser in (R, generator.R, explain.R):
+        chooser.seed(given.seed)
+    bench, counts, end = None if given.model else Bench(given.program), collections.Counter(), time.time() + given.seconds
+    while time.time() < end:
+        text = print_program(accepted()[0])
+        text = laid_out(loosened(plant(text) if R.random() < .3 else text))
+        what = wrong(bench, text, counts)
+        if what:
+            print(f"seed {given.seed}: {what}\n{text}")
+            sys.exit(1)
+    print(", ".join(f"{n} {what}" for what, n in counts.items()), f"seed {given.seed}")
+
+
+if __name__ == "__main__":
+    main()
