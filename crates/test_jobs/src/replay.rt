@@ -238,15 +238,16 @@ fn judges_before_the_script(rt: HostRuntime) {
 // Each event with what it changed; the jump leads to line 5, which A does not list.
 #[test]
 fn traces_a_script(rt: HostRuntime) {
+    let script = events_of(&rt, rt.alloc(), JUMP_UNLISTED);
     let row = Row {
         words: "replay --units 1 --emit trace a.s a.cert a.events",
         program: UNLISTED_JUMP,
         certificate: UNLISTED_JUMP_CERTIFICATE,
-        script: JUMP_UNLISTED,
+        script: script.as_str(),
         expected: TRACE,
         status: 1,
     };
-    replays(&rt, rt.alloc(), &row);
+    row.runs(&rt, rt.alloc());
 }
 
 const TRACE: &str = "1 assign A: ok
