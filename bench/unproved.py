@@ -2,7 +2,7 @@
 """Times the proved program beside plain Rust programs without proofs. Needs
 python3, rt and rustc.
 
-    unproved.py [--rounds N] [--builds N] [--only WORD]
+    unproved.py [--program PATH] [--rounds N] [--builds N] [--only WORD]
 
 The programs of unproved/ do the same work with the same structures: the plain
 machine on the kernels, events on a machine with 1, 4 and 16 units, reading and
@@ -16,6 +16,7 @@ How a compiler lays out a loop moves its time by a third, so the programs of
 unproved/ are built several times, with the functions at other alignments: the
 median of the builds counts. Both machines of events write how many they applied;
 where these differ, the script ends.
+--program PATH times a multiscalar that is built already; events build a program of their own.
 emulators.py runs the same kernels in SPIM and QEMU.
 """
 import argparse
@@ -159,15 +160,20 @@ def main():
     options.add_argument("--rounds", type=int, default=12)
     options.add_argument("--builds", type=int, default=3)
     options.add_argument("--only", default="", help="certificate, events, kernels or print")
+    options.add_argument("--program", help="the program to time, built already")
     given = options.parse_args()
     rounds, builds = given.rounds, given.builds
+
+    def proved():
+        return given.program or bench.built()
+
     with tempfile.TemporaryDirectory(prefix="multiscalar-bench-") as folder:
         if given.only in "kernels":
-            kernels(rounds, builds, bench.built(), folder)
+            kernels(rounds, builds, proved(), folder)
         if given.only in "print":
-            printing(rounds, builds, bench.built(), folder)
+            printing(rounds, builds, proved(), folder)
         if given.only in "certificate":
-            certificate(rounds, builds, bench.built(), folder)
+            certificate(rounds, builds, proved(), folder)
         if given.only in "events":
             events(rounds, builds, machine.built(pathlib.Path(folder)), folder)
 

@@ -31,18 +31,22 @@ STATUS = {"halted": 0, "trapped": 1, "unlisted": 1, "out of budget": 3}
 class Steps:
     """A run in steps: in each step every unit does at most one event, the unit farthest from the head first."""
 
-    def __init__(self, program, units, budget, predict):
+    def __init__(self, program, units, budget, predict, most=None):
+        """With `most`, the run is given up after so many events, and is then not over."""
         self.machine = model.Machine(program, units)
         self.lives = model.Lives(self.machine)
-        self.budget, self.predict, self.asked, self.steps = budget, predict, 0, 0
+        self.budget, self.predict, self.asked, self.steps, self.most = budget, predict, 0, 0, most
         while self.goes_on():
             for position in reversed(range(units)):
                 if self.goes_on():
                     self.turn(position)
             self.steps += 1
 
+    def over(self):
+        return self.machine.outcome != "running" or self.machine.length >= self.budget
+
     def goes_on(self):
-        return self.machine.outcome == "running" and self.machine.length < self.budget
+        return not self.over() and (self.most is None or self.machine.length < self.most)
 
     def turn(self, position):
         active = len(self.machine.queue)

@@ -45,8 +45,11 @@ def large(folder):
     for units in ("1", "4", "16"):
         yield ["run", *of("steady.s", "steady.cert2"), "--units", units, "--budget", "20000"]
     yield ["run", *of("long300000.s", "long.cert2"), "--units", "1"]
-    for emit in ("script", "svg"):
+    for emit in ("script", "svg", "trace"):
         yield ["run", *of("steady.s", "steady.cert2"), "--schedule", "steps", "--budget", "300000", "--emit", emit]
+    yield ["curve", *of("steady.s", "steady.cert2"), "--budget", "50000"]
+    yield ["annotate", *of("maximal.s"), "--emit", "marks"]
+    yield ["explain", *of("late_fault.s"), "--format", "sarif"]
     yield ["replay", *of("steady.s", "steady.cert2", "steady4.events"), "--emit", "svg"]
     yield ["explain", *of("maximal.s", "maximal.cert2")]
     yield ["check", "--least", *of("maximal.s")]
@@ -68,6 +71,8 @@ def in_a_call(row, bench, draw, end):
     every = list(cases(bench))
     while time.monotonic() < end:
         case, kind, number = draw.choice(every), draw.choice((GROW, GROW, GROW, OPEN, READ, WRITE)), draw.choice(ENDING)
+        if kind == WRITE and not case.right.out:
+            continue  # right marks that cost nothing are explained without a write
         # memory as often as it is asked for; files as often as there are; some reads and writes of ten bytes
         most = {GROW: case.right.counts[GROW], OPEN: len(case.files), READ: 5, WRITE: max(1, len(case.right.out) // 10)}[kind]
         call = draw.randint(1, most)

@@ -222,7 +222,7 @@ REFUSAL = re.compile(r"(.*):(\d+):(\d+): error: [^\n]+ \[([^\n\]]+)\]\n((?: *\d+
 
 def shown_so(text, line, column, rows):
     """Whether the rows show the line with a caret below the column, and tildes below what stands behind it."""
-    text = "".join(c if ord(c) < 128 else "?" for c in text).replace("\r\n", "\n").removesuffix("\r")
+    text = "".join(c if ord(c) < 128 else "?" for c in text)
     front = "\n".join(excerpt(text, line, column, 1))
     return rows.startswith(front) and re.fullmatch(r"~*\n" if front else "", rows[len(front):]) is not None
 
@@ -230,7 +230,7 @@ def shown_so(text, line, column, rows):
 def added(head, starts):
     """How many bytes a line with this directive adds."""
     numbers = [t for _, t in starts[1:] if t != ","]
-    return int(numbers[0], 0) if head == ".space" else len(numbers) * {".word": 4, ".byte": 1}.get(head, 0)
+    return int(numbers[0], 16 if "x" in numbers[0] else 10) if head == ".space" else len(numbers) * {".word": 4, ".byte": 1}.get(head, 0)
 
 
 def places_of_whole(text):

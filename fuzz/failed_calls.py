@@ -101,6 +101,9 @@ def unnamed(words, out):
     """What was written, without the names of the files that `explain` puts before a diagnostic and into those of a certificate."""
     if words[0] != "explain":
         return out
+    if "sarif" in words:
+        out = re.sub(rb'"uri":"[^"]*"', b'"uri":"FILE"', out)
+        out = re.sub(rb'(\\n|"text":")\S+?:(?=\d+:| )', rb"\1FILE:", out)
     out = re.sub(rb"(?m)^\S+?:(?=\d+:| )", b"FILE:", out)
     return re.sub(rb"--emit keep \S+ > \S+|a certificate of \S+ as it stands", b"FILE", out)
 
@@ -110,18 +113,24 @@ SOME = ("count", "diamond", "five-findings")
 
 
 def ways_of(folder, program, certificate):
-    """Runs in steps, pictures, tables, the least certificate, and certificates that are explained."""
+    """Runs in steps, pictures, tables, traces, the least certificate, marks in the text, logs, and certificates that are explained."""
     yield ["explain", program, certificate]
+    yield ["explain", "--no-warnings", program]
+    yield ["explain", "--format", "sarif", program, certificate]
+    yield ["annotate", "--emit", "marks", program]
+    yield ["curve", "--units", "3", program, certificate]
+    yield ["curve", "--units", "2", "--least", program]
     yield ["explain", program, str(TOP / "examples" / "pair" / "certificate.cert2")]
     yield ["explain", program, str(TOP / "examples" / "README.md")]
     yield ["check", "--least", program]
     yield ["run", "--least", program]
     yield ["run", "--units", "1", "--emit", "svg", program, certificate]
-    for emit in ("report", "script", "summary", "svg"):
+    yield ["run", "--units", "1", "--emit", "trace", program, certificate]
+    for emit in ("report", "script", "summary", "svg", "trace"):
         yield ["run", "--schedule", "steps", "--emit", emit, program, certificate]
     yield ["run", "--schedule", "steps", "--least", "--units", "16", "--predict", "1,0", "--emit", "summary", program]
     for script in sorted(folder.glob("s*.events")):
-        yield from (["replay", "--emit", emit, program, certificate, str(script)] for emit in ("summary", "svg"))
+        yield from (["replay", "--emit", emit, program, certificate, str(script)] for emit in ("summary", "svg", "trace"))
         yield ["replay", "--least", program, str(script)]
 
 

@@ -1,11 +1,12 @@
 """Compares the built program with the model over random inputs.
 fuzz.py PROGRAM [--seed N] [--seconds S] [--subs a,b] [--corners] [--large] [--out FILE]"""
 import argparse, collections, os, subprocess, sys, tempfile, time
+import curve, marks
 from accepted import *
 from corners import corners, large
 A = argparse.ArgumentParser()
 A.add_argument('program'); A.add_argument('--seed', type=int, default=int(time.time())); A.add_argument('--seconds', type=float, default=120)
-A.add_argument('--subs', default='seq,print,check,annotate,replay,run'); A.add_argument('--corners', action='store_true'); A.add_argument('--large', action='store_true')
+A.add_argument('--subs', default='seq,print,check,annotate,replay,run,curve'); A.add_argument('--corners', action='store_true'); A.add_argument('--large', action='store_true')
 A.add_argument('--out', default='findings.txt'); A.add_argument('--max', type=int, default=8)
 O = A.parse_args()
 PROG = os.path.abspath(O.program)
@@ -20,9 +21,18 @@ def run(words, files, timeout=120):
     r = subprocess.run([PROG, words[0], *paths, *words[1:]], capture_output=True, timeout=timeout)
     return r.stdout.decode('latin-1'), r.returncode, r.stderr.decode('latin-1')
 def known(sub): return subprocess.run([PROG, sub, '--help'], capture_output=True).returncode == 0
+# A program whose help says so writes a trace as lines of JSON, too.
+TRACES = ['trace'] + ['json'] * ('json' in subprocess.run([PROG, 'replay', '--help'], capture_output=True, text=True).stdout)
 SUBS = [s for s in O.subs.split(',') if known(s)]
 print('subcommands', SUBS, flush=True)
-def model(words, files):
+def marked(text):
+    try: return marks.marked(text.decode('latin-1')), 0
+    except Fault as fault: return fault.text(), 1
+def curve_text(text, cert, units, budget, predict):
+    p, said = accepted_program(text, cert)
+    return (said, 1) if said else curve.table(curve.rows_of(p, units, budget, predict))
+def model(words, files, got):
+    """what is written, and the status; of a trace of threads, what its own events write, with the status if that fits"""
     f = [lat(x) for x in files]
     w, least = words[0], '--least' in words
     given = [x for x in words if x != '--least']
@@ -31,16 +41,21 @@ def model(words, files):
     if w == 'seq': return seq_text(f[0], int(opt.get('--budget', 1000000)))
     if w == 'print': return print_text(f[0])
     if w == 'check': return check_text(*f)
+    if w == 'annotate' and opt.get('--emit') == 'marks': return marked(f[0])
+    if w == 'curve': return curve_text(f[0], f[1], int(opt['--units']), int(opt['--budget']), opt['--predict'])
     if w == 'annotate': return annotate_text(f[0], opt.get('--emit', 'text'))
     if w == 'replay': return replay_text(*f, int(opt.get('--units', 4)), opt.get('--emit', 'answers'))
     if w == 'run' and opt.get('--schedule') == 'steps':
         return steps_text(f[0], f[1], int(opt['--units']), int(opt['--budget']), opt['--predict'], opt['--emit'])
+    if w == 'run' and opt.get('--emit') in TRACES:
+        said, statuses = traced_run(f[0], f[1], int(opt['--units']), got[0])
+        return said, got[1] if got[1] in statuses else max(statuses, default=-1)
     if w == 'run': return run_text(f[0], f[1])
 found = collections.Counter(); nfound = 0
 def differs(words, files):
-    want = model(words, files)
     try: got = run(words, files)
-    except subprocess.TimeoutExpired: return want, ('TIMEOUT', -1, '')
+    except subprocess.TimeoutExpired: return ('an end', 0), ('TIMEOUT', -1, '')
+    want = model(words, files, got)
     if (got[0], got[1]) != want or got[2]: return want, got
     return None
 def shrink(words, files):
@@ -86,6 +101,7 @@ text_sub = [s for s in ('seq', 'print', 'annotate') if s in SUBS]
 if O.corners:
     for t in corners():
         for s in text_sub: case([s] + (['--budget', '200'] if s == 'seq' else []), [t], 'corner')
+        if 'annotate' in SUBS: case(['annotate', '--emit', 'marks'], [t], 'corner')
 if O.large:
     for n, t in large():
         for s in text_sub[:2]: case([s] + (['--budget', '200'] if s == 'seq' else []), [t], n)
@@ -112,9 +128,9 @@ def one():
     if s in ('seq', 'print', 'annotate') and (s != 'annotate' or R.random() < .5):
         t = program()
         if s == 'seq': return case(['seq', '--budget', str(R.choice([1, 2, 5, 17, 100, 400]))], [t])
-        return case([s] + (['--emit', R.choice(['text', 'cert', 'keep'])] if s == 'annotate' else []), [t])
+        return case([s] + (['--emit', R.choice(['text', 'cert', 'keep', 'marks'])] if s == 'annotate' else []), [t])
     p, lists = accepted(); t = print_program(p)
-    if s == 'annotate': return case(['annotate', '--emit', R.choice(['text', 'cert', 'keep'])], [t])
+    if s == 'annotate': return case(['annotate', '--emit', R.choice(['text', 'cert', 'keep', 'marks'])], [t])
     if R.random() < (.75 if s == 'check' else .1):
         y = R.random()
         if y < .5:
@@ -132,9 +148,12 @@ def one():
     c = cert_text(lists, p, sp)
     if R.random() < (.3 if s == 'check' else .05): c = mutate_cert(c)
     if s == 'check': return certified(['check', '--workers', str(R.choice([1, 1, 2, 3, 16]))], t, c)
+    predict = ['--predict', R.choice(['first', 'last', '1,0', '3,1,2,0,15'])]
+    if s == 'curve': return certified(['curve', '--units', str(R.choice([1, 2, 3, 5, 16])), '--budget', str(R.choice([1, 7, 60, 400, 1000])), *predict], t, c)
+    machine = ['--units', str(R.choice([1, 2, 3, 4, 16])), '--budget', str(R.choice([1, 7, 60, 400, 3000])), *predict]
     if s == 'run' and R.random() < .6:
-        return certified(['run', '--schedule', 'steps', '--units', str(R.choice([1, 2, 3, 4, 16])), '--budget', str(R.choice([1, 7, 60, 400, 3000])),
-                          '--predict', R.choice(['first', 'last', '1,0', '3,1,2,0,15']), '--emit', R.choice(['report', 'script', 'summary'])], t, c)
+        return certified(['run', '--schedule', 'steps', *machine, '--emit', R.choice(['report', 'script', 'summary', *TRACES])], t, c)
+    if s == 'run' and R.random() < .4: return certified(['run', *machine, '--workers', str(R.choice([1, 2, 16])), '--emit', R.choice(TRACES)], t, c)
     if s == 'run':
         try: q = assemble(lat(t)); cert_parse(lat(c), q)
         except (Fault, CertFault): return
@@ -145,6 +164,6 @@ def one():
     ev = '\n'.join(events_for(Machine(p, u), R.choice([5, 30, 100, 300]))) + R.choice(['', '\n'])
     if R.random() < .1:
         k = R.randrange(len(ev) + 1); ev = ev[:k] + R.choice(['\n', ' ', 'x', '0', '-', '\r', '$', '34']) + ev[k + R.choice([0, 1]):]
-    return certified(['replay', '--units', str(u)] + R.choice([[], [], ['--emit', 'summary'], ['--emit', 'trace']]), t, c, ev)
+    return certified(['replay', '--units', str(u)] + R.choice([[], [], ['--emit', 'summary'], ['--emit', R.choice(TRACES)]]), t, c, ev)
 while time.time() < end and SUBS: one()
 finish()

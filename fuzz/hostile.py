@@ -30,24 +30,43 @@ import traceback
 HERE = pathlib.Path(__file__).resolve().parent
 sys.path.insert(0, str(HERE / "entry"))
 import costly_marks
+import curve
 import explain
+import marks
 import picture
+import sarif
 import seeds
 from model import (CertFault, Fault, ScriptFault, Steps, accepted_program, allowed_script, annotate_text, assemble, certify, check_text,
-                   least_cert, print_text, replay_text, run_text, seq_text, verdict)
+                   least_cert, print_text, replay_text, run_text, seq_text, traced_run, verdict)
 
 UNITS, BUDGETS = (1, 2, 3, 4, 16), (1, 7, 60, 400, 3000)
 EMITS, PREDICTS = ("text", "cert", "keep"), ("first", "last", "1,0", "3,1,2,0,15")
 RUN_EMITS = ("report", "script", "summary", "svg")
-# The least and the greatest number of files; `--least` stands in the place of one of `check`, `run` and `replay`.
-FILES = {"seq": (1, 1), "print": (1, 1), "annotate": (1, 1), "explain": (1, 2), "check": (1, 2), "run": (1, 2), "replay": (2, 3)}
+# The least and the greatest number of files; `--least` stands in the place of one of `check`, `run`, `replay` and `curve`.
+FILES = {"seq": (1, 1), "print": (1, 1), "annotate": (1, 1), "explain": (1, 2), "check": (1, 2), "run": (1, 2), "replay": (2, 3), "curve": (1, 2)}
 NUMBERS = {"budget": 1000000, "units": 16, "workers": 16}
-OPTIONS = {"seq": ("budget",), "print": (), "annotate": ("emit",), "explain": (), "check": ("least", "workers"), "replay": ("least", "units", "emit"),
-           "run": ("least", "schedule", "units", "workers", "budget", "predict", "emit")}
-CHOICES = {"annotate": EMITS, "replay": ("answers", "summary", "svg"), "run": RUN_EMITS}
+# Options that have no value.
+FLAGS = ("least", "no-warnings")
+OPTIONS = {"seq": ("budget",), "print": (), "annotate": ("emit",), "explain": ("no-warnings", "format"), "check": ("least", "workers"),
+           "replay": ("least", "units", "emit"), "run": ("least", "schedule", "units", "workers", "budget", "predict", "emit"),
+           "curve": ("least", "units", "budget", "predict")}
+CHOICES = {"annotate": (*EMITS, "marks"), "replay": ("answers", "summary", "svg", "trace"), "run": (*RUN_EMITS, "trace")}
+# Of a program whose help names them, these are tried, too.
+NEWER = {"run": ("json",), "replay": ("json",), "curve": ("table", "svg")}
 VERSION = "multiscalar 0.1.0\n"
+# The first byte of a case picks one of so many jobs, but for its highest bit.
+JOBS = 24
 # The model goes no further than so many events, and says nothing of longer runs but how they may end.
 MODEL_EVENTS = 6000
+
+
+def learn(program):
+    """Adds the values of --emit that the help of the program names."""
+    for name, values in NEWER.items():
+        told = subprocess.run([program, name, "--help"], capture_output=True, text=True).stdout
+        if re.search(rf"--emit <.*?\b{values[-1]}\b", told, re.S) and values[-1] not in CHOICES.get(name, ()):
+            CHOICES[name] = (*CHOICES.get(name, ()), *values)
+            OPTIONS[name] = tuple({*OPTIONS[name], "emit"})
 
 
 def parts_of(case):
@@ -67,7 +86,7 @@ def jobs_of(case):
     """The words of each call that a case stands for, and its three texts."""
     if len(case) < 2:
         return [], []
-    job, options = case[0] % 16, case[1]
+    job, options = case[0] % 128 % JOBS, case[1]
     first, *others = parts_of(case[2:])
     if job == 6:
         words = first[:4095].split(b"\0")[0]
@@ -84,6 +103,8 @@ def calls_of(job, options):
     if job == 14:
         steps = ["run", "--schedule", "steps", "--least", *units, "--budget", "600", "--predict", PREDICTS[options // 5 % 4]]
         return [["explain", "p"], ["check", "--least", "p"], *([*steps, "--emit", emit, "p"] for emit in RUN_EMITS)]
+    if job > 15:
+        return newer_calls(job, options, units, budget, guess)
     least = [["check", "--least", "--workers", str(options % 16 + 1), "p"], [*run, "--least", "p"], ["replay", "--least", *units, "p", "s"]]
     return [{0: ["seq", *budget, "p"], 1: ["print", "p"], 2: ["annotate", "--emit", EMITS[options % 3], "p"],
              3: ["check", "--workers", str(options % 16 + 1), "p", "c"], 4: ["replay", *units, "p", "c", "s"],
@@ -91,6 +112,23 @@ def calls_of(job, options):
              8: ["explain", "p", "c"], 9: [*steps, "--emit", RUN_EMITS[options // 25 % 4], "p", "c"],
              10: ["replay", *units, "--emit", "svg" if options & 16 else "summary", "p", "c", "s"],
              11: [*run, "--emit", "svg" if options & 16 else "summary", "p", "c"], 12: least[options // 16 % 3], 13: ["explain", "p"]}[job]]
+
+
+def newer_calls(job, options, units, budget, guess):
+    """The calls of the jobs from 16 on: `curve`, the log of `explain`, marks in the text, and traces."""
+    json = ["json"] if options & 32 and "json" in CHOICES["run"] else []
+    emit = ["--emit", *(json or ["trace"])]
+    traced = ["run", *units, *budget, *guess, *emit]
+    by_steps = ["run", "--schedule", "steps", "--least", *units, "--budget", "600", "--predict", PREDICTS[options // 5 % 4]]
+    drawn = ["--emit", "svg"] if options & 64 and "svg" in CHOICES.get("curve", ()) else []
+    return {16: [["curve", *units, *budget, *guess, *drawn, *(["--least", "p"] if options & 128 else ["p", "c"])]],
+            17: [["explain", "--format", "sarif", *(["p", "c"] if options & 16 else ["p"])]],
+            18: [["annotate", "--emit", "marks", "p"]],
+            19: [[*traced, *(["--schedule", "steps"] if options & 16 else ["--workers", "1"]), "p", "c"]],
+            20: [["replay", *units, *emit, "p", "c", "s"]],
+            21: [[*by_steps, *emit, "p"], ["curve", "--least", *by_steps[4:], "p"]],
+            22: [["explain", *words, *(["p", "c"] if options & 16 else ["p"])] for words in ([], ["--no-warnings"])],
+            23: [["replay", *units, "--emit", "trace", "p", "c", "s"], ["replay", *units, "p", "c", "s"]]}[job]
 
 
 def asked(words):
@@ -120,9 +158,9 @@ def asked(words):
             key, has, value = word[2:].partition("=")
             if key == "help":
                 return None if has else "help"
-            if key not in OPTIONS[name] or key in options or key == "least" and has:
+            if key not in OPTIONS[name] or key in options or key in FLAGS and has:
                 return None
-            if not has and key != "least":
+            if not has and key not in FLAGS:
                 if at == len(rest) or rest[at].startswith("-") and rest[at] != "-":
                     return None
                 value, at = rest[at], at + 1
@@ -152,7 +190,9 @@ def is_value(name, key, value):
         return value in CHOICES[name]
     if key == "schedule":
         return value in ("threads", "steps")
-    return key == "least" or value in ("first", "last") or bool(re.fullmatch(r"[0-9]{1,2}(,[0-9]{1,2}){0,63}", value)) and all(int(it) <= 15 for it in value.split(","))
+    if key == "format":
+        return value in ("text", "sarif")
+    return key in FLAGS or value in ("first", "last") or bool(re.fullmatch(r"[0-9]{1,2}(,[0-9]{1,2}){0,63}", value)) and all(int(it) <= 15 for it in value.split(","))
 
 
 def wanted(words, texts):
@@ -177,17 +217,94 @@ def wanted(words, texts):
     if name == "print":
         return print_text(given[0])
     if name == "annotate":
-        return annotate_text(given[0], options.get("emit", "text"))
+        return wanted_marks(given[0]) if options.get("emit") == "marks" else annotate_text(given[0], options.get("emit", "text"))
     if name == "check":
         return check_text(*given)
     if name == "explain":
-        return wanted_explanation(files, given)
+        return wanted_log(files, given) if options.get("format") == "sarif" else wanted_explanation(files, given, "no-warnings" in options)
+    if name == "curve":
+        return wanted_curve(options, given)
     if name == "replay":
         return wanted_replay(options, given)
     return wanted_run(options, given)
 
 
-def wanted_explanation(files, given):
+def wanted_marks(text):
+    """The text with the marks that the model proposes."""
+    try:
+        marked = marks.marked(text.decode("latin-1"))
+    except Fault as fault:
+        return fault.text(), 1
+    return (marked, 0) if len(marked) <= marks.LONGEST else ("marks refused: 1 TooLong\n", 1)
+
+
+def wanted_curve(options, given):
+    """The table of the steps that curve.py makes, unless one of its runs is too long for the model."""
+    program, said = accepted_program(*given)
+    if not program:
+        return said, 1
+    budget, predict = int(options.get("budget", 1000000)), options.get("predict", "first")
+    rows = []
+    for units in range(1, int(options.get("units", 16)) + 1):
+        rows.append(curve.Steps(program, units, budget, predict, MODEL_EVENTS))
+        if not rows[-1].over():
+            return lambda out, status: status in (0, 1, 3) and out.startswith((curve.HEADING, "<svg "))
+    rows = [row.row() for row in rows]
+    text, status = curve.table(rows)
+    return (picture_of(rows), status) if options.get("emit") == "svg" else (text, status)
+
+
+def picture_of(rows):
+    """The picture of the rows of `curve`."""
+    import curve_picture
+
+    return curve_picture.picture([(units, *row) for units, row in enumerate(rows, 1)])
+
+
+def wanted_log(files, given):
+    """A log whose results, laid out as the text form, are what `explain` says, with the rule and the place of each."""
+    name, text = files[0], given[0].decode("latin-1")
+    try:
+        program, fault = assemble(given[0]), None
+    except Fault as first:
+        program, fault = None, first
+
+    def fits(out, status):
+        try:
+            results = sarif.read_log(out.encode("latin-1"))
+            return is_refusal(results, fault, text, name, status) if fault else are_findings(results, program, text, files, given, status)
+        except (ValueError, KeyError, TypeError):
+            return False
+
+    return fits
+
+
+def is_refusal(results, fault, text, name, status):
+    """Whether the results are one, which tells the refusal of a text at its line."""
+    number, word = fault.text().split()[2:4]
+    (uri, line, *columns), told = sarif.place_of(results[0]["locations"][0]), results[0]["message"]["text"]
+    rule = f"refused-{number}-{word}"
+    return (status, len(results), results[0]["ruleId"], uri, line, columns) == (1, 1, rule, name, fault.line or None, [None, None]) and explain.refused_so(fault, text, name, told)
+
+
+def are_findings(results, program, text, files, given, status):
+    """Whether the results are the findings of a program, and behind them what is wrong with its certificate."""
+    wrong = explain.remark(program, files[0], files[1], given[1]) if len(files) > 1 else ""
+    if wrong:
+        *results, last = results
+        kind = re.match(r"[^\n]*\[(\d+) (\w+)", wrong)
+        rule = f"certificate-{kind[1]}-{kind[2]}" if kind else "certificate-unfit"
+        line = re.match(rf"{re.escape(files[1])}:(\d+): ", wrong)
+        place = (files[1], int(line[1]) if line else None, None, None)
+        if (last["ruleId"], last["message"]["text"], sarif.place_of(last["locations"][0])) != (rule, wrong, place):
+            return False
+    findings = verdict(program, certify(program))
+    said = "".join(line + "\n" for result in results for line in sarif.laid_out(result, text))
+    rules = [f"rule{rule}" for _, _, rule, _ in findings[:sarif.MOST_SHOWN]] + ["more"] * (len(findings) > sarif.MOST_SHOWN)
+    return status == bool(findings or wrong) and [it["ruleId"] for it in results] == rules and not explain.differs(program, text, files[0], said)
+
+
+def wanted_explanation(files, given, no_warnings=False):
     """The model's findings or its warnings, told as explain.py and costly_marks.py have them, and what is said of a certificate; of a refused text its faults."""
     name, text = files[0], given[0].decode("latin-1")
     try:
@@ -199,12 +316,12 @@ def wanted_explanation(files, given):
     remark = explain.remark(program, name, files[1], given[1]) if len(files) > 1 else ""
 
     def fits(out, status):
-        marks = out.removesuffix(remark)
+        said = out.removesuffix(remark)
         if status != (1 if findings or remark else 0) or not out.endswith(remark):
             return False
         if not findings:
-            return marks == costly_marks.told(program, text, name)
-        return not explain.differs(program, text, name, marks)
+            return said == ("" if no_warnings else costly_marks.told(program, text, name))
+        return not explain.differs(program, text, name, said)
 
     return fits
 
@@ -241,8 +358,11 @@ def wanted_run(options, given):
     one = run_text(*given, MODEL_EVENTS)
 
     def fits(out, status):
+        if emit in ("trace", "json"):
+            told, statuses = traced_run(*given, units, out)
+            return out == told and status in statuses and (status == 3 or one[1] in (status, 3))
         if emit in ("summary", "svg"):
-            return status in (one[1], 3) and (is_summary(out, one) if emit == "summary" else is_well_formed(out))
+            return status in (one[1], 3) and (is_summary(out, one, status) if emit == "summary" else is_well_formed(out))
         if emit == "script":
             closing = replay_text(*given, out.encode(), units)
             return "refused" not in closing[0] and status in (0, 1, 3)
@@ -254,12 +374,13 @@ def wanted_run(options, given):
     return fits
 
 
-def is_summary(out, one):
-    """Whether a table has as many retired tasks and instructions as one unit has, if the run of that ended."""
-    first, *_, last = out.splitlines()
+def is_summary(out, one, status):
+    """Whether the rows of a table add up, and its last has as many retired tasks and instructions as one unit has, if both runs ended."""
+    first, *rows = out.splitlines()
+    *tasks, every = [[int(number) for number in row.split()[:7]] for row in rows]
     retired = re.search(r"(?m)^retired (\d+) c (\d+) h", one[0])
-    columns = last.split()
-    return first.startswith("assigned  retired ") and columns[-1] == "(all)" and (one[1] == 3 or [columns[1], columns[5]] == list(retired.groups()))
+    adds_up = all(row[0] == sum(row[1:5]) for row in tasks) and every == [sum(column) for column in zip(*tasks)]
+    return first.startswith("assigned  retired ") and rows[-1].endswith("  (all)") and adds_up and (3 in (one[1], status) or [every[1], every[5]] == [int(it) for it in retired.groups()])
 
 
 def is_well_formed(out):
@@ -276,11 +397,18 @@ def wanted_steps(run, units, emit):
         return lambda out, status: status in (0, 1, 3)
     if emit == "svg":
         return lambda out, status: status == run.status() and is_picture(out, run.script(), units)
-    return {"report": run.report, "script": run.script, "summary": run.summary}[emit](), run.status()
+    return {"report": run.report, "script": run.script, "summary": run.summary, "trace": run.trace, "json": run.json}[emit](), run.status()
+
+
+def allowed_seconds(words, out):
+    """A second; for `curve` one for each of its runs, and one for each 30 MB of an answer, as a trace of a million events has."""
+    what = asked(words)
+    runs = int(what[1].get("units", 16)) if isinstance(what, tuple) and what[0] == "curve" else 1
+    return max(runs, 1 + len(out) / 30e6)
 
 
 class Runner:
-    """Runs the program in a folder that holds the three texts."""
+    """Runs the program in a folder that holds the three texts. `worst` is the longest time, as a part of what is allowed."""
 
     def __init__(self, program, folder):
         self.program, self.folder, self.worst = program, folder, 0.0
@@ -297,7 +425,7 @@ class Runner:
         finally:
             after = resource.getrusage(resource.RUSAGE_CHILDREN)
             self.seconds = after.ru_utime + after.ru_stime - before.ru_utime - before.ru_stime
-        self.worst = max(self.worst, self.seconds)
+        self.worst = max(self.worst, self.seconds / allowed_seconds([os.fsencode(w) for w in words], done.stdout))
         return done.returncode, done.stdout, done.stderr
 
 
@@ -317,8 +445,9 @@ def difference(runner, words, texts):
 
 
 def compare(program, end, cases):
-    """Compares cases until a time: how many there was time for, the answers, the differences, and the most seconds."""
+    """Compares cases until a time: how many there was time for, the answers, the differences, and the longest time."""
     compared, answers, differences = 0, collections.Counter(), []
+    learn(program)
     with tempfile.TemporaryDirectory() as name:
         runner = Runner(program, pathlib.Path(name))
         for case in cases:
@@ -349,7 +478,7 @@ def compared(program, kept, minutes, seed):
         for count, seen, faults, slowest in pool.starmap(compare, parts, chunksize=1):
             done, answers, differences, worst = done + count, answers + seen, differences + faults, max(worst, slowest)
     if worst > 1:
-        differences.append(f"{worst:.2f} s for one case")
+        differences.append(f"{worst:.2f} times the seconds that are allowed, for one case")
     return f"{'kept cases of hostile bytes' if kept else 'seeds of hostile bytes'} beside the model ({done:,} of {len(cases):,})", sum(answers.values()), dict(answers), differences
 
 
@@ -499,6 +628,20 @@ WORST = [
     ("a run in steps of 1,024 tasks, its picture", STEPS + " svg", 100000, lambda n: many_tasks(1024, 16), keep, None),
     ("tasks that come and go, as a table", "replay --emit summary", 100000, lambda n: RING, keep, lambda n: b"assign T0\nassign T1\nexec 1\ndrop 1\ndrop 0\nexec 0\nretire\n" * (n // 7)),
     ("tasks that come and go, as a picture", "replay --emit svg", 100000, lambda n: RING, keep, lambda n: b"assign T0\nassign T1\nexec 1\ndrop 1\ndrop 0\nexec 0\nretire\n" * (n // 7)),
+    ("a run in steps, its trace", STEPS + " trace", 50000, lambda n: RING, keep, None),
+    ("a run in steps of 1,024 tasks, its trace", STEPS + " trace", 50000, lambda n: many_tasks(1024, 16), keep, None),
+    ("tasks that come and go, as a trace", "replay --emit trace", 50000, lambda n: RING, keep, lambda n: b"assign T0\nassign T1\nexec 1\ndrop 1\ndrop 0\nexec 0\nretire\n" * (n // 7)),
+    ("events that are refused, as a trace", "replay --emit trace", 200000, lambda n: RING, keep, lambda n: b"exec 15\n" * n),
+    ("runs on 1 to 16 units", "curve --budget {n}", 20000, lambda n: RING, keep, None),
+    ("runs of 1,024 tasks on 1 to 16 units, with the least certificate", "curve --least --budget {n}", 10000, lambda n: many_tasks(1024, 16), None, None),
+    ("findings with long paths, as a log", "explain --format sarif", 1000, late_writes, None, None),
+    ("findings of every register, as a log", "explain --format sarif", 1000, nested, findings, None),
+    ("lines with a fault, as a log", "explain --format sarif", 50000, lambda n: HEAD + "nop $8\n" * n, None, None),
+    ("marks in the text, loops one in the other", "annotate --emit marks", 1000, nested, None, None),
+    ("marks in the text, many tasks", "annotate --emit marks", 256, lambda n: many_tasks(n, 16).replace("create=$8", "create=-").replace(" !f", ""), None, None),
+    ("marks in the text, a long create list", "annotate --emit marks", 250000, lambda n: f".task A create={','.join(['$8'] * n)} targets=-\nA: halt\n", None, None),
+    ("marks in the text, blanks before them", "annotate --emit marks", 1000, lambda n: ".task A create=$8 targets=A\nA: " + ("addiu $8,$8,1" + " " * 1000 + "!f\n") * n + "j A !s\n", None, None),
+    ("marks in the text, between comments", "annotate --emit marks", 150000, lambda n: HEAD + "# !f\n" * n, None, None),
     ("a loop that does not end", "seq --budget {n}", 250000, lambda n: ".task B create=- targets=-\nB: lui $11,4097\nA: mult $8,$9\nlw $10,0($11)\nsw $8,0($11)\nbne $8,$9,A\nj A\n", None, None),
     ("labels that collide", "print", 8192, None, None, None),
 ]

@@ -7,7 +7,7 @@ A certificate of 134,217,728 bytes is judged and one of a byte more is not, by `
 `explain`, by `run` and by `replay`; so with an event script. Certificates and scripts without end are refused within the memory
 of the limit. The other texts are those that were found to take the most memory: as many labels, targets or numbers
 as a program text can name, and as many entries, events and answers as the longest files give; and the longest runs, by
-threads and in steps, with each `--emit`. Of each run the
+threads and in steps, with each `--emit`, and traces whose events say as much as they can. Of each run the
 greatest memory is compared with BOUNDS, which README.md counts from the limits. The script ends with status 1 where
 an answer or the memory is another, and says the seconds, which depend on the machine. Needs python3, Linux, 400 MB
 in the temporary folder and 2 GB of memory; it is no part of the tests.
@@ -27,7 +27,10 @@ COUNT = TOP / "examples" / "count"
 PROGRAM_LIMIT, FILE_LIMIT = 4_194_304, 134_217_728
 
 # The most memory of a subcommand, in millions of bytes: README.md, "How much memory".
-BOUNDS = {"seq": 410, "print": 410, "annotate": 410, "explain": 410, "check": 545, "run": 545, "replay": 1760}
+BOUNDS = {"seq": 410, "print": 410, "annotate": 410, "explain": 410, "check": 545, "run": 545, "replay": 1760, "curve": 545}
+# The same where a trace is written.
+TRACED = {"run": 700, "replay": 1900}
+EMITS = ("report", "script", "summary", "svg", "trace")
 # How much more than the limit a file without end may take.
 ENDLESS = (FILE_LIMIT + 16_000_000) / 1e6
 
@@ -99,6 +102,20 @@ def programs(folder):
             yield name, [subcommand, path], 1, b"program refused: " + refusal + b"\n", BOUNDS[subcommand]
         line = b":1: " if b" line " in refusal else b": "
         yield name, ["explain", path], 1, bytes(path) + line + b"error: ", BOUNDS["explain"]
+        yield name, ["explain", "--format", "sarif", path], 1, b'{"$schema"', BOUNDS["explain"]
+    yield from accepted_labels(folder, labels)
+
+
+def accepted_labels(folder, labels):
+    """A program with as many labels as a text can have."""
+    path = folder / "labels.s"
+    path.write_text(".task A create=$8 targets=A\nA: addiu $9,$9,1 !f\n" + ":".join(it for it in labels[:-100] if it != "A") + ":\nj A !s\n")
+    kind = "many labels of a program"
+    yield kind, ["annotate", "--emit", "marks", path], 0, b".task A create=$9 targets=A\n", BOUNDS["annotate"]
+    yield kind, ["explain", path], 1, bytes(path) + b":1:9: error: ", BOUNDS["explain"]
+    path.write_text(path.read_text().replace("create=$8", "create=$9"))
+    yield kind, ["run", "--least", "--budget", "10", "--emit", "trace", path], 3, b"1 assign A: ok\n", TRACED["run"]
+    yield kind, ["curve", "--least", "--budget", "10", path], 3, b"units ", BOUNDS["curve"]
 
 
 def certificates(folder):
@@ -106,7 +123,7 @@ def certificates(folder):
     program, path = COUNT / "program.s", folder / "limit.cert2"
     kinds = [["check", program, path, "--workers", "1"], ["check", program, path, "--workers", "4"],
              ["run", program, path], ["run", program, path, "--schedule", "steps", "--emit", "svg"],
-             ["replay", program, path, COUNT / "script.events"], ["explain", program, path]]
+             ["curve", program, path], ["replay", program, path, COUNT / "script.events"], ["explain", program, path]]
 
     def refused(words, told, line=""):
         return f"{path}:{line} error: ".encode() if words[0] == "explain" else f"certificate refused: {told}\n".encode()
@@ -137,10 +154,36 @@ def scripts(folder):
     yield "the script of the most events", words, 0, b"1 refused", BOUNDS["replay"]
     yield "the script of the most events", [*words, "--emit", "summary"], 0, b"assigned  retired ", BOUNDS["replay"]
     yield "the script of the most events", [*words, "--emit", "svg"], 0, b"<svg ", BOUNDS["replay"]
+    yield "the script of the most events", [*words, "--emit", "trace"], 0, b"1 fault: refused 3 NoSuch\n", TRACED["replay"]
     script(path, FILE_LIMIT + 1)
     yield "a script of one byte more", words, 2, path, ENDLESS
     yield "a script without end", [*words[:3], "/dev/zero"], 2, "/dev/zero", ENDLESS
+    program = folder / "sends.s"
+    program.write_text(sends(1000, "T{}"))
+    filled(path, "".join(events_of_sends(1000)).encode(), b"fault\n", b"retire\n", FILE_LIMIT)
+    yield "the longest trace", ["replay", program, "--least", path, "--emit", "trace"], 0, b"1 assign S: ok\n", TRACED["replay"]
     path.unlink()
+
+
+def sends(tasks, name):
+    """A program of so many tasks, of which each sends all registers at once."""
+    every, names = ",".join(f"${r}" for r in range(1, 34)), [name.format(k) for k in range(tasks)]
+    marks = "".join(f".task {it} create={every} targets={names[(k + 1) % tasks]}\n" for k, it in enumerate(names))
+    first = "S: li $1,-1 !f\nmthi $1 !f\nmtlo $1 !f\n" + "".join(f"li ${r},-1 !f\n" for r in range(2, 32)) + f"j {names[0]} !s\n"
+    body = "".join(f"{it}: release {every} !s\n" for it in names[:-1]) + f"{names[-1]}: release {every}\nj {names[0]} !s\n"
+    return f".start S\n.task S create={every} targets={names[0]}\n{marks}{first}{body}"
+
+
+def events_of_sends(tasks):
+    """The events of such a program, as many as a machine takes."""
+    yield "assign S\n" + "exec 0\n" * 34 + "retire\n"
+    taken = 36
+    for number in itertools.count():
+        is_last = number % tasks == tasks - 1
+        taken += 4 if is_last else 3
+        if taken > 1_000_000:
+            return
+        yield f"assign T{number % tasks}\n" + "exec 0\n" * (1 + is_last) + "retire\n"
 
 
 def runs(folder):
@@ -156,20 +199,27 @@ def runs(folder):
         cert.write_text("cert 2\ntask A\n" + "".join(f"{index} {mask if index < 3 else '0' * 16}\n" for index in range(entries)))
         kind = "the most output" if program == out else "the most events"
         yield kind, ["seq", program], 3, None, BOUNDS["seq"]
-        for units, emit in itertools.product(("1", "16"), ("report", "script", "summary", "svg")):
+        for units, emit in itertools.product(("1", "16"), EMITS):
+            bound = (TRACED if emit == "trace" else BOUNDS)["run"]
             for certified in ([cert], ["--least"]):
-                yield kind, ["run", program, *certified, "--units", units, "--emit", emit], 3, None, BOUNDS["run"]
-            yield f"{kind}, in steps", ["run", program, cert, "--schedule", "steps", "--units", units, "--emit", emit], 3, None, BOUNDS["run"]
+                yield kind, ["run", program, *certified, "--units", units, "--emit", emit], 3, None, bound
+            yield f"{kind}, in steps", ["run", program, cert, "--schedule", "steps", "--units", units, "--emit", emit], 3, None, bound
+        yield kind, ["curve", program, cert], 3, b"units ", BOUNDS["curve"]
     yield from many_tasks(folder)
+    program = folder / "sends.s"
+    program.write_text(sends(1000, "T{:031}"))
+    for words in (["--units", "1"], ["--units", "16", "--schedule", "steps"]):
+        yield "the longest trace", ["run", program, "--least", *words, "--emit", "trace"], 3, b"1 assign S: ok\n", TRACED["run"]
 
 
 def many_tasks(folder):
     """The most tasks that come and go: a third of a million lives."""
     program = folder / "tiny.s"
     program.write_text(".task A create=- targets=A\nA: j A !s\n")
-    for emit in ("report", "script", "summary", "svg"):
-        yield "the most tasks", ["run", program, "--least", "--units", "1", "--emit", emit], 3, None, BOUNDS["run"]
-        yield "the most tasks, in steps", ["run", program, "--least", "--schedule", "steps", "--units", "16", "--emit", emit], 3, None, BOUNDS["run"]
+    for emit in EMITS:
+        bound = (TRACED if emit == "trace" else BOUNDS)["run"]
+        yield "the most tasks", ["run", program, "--least", "--units", "1", "--emit", emit], 3, None, bound
+        yield "the most tasks, in steps", ["run", program, "--least", "--schedule", "steps", "--units", "16", "--emit", emit], 3, None, bound
 
 
 def faults_of(ended, status, answer, bound, reason=""):

@@ -161,13 +161,15 @@ def of_example(folder, calls, units=2, workers=1):
 
 def served(folder, script="script.events"):
     """Cases of `job_of` and `serve`."""
-    lines = ["seq P", "print P", "annotate P", "annotate P --emit cert", "annotate P --emit keep", "explain P", "explain P C",
+    lines = ["seq P", "print P", "annotate P", "annotate P --emit cert", "annotate P --emit keep", "annotate P --emit marks",
+             "explain P", "explain P C", "explain P --no-warnings", "explain P C --format sarif",
              "check P C", "check P C --workers 4", "check P --least"]
     if folder.name != "five-findings":
         lines += ["run P C --units 1", "run P C --units 4", "run P --least --units 1 --emit summary", "run P C --units 1 --emit svg"]
-        lines += [f"run P C --schedule steps --predict 1,0 --emit {emit}" for emit in ("report", "script", "summary", "svg")]
+        lines += [f"run P C --schedule steps --predict 1,0 --emit {emit}" for emit in ("report", "script", "summary", "svg", "trace")]
+        lines += ["run P C --units 1 --emit trace", "curve P C --units 3", "curve P --least --units 2"]
     if (folder / script).exists():
-        lines += ["replay P C S --units 2", "replay P C S --units 2 --emit summary", "replay P C S --units 2 --emit svg", "replay P --least S"]
+        lines += ["replay P C S --units 2", "replay P C S --units 2 --emit summary", "replay P C S --units 2 --emit svg", "replay P C S --units 2 --emit trace", "replay P --least S"]
     for line in lines:
         for call in ("serve", "job_of"):
             yield Case(call, f"{folder.name}, {line}", folder / "program.s", folder / "certificate.cert2",

@@ -44,6 +44,7 @@ import faults
 from faults import EVERY, GROW, TOP, Row, fault
 
 ENOMEM = 12
+OTHER_TRACE = b"another trace than that of its events"
 EXAMPLES = TOP / "examples"
 # A certificate that is long enough to be fetched, read and checked by several threads.
 SHARED = TOP / "crates" / "test_shared_check" / "data"
@@ -66,7 +67,9 @@ def example_cases():
         yield ["seq", program]
         yield ["print", program]
         yield ["explain", program]
-        for emit in ("text", "cert", "keep"):
+        yield ["explain", program, "--no-warnings"]
+        yield ["explain", program, "--format", "sarif"]
+        for emit in ("text", "cert", "keep", "marks"):
             yield ["annotate", program, "--emit", emit]
         if not (folder / "certificate.cert2").exists():
             continue
@@ -83,20 +86,23 @@ def run_cases(folder, program, certificate):
     """The words of each run of an example, by threads and in steps, and of replays with pictures and tables."""
     budget = ["--budget", "2000"] if folder.name == "spin" else []
     for units, workers in ((1, 1), (4, 4), (16, 3)):
-        words = ["run", program, certificate, "--units", str(units), "--workers", str(workers), *budget]
-        yield words
-        for emit in ("summary", "svg", "script"):
+        words = ["run", program, certificate, "--units", str(units), "--workers", str(workers)]
+        yield [*words, *budget]
+        for emit in ("summary", "svg", "trace", "script"):
             if emit == "script" or units < 16:
-                yield [*words, "--emit", emit]
+                # each event of a trace takes memory
+                yield [*words, *(["--budget", "200"] if budget and emit == "trace" else budget), "--emit", emit]
     yield ["run", program, "--least", *budget]
     for units in (1, 4, 16):
         words = ["run", program, certificate, "--schedule", "steps", "--units", str(units), *budget]
         yield words
-        yield from ([*words, "--emit", emit] for emit in ("summary", "svg", "script") if units == 4)
+        yield from ([*words, "--emit", emit] for emit in ("summary", "svg", "trace", "script") if units == 4)
     yield ["run", program, "--least", "--schedule", "steps", "--predict", "1,0", *budget, "--emit", "summary"]
+    yield ["curve", program, certificate, "--units", "3", *budget]
+    yield ["curve", program, "--least", "--units", "2", *budget]
     if (folder / "script.events").exists():
         script = str(folder / "script.events")
-        yield from (["replay", program, certificate, script, "--units", "2", "--emit", emit] for emit in ("summary", "svg"))
+        yield from (["replay", program, certificate, script, "--units", "2", "--emit", emit] for emit in ("summary", "svg", "trace"))
         yield ["replay", program, "--least", script, "--units", "2"]
 
 
@@ -114,6 +120,8 @@ def refused_cases(folder):
     yield ["print", str(folder / "no-task.s")]
     yield ["explain", str(folder / "program.s")]
     yield ["explain", str(folder / "no-task.s")]
+    yield ["explain", str(folder / "program.s"), "--format", "sarif"]
+    yield ["explain", program, str(folder / "no.cert2"), "--format", "sarif"]
     yield ["explain", program, str(folder / "no.cert2")]
     yield ["explain", program, str(EXAMPLES / "pair" / "certificate.cert2")]
     yield ["explain", str(EXAMPLES / "five-findings" / "program.s"), str(folder / "no.cert2")]
@@ -145,9 +153,12 @@ def limit_cases(folder):
     yield ["replay", *of("steady.s", "steady.cert2", "steady4.events")]
     yield ["run", *of("steady.s", "steady.cert2"), "--units", "2", "--budget", "100000"]
     yield ["run", *of("steady.s", "steady.cert2"), "--units", "2", "--budget", "100000", "--emit", "script"]
-    for emit in ("report", "summary", "svg"):
+    for emit in ("report", "summary", "svg", "trace"):
         yield ["run", *of("steady.s", "steady.cert2"), "--schedule", "steps", "--budget", "100000", "--emit", emit]
-    for emit in ("summary", "svg"):
+    yield ["curve", *of("steady.s", "steady.cert2"), "--budget", "10000"]
+    yield ["annotate", *of("maximal.s"), "--emit", "marks"]
+    yield ["explain", *of("late_fault.s"), "--format", "sarif"]
+    for emit in ("summary", "svg", "trace"):
         yield ["replay", *of("steady.s", "steady.cert2", "steady4.events"), "--emit", emit]
     yield ["explain", *of("maximal.s", "maximal.cert2")]
     yield ["check", "--least", *of("maximal.s"), "--workers", "4"]
@@ -183,13 +194,15 @@ class Case:
         self.right = self.shown(runs[0])
 
     def shown(self, ended):
-        """Status and bytes; of a script, those of its replay; of another picture or table, what is known."""
+        """Status and bytes; of a script, those of its replay; of another picture, table or trace, what is known."""
         if not self.emit or ended.status not in (0, 1, 3) or b"refused " in ended.out:
             return ended.status, ended.out
         if self.emit == "script":
             return ended.status, self.replayed(ended)
         if "1" in self.words:
             return ended.status, ended.out
+        if self.emit == "trace":
+            return ended.status, self.retraced(ended)
         return ended.status, is_picture(ended.out) if self.emit == "svg" else retired(ended.out) if ended.status != 3 else ended.out[:80]
 
     def replayed(self, ended):
@@ -209,10 +222,21 @@ class Case:
             return b"the budget is used" if count >= budget else b"the budget is left"
         return b"".join(closing)
 
+    def retraced(self, ended):
+        """True of a trace that the replay of its own events writes."""
+        events = self.bench.folder / "traced.events"
+        events.write_bytes(b"".join(line.split(b" ", 1)[1].removesuffix(b": ok") + b"\n" for line in ended.out.splitlines() if line.endswith(b": ok")))
+        units = self.words[self.words.index("--units") + 1]
+        again = self.bench.plain(["replay", *self.words[1:3], str(events), "--units", units, "--emit", "trace"])
+        return again.out == ended.out or OTHER_TRACE
+
     def judge(self, row, ended, what):
         """Puts what a run answered into the row."""
         lines = [b"multiscalar: 1 OutOfMemory\n", b"multiscalar: 4 OutOfMemory\n"]
-        if self.shown(ended) == self.right and ended.told == self.told:
+        shown = self.shown(ended)
+        if shown[1] == OTHER_TRACE:
+            row.seen("another trace", self.words, what, True)
+        elif shown == self.right and ended.told == self.told:
             row.seen("as with ample memory", self.words, what)
         elif (ended.status, ended.out) == (2, b"") and ended.told in lines:
             row.seen("want of memory", self.words, what)

@@ -84,7 +84,7 @@ def run_cases(examples):
             yield ["run", *files, "--units", str(units), "--workers", str(workers)], workers
         yield ["run", files[0], "--least", "--units", "4"], 4
         # of a run by one worker each picture and table is the same
-        yield from ((["run", *files, "--units", "1", "--emit", emit], 1) for emit in ("summary", "svg"))
+        yield from ((["run", *files, "--units", "1", "--emit", emit], 1) for emit in ("summary", "svg", "trace"))
         # a run in steps makes no thread, so none can be refused
         yield ["run", *files, "--schedule", "steps"], 0
 

@@ -41,13 +41,33 @@ SHARES = {
     "schedules": 2,
     "load": 6,
     "races": 2,
-    "model": 2,
+    "model": 4,
     "hostile": 6,
     "selftest": 1,
 }
 HERE = pathlib.Path(__file__).resolve().parent
 BEGIN, END = "<!-- figures -->\n", "<!-- end of figures -->\n"
 sys.path.insert(0, str(HERE))
+
+
+# Scripts with a model of their own beside that of fuzz.py, and what each looks at.
+BESIDE = {"explain.py": "findings and refused texts, explained", "costly_marks.py": "warnings", "sarif.py": "logs of `explain`",
+          "marks.py": "marks in the text", "curve.py": "tables of `curve`"}
+
+
+def beside_models(program, minutes, seed):
+    """The row of fuzz.py, which has half of the time, and those of the scripts of BESIDE."""
+    share = minutes / 2 / len(BESIDE)
+    return [*beside_model(program, minutes / 2, seed), *(beside_its_model(program, share, seed, name) for name in BESIDE)]
+
+
+def beside_its_model(program, minutes, seed, name):
+    """The row of a script: its last line says how many programs, texts and tables it tried; where there is a difference, it fails."""
+    done = subprocess.run([sys.executable, str(HERE / name), program, "--seconds", str(60 * minutes), "--seed", str(seed)], capture_output=True, text=True)
+    last = done.stdout.splitlines()[-1] if done.stdout else ""
+    tried = sum(int(count) for count in re.findall(r"(\d+) (?:programs|refused texts|tables)", last))
+    differences = [f"{name} --seed {seed}: {(done.stdout + done.stderr)[-300:]!r}"] if done.returncode or not tried else []
+    return f"{BESIDE[name]}, beside the model", tried, {"as the model": tried}, differences
 
 
 def beside_model(program, minutes, seed):
@@ -80,7 +100,7 @@ def call_by_call(calls, minutes, seed, whole):
 def imported(name):
     """The `run` of a part's module, or why there is none."""
     if name == "model":
-        return beside_model, None
+        return beside_models, None
     try:
         module = importlib.import_module(name)
     except ModuleNotFoundError as fault:

@@ -118,6 +118,17 @@ def told(result):
     return lines
 
 
+def laid_out(result, text):
+    """The lines of the text form that stand for a result, those that show the program among them."""
+    if result["ruleId"] == "more":
+        uri, *_ = place_of(result["locations"][0])
+        return [f"{urllib.parse.unquote(uri)}: note: {result['message']['text']}"]
+    shown = [place_of(it)[1:] for it in (result["locations"] + result.get("relatedLocations", []))]
+    *lines, todo = told(result)
+    rows = [explain.excerpt(text, line, begin, end - begin) for line, begin, end in shown]
+    return [row for line, below in zip(lines, rows) for row in (line, *below)] + [todo]
+
+
 def spoken(said):
     """The lines of the text form without those that show the program."""
     return [line for line in said.split("\n")[:-1] if not re.match(r" *\d* \| ", line)]

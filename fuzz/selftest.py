@@ -118,10 +118,12 @@ int main(int count, char **words) {
 # The kinds of jobs that a script has to try: a name, and words of the command line that only such a job has.
 RUNS = [("run by threads", "run cert"), ("run, script", "run script"), ("run, table", "run summary"), ("run, picture", "run svg"),
         ("run in steps", "run steps"), ("run in steps, script", "run steps script"), ("run in steps, table", "run steps summary"), ("run in steps, picture", "run steps svg"),
-        ("run --least", "run --least")]
+        ("run, trace", "run trace"), ("run in steps, trace", "run steps trace"), ("run --least", "run --least")]
+MORE = [("curve", "curve cert"), ("curve --least", "curve --least"), ("explain as a log", "explain sarif"), ("explain --no-warnings", "explain --no-warnings"),
+        ("annotate, marks", "annotate marks"), ("replay, trace", "replay trace")]
 JOBS = [("seq", "seq"), ("print", "print"), ("annotate", "annotate"), ("explain", "explain"), ("explain with a certificate", "explain cert"),
         ("check", "check cert"), ("check --least", "check --least"), ("check by threads", "check 4"), ("replay", "replay cert"),
-        ("replay, table", "replay summary"), ("replay, picture", "replay svg"), ("replay --least", "replay --least"), *RUNS]
+        ("replay, table", "replay summary"), ("replay, picture", "replay svg"), ("replay --least", "replay --least"), *MORE, *RUNS]
 
 
 class Planted:
@@ -206,15 +208,16 @@ def signals(planted):
 
 def hostile_bytes(planted):
     """hostile.py: in each job another digit; the fuzzer's own plants are in `fuzzer`."""
-    cases = list(hostile.seeds.cases(700, 3))
+    cases = list(hostile.seeds.cases(2000, 3))
     by_name = {"seq": (0,), "print": (1,), "annotate": (2,), "explain": (13,), "explain with a certificate": (8,), "check": (3,),
                "check --least": (12, 14), "replay": (4,), "replay, table": (10,), "replay, picture": (10,), "replay --least": (12,), "run by threads": (5,),
                "run, script": (5,), "run, table": (11,), "run, picture": (11,), "run in steps": (9,), "run in steps, script": (9, 14),
-               "run in steps, table": (9, 14), "run in steps, picture": (9, 14), "run --least": (12,)}
+               "run in steps, table": (9, 14), "run in steps, picture": (9, 14), "run --least": (12,), "run, trace": (19,), "run in steps, trace": (19, 21),
+               "replay, trace": (20, 23), "curve": (16,), "curve --least": (16, 21), "explain as a log": (17,), "explain --no-warnings": (22,), "annotate, marks": (18,)}
     for name, needed in JOBS:
         if name not in by_name:
             continue
-        chosen = [case for case in cases if case[0] % 16 in by_name[name]][:150]
+        chosen = [case for case in cases if case[0] % 128 % hostile.JOBS in by_name[name]][:150]
         needed = needed.replace(" cert", " c" if "explain" not in needed else "")
         runner = planted.plant("digit", needed)
         _, _, differences, _ = hostile.compare(runner, time.monotonic() + 20, chosen)
@@ -225,7 +228,7 @@ def hostile_bytes(planted):
 
 def fuzzer(planted, program):
     """The fuzzer: in each job half a line, another digit or status, the other stream, a block, memory, time, a crash."""
-    plants = ["h,0", "d,1", "t,2", "s,3", "d,4", "d,5", "d,7", "d,8", "s,8", "b,8", "d,9", "e,9", "d,10", "m,10", "h,11", "d,12", "c,6"]
+    plants = ["h,0", "d,1", "t,2", "s,3", "d,4", "d,5", "d,7", "d,8", "s,8", "b,8", "d,9", "e,9", "d,10", "m,10", "h,11", "d,12", "d,16", "s,17", "d,18", "h,19", "h,20", "s,22", "c,6"]
     with tempfile.TemporaryDirectory() as folder:
         corpus = pathlib.Path(folder) / "corpus"
         corpus.mkdir()
@@ -263,8 +266,9 @@ def threads(planted):
 
 
 def beside_the_model(planted):
-    """fuzz.py, explain.py and picture.py: another digit."""
-    for name, needed in (("run in steps", "run steps"), ("replay", "replay"), ("check --least", "check --least")):
+    """fuzz.py, explain.py, picture.py and the others that are beside the model: another digit."""
+    for name, needed in (("run in steps", "run steps"), ("run, trace", "run trace"), ("replay", "replay"), ("check --least", "check --least"), ("curve", "curve"),
+                         ("annotate, marks", "annotate marks")):
         with tempfile.TemporaryDirectory() as folder:
             done = subprocess.run([sys.executable, str(HERE / "fuzz.py"), planted.plant("digit", needed), "--seconds", "20", "--seed", "1", "--max", "1",
                                    "--subs", needed.split()[0], "--out", f"{folder}/findings"], capture_output=True)
@@ -273,6 +277,10 @@ def beside_the_model(planted):
         runner = planted.plant("digit", needed)
         done = subprocess.run([sys.executable, str(HERE / "explain.py"), runner, "--seconds", "20", "--seed", "1"], capture_output=True)
         yield f"explain.py: {name}", "another digit", done.returncode == 1
+    for name, needed in (("curve.py", "curve"), ("costly_marks.py", "explain"), ("marks.py", "annotate marks"), ("sarif.py", "explain sarif")):
+        runner = planted.plant("digit", needed)
+        done = subprocess.run([sys.executable, str(HERE / name), runner, "--seconds", "20", "--seed", "1"], capture_output=True)
+        yield f"{name}: {needed.split()[0]}", "another digit", done.returncode == 1
     done = subprocess.run([sys.executable, str(HERE / "picture.py"), "--program", planted.plant("none", "no such word"), str(faults.TOP / "examples" / "count")], capture_output=True)
     yield "picture.py: the pictures as they are", "nothing", done.returncode == 0
     for needed in ("replay svg", "run steps svg"):

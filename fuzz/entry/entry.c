@@ -3,7 +3,7 @@
  * The program's own `main` and the calls of C that it makes are renamed (build.sh): its words, files,
  * output and heap are those below. A case is two bytes of choices and then a program text, a
  * certificate and a script, parted by lines that are `%%`. The first byte picks the job, the second its
- * options. After each call the answer's form is tested; jobs 7, 14 and 15 test answers against one another.
+ * options. After each call the answer's form is tested; jobs 7, 14, 15, 18 and 21 to 23 test answers against one another.
  */
 #define _GNU_SOURCE
 #include <errno.h>
@@ -31,7 +31,7 @@ static size_t word_count;
 static Answer *answer;
 static jmp_buf leave;
 static pthread_t main_thread;
-enum { ROOM = 48 << 20 };
+enum { ROOM = 160 << 20 };
 
 static void tell(void);
 static void fail(const char *why) {
@@ -180,7 +180,7 @@ static void note_answer(int job) {
 
 static double worst_seconds;
 static size_t worst_peak;
-enum { JOBS = 16 };
+enum { JOBS = 24 };
 static unsigned long cases, calls[JOBS][4];
 static double now(clockid_t which) { struct timespec t; clock_gettime(which, &t); return t.tv_sec + t.tv_nsec * 1e-9; }
 
@@ -193,7 +193,8 @@ static void tell(void) {
     for (int job = 0; job < JOBS; job++) for (int k = 0; k < 4; k++) all += calls[job][k];
     fprintf(file, "cases %lu\ncalls %lu\nworst_seconds %.3f\nworst_peak %zu\n", cases, all, worst_seconds, worst_peak);
     static const char *const names[JOBS] = {"seq", "print", "annotate", "check", "replay", "run", "words", "explain", "explain with a certificate", "run in steps",
-                                            "replay as a picture or a table", "run as a picture or a table", "with --least"};
+                                            "replay as a picture or a table", "run as a picture or a table", "with --least", 0, 0, 0, "curve", "explain as a log",
+                                            "annotate --emit marks", "run as a trace", "replay as a trace", 0, "explain --no-warnings"};
     for (int job = 0; job < JOBS; job++)
         for (int k = 0; k < 4; k++) if (calls[job][k]) fprintf(file, "%s:%d %lu\n", names[job], k, calls[job][k]);
     fclose(file);
@@ -209,9 +210,67 @@ static void plant(Answer *into, double *took) {
     case 's': into->status = into->status == 1 ? 0 : 1; break;            /* another status */
     case 'e': into->err[into->err_size++] = '!'; break;                   /* the other stream, too */
     case 'b': blocks++; break;                                            /* a block that is not given back */
-    case 'm': peak += (size_t)96 << 20; break;                            /* too much memory */
-    case 't': *took += 21; break;                                         /* too long */
+    case 'm': peak += (size_t)288 << 20; break;                           /* too much memory */
+    case 't': *took += 41; break;                                         /* too long */
     case 'c': abort();
+    }
+}
+
+/* Whether a word of the command line has this, as a value of an option or by itself. */
+static int is_asked(const char *word) {
+    for (size_t k = 1; k < word_count; k++) if (strstr(words[k], word)) return 1;
+    return 0;
+}
+/* The most seconds of a call: those of threads that wait for one another beside other work are only a rough bound, and so are
+ * those of calls that make sixteen runs of a million events, or write some hundred bytes for each event. */
+static double allowed_seconds(void) { return threads_inline ? 1.0 : 40.0; }
+static size_t allowed_heap(void) { return (size_t)(threads_inline || !is_asked("trace") ? 96 : 288) << 20; }
+
+/* Where a JSON value ends that begins here, or null where none does. */
+static const char *json_end(const char *at, int depth);
+static const char *json_string(const char *at) {
+    for (at++; *at != '"'; at++) {
+        if ((unsigned char)*at < ' ') return 0;
+        if (*at != '\\') continue;
+        if (*++at == 'u') for (int k = 0; k < 4; k++) { if (!*++at || !strchr("0123456789abcdefABCDEF", *at)) return 0; }
+        else if (!*at || !strchr("\"\\/bfnrt", *at)) return 0;
+    }
+    return at + 1;
+}
+static const char *json_number(const char *at) {
+    if (*at == '-') at++;
+    if (*at < '0' || *at > '9') return 0;
+    if (*at == '0') return at + 1;
+    while (*at >= '0' && *at <= '9') at++;
+    return at;
+}
+static const char *json_list(const char *at, int depth, char end, int has_keys) {
+    if (*++at == end) return at + 1;
+    for (;; at++) {
+        if (has_keys && (*at != '"' || !(at = json_string(at)) || *at++ != ':')) return 0;
+        if (!(at = json_end(at, depth + 1))) return 0;
+        if (*at == end) return at + 1;
+        if (*at != ',') return 0;
+    }
+}
+static const char *json_end(const char *at, int depth) {
+    static const char *const names[] = {"true", "false", "null"};
+    if (depth > 20) return 0;
+    if (*at == '{') return json_list(at, depth, '}', 1);
+    if (*at == '[') return json_list(at, depth, ']', 0);
+    if (*at == '"') return json_string(at);
+    for (int k = 0; k < 3; k++) if (!strncmp(at, names[k], strlen(names[k]))) return at + strlen(names[k]);
+    return json_number(at);
+}
+/* One JSON object on each line, with no blank between its parts, of UTF-8. */
+static void test_json(const Answer *it) {
+    const char *at = it->out, *end = it->out + it->out_size;
+    for (const char *next; at < end; at = next + 1)
+        if (*at != '{' || !(next = json_end(at, 0)) || *next != '\n') fail("no JSON");
+    for (size_t k = 0, left = 0; k < it->out_size; k++) {
+        unsigned char c = it->out[k];
+        if (left ? c >> 6 != 2 : c >> 6 == 2 || c >= 0xf8) fail("no UTF-8");
+        left = left ? left - 1 : c < 0xc0 ? 0 : c < 0xe0 ? 1 : c < 0xf0 ? 2 : 3;
     }
 }
 
@@ -234,20 +293,20 @@ static void call(Answer *into, int job) {
     if (took > worst_seconds) {
         worst_seconds = took;
         if (took > 0.05) fprintf(stderr, "SLOWEST %.3f s, job %d\n", took, job);
-        /* Of threads that wait for one another beside other work this is only a rough bound. */
-        if (took > (threads_inline ? 1.0 : 20.0)) fail("too long");
+        if (took > allowed_seconds()) fail("too long");
     }
     if (peak > worst_peak) {
         if (peak > worst_peak + worst_peak / 8) fprintf(stderr, "PEAK %zu bytes, job %d\n", peak, job);
         worst_peak = peak;
-        if (peak > (size_t)96 << 20) fail("more than 96 MiB");
+        if (peak > allowed_heap()) fail("more than 96 MiB");
     }
     into->out[into->out_size] = into->err[into->err_size] = 0;
     if (into->status < 0 || into->status > 3) fail("another status");
     /* Of right marks `explain` says nothing. */
     int silent = !into->status && !into->out_size && word_count > 1 && !strcmp(words[1], "explain");
     if (into->status == 2 ? into->out_size || !into->err_size : into->err_size || (!into->out_size && !silent)) fail("the wrong stream");
-    if (into->status != 2 && !silent && into->out[into->out_size - 1] != '\n') fail("half a line");
+    /* An author's text may lack its last line feed. */
+    if (into->status != 2 && !silent && into->out[into->out_size - 1] != '\n' && (into->status || !is_asked("marks"))) fail("half a line");
     if (job != 6 && into->status == 2) fail("status 2");
     if (blocks) fail("blocks that were not given back");
     note_answer(job);
@@ -275,6 +334,7 @@ static const char *last_lines(const Answer *a, int lines) {
 }
 
 static Answer a, b, c, d;
+static int has_json;  /* whether the program writes a trace as JSON, too */
 
 /* Answers that must agree: of the canonical text, of the checkers, of a run, its script and `seq`. */
 static void agree(unsigned options) {
@@ -302,7 +362,7 @@ static void agree(unsigned options) {
     WORDS("check", "--workers", "3", "p", "c");
     call(&d, 3);
     if (!same(&b, &d)) fail("workers differ");
-    WORDS("explain", "p");
+    WORDS("explain", "--no-warnings", "p");
     call(&d, 7);
     if (d.status != b.status || !d.out_size != !b.status) fail("explain and check differ");
     WORDS("run", "--units", many, "--workers", "1", "--budget", "3000", "--predict", guess, "p", "c");
@@ -418,7 +478,101 @@ static void explained(int with_certificate) {
     if (with_certificate && !b.status && a.status) fail("explain finds something where all is right");
 }
 
+/* The marks in the text: it is the program that `annotate` proposes, and has its own marks. */
+static void marks_in_the_text(void) {
+    WORDS("annotate", "--emit", "text", "p");
+    call(&a, 2);
+    WORDS("annotate", "--emit", "marks", "p");
+    call(&b, 18);
+    if (a.status) {
+        if (!same(&a, &b)) fail("annotate --emit marks takes what annotate refuses");
+        return;
+    }
+    if (b.status) {
+        if (!ends_with(&b, "marks refused: 1 TooLong\n")) fail("marks in the text are refused");
+        return;
+    }
+    files[0] = (Text){b.out, b.out_size};
+    WORDS("print", "p");
+    call(&c, 1);
+    if (!same(&a, &c)) fail("the marks in the text are not those that are proposed");
+    WORDS("annotate", "--emit", "marks", "p");
+    call(&c, 18);
+    if (!same(&b, &c)) fail("the marks in the text are not a fixed point");
+}
+/* How many lines of the text form end with the rule of a finding, those that show the program left out. */
+static size_t count_findings(const Answer *said) {
+    size_t count = 0;
+    for (const char *at = said->out, *end; (end = strchr(at, '\n')); at = end + 1) {
+        const char *rule = end - 1;
+        if (*at == ' ' || end == at || *rule != ']') continue;
+        while (rule > at && rule[-1] >= '0' && rule[-1] <= '9') rule--;
+        if (rule - at > 7 && !memcmp(rule - 7, " [rule ", 7)) count++;
+    }
+    return count;
+}
+/* The log beside the text form: as many results as errors, or one of a refused text. */
+static void as_a_log(int with_certificate) {
+    if (with_certificate) WORDS("explain", "--format", "sarif", "p", "c"); else WORDS("explain", "--format", "sarif", "p");
+    call(&a, 17);
+    test_json(&a);
+    if (with_certificate) WORDS("explain", "--no-warnings", "p", "c"); else WORDS("explain", "--no-warnings", "p");
+    call(&b, 22);
+    if (a.status != b.status) fail("the log has another status");
+    size_t results = 0;
+    for (const char *at = a.out; (at = strstr(at, "\"ruleId\":\"rule")); at++) results++;
+    if (results != count_findings(&b)) fail("the log has other findings");
+    if (!b.status != !strstr(a.out, "\"ruleId\":")) fail("the log is silent, or the text form");
+}
+/* Warnings are left out, and nothing else. */
+static void without_warnings(int with_certificate) {
+    if (with_certificate) WORDS("explain", "p", "c"); else WORDS("explain", "p");
+    call(&a, with_certificate ? 8 : 7);
+    if (with_certificate) WORDS("explain", "--no-warnings", "p", "c"); else WORDS("explain", "--no-warnings", "p");
+    call(&b, 22);
+    if (a.status != b.status || (!b.status && b.out_size)) fail("--no-warnings changes the status, or says something of right marks");
+    if (a.out_size < b.out_size || memcmp(a.out + a.out_size - b.out_size, b.out, b.out_size)) fail("--no-warnings says something else");
+}
+/* The trace of a run in steps is that of its script; the last row of `curve` has its numbers. */
+static void traced_steps(unsigned options) {
+    WORDS("annotate", "--emit", "keep", "p");
+    call(&a, 2);
+    if (a.status) return;
+    files[1] = (Text){a.out, a.out_size};
+    in_steps(&b, options, "script", 0);
+    const char *trace = has_json && options & 128 ? "json" : "trace";
+    in_steps(&c, options, trace, 1);
+    if (b.status != c.status) fail("the trace of a run has another status");
+    if (same(&b, &c)) return;  /* the marks are refused */
+    files[2] = (Text){b.out, b.out_size};
+    replay_of(&d, options, trace);
+    if (c.out_size != d.out_size || memcmp(c.out, d.out, c.out_size) || strstr(c.out, ": refused ") || strstr(c.out, "\"refused\"")) fail("the trace of a run is not that of its script");
+    in_steps(&c, options, "summary", 0);
+    WORDS("curve", "--least", "--units", number(0, UNITS[options % 5]), "--budget", "600", "--predict", PREDICTS[options / 5 % 4], "p");
+    call(&d, 16);
+    unsigned long steps, retired, rows, of_steps, of_retired;
+    if (sscanf(last_lines(&c, 1), "steps %lu, retired instructions %lu", &steps, &retired) != 2) fail("a table without steps");
+    if (sscanf(last_lines(&d, 1), " %lu %lu %lu", &rows, &of_steps, &of_retired) != 3) fail("a curve without rows");
+    if (rows != UNITS[options % 5] || steps != of_steps || retired != of_retired) fail("curve has other numbers than the run");
+}
+/* What a trace says of each event is what the answers say. */
+static void traced_answers(unsigned options) {
+    replay_of(&a, options, "answers");
+    replay_of(&b, options, "trace");
+    if (a.status != b.status) fail("the trace of a script has another status");
+    const char *answer_at = a.out, *at = b.out;
+    for (size_t n = 1; strtoul(at, 0, 10) == n; n++) {
+        const char *end = strchr(at, '\n'), *said = memmem(at, end - at, ": ", 2), *answer_end = strchr(answer_at, '\n');
+        while (*answer_at >= '0' && *answer_at <= '9') answer_at++;
+        if (!said || answer_end - answer_at - 1 != end - said - 2 || memcmp(answer_at + 1, said + 2, end - said - 2)) fail("a trace says otherwise than the answers");
+        answer_at = answer_end + 1;
+        do at = strchr(at, '\n') + 1; while (*at == ' ');
+    }
+    if (!strncmp(at, "at the end: ", 12) ? strstr(answer_at, " ok\n") != 0 : !same(&a, &b)) fail("a trace ends too early");
+}
+
 static void one_job(unsigned job, unsigned options) {
+    const char *trace = has_json && options & 32 ? "json" : "trace";
     unsigned units = UNITS[options % 5];
     const char *many = number(0, units), *budget = number(1, BUDGETS[options / 5 % 5]), *guess = PREDICTS[options % 4];
     switch (job) {
@@ -433,6 +587,20 @@ static void one_job(unsigned job, unsigned options) {
         break;
     case 8: explained(1); return;
     case 13: explained(0); return;
+    case 16:
+        if (options & 128) WORDS("curve", "--units", many, "--budget", budget, "--predict", guess, "--least", "p");
+        else WORDS("curve", "--units", many, "--budget", budget, "--predict", guess, "p", "c");
+        break;
+    case 17: as_a_log(options & 16); return;
+    case 18: marks_in_the_text(); return;
+    case 19:
+        if (options & 16) WORDS("run", "--units", many, "--budget", budget, "--predict", guess, "--emit", trace, "--schedule", "steps", "p", "c");
+        else WORDS("run", "--units", many, "--budget", budget, "--predict", guess, "--emit", trace, "--workers", "1", "p", "c");
+        break;
+    case 20: WORDS("replay", "--units", many, "--emit", trace, "p", "c", "s"); break;
+    case 21: traced_steps(options); return;
+    case 22: without_warnings(options & 16); return;
+    case 23: traced_answers(options); return;
     case 9: WORDS("run", "--schedule", "steps", "--units", many, "--budget", budget, "--predict", guess, "--emit", RUN_EMITS[options / 25 % 4], "p", "c"); break;
     case 10: WORDS("replay", "--units", many, "--emit", options & 16 ? "svg" : "summary", "p", "c", "s"); break;
     case 11: WORDS("run", "--units", many, "--workers", "1", "--budget", budget, "--predict", guess, "--emit", options & 16 ? "svg" : "summary", "p", "c"); break;
@@ -442,6 +610,7 @@ static void one_job(unsigned job, unsigned options) {
         else WORDS("replay", "--least", "--units", many, "p", "s");
     }
     call(&a, job);
+    if (is_asked("json") && a.out[0] == '{') test_json(&a);
 }
 
 int LLVMFuzzerInitialize(int *count_of, char ***given) {
@@ -453,13 +622,17 @@ int LLVMFuzzerInitialize(int *count_of, char ***given) {
     main_thread = pthread_self();
     if (getenv("HOSTILE_PLANT")) sscanf(getenv("HOSTILE_PLANT"), "%c,%d", &planted_kind, &planted_job);
     atexit(tell);
+    threads_inline = 1;
+    WORDS("replay", "--help");
+    call(&a, 6);
+    has_json = strstr(a.out, "json") != 0;
     return 0;
 }
 
 int LLVMFuzzerTestOneInput(const uint8_t *data, size_t size) {
     if (cases++ % 1024 == 1023) tell();
     if (size < 2) return 0;
-    unsigned job = data[0] % JOBS, options = data[1];
+    unsigned job = data[0] % 128 % JOBS, options = data[1];
     cut_reads = data[0] >> 7;
     threads_inline = 1;
     Text parts[4] = {{0}};
@@ -486,8 +659,8 @@ int LLVMFuzzerTestOneInput(const uint8_t *data, size_t size) {
             if (*line) *line++ = 0;
             words[word_count++] = word;
         }
-        /* Threads take long where other work is beside them: most runs get no certificate, and so make none. */
-        threads_inline = word_count < 2 || strcmp(words[1], "run");
+        /* Threads take long where other work is beside them, and so do sixteen runs: most runs get no certificate, and so make none. */
+        threads_inline = word_count < 2 || (strcmp(words[1], "run") && strcmp(words[1], "curve"));
         if (!threads_inline && files[0].size % 32) {
             files[1].size = 0;
             for (size_t k = 2; k < word_count; k++) if (!strcmp(words[k], "--least")) files[0].size = 0;

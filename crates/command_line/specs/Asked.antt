@@ -20,12 +20,13 @@ use Rattle.jobs.specs.declared.job.Emit.{Emit}
 use Rattle.jobs.specs.declared.job.Format.{Format}
 use Rattle.jobs.specs.declared.job.ReplayEmit.{ReplayEmit}
 use Rattle.jobs.specs.declared.job.RunEmit.{RunEmit}
+use Rattle.jobs.specs.declared.job.CurveEmit.{CurveEmit}
 use Rattle.jobs.specs.declared.job.Schedule.{Schedule}
 use Rattle.jobs.specs.declared.job.Prediction.{Prediction}
 use Rattle.jobs.specs.declared.job.Job.{Job}
 use Rattle.jobs.specs.declared.job.Job.TheVariants.{Seq, Print, Annotate, Explain, Check, Replay, Run, Curve}
 use Rattle.jobs.specs.declared.job.Paths.{Paths}
-use Rattle.command_line.specs.Words.{emit_of, format_of, prediction_of, replay_emit_of, run_emit_of, schedule_of}
+use Rattle.command_line.specs.Words.{curve_emit_of, emit_of, format_of, prediction_of, replay_emit_of, run_emit_of, schedule_of}
 use Rattle.command_line.specs.CommandLine.{command_line}
 use Rattle.command_line.specs.declared.words.UsageFault.{UsageFault}
 use Rattle.command_line.specs.declared.words.UsageFault.TheVariants.{Words, Predict, Emit as EmitFault, OutOfMemory}
@@ -60,6 +61,9 @@ run_emit_in values = option_and_then run_emit_of (first_of (codes "emit") values
 
 abbrev pub replay_emit_in : List Row → Option ReplayEmit
 replay_emit_in values = option_and_then replay_emit_of (first_of (codes "emit") values)
+
+abbrev pub curve_emit_in : List Row → Option CurveEmit
+curve_emit_in values = option_and_then curve_emit_of (first_of (codes "emit") values)
 
 -- an option without a value is given
 abbrev pub is_given : Text → List Row → Bool
@@ -114,9 +118,10 @@ Gives name values (Run source schedule units workers budget predict emit) = (nam
     × (workers ≡ unwrap_or (number_at (codes "workers") values) units)
     × (number_at (codes "budget") values ≡ Some budget)
     × (predict_in values ≡ Some predict) × (run_emit_in values ≡ Some emit)
-Gives name values (Curve source units budget predict) = (name ≡ codes "curve")
+Gives name values (Curve source units budget predict emit) = (name ≡ codes "curve")
     × IsSource (codes "certificate") values source × (number_at (codes "units") values ≡ Some units)
     × (number_at (codes "budget") values ≡ Some budget) × (predict_in values ≡ Some predict)
+    × (curve_emit_in values ≡ Some emit)
 
 -- where the script stands: without a certificate, in its place
 abbrev pub place_of_script : Job → Text
@@ -154,6 +159,7 @@ Refuses name values Predict =
 Refuses name values EmitFault = ((name ≡ codes "annotate") × (emit_in values ≡ None))
     ⊎ ((name ≡ codes "replay") × Fits (codes "script") values × (replay_emit_in values ≡ None))
     ⊎ ((name ≡ codes "run") × Fits (codes "certificate") values × IsSome (schedule_in values) × IsSome (predict_in values) × (run_emit_in values ≡ None))
+    ⊎ ((name ≡ codes "curve") × Fits (codes "certificate") values × IsSome (predict_in values) × (curve_emit_in values ≡ None))
 Refuses name values fault = IsNoJob fault
     ⊎ ((name ≡ codes "explain") × IsNoFormat values fault)
     ⊎ ((name ≡ codes "check") × IsMisfit (codes "certificate") values fault)

@@ -111,7 +111,7 @@ run = subcommand (codes "run") (program ∷ free_certificate ∷ least ∷ sched
 
 abbrev pub curve : Shape
 curve = subcommand (codes "curve") (program ∷ free_certificate ∷ least ∷ most_units ∷ budget
-    ∷ word (codes "predict") (codes "first") ∷ [])
+    ∷ word (codes "predict") (codes "first") ∷ word (codes "emit") (codes "table") ∷ [])
 
 -- the program, which has a version, and of which a subcommand is wanted
 abbrev pub program_name : Shape

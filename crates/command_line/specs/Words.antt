@@ -9,9 +9,11 @@ use Rattle.jobs.specs.declared.job.Emit.TheVariants.{Text, Cert, Keep, Marks}
 use Rattle.jobs.specs.declared.job.Format.{Format}
 use Rattle.jobs.specs.declared.job.Format.TheVariants as format
 use Rattle.jobs.specs.declared.job.RunEmit.{RunEmit}
-use Rattle.jobs.specs.declared.job.RunEmit.TheVariants.{Report, Script, Summary, Picture, Trace}
+use Rattle.jobs.specs.declared.job.RunEmit.TheVariants.{Report, Script, Summary, Picture, Trace, Json}
 use Rattle.jobs.specs.declared.job.ReplayEmit.{ReplayEmit}
 use Rattle.jobs.specs.declared.job.ReplayEmit.TheVariants as replay
+use Rattle.jobs.specs.declared.job.CurveEmit.{CurveEmit}
+use Rattle.jobs.specs.declared.job.CurveEmit.TheVariants as curve
 use Rattle.jobs.specs.declared.job.Schedule.{Schedule}
 use Rattle.jobs.specs.declared.job.Schedule.TheVariants.{Threads, Steps}
 use Rattle.jobs.specs.declared.job.Prediction.{Prediction}
@@ -71,7 +73,8 @@ run_emit_of text =
     else (if bytes_eq text (codes "script") then Some Script
     else (if bytes_eq text (codes "summary") then Some Summary
     else (if bytes_eq text (codes "svg") then Some Picture
-    else (if bytes_eq text (codes "trace") then Some Trace else None))))
+    else (if bytes_eq text (codes "trace") then Some Trace
+    else (if bytes_eq text (codes "json") then Some Json else None)))))
 
 -- the value of `--emit` of `replay`
 abbrev pub replay_emit_of : List ℕ → Option ReplayEmit
@@ -79,4 +82,11 @@ replay_emit_of text =
     if bytes_eq text (codes "answers") then Some replay.Answers
     else (if bytes_eq text (codes "summary") then Some replay.Summary
     else (if bytes_eq text (codes "svg") then Some replay.Picture
-    else (if bytes_eq text (codes "trace") then Some replay.Trace else None)))
+    else (if bytes_eq text (codes "trace") then Some replay.Trace
+    else (if bytes_eq text (codes "json") then Some replay.Json else None))))
+
+-- the value of `--emit` of `curve`
+abbrev pub curve_emit_of : List ℕ → Option CurveEmit
+curve_emit_of text =
+    if bytes_eq text (codes "table") then Some curve.Table
+    else (if bytes_eq text (codes "svg") then Some curve.Picture else None)

@@ -157,7 +157,8 @@ first fault and its line:
 
 With `--emit summary` it writes a table instead of the answers and of how the run stands: that of
 `run --emit summary`, of the events that were allowed. With `--emit trace` it writes below each answer what
-the event changed. With `--least` it makes the certificate itself, that of `annotate --emit keep`.
+the event changed, and with `--emit json` the same for machines, an object of JSON on each line. With
+`--least` it makes the certificate itself, that of `annotate --emit keep`.
 
 For example:
   ./multiscalar replay --least --units 2 examples/count/program.s examples/count/script.events";
@@ -201,7 +202,8 @@ tasks overlap. It is no model of the time of a processor.
 With `--least` it makes the certificate itself, that of `annotate --emit keep`.
 
 With `--emit svg` it writes a picture of the run, a lane for each unit and a bar for each task on it. With
-`--emit trace` it writes each event and, below it, what it changed.
+`--emit trace` it writes each event and, below it, what it changed; with `--emit json` the same for machines,
+an object of JSON on each line.
 
 For example:
   ./multiscalar run --least examples/count/program.s
@@ -229,6 +231,9 @@ squashed or were dropped, how many in a hundred were of tasks that were squashed
 halted, trapped, unlisted (an address that is not listed) or out of budget; `run` says more. Numbers with
 decimals are rounded to the nearest.
 
+With `--emit svg` it draws a picture instead: for each run how many instructions retired for each step, and
+the share that was thrown away.
+
 The same words give the same table. It is no model of the time of a processor: an instruction is one step
 whatever it does, and so is a register that goes from one unit to the next.
 
@@ -236,7 +241,8 @@ The exit status is that of the first run that did not halt, else 0. With `--leas
 itself, that of `annotate --emit keep`.
 
 For example:
-  ./multiscalar curve --least --units 4 examples/count/program.s";
+  ./multiscalar curve --least --units 4 examples/count/program.s
+  ./multiscalar curve --least --emit svg examples/diamond/program.s > curve.svg";
 
 /// `--budget` of `curve`.
 pub const CURVE_BUDGET: &str = "How many events end a run, 1 to 1000000";
@@ -249,14 +255,18 @@ program as it stands) or marks (your own text with the proposed marks)";
 /// `--emit` of `replay`.
 pub const REPLAY_EMIT: &str =
     "What is written: answers (what the machine says of each event, and how it then stands), summary
-(how often each task was assigned, and how that ended), svg (the allowed events as a picture) or trace
-(each event with its answer and what it changed)";
+(how often each task was assigned, and how that ended), svg (the allowed events as a picture), trace (each
+event with its answer and what it changed) or json (the same in JSON, an object on each line)";
 
 /// `--emit` of `run`.
 pub const RUN_EMIT: &str =
     "What is written: report (the words that were put out, and how the run ended), script (the events
-of the run), summary (how often each task was assigned, and how that ended), svg (a picture) or trace
-(each event with what it changed)";
+of the run), summary (how often each task was assigned, and how that ended), svg (a picture), trace (each
+event with what it changed) or json (the same in JSON, an object on each line)";
+
+/// `--emit` of `curve`.
+pub const CURVE_EMIT: &str =
+    "What is written: table (a row for each run) or svg (the runs as a picture)";
 
 /// `--least`.
 pub const LEAST: &str = "Makes the least certificate of the program as it stands, in place of CERT";

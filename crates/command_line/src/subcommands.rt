@@ -298,5 +298,6 @@ fn curve<'a>(alloc: Global) -> Result<Command<'a>, AllocError>
         .arg(least(alloc))?
         .arg(most_units(alloc))?
         .arg(budget(alloc, help::CURVE_BUDGET))?
-        .arg(word(alloc, "predict", "HOW", help::PREDICT, "first"))
+        .arg(word(alloc, "predict", "HOW", help::PREDICT, "first"))?
+        .arg(word(alloc, "emit", "WHAT", help::CURVE_EMIT, "table"))
 }

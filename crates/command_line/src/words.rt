@@ -3,8 +3,8 @@ ghost use Rattle.std.specs.Prelude.{◌≡◌, ◌≤◌, ◌==◌, IfErr, IfOk,
 ghost use Rattle.std.specs.String.{string_bytes};
 ghost use Rattle.std.specs.List.{slice_split};
 ghost use Rattle.clap.specs.Words.{first_of};
-ghost use Rattle.command_line.specs.Asked.{AskFor, IsFaultOf, IsFrom, IsMisfit, IsNoFormat, IsNoJob, IsNoSchedule, IsOfKind, IsSource, Reads, is_given, emit_in, format_in, number_at, predict_in, replay_emit_in, run_emit_in, schedule_in, values_in};
-ghost use Rattle.command_line.specs.Words.{answer_of, answers_of, all_there, emit_of, format_of, prediction_of, replay_emit_of, run_emit_of, schedule_of};
+ghost use Rattle.command_line.specs.Asked.{AskFor, IsFaultOf, IsFrom, IsMisfit, IsNoFormat, IsNoJob, IsNoSchedule, IsOfKind, IsSource, Reads, is_given, curve_emit_in, emit_in, format_in, number_at, predict_in, replay_emit_in, run_emit_in, schedule_in, values_in};
+ghost use Rattle.command_line.specs.Words.{answer_of, answers_of, all_there, curve_emit_of, emit_of, format_of, prediction_of, replay_emit_of, run_emit_of, schedule_of};
 ghost use Rattle.jobs.specs.Files.{HasFilesOf, is_in_file};
 ghost use Rattle.command_line.specs.declared.words.UsageFault.TheVariants.{OutOfMemory, Predict, Emit as EmitFault};
 
@@ -13,7 +13,8 @@ use crate::subcommands::command;
 use clap::ArgMatches;
 use clap::error::ErrorKind;
 use jobs::job::{
-    CertificateSource, Emit, Format, Job, Paths, Prediction, ReplayEmit, RunEmit, Schedule,
+    CertificateSource, CurveEmit, Emit, Format, Job, Paths, Prediction, ReplayEmit, RunEmit,
+    Schedule,
 };
 use jobs::ranges::{Answers, Budget, MOST_ANSWER, MOST_ANSWERS, Units, Workers};
 use std::alloc::{AllocError, Global};
@@ -31,7 +32,8 @@ pub enum UsageFault {
     #[error("2 Predict")]
     Predict,
     /// 3: the value of `--emit` is none of `text`, `cert`, `keep` and `marks`; for `replay` none of `answers`,
-    /// `summary`, `svg` and `trace`; for `run` none of `report`, `script`, `summary`, `svg` and `trace`.
+    /// `summary`, `svg`, `trace` and `json`; for `run` none of `report`, `script`, `summary`, `svg`, `trace` and
+    /// `json`; for `curve` neither `table` nor `svg`.
     #[error("3 Emit")]
     Emit,
     /// 4: memory ran out.
@@ -384,14 +386,16 @@ fn read_curve(alloc: Global, values: &ArgMatches<'_>) -> Result<(Job, Paths), Us
     let certificate = read_source(alloc, values, "certificate")?;
     let units = read_units(alloc, values)?;
     let budget = read_budget(alloc, values)?;
-    let Some(predict) = read_predict(alloc, values)? else {
-        return Err(UsageFault::Predict);
-    };
+    let predict = read_predict(alloc, values)?.ok_or(UsageFault::Predict)?;
+    let emit = text(values, "emit")
+        .and_then(read_curve_emit)
+        .ok_or(UsageFault::Emit)?;
     let job = Job::Curve {
         certificate,
         units,
         budget,
         predict,
+        emit,
     };
     Ok((job, certified_paths(alloc, values, certificate)?))
 }
@@ -534,6 +538,7 @@ fn read_replay_emit(text: &str) -> Option<ReplayEmit>
         "summary" => Some(ReplayEmit::Summary),
         "svg" => Some(ReplayEmit::Picture),
         "trace" => Some(ReplayEmit::Trace),
+        "json" => Some(ReplayEmit::Json),
         _ => None,
     }
 }
@@ -548,6 +553,18 @@ fn read_run_emit(text: &str) -> Option<RunEmit>
         "summary" => Some(RunEmit::Summary),
         "svg" => Some(RunEmit::Picture),
         "trace" => Some(RunEmit::Trace),
+        "json" => Some(RunEmit::Json),
+        _ => None,
+    }
+}
+
+// The value of `--emit` of `curve`.
+fn read_curve_emit(text: &str) -> Option<CurveEmit>
+    ensures { result ≡ curve_emit_of text.now }
+{
+    match text {
+        "table" => Some(CurveEmit::Table),
+        "svg" => Some(CurveEmit::Picture),
         _ => None,
     }
 }

@@ -4,3 +4,4 @@ pub mod LineWords
 pub mod EventsLoop
 pub mod WrittenLines
 pub mod WrittenRuns
+pub mod NamesApart

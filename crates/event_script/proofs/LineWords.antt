@@ -1,13 +1,11 @@
 -- The words of a line: a name stands among the names where its task stands, and four words are too many.
-use Rattle.std.proofs.Common.{◌≡◌, ℕ, ◌+◌, true, cond, not, ltb, List, [], ◌∷◌, length, Option, Some, None, Err, refl, sym, ◌∙◌, ap}
+use Rattle.std.proofs.Common.{◌≡◌, ℕ, ◌+◌, cond, not, ltb, List, [], ◌∷◌, length, Option, Some, None, Err, refl, sym, ◌∙◌, ap}
 use Rattle.std.specs.List.{slice_split, position, position_or_len}
 use Rattle.std.specs.Str.{bytes_eq}
-use Rattle.std.proofs.lemmas.Bool.{cond-true}
 use Rattle.std.proofs.lemmas.List.{length-map}
-use Rattle.task_descriptor.specs.Names.{is_name}
 use Rattle.task_descriptor.specs.declared.descriptor.Descriptor.{Descriptor}
 use Rattle.event_script.specs.declared.fault.LineFault.TheVariants.{NoForm}
-use Rattle.event_script.specs.EventScript.{is_space, if_task, assigned, event_of, event_in, names_in}
+use Rattle.event_script.specs.EventScript.{is_space, event_of, event_in, names_in}
 use Rattle.event_script.proofs.Cuts.{split_cons}
 
 place_named : (name : List ℕ) (tasks : List Descriptor) → position_or_len (λ other. bytes_eq other name) (names_in tasks) ≡ position_or_len (λ task. bytes_eq task.name name) tasks
@@ -18,12 +16,6 @@ pub position_named : (name : List ℕ) (tasks : List Descriptor) → position (�
 position_named name tasks =
     let at = λ (n : ℕ). λ (long : ℕ). cond {A = Option ℕ} (ltb n long) (Some n) None in
     ap (λ (n : ℕ). at n (length (names_in tasks))) (place_named name tasks) ∙ ap (at (position_or_len (λ task. bytes_eq task.name name) tasks)) (length-map tasks (λ (task : Descriptor). task.name))
-
--- a name is assigned where its task stands
-pub assigned_at : (tasks : List Descriptor) (name : List ℕ) (at : Option ℕ) → is_name name ≡ true → at ≡ position (λ task. bytes_eq task.name name) tasks → if_task at ≡ assigned (names_in tasks) name
-assigned_at tasks name at named found =
-    ap if_task (found ∙ sym (position_named name tasks))
-    ∙ sym (cond-true (is_name name) (if_task (position (λ other. bytes_eq other name) (names_in tasks))) (Err NoForm) named)
 
 -- three words, and more behind them
 pub four_words : (names : List (List ℕ)) (line verb operands first second third rest : List ℕ)

@@ -4,6 +4,7 @@
 pub mod fault;
 mod fault_text;
 pub mod reading;
+mod task_names;
 #[cfg(test)]
 mod tests;
 pub mod writing;

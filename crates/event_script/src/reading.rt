@@ -2,14 +2,13 @@
 
 ghost use Rattle.std.specs.Prelude.{◌≡◌, ◌+◌, ◌^◌, ◌<◌, ◌≤◌, ◌==◌, ◌⊎◌, [], ◌∷◌, length, position, Ok, Err, MatchOption, MatchResult, OnSome, IfSome};
 ghost use Rattle.std.specs.List.{slice_split};
-ghost use Rattle.std.specs.Str.{bytes_eq};
-ghost use Rattle.event_script.specs.EventScript.{lines as lines_of, number_in, register_in, alone as alone_of, assigned as assigned_of, at_position as at_position_of, with_one as with_one_of, with_two as with_two_of, event_in, names_in, script_of};
+ghost use Rattle.event_script.specs.EventScript.{lines as lines_of, number_in, register_in, alone as alone_of, assigned as assigned_of, at_position as at_position_of, with_one as with_one_of, with_two as with_two_of, event_in, script_parse, script_of};
 
 use crate::fault::{LineFault, ScriptFault};
+use crate::task_names::TaskNames;
 use machine_events::event::Event;
 use mips_plain::number::Reg;
 use std::alloc::Global;
-use task_descriptor::descriptor::Descriptor;
 use task_descriptor::name::Name;
 use task_descriptor::program::Program;
 
@@ -81,22 +80,15 @@ fn alone(verb: &[u8]) -> Result<Event, LineFault>
     }
 }
 
-fn task_of(tasks: &[Descriptor], name: &[u8]) -> Option<usize>
-    ensures task { result ≡ position (λ task. bytes_eq task.name name.now) tasks.now }
-    ensures within { IfSome result (λ task. task < length tasks.now) }
-{
-    tasks.iter().position(|task| task.name.bytes() == name)
-}
-
 /// The assignment of the task of this name.
-fn assigned(tasks: &[Descriptor], name: &[u8]) -> Result<Event, LineFault>
-    requires { length tasks.now ≤ 1024 }
-    ensures { result ≡ assigned_of (names_in tasks.now) name.now }
+fn assigned(names: &TaskNames, name: &[u8]) -> Result<Event, LineFault>
+    requires { length names.now ≤ 1024 }
+    ensures { result ≡ assigned_of names.now name.now }
 {
-    if Name::new(name).is_none() {
+    let Some(name) = Name::new(name) else {
         return Err(LineFault::NoForm);
-    }
-    match task_of(tasks, name) {
+    };
+    match names.number_of(&name) {
         Some(task) => Ok(Event::Assign(task as u32)),
         None => Err(LineFault::NoTask),
     }
@@ -118,12 +110,12 @@ fn at_position(verb: &[u8], k: u32) -> Result<Event, LineFault>
 }
 
 /// The event of a verb and one word behind it.
-fn with_one(tasks: &[Descriptor], verb: &[u8], word: &[u8]) -> Result<Event, LineFault>
-    requires { length tasks.now ≤ 1024 }
-    ensures { result ≡ with_one_of (names_in tasks.now) verb.now word.now }
+fn with_one(names: &TaskNames, verb: &[u8], word: &[u8]) -> Result<Event, LineFault>
+    requires { length names.now ≤ 1024 }
+    ensures { result ≡ with_one_of names.now verb.now word.now }
 {
     if verb == b"assign".as_slice() {
-        return assigned(tasks, word);
+        return assigned(names, word);
     }
     match number_of(word) {
         Some(k) => at_position(verb, k),
@@ -145,15 +137,15 @@ fn with_two(verb: &[u8], k: u32, register: Reg) -> Result<Event, LineFault>
 }
 
 /// The event that a line spells, which is given without its LF.
-fn event_of(tasks: &[Descriptor], line: &[u8]) -> Result<Event, LineFault>
-    requires { length tasks.now ≤ 1024 }
-    ensures { result ≡ event_in (names_in tasks.now) line.now }
+fn event_of(names: &TaskNames, line: &[u8]) -> Result<Event, LineFault>
+    requires { length names.now ≤ 1024 }
+    ensures { result ≡ event_in names.now line.now }
 {
     let Some((verb, operands)) = cut(b' ', line) else {
         return alone(line);
     };
     let Some((first, second)) = cut(b' ', operands) else {
-        return with_one(tasks, verb, operands);
+        return with_one(names, verb, operands);
     };
     if let Some(_) = cut(b' ', second) {
         return Err(LineFault::NoForm);
@@ -164,6 +156,28 @@ fn event_of(tasks: &[Descriptor], line: &[u8]) -> Result<Event, LineFault>
     }
 }
 
+/// The events that a text spells for tasks of these names, in order, or its first line that spells none.
+fn events_of(alloc: Global, text: &[u8], names: &TaskNames) -> Result<Vec<Event>, ScriptFault>
+    requires { length names.now ≤ 1024 }
+    ensures { MatchResult result
+        (λ events. script_parse text.now names.now ≡ Ok events.items)
+        (λ fault. (fault ≡ ScriptFault.OutOfMemory) ⊎ (script_parse text.now names.now ≡ Err fault)) }
+{
+    let mut events = Vec::new(alloc);
+    let mut rest = text;
+    let mut line = 0;
+    while !rest.is_empty() {
+        line += 1;
+        let (first, others) = next_line(rest);
+        match event_of(names, first) {
+            Ok(event) => events.push(event)?,
+            Err(fault) => return Err(fault.at(line)),
+        }
+        rest = others;
+    }
+    Ok(events)
+}
+
 /// The events that a text spells for the tasks of a program, in order. Else the first line that spells
 /// none: `Line`, or `TaskName` where it assigns a task that is not there. `OutOfMemory` may come at any
 /// point.
@@ -172,18 +186,6 @@ pub fn read(alloc: Global, text: &[u8], program: &Program) -> Result<Vec<Event>,
         (λ events. script_of program.now text.now ≡ Ok events.items)
         (λ fault. (fault ≡ ScriptFault.OutOfMemory) ⊎ (script_of program.now text.now ≡ Err fault)) }
 {
-    let tasks = program.tasks();
-    let mut events = Vec::new(alloc);
-    let mut rest = text;
-    let mut line = 0;
-    while !rest.is_empty() {
-        line += 1;
-        let (first, others) = next_line(rest);
-        match event_of(tasks, first) {
-            Ok(event) => events.push(event)?,
-            Err(fault) => return Err(fault.at(line)),
-        }
-        rest = others;
-    }
-    Ok(events)
+    let names = TaskNames::of(alloc, program.tasks())?;
+    events_of(alloc, text, &names)
 }

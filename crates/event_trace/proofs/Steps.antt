@@ -1,6 +1,8 @@
 -- An event on two machines that are abreast, and one entry more of the text.
-use Rattle.std.proofs.Common.{◌≡◌, ℕ, suc, ◌+◌, ◌<◌, ◌≤◌, List, [], ◌∷◌, ◌++◌, inl, inr, length, drop, get_or, Result, Ok, Err, refl, sym, ap, ◌∙◌, arith, add-one, append_assoc, append-nil, length-append, drop-cons}
+use Rattle.std.proofs.Common.{◌≡◌, ℕ, suc, ◌+◌, ◌<◌, ◌≤◌, List, [], ◌∷◌, ◌++◌, inl, inr, length, drop, get_or, Result, Ok, Err, refl, sym, ap, subst, ◌∙◌, arith, add-one, append_assoc, append-nil, length-append, drop-cons}
 use Rattle.std.proofs.lemmas.List.{drop_all}
+use Rattle.std.specs.declared.alloc.Global.{Global}
+use Rattle.std.specs.declared.vec.Vec.{Vec}
 use Rattle.task_descriptor.specs.Listing.{Listing}
 use Rattle.machine_model.specs.Machine.{State}
 use Rattle.machine_model.specs.Laws.{NextIsAfter}
@@ -13,9 +15,12 @@ use Rattle.sequencer.specs.Seen.{MachineView, Applies, IsAnswered, SameRing, ans
 use Rattle.source_map.specs.declared.position.Position.{Position}
 use Rattle.event_trace.specs.declared.change.Change.{Change}
 use Rattle.event_trace.specs.Changes.{changes_of}
+use Rattle.event_trace.specs.declared.told.Told.{Told}
+use Rattle.event_trace.specs.declared.told.Told.TheVariants as told
 use Rattle.event_trace.specs.TraceText.{taken_text, refused_text}
-use Rattle.event_trace.specs.Entries.{count_behind, entries_from, entry_text, state_behind}
-use Rattle.event_trace.specs.Following.{IsAbreast}
+use Rattle.event_trace.specs.Entries.{Tells, count_behind, entries_from, state_behind}
+use Rattle.event_trace.specs.Following.{GoesOn, IsAbreast}
+use Rattle.event_trace.specs.Trace.{entry_text, told_text}
 
 -- machines that are abreast answer alike
 answers_alike : (m n : MachineView) (e : Event) → IsAbreast m n → answer_to n e ≡ answer_to m e
@@ -58,46 +63,81 @@ stays_abreast law p m m' n n' e over abreast mine my_ring other its_ring = recor
   count = one_more n n' e other ∙ ap (λ (k : ℕ). suc k) abreast.count ∙ sym (one_more m m' e mine);
 }
 
+-- what is told of an event
+pub tells_taken : (p : Listing) (s s' : State) (e : Event) (a : Result (Unit {0}) Refused) (changes : Vec Change Global)
+    → a ≡ Ok tt → s' ≡ after p s e → changes.items ≡ changes_of p s e s' → Tells p s e a (told.Taken changes)
+tells_taken p s s' e a changes is lands changed = rw is (changed ∙ ap (λ (t : State). changes_of p s e t) lands)
+
+pub tells_refused : (p : Listing) (s : State) (e : Event) (a : Result (Unit {0}) Refused) (why : Refused)
+    → a ≡ Err why → Tells p s e a (told.Refused why)
+tells_refused p s e a why is = rw is refl
+
+-- how a machine goes on
+pub goes_on_taken : NextIsAfter → (m m' : MachineView) (e : Event) → answer_to m e ≡ Ok tt → Applies m e m' → SameRing m m' → GoesOn m e m'
+goes_on_taken law m m' e is applies ring = record {
+  state = lands law m.accepted.program m m' e refl applies ∙ ap (λ (x : Result (Unit {0}) Refused). state_behind m.accepted.program (state m) e x) (sym is);
+  count = counts m m' e (answer_to m e) is applies;
+  kept = ring;
+}
+
+pub goes_on_refused : (m : MachineView) (e : Event) (why : Refused) → answer_to m e ≡ Err why → GoesOn m e m
+goes_on_refused m e why is = record {
+  state = ap (λ (x : Result (Unit {0}) Refused). state_behind m.accepted.program (state m) e x) (sym is);
+  count = ap (λ (x : Result (Unit {0}) Refused). count_behind (length m.history) x) (sym is);
+  kept = record { accepted = refl; units = refl };
+}
+
 -- the text with an entry more
-pub told_allowed : (p : Listing) (places : List Position) (number : ℕ) (s s' : State) (e : Event) (a : Result (Unit {0}) Refused) (changes : List Change) (old new : List ℕ)
-    → a ≡ Ok tt → s' ≡ after p s e → changes ≡ changes_of p s e s' → new ≡ old ++ taken_text p places number e changes
-    → new ≡ old ++ entry_text p places number s e a
-told_allowed p places number s s' e a changes old new is lands told written =
-    written
-    ∙ ap (λ (cs : List Change). old ++ taken_text p places number e cs) (told ∙ ap (λ (t : State). changes_of p s e t) lands)
-    ∙ ap (λ (x : Result (Unit {0}) Refused). old ++ entry_text p places number s e x) (sym is)
+entry_told : (p : Listing) (places : List Position) (number : ℕ) (s : State) (e : Event) (a : Result (Unit {0}) Refused) (t : Told)
+    → Tells p s e a t → told_text p places number e t ≡ entry_text p places number s e a
+entry_told p places number s e (Ok done) (told.Taken changes) is = ap (λ (cs : List Change). taken_text p places number e cs) is
+entry_told p places number s e (Err why) (told.Refused refusal) is = ap (λ (r : Refused). refused_text p number e r) is
+entry_told p places number s e (Ok done) (told.Refused refusal) is = absurd is
+entry_told p places number s e (Err why) (told.Taken changes) is = absurd is
 
-pub told_refused : (p : Listing) (places : List Position) (number : ℕ) (s : State) (e : Event) (a : Result (Unit {0}) Refused) (why : Refused) (old new : List ℕ)
-    → a ≡ Err why → new ≡ old ++ refused_text p number e why → new ≡ old ++ entry_text p places number s e a
-told_refused p places number s e a why old new is written =
-    written ∙ ap (λ (x : Result (Unit {0}) Refused). old ++ entry_text p places number s e x) (sym is)
-
--- what is told and what is left give what there was to tell
-pub entries_more : (p : Listing) (places : List Position) (units i n n' : ℕ) (s s' : State) (events : List Event) (e : Event) (a : Result (Unit {0}) Refused) (told told' all : List ℕ)
-    → i < length events → e ≡ get_or events i e → a ≡ answer p units s n e
-    → told' ≡ told ++ entry_text p places (i + 1) s e a → s' ≡ state_behind p s e a → n' ≡ count_behind n a
-    → told ++ entries_from p places units (i + 1) n s (drop i events) ≡ all
-    → told' ++ entries_from p places units (i + 1 + 1) n' s' (drop (i + 1) events) ≡ all
-entries_more p places units i n n' s s' events e a told told' all within there answered entry behind counted before =
-    let b = answer p units s n e in
-    let rest = drop (i + 1) events in
-    let cut : drop i events ≡ e ∷ rest =
-    drop-cons events i e within ∙ ap (λ (k : ℕ). get_or events i e ∷ drop k events) (sym (add-one i)) ∙ ap (λ (x : Event). x ∷ rest) (sym there) in
-    ap (λ (t : List ℕ). t ++ entries_from p places units (i + 1 + 1) n' s' rest) (entry ∙ ap (λ (x : Result (Unit {0}) Refused). told ++ entry_text p places (i + 1) s e x) answered)
-    ∙ ap (λ (k : ℕ). (told ++ entry_text p places (i + 1) s e b) ++ entries_from p places units k n' s' rest) (add-one (i + 1))
-    ∙ ap (λ (k : ℕ). (told ++ entry_text p places (i + 1) s e b) ++ entries_from p places units (suc (i + 1)) k s' rest) (counted ∙ ap (λ (x : Result (Unit {0}) Refused). count_behind n x) answered)
-    ∙ ap (λ (t : State). (told ++ entry_text p places (i + 1) s e b) ++ entries_from p places units (suc (i + 1)) (count_behind n b) t rest) (behind ∙ ap (λ (x : Result (Unit {0}) Refused). state_behind p s e x) answered)
-    ∙ append_assoc told (entry_text p places (i + 1) s e b) (entries_from p places units (suc (i + 1)) (count_behind n b) (state_behind p s e b) rest)
-    ∙ ap (λ (es : List Event). told ++ entries_from p places units (i + 1) n s es) (sym cut)
-    ∙ before
-
--- behind the last event nothing is left
-pub all_told : (p : Listing) (places : List Position) (units number n i : ℕ) (s : State) (events : List Event) (told all : List ℕ)
-    → length events ≤ i → told ++ entries_from p places units number n s (drop i events) ≡ all → told ≡ all
-all_told p places units number n i s events told all behind is =
-    sym (append-nil told) ∙ ap (λ (es : List Event). told ++ entries_from p places units number n s es) (sym (drop_all i events behind)) ∙ is
+pub entry_written : (p q : Listing) (places : List Position) (number : ℕ) (s : State) (e : Event) (a : Result (Unit {0}) Refused) (t : Told) (old new : List ℕ)
+    → q ≡ p → Tells q s e a t → new ≡ old ++ told_text p places number e t → new ≡ old ++ entry_text p places number s e a
+entry_written p q places number s e a t old new over tells written =
+    written ∙ ap (λ (text : List ℕ). old ++ text) (entry_told p places number s e a t (subst (λ (r : Listing). Tells r s e a t) over tells))
 
 -- where two machines run one program on as many units, they answer alike
 pub answers_by : (p : Listing) (units : ℕ) (m : MachineView) (e : Event) → m.accepted.program ≡ p → units_of m ≡ units → answer_to m e ≡ answer p units (state m) (length m.history) e
 answers_by p units m e over ring =
     ap (λ (q : Listing). answer q (units_of m) (state m) (length m.history) e) over ∙ ap (λ (k : ℕ). answer p k (state m) (length m.history) e) ring
+
+-- what is told and what is left give what there was to tell
+pub entries_more : (tell : ℕ → State → Event → Result (Unit {0}) Refused → List ℕ) (p : Listing) (units i n n' : ℕ) (s s' : State) (events : List Event) (e : Event) (a : Result (Unit {0}) Refused) (told told' all : List ℕ)
+    → i < length events → e ≡ get_or events i e → a ≡ answer p units s n e
+    → told' ≡ told ++ tell (i + 1) s e a → s' ≡ state_behind p s e a → n' ≡ count_behind n a
+    → told ++ entries_from tell p units (i + 1) n s (drop i events) ≡ all
+    → told' ++ entries_from tell p units (i + 1 + 1) n' s' (drop (i + 1) events) ≡ all
+entries_more tell p units i n n' s s' events e a told told' all within there answered entry behind counted before =
+    let b = answer p units s n e in
+    let rest = drop (i + 1) events in
+    let one = told ++ tell (i + 1) s e b in
+    let cut : drop i events ≡ e ∷ rest =
+    drop-cons events i e within ∙ ap (λ (k : ℕ). get_or events i e ∷ drop k events) (sym (add-one i)) ∙ ap (λ (x : Event). x ∷ rest) (sym there) in
+    ap (λ (t : List ℕ). t ++ entries_from tell p units (i + 1 + 1) n' s' rest) (entry ∙ ap (λ (x : Result (Unit {0}) Refused). told ++ tell (i + 1) s e x) answered)
+    ∙ ap (λ (k : ℕ). one ++ entries_from tell p units k n' s' rest) (add-one (i + 1))
+    ∙ ap (λ (k : ℕ). one ++ entries_from tell p units (suc (i + 1)) k s' rest) (counted ∙ ap (λ (x : Result (Unit {0}) Refused). count_behind n x) answered)
+    ∙ ap (λ (t : State). one ++ entries_from tell p units (suc (i + 1)) (count_behind n b) t rest) (behind ∙ ap (λ (x : Result (Unit {0}) Refused). state_behind p s e x) answered)
+    ∙ append_assoc told (tell (i + 1) s e b) (entries_from tell p units (suc (i + 1)) (count_behind n b) (state_behind p s e b) rest)
+    ∙ ap (λ (es : List Event). told ++ entries_from tell p units (i + 1) n s es) (sym cut)
+    ∙ before
+
+-- the same of a machine that goes on
+pub entries_on : (tell : ℕ → State → Event → Result (Unit {0}) Refused → List ℕ) (p : Listing) (units i : ℕ) (m m' : MachineView) (events : List Event) (e : Event) (told told' all : List ℕ)
+    → m.accepted.program ≡ p → units_of m ≡ units → GoesOn m e m' → i < length events → e ≡ get_or events i e
+    → told' ≡ told ++ tell (i + 1) (state m) e (answer_to m e)
+    → told ++ entries_from tell p units (i + 1) (length m.history) (state m) (drop i events) ≡ all
+    → told' ++ entries_from tell p units (i + 1 + 1) (length m'.history) (state m') (drop (i + 1) events) ≡ all
+entries_on tell p units i m m' events e told told' all over ring on within there entry before =
+    let behind = on.state ∙ ap (λ (q : Listing). state_behind q (state m) e (answer_to m e)) over in
+    entries_more tell p units i (length m.history) (length m'.history) (state m) (state m') events e (answer_to m e) told told' all
+    within there (answers_by p units m e over ring) entry behind on.count before
+
+-- behind the last event nothing is left
+pub all_told : (tell : ℕ → State → Event → Result (Unit {0}) Refused → List ℕ) (p : Listing) (units number n i : ℕ) (s : State) (events : List Event) (told all : List ℕ)
+    → length events ≤ i → told ++ entries_from tell p units number n s (drop i events) ≡ all → told ≡ all
+all_told tell p units number n i s events told all behind is =
+    sym (append-nil told) ∙ ap (λ (es : List Event). told ++ entries_from tell p units number n s es) (sym (drop_all i events behind)) ∙ is

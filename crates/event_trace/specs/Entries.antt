@@ -1,6 +1,6 @@
--- The trace of some events (own choice): the model's answer to each, and what it changed between the states
+-- Events one after the other (own choice): the model's answer to each, and what it changed between the states
 -- before and behind it.
-use Rattle.std.specs.Prelude.{ℕ, suc, List, [], ◌∷◌, ◌++◌, Result, Ok, Err}
+use Rattle.std.specs.Prelude.{◌≡◌, ℕ, suc, List, [], ◌++◌, ◌∷◌, Result, Ok, Err}
 use Rattle.task_descriptor.specs.Listing.{Listing}
 use Rattle.machine_model.specs.Machine.{State}
 use Rattle.machine_model.specs.Answer.{after, answer}
@@ -9,8 +9,9 @@ use Rattle.machine_events.specs.declared.event.Refused.{Refused}
 use Rattle.source_map.specs.declared.position.Position.{Position}
 use Rattle.source_map.specs.Sources.{Sources, sources_of}
 use Rattle.annotated_asm.specs.declared.fault.AsmFault.{AsmFault}
+use Rattle.event_trace.specs.declared.told.Told.{Told}
+use Rattle.event_trace.specs.declared.told.Told.TheVariants as told
 use Rattle.event_trace.specs.Changes.{changes_of}
-use Rattle.event_trace.specs.TraceText.{taken_text, refused_text}
 
 -- where a program text has its instructions; nowhere if it is none
 abbrev pub places_in : Result Sources AsmFault → List Position
@@ -29,14 +30,16 @@ abbrev pub count_behind : ℕ → Result (Unit {0}) Refused → ℕ
 count_behind n (Ok done) = suc n
 count_behind n (Err why) = n
 
--- what is told of the event of a number in a state
-abbrev pub entry_text : Listing → List Position → (number : ℕ) → State → Event → Result (Unit {0}) Refused → List ℕ
-entry_text p places number s e (Ok done) = taken_text p places number e (changes_of p s e (after p s e))
-entry_text p places number s e (Err why) = refused_text p number e why
+-- what is told of an event in a state: by its answer, what it changed or why it was refused
+abbrev pub Tells : Listing → State → Event → Result (Unit {0}) Refused → Told → Type 0
+Tells p s e (Ok done) (told.Taken changes) = changes.items ≡ changes_of p s e (after p s e)
+Tells p s e (Err why) (told.Refused refusal) = refusal ≡ why
+Tells p s e answer other = ⊥
 
--- what is told of events from a state on, with n events allowed before them; the first has this number
-abbrev pub entries_from : Listing → List Position → (units number n : ℕ) → State → List Event → List ℕ
-entries_from p places units number n s [] = []
-entries_from p places units number n s (e ∷ es) =
-    entry_text p places number s e (answer p units s n e)
-    ++ entries_from p places units (suc number) (count_behind n (answer p units s n e)) (state_behind p s e (answer p units s n e)) es
+-- What is told of events from a state on, with n events allowed before them; the first has this number. `tell`
+-- says it of one event, by its number, the state before it and its answer.
+abbrev pub entries_from : (tell : ℕ → State → Event → Result (Unit {0}) Refused → List ℕ) → Listing → (units number n : ℕ) → State → List Event → List ℕ
+entries_from tell p units number n s [] = []
+entries_from tell p units number n s (e ∷ es) =
+    tell number s e (answer p units s n e)
+    ++ entries_from tell p units (suc number) (count_behind n (answer p units s n e)) (state_behind p s e (answer p units s n e)) es

@@ -1,6 +1,6 @@
 -- The text of a trace (own choice): each event, as a script says it, behind its number and with its answer;
 -- and under it what it changed, one change on a line, with the lines of the program text.
-use Rattle.std.specs.Prelude.{ℕ, List, [], ◌∷◌, ◌++◌, false, flat_map, slice_get, Option, Some, None, Result, Ok, Err, codes}
+use Rattle.std.specs.Prelude.{ℕ, List, [], ◌∷◌, ◌++◌, false, flat_map, slice_get, Option, Some, None, codes}
 use Rattle.std.specs.Fmt.{decimal, digits}
 use Rattle.mips_plain.specs.TrapText.{trap_text}
 use Rattle.task_descriptor.specs.Listing.{Listing, instruction_at}

@@ -109,8 +109,8 @@ fn write_change(
     writeln!(text, " = {word}")
 }
 
-/// The word at an offset, with zeros behind the bytes.
-fn word_at(bytes: &[u8], at: usize) -> u32
+/// The word at an offset of some bytes, little-endian, with zeros behind the bytes.
+pub fn word_at(bytes: &[u8], at: usize) -> u32
     requires { at < 2 ^ 32 }
     ensures { result ≡ number_at 4 (byte_of bytes.now) at }
 {

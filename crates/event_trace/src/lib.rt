@@ -3,9 +3,12 @@
 
 pub mod change;
 pub mod changes;
-mod ending;
+pub mod ending;
 mod instruction;
+pub mod places;
 mod registers;
 mod text;
+pub mod told;
 pub mod trace;
 pub mod unit_change;
+pub mod walk;

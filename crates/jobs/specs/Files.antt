@@ -18,7 +18,7 @@ has_certificate (Explain name certificate warnings format) = is_some certificate
 has_certificate (Check source workers) = is_in_file source
 has_certificate (Replay source units emit) = is_in_file source
 has_certificate (Run source schedule units workers budget predict emit) = is_in_file source
-has_certificate (Curve source units budget predict) = is_in_file source
+has_certificate (Curve source units budget predict emit) = is_in_file source
 has_certificate _ = false
 
 -- the job has an event script

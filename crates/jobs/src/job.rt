@@ -47,6 +47,8 @@ pub enum RunEmit {
     Picture,
     /// Each event of the history with what it changed.
     Trace,
+    /// The same in JSON, an object on each line, for machines.
+    Json,
 }
 
 /// What `replay` writes of a script.
@@ -60,6 +62,17 @@ pub enum ReplayEmit {
     Picture,
     /// Each event of the script with what the machine answers to it, and what it changed.
     Trace,
+    /// The same in JSON, an object on each line, for machines.
+    Json,
+}
+
+/// How `curve` lays out what its runs come to.
+#[derive(Clone, Copy, Debug, PartialEq, Eq)]
+pub enum CurveEmit {
+    /// A table with a row for each run.
+    Table,
+    /// A picture of the runs, in SVG.
+    Picture,
 }
 
 /// How `run` guesses the next task behind a running one (the paper, section 2.1, leaves it open).
@@ -135,6 +148,7 @@ pub enum Job {
         units: Units,
         budget: Budget,
         predict: Prediction,
+        emit: CurveEmit,
     },
 }
 

@@ -14,9 +14,12 @@ hundredths part whole = if nat_eq whole 0 then 0 else (100 * part + whole / 2) /
 abbrev pub decimals : (width : ℕ) → ℕ → List ℕ
 decimals width n = column (width - 3) (n / 100) ++ (codes "." ++ (decimal (n / 10 % 10) ++ decimal (n % 10)))
 
--- how many instructions retired in a step
+-- how many instructions retired in a step, in hundredths
+abbrev pub rate : Row → ℕ
+rate row = hundredths row.retired row.steps
+
 abbrev pub rate_text : Row → List ℕ
-rate_text row = decimals 10 (hundredths row.retired row.steps)
+rate_text row = decimals 10 (rate row)
 
 -- a run that still goes on is out of budget
 abbrev pub has_ended : Standing → Bool
@@ -29,9 +32,12 @@ abbrev pub speed_text : (one row : Row) → List ℕ
 speed_text one row = if has_ended one.standing && has_ended row.standing then decimals 10 (hundredths one.steps row.steps) else codes "         -"
 
 -- of the instructions of tasks that retired, were squashed or were dropped, how many in a hundred were of
--- tasks that were squashed or dropped
+-- tasks that were squashed or dropped, in hundredths
+abbrev pub share : Row → ℕ
+share row = hundredths (100 * row.wasted) (row.retired + row.wasted)
+
 abbrev pub wasted_text : Row → List ℕ
-wasted_text row = decimals 8 (hundredths (100 * row.wasted) (row.retired + row.wasted)) ++ codes "%"
+wasted_text row = decimals 8 (share row) ++ codes "%"
 
 -- how a run ended
 abbrev pub end_text : Standing → List ℕ

@@ -3,7 +3,7 @@
 ghost use Rattle.std.specs.Prelude.{◌≡◌, ◌<◌, ◌^◌, ◌++◌, IfOk, OnOk, flat_map};
 ghost use Rattle.std.specs.String.{string_bytes};
 ghost use Rattle.run_summary.specs.SummaryText.{column};
-ghost use Rattle.speed_curve.specs.TableText.{decimals, end_text, has_ended as has_ended_by, heading, hundredths as hundredths_of, rate_text, row_text, rows_text, speed_text, table_text, wasted_text};
+ghost use Rattle.speed_curve.specs.TableText.{decimals, end_text, has_ended as has_ended_by, heading, hundredths as hundredths_of, rate as rate_of, rate_text, row_text, rows_text, share as share_of, speed_text, table_text, wasted_text};
 
 use crate::row::Row;
 use machine_events::event::Standing;
@@ -71,8 +71,15 @@ fn write_row(text: &mut String, one: &Row, row: &Row) -> Result<(), AllocError>
 fn write_rate(text: &mut String, row: &Row) -> Result<(), AllocError>
     ensures { OnOk result (string_bytes text.new ≡ string_bytes text.old ++ rate_text row.now) }
 {
-    let rate = hundredths(u64::from(row.retired), u64::from(row.steps));
-    write_decimals(text, rate, 10)
+    write_decimals(text, rate(row), 10)
+}
+
+/// How many instructions retired in a step, in hundredths, rounded to the nearest; 0 where there was no step.
+pub fn rate(row: &Row) -> u64
+    ensures value { result ≡ rate_of row.now }
+    ensures few { result < 2 ^ 48 }
+{
+    hundredths(u64::from(row.retired), u64::from(row.steps))
 }
 
 /// Adds how many times as many steps the run on one unit took.
@@ -91,10 +98,17 @@ fn write_speed(text: &mut String, one: &Row, row: &Row) -> Result<(), AllocError
 fn write_wasted(text: &mut String, row: &Row) -> Result<(), AllocError>
     ensures { OnOk result (string_bytes text.new ≡ string_bytes text.old ++ wasted_text row.now) }
 {
-    let wasted = u64::from(row.wasted);
-    let share = hundredths(100 * wasted, u64::from(row.retired) + wasted);
-    write_decimals(text, share, 8)?;
+    write_decimals(text, share(row), 8)?;
     text.push_str("%")
+}
+
+/// Of the instructions of tasks that retired, were squashed or were dropped, how many in a hundred were of
+/// tasks that were squashed or dropped, in hundredths, rounded to the nearest; 0 where there were none.
+pub fn share(row: &Row) -> u64
+    ensures { result ≡ share_of row.now }
+{
+    let wasted = u64::from(row.wasted);
+    hundredths(100 * wasted, u64::from(row.retired) + wasted)
 }
 
 /// Whether a run ended before its budget did.
@@ -104,8 +118,8 @@ fn has_ended(standing: Standing) -> bool
     !matches!(standing, Standing::Running)
 }
 
-/// The words for how a run ended.
-fn end_of(standing: Standing) -> &'static str
+/// The words for how a run ended: `halted`, `trapped`, `unlisted`, or `out of budget` where it still goes on.
+pub fn end_of(standing: Standing) -> &'static str
     ensures { result.now ≡ end_text standing }
 {
     match standing {
@@ -120,7 +134,8 @@ fn end_of(standing: Standing) -> &'static str
 fn hundredths(part: u64, whole: u64) -> u64
     requires part { part < 2 ^ 40 }
     requires whole { whole < 2 ^ 40 }
-    ensures { result ≡ hundredths_of part whole }
+    ensures value { result ≡ hundredths_of part whole }
+    ensures few { result < 2 ^ 48 }
 {
     if whole == 0 {
         0

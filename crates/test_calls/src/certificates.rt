@@ -1,7 +1,7 @@
 //! The certificate of the program `count` in both spellings, every beginning of them, and texts that
 //! are none.
 
-use crate::count::program;
+use crate::given::{assembled, cert, expect_counted};
 use mask_certificate::certificate::{Cert, ListFault};
 use mask_certificate::fault::CertFault;
 use mask_certificate::reading::read;
@@ -10,44 +10,26 @@ use mips_plain::number::RegSet;
 use std::alloc::Global;
 use std::process::Abort;
 use task_descriptor::program::Program;
+use test_programs::certificates::{COUNT_CERTIFICATE, COUNT_CERTIFICATE_WIDE};
+use test_programs::programs::COUNT;
 
-const WIDE: &[u8] =
-    b"cert 2\ntask A\n0 0000000000000700\n1 0000000000000600\n2 0000000000000400\n3 0000000000000000\ntask B\n4 0000000000000000\n5 0000000000000000\n";
-
-/// The certificate of the program.
-pub(crate) const NARROW: &[u8] =
-    b"cert 1\ntask A\n0 00000700\n1 00000600\n2 00000400\n3 00000000\ntask B\n4 00000000\n5 00000000\n";
-
-/// The certificate that a text spells for the program.
-pub(crate) fn cert(rt: &impl Abort, alloc: Global, program: &Program, text: &[u8]) -> Cert {
-    let cert = read(alloc, text, program).ok();
-    cert.expect(rt, "a certificate")
-}
-
-fn mask(rt: &impl Abort, bits: u64) -> RegSet {
-    RegSet::from_bits(bits).expect(rt, "a mask")
-}
+const SPELLINGS: [&str; 2] = [COUNT_CERTIFICATE_WIDE, COUNT_CERTIFICATE];
 
 #[test]
 fn both_spellings_are_read(rt: HostRuntime) {
-    let program = program(&rt, rt.alloc());
-    for text in [WIDE, NARROW] {
-        let cert = cert(&rt, rt.alloc(), &program, text);
-        expect_lists(&rt, &cert);
-        let written = write(rt.alloc(), &cert, &program).ok();
-        let written = written.expect(&rt, "room for a text");
-        assert_eq!(rt; written.as_slice(), WIDE);
+    let program = assembled(&rt, rt.alloc(), COUNT);
+    for text in SPELLINGS {
+        expect_read(&rt, rt.alloc(), &program, text);
     }
 }
 
-fn expect_lists(rt: &impl Abort, cert: &Cert) {
-    for (task, length) in [(0, 4), (1, 2), (2, 0)] {
-        assert_eq!(rt; cert.list(task).len(), length, "task {task}");
-    }
-    for (task, index, bits) in [(0, 1, Some(0x600)), (1, 5, Some(0)), (0, 4, None)] {
-        let found = cert.mask(task, index).map(RegSet::bits);
-        assert_eq!(rt; found, bits, "task {task} index {index}");
-    }
+// Asserts that a text spells the certificate, which is written in its wide spelling.
+fn expect_read(rt: &impl Abort, alloc: Global, program: &Program, text: &str) {
+    let cert = cert(rt, alloc, program, text);
+    expect_counted(rt, &cert);
+    let written = write(alloc, &cert, program).ok();
+    let written = written.expect(rt, "room for a text");
+    assert_eq!(rt; written.as_slice(), COUNT_CERTIFICATE_WIDE.as_bytes());
 }
 
 /// What the first bytes of a text with 9 lines are: their lines, and whether the last one is whole.
@@ -66,9 +48,10 @@ fn answer_of_beginning(text: &[u8]) -> Option<CertFault> {
 
 #[test]
 fn beginnings_are_refused(rt: HostRuntime) {
-    let program = program(&rt, rt.alloc());
-    expect_beginnings(&rt, rt.alloc(), &program, WIDE);
-    expect_beginnings(&rt, rt.alloc(), &program, NARROW);
+    let program = assembled(&rt, rt.alloc(), COUNT);
+    for text in SPELLINGS {
+        expect_beginnings(&rt, rt.alloc(), &program, text.as_bytes());
+    }
 }
 
 // Asserts what is said of each beginning of a text.
@@ -80,27 +63,28 @@ fn expect_beginnings(rt: &impl Abort, alloc: Global, program: &Program, text: &[
     }
 }
 
-const BAD_TEXTS: [(&[u8], CertFault); 7] = [
-    (b"cert 1\ntask A\n", CertFault::MissingTask),
+const BAD_TEXTS: [(&str, CertFault); 7] = [
+    ("cert 1\ntask A\n", CertFault::MissingTask),
     (
-        b"cert 1\ntask A\n1 00000600\n1 00000600\ntask B\n",
+        "cert 1\ntask A\n1 00000600\n1 00000600\ntask B\n",
         CertFault::Shape,
     ),
-    (b"cert 2\ntask A\n0 00000700\n", CertFault::Line(3)),
-    (b"cert 3\ntask A\n", CertFault::Header),
-    (b"cert 1\ntask A\n0 00000700\n1 600\n", CertFault::Line(4)),
-    (b"cert 1\ntask C\n", CertFault::TaskName(2)),
+    ("cert 2\ntask A\n0 00000700\n", CertFault::Line(3)),
+    ("cert 3\ntask A\n", CertFault::Header),
+    ("cert 1\ntask A\n0 00000700\n1 600\n", CertFault::Line(4)),
+    ("cert 1\ntask C\n", CertFault::TaskName(2)),
     (
-        b"cert 2\ntask A\n0 0000000400000100\ntask B\n",
+        "cert 2\ntask A\n0 0000000400000100\ntask B\n",
         CertFault::Line(3),
     ),
 ];
 
 #[test]
 fn bad_texts_are_refused(rt: HostRuntime) {
-    let program = program(&rt, rt.alloc());
+    let program = assembled(&rt, rt.alloc(), COUNT);
     for (text, fault) in BAD_TEXTS {
-        assert_eq!(rt; read(rt.alloc(), text, &program).err(), Some(fault));
+        let answer = read(rt.alloc(), text.as_bytes(), &program).err();
+        assert_eq!(rt; answer, Some(fault));
     }
 }
 
@@ -108,7 +92,8 @@ fn bad_texts_are_refused(rt: HostRuntime) {
 fn list(rt: &impl Abort, alloc: Global, entries: &[(u32, u64)]) -> Vec<(u32, RegSet)> {
     let mut list = Vec::new(alloc);
     for (index, bits) in entries {
-        assert!(rt; list.push((*index, mask(rt, *bits))).is_ok());
+        let mask = RegSet::from_bits(*bits).expect(rt, "a mask");
+        assert!(rt; list.push((*index, mask)).is_ok());
     }
     list
 }
@@ -134,12 +119,36 @@ fn build(
 }
 
 #[test]
-fn lists_are_built(rt: HostRuntime) {
+fn a_list_is_built(rt: HostRuntime) {
     let cert = build(&rt, rt.alloc(), 0, &[(0, 1), (4095, 2)]).ok();
     let cert = cert.expect(&rt, "a certificate");
-    assert_eq!(rt; cert.mask(0, 4095), Some(mask(&rt, 2)));
-    let equal = build(&rt, rt.alloc(), 1, &[(3, 1), (3, 1)]).err();
-    assert_eq!(rt; equal, Some((2, ListFault::NotRising(1, 1))));
-    let beyond = build(&rt, rt.alloc(), 0, &[(4096, 1)]).err();
-    assert_eq!(rt; beyond, Some((1, ListFault::OutOfCode(0, 0))));
+    assert_eq!(rt; cert.mask(0, 4095).map(RegSet::bits), Some(2));
+}
+
+/// Lists, the last of which is wrong: how many are empty before it, its indices and masks, and the fault.
+struct BadLists<'a> {
+    empty: u32,
+    entries: &'a [(u32, u64)],
+    fault: (usize, ListFault),
+}
+
+const BAD_LISTS: [BadLists<'static>; 2] = [
+    BadLists {
+        empty: 1,
+        entries: &[(3, 1), (3, 1)],
+        fault: (2, ListFault::NotRising(1, 1)),
+    },
+    BadLists {
+        empty: 0,
+        entries: &[(4096, 1)],
+        fault: (1, ListFault::OutOfCode(0, 0)),
+    },
+];
+
+#[test]
+fn bad_lists_come_back(rt: HostRuntime) {
+    for lists in &BAD_LISTS {
+        let answer = build(&rt, rt.alloc(), lists.empty, lists.entries).err();
+        assert_eq!(rt; answer, Some(lists.fault));
+    }
 }

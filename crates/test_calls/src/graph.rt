@@ -1,49 +1,73 @@
 //! The edges and members of the program `count`.
 
-use crate::count::program;
+use crate::given::assembled;
 use std::process::Abort;
 use task_descriptor::program::Program;
 use task_graph::edges::{Next, exits_of, next_inside};
 use task_graph::members::members;
+use test_programs::programs::COUNT;
+
+const NOWHERE: Next = Next {
+    first: None,
+    second: None,
+};
+
+/// An instruction, its inner successors, and the exits that lead to known instructions.
+struct Edges {
+    index: u32,
+    inside: Next,
+    exits: Next,
+}
+
+const EDGES: [Edges; 3] = [
+    Edges {
+        index: 0,
+        inside: Next {
+            first: Some(1),
+            ..NOWHERE
+        },
+        exits: NOWHERE,
+    },
+    Edges {
+        index: 3,
+        inside: NOWHERE,
+        exits: Next {
+            first: Some(0),
+            second: Some(4),
+        },
+    },
+    Edges {
+        index: 5,
+        inside: NOWHERE,
+        exits: NOWHERE,
+    },
+];
 
 #[test]
 fn edges_of_count(rt: HostRuntime) {
-    let program = program(&rt, rt.alloc());
-    expect_inside(&rt, &program, 0, Some(1));
-    expect_inside(&rt, &program, 3, None);
-    expect_exits(&rt, &program, 3, Some(0), Some(4));
-    expect_exits(&rt, &program, 5, None, None);
+    let program = assembled(&rt, rt.alloc(), COUNT);
+    for edges in &EDGES {
+        edges.expect_of(&rt, &program);
+    }
 }
 
-// Asserts the inner successor of an instruction, which has one at most.
-fn expect_inside(rt: &impl Abort, program: &Program, index: u32, first: Option<u32>) {
-    assert!(rt; (index as usize) < program.code().len());
-    let second = None;
-    assert_eq!(rt; next_inside(program, index), Next { first, second });
+impl Edges {
+    // Asserts the edges in a program, none of which is unknown.
+    fn expect_of(&self, rt: &impl Abort, program: &Program) {
+        assert!(rt; (self.index as usize) < program.code().len());
+        assert_eq!(rt; next_inside(program, self.index), self.inside);
+        let exits = exits_of(program, self.index);
+        assert_eq!(rt; exits.direct, self.exits);
+        assert!(rt; !exits.indirect && !exits.falls_off);
+    }
 }
 
-// Asserts the exits of an instruction, which has no other ones than these.
-fn expect_exits(
-    rt: &impl Abort,
-    program: &Program,
-    index: u32,
-    first: Option<u32>,
-    second: Option<u32>,
-) {
-    assert!(rt; (index as usize) < program.code().len());
-    let exits = exits_of(program, index);
-    assert_eq!(rt; exits.direct, Next { first, second });
-    assert!(rt; !exits.indirect && !exits.falls_off);
-}
+const MEMBERS: [(u32, &[u32]); 3] = [(0, &[0, 1, 2, 3]), (1, &[4, 5]), (2, &[])];
 
 #[test]
 fn members_of_count(rt: HostRuntime) {
-    let program = program(&rt, rt.alloc());
-    for (task, indices) in [
-        (0, [0, 1, 2, 3].as_slice()),
-        (1, [4, 5].as_slice()),
-        (2, [].as_slice()),
-    ] {
+    let program = assembled(&rt, rt.alloc(), COUNT);
+    for (task, indices) in MEMBERS {
         let found = members(rt.alloc(), &program, task).ok();
         let found = found.expect(&rt, "room for members");
         assert_eq!(rt; found.as_slice(), indices, "task {task}");

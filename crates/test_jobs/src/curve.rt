@@ -1,9 +1,10 @@
 //! `curve`: what runs in steps come to on 1, 2, 3 units and more. The steps on 1, 2 and 4 units were counted by
 //! hand (`test_steps`). The other numbers are those of a model that shares nothing with the program
-//! (`fuzz/curve.py`).
+//! (`fuzz/curve.py`), and so are the pictures (`fuzz/curve_picture.py`).
 
-use crate::answers::{EMPTY, Row};
+use crate::answers::{Bench, EMPTY, Row, answer, texts_of};
 use crate::run::READ_ONLY_TRAPS;
+use std::alloc::Global;
 use test_programs::certificates::{
     COUNT_CERTIFICATE, DIAMOND_CERTIFICATE, PAIR_CERTIFICATE, READ_ONLY_CERTIFICATE,
     SPIN_CERTIFICATE, UNLISTED_JUMP_CERTIFICATE,
@@ -137,4 +138,71 @@ fn judges_before_it_runs(rt: HostRuntime) {
     for row in &REFUSED {
         row.runs(&rt, rt.alloc());
     }
+}
+
+// What stands in a picture behind its legend.
+const PICTURES: [Row<'static>; 2] = [
+    Row {
+        words: "curve --units 2 --emit svg --least a.s",
+        program: PAIR,
+        expected: "<text class='scale' x='78' y='492'>0.00</text>
+<text class='scale' x='78' y='404'>0.10</text>
+<text class='scale' x='78' y='316'>0.20</text>
+<text class='scale' x='78' y='228'>0.30</text>
+<text class='scale' x='78' y='140'>0.40</text>
+<polyline class='curve' points='378,268 958,136 '/>
+<g transform='translate(378 0)'><title>units: 1, steps: 8, instructions retired: 2, thrown away: 0, halted</title>
+<path class='grid' d='M0 268V630'/><rect class='wasted' x='-12' y='630' width='24' height='0'/>
+<circle class='halted' cx='0' cy='268' r='7'/>
+<text class='value' x='0' y='252'>0.25</text>
+<text class='value' x='0' y='622'>0.00%</text>
+<text class='number' x='0' y='656'>1</text></g>
+<g transform='translate(958 0)'><title>units: 2, steps: 5, instructions retired: 2, thrown away: 0, halted</title>
+<path class='grid' d='M0 136V630'/><rect class='wasted' x='-12' y='630' width='24' height='0'/>
+<circle class='halted' cx='0' cy='136' r='7'/>
+<text class='value' x='0' y='120'>0.40</text>
+<text class='value' x='0' y='622'>0.00%</text>
+<text class='number' x='0' y='656'>2</text></g>
+</svg>
+",
+        ..EMPTY
+    },
+    Row {
+        words: "curve --units 1 --budget 100 --emit svg --least a.s",
+        program: SPIN,
+        expected: "<text class='scale' x='78' y='492'>0.00</text>
+<text class='scale' x='78' y='404'>0.05</text>
+<text class='scale' x='78' y='316'>0.10</text>
+<text class='scale' x='78' y='228'>0.15</text>
+<text class='scale' x='78' y='140'>0.20</text>
+<polyline class='curve' points='668,488 '/>
+<g transform='translate(668 0)'><title>units: 1, steps: 100, instructions retired: 0, thrown away: 0, out of budget</title>
+<path class='grid' d='M0 488V630'/><rect class='wasted' x='-12' y='630' width='24' height='0'/>
+<path class='other' d='M-9 488l9-9 9 9-9 9z'/>
+<text class='value' x='0' y='472'>0.00</text>
+<text class='value' x='0' y='622'>0.00%</text>
+<text class='number' x='0' y='656'>1</text></g>
+</svg>
+",
+        status: 3,
+        ..EMPTY
+    },
+];
+
+#[test]
+fn draws_runs(rt: HostRuntime) {
+    for row in &PICTURES {
+        expect_drawn(&rt, rt.alloc(), row);
+    }
+}
+
+// Asserts what is drawn behind the legend, and the status.
+fn expect_drawn(rt: &impl Bench, alloc: Global, row: &Row<'_>) {
+    let texts = texts_of(rt, alloc, row.program.as_bytes(), b"", b"");
+    let (written, status) = answer(rt, alloc, row.words, &texts);
+    let written = String::from_utf8(written).ok().expect(rt, "UTF-8");
+    let parts = written.as_str().split_once(">units</text>\n");
+    let (_, drawn) = parts.expect(rt, "a legend");
+    assert!(rt; drawn == row.expected, "{drawn}");
+    assert_eq!(rt; status, row.status);
 }

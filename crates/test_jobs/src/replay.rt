@@ -273,3 +273,31 @@ const TRACE: &str = "1 assign A: ok
 at the end: the run is unlisted: 0x400010
     $31 = 4194320
 ";
+
+// The same in JSON.
+#[test]
+fn writes_json_of_a_script(rt: HostRuntime) {
+    let script = events_of(&rt, rt.alloc(), JUMP_UNLISTED);
+    let row = Row {
+        words: "replay --units 1 --emit json a.s a.cert a.events",
+        program: UNLISTED_JUMP,
+        certificate: UNLISTED_JUMP_CERTIFICATE,
+        script: script.as_str(),
+        expected: LINES,
+        status: 1,
+    };
+    row.runs(&rt, rt.alloc());
+}
+
+const LINES: &str =
+    "{\"event\":1,\"kind\":\"assign\",\"task\":\"A\",\"answer\":\"ok\",\"changes\":[{\"change\":\"began\",\"unit\":0,\"task\":\"A\",\"index\":0,\"line\":2}]}
+{\"event\":2,\"kind\":\"exec\",\"unit\":0,\"answer\":\"ok\",\"changes\":[{\"change\":\"executed\",\"unit\":0,\"task\":\"A\",\"index\":0,\"line\":2},{\"change\":\"wrote\",\"register\":31,\"word\":4194304},{\"change\":\"moved_to\",\"index\":1,\"line\":2}]}
+{\"event\":3,\"kind\":\"exec\",\"unit\":0,\"answer\":\"ok\",\"changes\":[{\"change\":\"executed\",\"unit\":0,\"task\":\"A\",\"index\":1,\"line\":2},{\"change\":\"wrote\",\"register\":31,\"word\":4194320},{\"change\":\"moved_to\",\"index\":2,\"line\":3}]}
+{\"event\":4,\"kind\":\"exec\",\"unit\":0,\"answer\":\"ok\",\"changes\":[{\"change\":\"executed\",\"unit\":0,\"task\":\"A\",\"index\":2,\"line\":3},{\"change\":\"stopped_at\",\"address\":4194320,\"index\":4,\"line\":5}]}
+{\"event\":5,\"kind\":\"retire\",\"answer\":\"refused\",\"code\":12,\"name\":\"Unfinished\",\"register\":31,\"changes\":[]}
+{\"event\":6,\"kind\":\"drain\",\"unit\":0,\"register\":31,\"answer\":\"ok\",\"changes\":[{\"change\":\"drained\",\"unit\":0,\"task\":\"A\",\"register\":31,\"word\":4194320}]}
+{\"event\":7,\"kind\":\"retire\",\"answer\":\"refused\",\"code\":14,\"name\":\"NotListed\",\"changes\":[]}
+{\"event\":8,\"kind\":\"fault\",\"answer\":\"ok\",\"changes\":[{\"change\":\"ended\",\"standing\":\"unlisted\",\"address\":4194320}]}
+{\"event\":9,\"kind\":\"fault\",\"answer\":\"refused\",\"code\":1,\"name\":\"Ended\",\"changes\":[]}
+{\"end\":\"unlisted\",\"address\":4194320,\"registers\":[{\"register\":31,\"word\":4194320}],\"memory\":[]}
+";

@@ -270,3 +270,23 @@ const TRACE: &str = "1 assign A: ok
     goes on at line 2
 at the end: the run goes on
 ";
+
+// The same in JSON.
+#[test]
+fn writes_json_of_a_run(rt: HostRuntime) {
+    let row = Row {
+        words: "run --units 1 --schedule steps --budget 2 --emit json a.s a.cert",
+        program: SPIN,
+        certificate: SPIN_CERTIFICATE,
+        expected: LINES,
+        status: 3,
+        ..RUN
+    };
+    row.runs(&rt, rt.alloc());
+}
+
+const LINES: &str =
+    "{\"event\":1,\"kind\":\"assign\",\"task\":\"A\",\"answer\":\"ok\",\"changes\":[{\"change\":\"began\",\"unit\":0,\"task\":\"A\",\"index\":0,\"line\":2}]}
+{\"event\":2,\"kind\":\"exec\",\"unit\":0,\"answer\":\"ok\",\"changes\":[{\"change\":\"executed\",\"unit\":0,\"task\":\"A\",\"index\":0,\"line\":2},{\"change\":\"moved_to\",\"index\":0,\"line\":2}]}
+{\"end\":\"running\",\"registers\":[],\"memory\":[]}
+";

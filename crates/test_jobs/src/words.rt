@@ -2,7 +2,9 @@
 
 use crate::answers::words_of;
 use command_line::words::{UsageFault, job_of};
-use jobs::job::{CertificateSource, Emit, Job, Paths, Prediction, ReplayEmit, RunEmit, Schedule};
+use jobs::job::{
+    CertificateSource, CurveEmit, Emit, Job, Paths, Prediction, ReplayEmit, RunEmit, Schedule,
+};
 use std::alloc::Global;
 use std::process::Abort;
 
@@ -16,7 +18,7 @@ enum Wanted {
     Check(CertificateSource, u32),
     Replay(CertificateSource, u32, ReplayEmit),
     Run(WantedRun),
-    Curve(CertificateSource, u32, u32, Wanting),
+    Curve(CertificateSource, u32, u32, Wanting, CurveEmit),
 }
 
 use CertificateSource::{File, Least};
@@ -129,11 +131,13 @@ impl Wanted {
                 units,
                 budget,
                 predict,
+                emit,
             } => Wanted::Curve(
                 *certificate,
                 units.get(),
                 budget.get(),
                 Wanting::of(predict),
+                *emit,
             ),
         }
     }
@@ -161,7 +165,7 @@ fn is_named(file: &Option<String>, name: &str) -> bool {
 }
 
 // Words that give a job of the program `a.s`.
-const JOBS: [(&str, Wanted); 25] = [
+const JOBS: [(&str, Wanted); 27] = [
     ("seq a.s", Wanted::Seq(1_000_000)),
     ("seq --budget 17 a.s", Wanted::Seq(17)),
     ("print a.s", Wanted::Print),
@@ -213,26 +217,34 @@ const JOBS: [(&str, Wanted); 25] = [
         "replay a.s --least --units 3 --emit summary a.events",
         Wanted::Replay(Least, 3, ReplayEmit::Summary),
     ),
+    (
+        "replay a.s a.cert a.events --emit json",
+        Wanted::Replay(File, 4, ReplayEmit::Json),
+    ),
     ("annotate a.s", Wanted::Annotate(Emit::Text)),
     ("annotate --emit text a.s", Wanted::Annotate(Emit::Text)),
     ("annotate a.s --emit cert", Wanted::Annotate(Emit::Cert)),
     ("annotate --emit keep a.s", Wanted::Annotate(Emit::Keep)),
     (
         "curve a.s a.cert",
-        Wanted::Curve(File, 16, 1_000_000, Wanting::First),
+        Wanted::Curve(File, 16, 1_000_000, Wanting::First, CurveEmit::Table),
     ),
     (
         "curve --least a.s --units 1",
-        Wanted::Curve(Least, 1, 1_000_000, Wanting::First),
+        Wanted::Curve(Least, 1, 1_000_000, Wanting::First, CurveEmit::Table),
     ),
     (
         "curve a.s --budget 7 a.cert --predict 3,2",
-        Wanted::Curve(File, 16, 7, Wanting::List(2, Some(3))),
+        Wanted::Curve(File, 16, 7, Wanting::List(2, Some(3)), CurveEmit::Table),
+    ),
+    (
+        "curve --emit svg --least a.s",
+        Wanted::Curve(Least, 16, 1_000_000, Wanting::First, CurveEmit::Picture),
     ),
 ];
 
 // Words of `run`.
-const RUNS: [(&str, WantedRun); 12] = [
+const RUNS: [(&str, WantedRun); 13] = [
     ("run a.s a.cert", PLAIN_RUN),
     (
         "run --least a.s",
@@ -305,6 +317,13 @@ const RUNS: [(&str, WantedRun); 12] = [
         "run a.s a.cert --emit script",
         WantedRun {
             emit: RunEmit::Script,
+            ..PLAIN_RUN
+        },
+    ),
+    (
+        "run a.s a.cert --emit json",
+        WantedRun {
+            emit: RunEmit::Json,
             ..PLAIN_RUN
         },
     ),
@@ -412,7 +431,7 @@ fn refuses_files_that_do_not_fit(rt: HostRuntime) {
     }
 }
 
-const NO_EMIT: [&str; 7] = [
+const NO_EMIT: [&str; 9] = [
     "annotate a.s --emit xml",
     "annotate a.s --emit Text",
     "annotate a.s --emit script",
@@ -420,6 +439,8 @@ const NO_EMIT: [&str; 7] = [
     "replay a.s a.cert a.events --emit Summary",
     "run a.s a.cert --emit xml",
     "run a.s a.cert --emit text",
+    "curve a.s a.cert --emit json",
+    "curve --least a.s --emit Table",
 ];
 
 #[test]
@@ -431,13 +452,14 @@ fn refuses_other_values_of_emit(rt: HostRuntime) {
 }
 
 // A value of `--predict` is looked at before that of `--emit`.
-const NO_PREDICTION: [&str; 6] = [
+const NO_PREDICTION: [&str; 7] = [
     "run a.s a.cert --predict 1,,0",
     "run a.s a.cert --predict 16",
     "run a.s a.cert --predict 001",
     "run a.s a.cert --predict Last",
     "run a.s a.cert --predict 1,,0 --emit xml",
     "curve --least a.s --predict 16",
+    "curve a.s a.cert --predict 16 --emit xml",
 ];
 
 #[test]

@@ -1,6 +1,15 @@
-//! Tests of the calls of the machine. The expected values are those of the machine's own rules, worked
-//! out by hand.
+//! Tests of the machine.
 #![tactic(auto)]
 
 #[cfg(test)]
+mod bursts;
+#[cfg(test)]
 mod calls;
+#[cfg(test)]
+mod facts;
+#[cfg(test)]
+mod given;
+#[cfg(test)]
+mod runs;
+#[cfg(test)]
+mod trial;

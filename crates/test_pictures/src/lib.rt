@@ -1,6 +1,8 @@
-//! Tests of pictures of runs, worked out by hand.
+//! Tests of pictures of runs and of curves, worked out by hand.
 #![tactic(auto)]
 
+#[cfg(test)]
+mod curves;
 #[cfg(test)]
 mod drawn;
 #[cfg(test)]

@@ -7,7 +7,6 @@ use mask_certificate::reading::read;
 use sequencer::predict::Script;
 use std::alloc::Global;
 use std::process::Abort;
-use std::rt::HostRuntime;
 use synchronous_runner::predictor::Predictor;
 use synchronous_runner::report::{How, StepsFault, StepsReport};
 use synchronous_runner::runner::run_steps;
@@ -24,127 +23,234 @@ fn accepted(rt: &impl Abort, alloc: Global, program: &str, certificate: &str) ->
     Accepted::new(program, cert).ok().expect(rt, "accepted")
 }
 
-/// What a run leaves that follows the first target.
-fn run<'a, R: Abort>(
-    rt: &R,
-    alloc: Global,
-    accepted: &'a Accepted,
-    units: u32,
-    budget: u32,
-) -> StepsReport<'a> {
-    let report = run_steps(alloc, accepted, units, budget, Predictor::First);
-    report.ok().expect(rt, "a report")
+/// Which target a run follows.
+#[derive(Clone, Copy)]
+enum Follows<'a> {
+    First,
+    Last,
+    Listed(&'a [u32]),
 }
 
-/// A run to its end by `halt`, which takes so many steps and events.
-fn expect_run<R: Abort>(
-    rt: &R,
-    alloc: Global,
-    accepted: &Accepted,
+impl Follows<'_> {
+    fn predictor(&self, rt: &impl Abort, alloc: Global) -> Predictor {
+        match self {
+            Follows::First => Predictor::First,
+            Follows::Last => Predictor::Last,
+            Follows::Listed(answers) => {
+                let answers = answers.to_vec(alloc).ok();
+                Predictor::Script(Script::new(answers.expect(rt, "room for answers")))
+            }
+        }
+    }
+}
+
+/// A run of a program, and what it ends with.
+#[derive(Clone, Copy)]
+struct Row<'a> {
+    program: &'a str,
+    certificate: &'a str,
     units: u32,
-    predictor: Predictor,
+    follows: Follows<'a>,
+    budget: u32,
+    how: How,
+    standing: Standing,
     steps: u32,
     events: usize,
-) {
-    let report = run_steps(alloc, accepted, units, 1_000_000, predictor);
-    let report = report.ok().expect(rt, "a report");
-    assert_eq!(rt; report.machine.outcome(), Standing::Halted);
-    assert_eq!(rt; report.how, How::Ended);
-    assert_eq!(rt; report.steps, steps);
-    assert_eq!(rt; report.machine.length(), events);
 }
 
-// One unit does each event of a task in turn: 7 steps for each of the four rounds, 3 for the last task.
+impl Row<'_> {
+    fn runs(&self, rt: &impl Abort, alloc: Global) {
+        let accepted = accepted(rt, alloc, self.program, self.certificate);
+        let predictor = self.follows.predictor(rt, alloc);
+        let report = run_steps(alloc, &accepted, self.units, self.budget, predictor).ok();
+        self.expect_report(rt, &report.expect(rt, "a report"));
+    }
+
+    fn expect_report(&self, rt: &impl Abort, report: &StepsReport<'_>) {
+        assert_eq!(rt; report.how, self.how);
+        assert_eq!(rt; report.machine.outcome(), self.standing);
+        assert_eq!(rt; report.steps, self.steps);
+        assert_eq!(rt; report.machine.length(), self.events);
+    }
+}
+
+// Runs that halt. One unit does each event of a task in turn: 7 steps for each of the four rounds, 3 for the
+// last task.
+const COUNTS: Row<'static> = Row {
+    program: COUNT,
+    certificate: COUNT_CERTIFICATE,
+    units: 1,
+    follows: Follows::First,
+    budget: 1_000_000,
+    how: How::Ended,
+    standing: Standing::Halted,
+    steps: 31,
+    events: 31,
+};
+
+const PAIRS: Row<'static> = Row {
+    program: PAIR,
+    certificate: PAIR_CERTIFICATE,
+    steps: 8,
+    events: 8,
+    ..COUNTS
+};
+
+const DIAMONDS: Row<'static> = Row {
+    program: DIAMOND,
+    certificate: DIAMOND_CERTIFICATE,
+    steps: 11,
+    events: 11,
+    ..COUNTS
+};
+
 // With two units a round's first half overlaps the one before it, and with four each register goes on as
 // soon as it is sent. The fifth round is squashed.
-#[test]
-fn steps_of_count(rt: HostRuntime) {
-    let alloc = rt.alloc();
-    let accepted = accepted(&rt, alloc, COUNT, COUNT_CERTIFICATE);
-    expect_run(&rt, alloc, &accepted, 1, Predictor::First, 31, 31);
-    expect_run(&rt, alloc, &accepted, 2, Predictor::First, 22, 41);
-    expect_run(&rt, alloc, &accepted, 4, Predictor::First, 17, 49);
-}
+const COUNT_ROWS: [Row<'static>; 3] = [
+    COUNTS,
+    Row {
+        units: 2,
+        steps: 22,
+        events: 41,
+        ..COUNTS
+    },
+    Row {
+        units: 4,
+        steps: 17,
+        events: 49,
+        ..COUNTS
+    },
+];
 
 // A third unit holds the `halt`, which waits for the head: it takes a register, and no step is saved.
-#[test]
-fn steps_of_pair(rt: HostRuntime) {
-    let alloc = rt.alloc();
-    let accepted = accepted(&rt, alloc, PAIR, PAIR_CERTIFICATE);
-    expect_run(&rt, alloc, &accepted, 1, Predictor::First, 8, 8);
-    expect_run(&rt, alloc, &accepted, 2, Predictor::First, 5, 8);
-    expect_run(&rt, alloc, &accepted, 4, Predictor::First, 5, 9);
-}
+const PAIR_ROWS: [Row<'static>; 3] = [
+    PAIRS,
+    Row {
+        units: 2,
+        steps: 5,
+        ..PAIRS
+    },
+    Row {
+        units: 4,
+        steps: 5,
+        events: 9,
+        ..PAIRS
+    },
+];
 
 // The first target is wrong, the last one right.
-#[test]
-fn steps_of_diamond(rt: HostRuntime) {
-    let alloc = rt.alloc();
-    let accepted = accepted(&rt, alloc, DIAMOND, DIAMOND_CERTIFICATE);
-    expect_run(&rt, alloc, &accepted, 1, Predictor::First, 11, 11);
-    expect_run(&rt, alloc, &accepted, 2, Predictor::First, 9, 15);
-    expect_run(&rt, alloc, &accepted, 2, Predictor::Last, 8, 12);
-    expect_run(&rt, alloc, &accepted, 4, Predictor::First, 9, 17);
-    expect_run(&rt, alloc, &accepted, 4, Predictor::Last, 7, 13);
-    let answers = vec![in alloc; 1, 0].ok().expect(&rt, "memory");
-    let script = Predictor::Script(Script::new(answers));
-    expect_run(&rt, alloc, &accepted, 4, script, 7, 13);
+const DIAMOND_ROWS: [Row<'static>; 6] = [
+    DIAMONDS,
+    Row {
+        units: 2,
+        steps: 9,
+        events: 15,
+        ..DIAMONDS
+    },
+    Row {
+        units: 2,
+        follows: Follows::Last,
+        steps: 8,
+        events: 12,
+        ..DIAMONDS
+    },
+    Row {
+        units: 4,
+        steps: 9,
+        events: 17,
+        ..DIAMONDS
+    },
+    Row {
+        units: 4,
+        follows: Follows::Last,
+        steps: 7,
+        events: 13,
+        ..DIAMONDS
+    },
+    Row {
+        units: 4,
+        follows: Follows::Listed(&[1, 0]),
+        steps: 7,
+        events: 13,
+        ..DIAMONDS
+    },
+];
+
+// The budget ends a run between two steps, or between two turns.
+const BUDGET_ROWS: [Row<'static>; 2] = [
+    Row {
+        program: SPIN,
+        certificate: SPIN_CERTIFICATE,
+        budget: 5,
+        how: How::OutOfBudget,
+        standing: Standing::Running,
+        steps: 5,
+        events: 5,
+        ..COUNTS
+    },
+    Row {
+        units: 2,
+        budget: 2,
+        how: How::OutOfBudget,
+        standing: Standing::Running,
+        steps: 2,
+        events: 2,
+        ..PAIRS
+    },
+];
+
+fn expect_runs(rt: &impl Abort, alloc: Global, rows: &[Row<'_>]) {
+    for row in rows {
+        row.runs(rt, alloc);
+    }
 }
+
+#[test]
+fn steps(rt: HostRuntime) {
+    expect_runs(&rt, rt.alloc(), &COUNT_ROWS);
+    expect_runs(&rt, rt.alloc(), &PAIR_ROWS);
+    expect_runs(&rt, rt.alloc(), &DIAMOND_ROWS);
+    expect_runs(&rt, rt.alloc(), &BUDGET_ROWS);
+}
+
+const EVENTS_OF_PAIR: [Event; 8] = [
+    Event::Assign(0),
+    Event::Assign(1),
+    Event::Exec(0),
+    Event::Exec(1),
+    Event::Retire,
+    Event::Assign(2),
+    Event::Retire,
+    Event::Exec(0),
+];
 
 // In each step the free unit comes first and the head last.
 #[test]
 fn events_of_pair(rt: HostRuntime) {
-    let alloc = rt.alloc();
-    let accepted = accepted(&rt, alloc, PAIR, PAIR_CERTIFICATE);
-    let report = run(&rt, alloc, &accepted, 2, 1_000_000);
-    let events = [
-        Event::Assign(0),
-        Event::Assign(1),
-        Event::Exec(0),
-        Event::Exec(1),
-        Event::Retire,
-        Event::Assign(2),
-        Event::Retire,
-        Event::Exec(0),
-    ];
-    assert_eq!(&rt; report.machine.history().len(), 8);
-    for (run, event) in report.machine.history().iter().zip(&events) {
-        assert_eq!(&rt; run.event, *event);
-        assert_eq!(&rt; run.count, 1);
+    let accepted = accepted(&rt, rt.alloc(), PAIR, PAIR_CERTIFICATE);
+    let report = run_steps(rt.alloc(), &accepted, 2, 1_000_000, Predictor::First).ok();
+    let report = report.expect(&rt, "a report");
+    let history = report.machine.history();
+    assert_eq!(rt; history.len(), EVENTS_OF_PAIR.len());
+    for (run, event) in history.iter().zip(&EVENTS_OF_PAIR) {
+        assert_eq!(rt; (run.event, run.count), (*event, 1));
     }
 }
 
-// The budget ends a run between two steps, or between two turns.
-#[test]
-fn budgets(rt: HostRuntime) {
-    let alloc = rt.alloc();
-    let spin = accepted(&rt, alloc, SPIN, SPIN_CERTIFICATE);
-    let report = run(&rt, alloc, &spin, 1, 5);
-    assert_eq!(&rt; report.machine.outcome(), Standing::Running);
-    assert_eq!(&rt; report.how, How::OutOfBudget);
-    assert_eq!(&rt; report.steps, 5);
-    assert_eq!(&rt; report.machine.length(), 5);
-    let pair = accepted(&rt, alloc, PAIR, PAIR_CERTIFICATE);
-    let report = run(&rt, alloc, &pair, 2, 2);
-    assert_eq!(&rt; report.how, How::OutOfBudget);
-    assert_eq!(&rt; report.steps, 2);
-    assert_eq!(&rt; report.machine.length(), 2);
-}
-
-fn fault(alloc: Global, accepted: &Accepted, units: u32, budget: u32) -> Option<StepsFault> {
-    run_steps(alloc, accepted, units, budget, Predictor::First).err()
-}
+// Units and budgets, and what is wrong with them.
+const NUMBERS: [(u32, u32, Option<StepsFault>); 5] = [
+    (0, 0, Some(StepsFault::Units)),
+    (17, 1, Some(StepsFault::Units)),
+    (16, 0, Some(StepsFault::Budget)),
+    (1, 1_000_001, Some(StepsFault::Budget)),
+    (16, 1, None),
+];
 
 #[test]
 fn faults(rt: HostRuntime) {
-    let alloc = rt.alloc();
-    let accepted = accepted(&rt, alloc, SPIN, SPIN_CERTIFICATE);
-    assert_eq!(&rt; fault(alloc, &accepted, 0, 0), Some(StepsFault::Units));
-    assert_eq!(&rt; fault(alloc, &accepted, 17, 1), Some(StepsFault::Units));
-    assert_eq!(&rt; fault(alloc, &accepted, 16, 0), Some(StepsFault::Budget));
-    assert_eq!(&rt;
-        fault(alloc, &accepted, 1, 1_000_001),
-        Some(StepsFault::Budget)
-    );
-    assert_eq!(&rt; fault(alloc, &accepted, 16, 1), None);
+    let accepted = accepted(&rt, rt.alloc(), SPIN, SPIN_CERTIFICATE);
+    for (units, budget, fault) in NUMBERS {
+        let answer = run_steps(rt.alloc(), &accepted, units, budget, Predictor::First);
+        assert_eq!(rt; answer.err(), fault);
+    }
 }

@@ -4,4 +4,10 @@
 #[cfg(test)]
 mod checks;
 #[cfg(test)]
+mod gates;
+#[cfg(test)]
+mod given;
+#[cfg(test)]
+mod reading;
+#[cfg(test)]
 mod runs;

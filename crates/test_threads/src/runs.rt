@@ -1,56 +1,111 @@
-//! Runs by threads: what they put out, how they end, and that units work side by side. The expected values
-//! were worked out by hand.
+//! Runs by threads: what they put out and how they end. The expected values were worked out by hand.
 
-use annotated_asm::assembler::assemble;
-use machine_events::event::{Event, EventRun, Standing};
+use crate::given::{Bench, accepted};
+use machine_events::event::Standing;
 use mark_checker::accept::Accepted;
-use mask_certificate::reading::read;
 use mips_plain::number::Place;
 use sequencer::predict::{First, Last, Predict, Script};
 use std::alloc::Global;
 use std::process::Abort;
-use std::sync::Wait;
-use std::sync::atomic::{AtomicBool, AtomicU32, Ordering};
-use std::test::Fail;
-use std::thread;
-use std::thread::Threads;
-use std::time::{Clock, Duration};
 use test_programs::certificates::{
-    COUNT_CERTIFICATE, DIAMOND_CERTIFICATE, PAIR_CERTIFICATE, PRODUCT_CERTIFICATE,
-    RELEASE_CERTIFICATE, SPIN_CERTIFICATE, UNLISTED_JUMP_CERTIFICATE,
+    COUNT_CERTIFICATE, PRODUCT_CERTIFICATE, RELEASE_CERTIFICATE, SPIN_CERTIFICATE,
+    UNLISTED_JUMP_CERTIFICATE,
 };
-use test_programs::programs::{COUNT, DIAMOND, PAIR, PRODUCT, RELEASE, SPIN, UNLISTED_JUMP};
-use threaded_runner::gate::{Open, RunGate};
+use test_programs::programs::{COUNT, PRODUCT, RELEASE, SPIN, UNLISTED_JUMP};
+use threaded_runner::gate::Open;
 use threaded_runner::report::{How, Report, RunFault};
 use threaded_runner::runner::{run_threads, run_workers};
 
-fn accepted(rt: &impl Abort, alloc: Global, program: &str, certificate: &str) -> Accepted {
-    let program = assemble(alloc, program.as_bytes()).ok();
-    let program = program.expect(rt, "a program");
-    let cert = read(alloc, certificate.as_bytes(), &program).ok();
-    let cert = cert.expect(rt, "a certificate");
-    Accepted::new(program, cert).ok().expect(rt, "accepted")
-}
-
-/// What a run is to end with.
-#[derive(Clone, Copy, Debug)]
-struct Expected<'e> {
-    output: &'e [u32],
+/// A program with its certificate, and what a run of it ends with.
+#[derive(Clone, Copy)]
+struct Row<'a> {
+    program: &'a str,
+    certificate: &'a str,
+    output: &'a [u32],
     standing: Standing,
     commits: usize,
     counts: (u64, u64),
 }
 
-fn expect_report(rt: &impl Abort, report: &Report<'_>, expected: &Expected<'_>) {
-    assert_eq!(rt; report.how, How::Ended);
-    assert_eq!(rt; report.machine.outcome(), expected.standing);
-    assert_eq!(rt; report.machine.output(), expected.output);
-    assert_eq!(rt; report.machine.commits().len(), expected.commits);
-    assert_eq!(rt; report.machine.counts(), expected.counts);
+const COUNTED: Row<'static> = Row {
+    program: COUNT,
+    certificate: COUNT_CERTIFICATE,
+    output: &[10],
+    standing: Standing::Halted,
+    commits: 4,
+    counts: (16, 18),
+};
+
+const ROWS: [Row<'static>; 4] = [
+    COUNTED,
+    Row {
+        program: UNLISTED_JUMP,
+        certificate: UNLISTED_JUMP_CERTIFICATE,
+        output: &[],
+        standing: Standing::Unlisted(0x0040_0010),
+        commits: 0,
+        counts: (0, 3),
+    },
+    Row {
+        program: RELEASE,
+        certificate: RELEASE_CERTIFICATE,
+        output: &[0],
+        standing: Standing::Halted,
+        commits: 1,
+        counts: (3, 5),
+    },
+    Row {
+        program: PRODUCT,
+        certificate: PRODUCT_CERTIFICATE,
+        output: &[4_294_967_292, 4],
+        standing: Standing::Halted,
+        commits: 1,
+        counts: (2, 7),
+    },
+];
+
+const UNITS: [u32; 4] = [1, 2, 4, 16];
+
+impl Row<'_> {
+    fn accepted(&self, rt: &impl Abort, alloc: Global) -> Accepted {
+        accepted(rt, alloc, self.program, self.certificate)
+    }
+
+    // Asserts how a run ends with each predictor.
+    fn runs_on(&self, rt: &impl Bench, alloc: Global, accepted: &Accepted, units: u32) {
+        self.runs(rt, alloc, accepted, units, First);
+        self.runs(rt, alloc, accepted, units, Last);
+        let answers = [1, 0].to_vec(alloc).ok();
+        let script = Script::new(answers.expect(rt, "room for answers"));
+        self.runs(rt, alloc, accepted, units, script);
+    }
+
+    fn runs<P: Predict>(
+        &self,
+        rt: &impl Bench,
+        alloc: Global,
+        accepted: &Accepted,
+        units: u32,
+        predictor: P,
+    ) {
+        let report = run_threads(rt, alloc, accepted, units, 1_000_000, predictor, &Open);
+        let report = report.ok().expect(rt, "a report");
+        self.expect_report(rt, &report);
+        expect_counts(rt, &report, units);
+    }
+
+    fn expect_report(&self, rt: &impl Abort, report: &Report<'_>) {
+        assert_eq!(rt; report.how, How::Ended);
+        assert_eq!(rt; report.machine.outcome(), self.standing);
+        assert_eq!(rt; report.machine.output(), self.output);
+        assert_eq!(rt; report.machine.commits().len(), self.commits);
+        assert_eq!(rt; report.machine.counts(), self.counts);
+    }
 }
 
-fn expect_counts(rt: &impl Abort, report: &Report<'_>, workers: usize) {
-    assert_eq!(rt; report.counts.len(), workers);
+/// Asserts that each event of the history is counted for one of so many workers.
+pub(crate) fn expect_counts(rt: &impl Abort, report: &Report<'_>, workers: u32) {
+    assert_eq!(rt; report.counts.len(), workers as usize);
     let mut all: u64 = 0;
     for count in &report.counts {
         all = all.wrapping_add(*count);
@@ -58,242 +113,101 @@ fn expect_counts(rt: &impl Abort, report: &Report<'_>, workers: usize) {
     assert_eq!(rt; all, report.machine.length() as u64);
 }
 
-fn expect_run<P: Predict, R: Abort + Threads + Wait + Sync>(
-    rt: &R,
-    alloc: Global,
-    accepted: &Accepted,
-    units: u32,
-    predictor: P,
-    expected: &Expected<'_>,
-) {
-    let report = run_threads(rt, alloc, accepted, units, 1_000_000, predictor, &Open);
-    let report = report.ok().expect(rt, "a report");
-    expect_report(rt, &report, expected);
-    expect_counts(rt, &report, units as usize);
-}
-
-// With 1, 2, 4 and 16 units, and each predictor.
-fn expect_runs<R: Abort + AllocGlobal + Threads + Wait + Sync>(
-    rt: &R,
-    program: &str,
-    certificate: &str,
-    expected: &Expected<'_>,
-) {
-    let alloc = rt.alloc();
-    let accepted = accepted(rt, alloc, program, certificate);
-    for units in [1, 2, 4, 16] {
-        expect_run(rt, alloc, &accepted, units, First, expected);
-        expect_run(rt, alloc, &accepted, units, Last, expected);
-        let answers = vec![in alloc; 1, 0].ok().expect(rt, "memory");
-        expect_run(rt, alloc, &accepted, units, Script::new(answers), expected);
+#[test]
+fn runs_programs(rt: HostRuntime) {
+    for row in &ROWS {
+        let accepted = row.accepted(&rt, rt.alloc());
+        for units in UNITS {
+            row.runs_on(&rt, rt.alloc(), &accepted, units);
+        }
     }
 }
 
 #[test]
-fn run_count(rt: HostRuntime) {
-    let expected = Expected {
-        output: &[10],
-        standing: Standing::Halted,
-        commits: 4,
-        counts: (16, 18),
-    };
-    expect_runs(&rt, COUNT, COUNT_CERTIFICATE, &expected);
-}
-
-#[test]
-fn run_unlisted_jump(rt: HostRuntime) {
-    let expected = Expected {
-        output: &[],
-        standing: Standing::Unlisted(0x0040_0010),
-        commits: 0,
-        counts: (0, 3),
-    };
-    expect_runs(&rt, UNLISTED_JUMP, UNLISTED_JUMP_CERTIFICATE, &expected);
-}
-
-#[test]
-fn run_release(rt: HostRuntime) {
-    let expected = Expected {
-        output: &[0],
-        standing: Standing::Halted,
-        commits: 1,
-        counts: (3, 5),
-    };
-    expect_runs(&rt, RELEASE, RELEASE_CERTIFICATE, &expected);
-}
-
-#[test]
-fn run_product(rt: HostRuntime) {
-    let expected = Expected {
-        output: &[4_294_967_292, 4],
-        standing: Standing::Halted,
-        commits: 1,
-        counts: (2, 7),
-    };
-    expect_runs(&rt, PRODUCT, PRODUCT_CERTIFICATE, &expected);
-}
-
-#[test]
-fn run_spin(rt: HostRuntime) {
-    let alloc = rt.alloc();
-    let accepted = accepted(&rt, alloc, SPIN, SPIN_CERTIFICATE);
-    for units in [1, 2, 4, 16] {
-        let report = run_threads(&rt, alloc, &accepted, units, 100, First, &Open);
-        let report = report.ok().expect(&rt, "a report");
-        assert_eq!(rt; report.how, How::OutOfBudget);
-        assert_eq!(rt; report.machine.outcome(), Standing::Running);
-        assert!(rt; report.machine.length() >= 100);
-        expect_counts(&rt, &report, units as usize);
+fn runs_out_of_budget(rt: HostRuntime) {
+    let accepted = accepted(&rt, rt.alloc(), SPIN, SPIN_CERTIFICATE);
+    for units in UNITS {
+        let report = run_threads(&rt, rt.alloc(), &accepted, units, 100, First, &Open);
+        expect_spun(&rt, &report.ok().expect(&rt, "a report"), units);
     }
 }
 
-// The fault of a run of `COUNT` with these numbers.
-fn fault_with<R: Abort + AllocGlobal + Threads + Wait + Sync>(
-    rt: &R,
+fn expect_spun(rt: &impl Abort, report: &Report<'_>, units: u32) {
+    assert_eq!(rt; report.how, How::OutOfBudget);
+    assert_eq!(rt; report.machine.outcome(), Standing::Running);
+    assert!(rt; report.machine.length() >= 100);
+    expect_counts(rt, report, units);
+}
+
+/// The numbers of a run, and what is wrong with them.
+#[derive(Clone, Copy)]
+struct Numbers {
     units: u32,
     workers: u32,
     budget: u32,
-) -> Option<RunFault> {
-    let alloc = rt.alloc();
-    let accepted = accepted(rt, alloc, COUNT, COUNT_CERTIFICATE);
-    run_workers(rt, alloc, &accepted, units, workers, budget, First, &Open).err()
+    fault: RunFault,
 }
 
+// As many workers as units, and a budget that is too small.
+const NO_BUDGET: Numbers = Numbers {
+    units: 4,
+    workers: 4,
+    budget: 0,
+    fault: RunFault::Budget,
+};
+
+// A budget of one event, and no unit.
+const NO_UNIT: Numbers = Numbers {
+    units: 0,
+    workers: 1,
+    budget: 1,
+    fault: RunFault::Units,
+};
+
+const BAD_NUMBERS: [Numbers; 6] = [
+    NO_UNIT,
+    Numbers {
+        units: 17,
+        ..NO_UNIT
+    },
+    Numbers {
+        units: 4,
+        workers: 0,
+        ..NO_UNIT
+    },
+    Numbers {
+        units: 4,
+        workers: 5,
+        ..NO_UNIT
+    },
+    NO_BUDGET,
+    Numbers {
+        budget: 1_000_001,
+        ..NO_BUDGET
+    },
+];
+
 #[test]
-fn bad_runner_numbers(rt: HostRuntime) {
-    assert_eq!(rt; fault_with(&rt, 0, 1, 1), Some(RunFault::Units));
-    assert_eq!(rt; fault_with(&rt, 17, 1, 1), Some(RunFault::Units));
-    assert_eq!(rt; fault_with(&rt, 4, 0, 1), Some(RunFault::Units));
-    assert_eq!(rt; fault_with(&rt, 4, 5, 1), Some(RunFault::Units));
-    assert_eq!(rt; fault_with(&rt, 4, 4, 0), Some(RunFault::Budget));
-    assert_eq!(rt; fault_with(&rt, 4, 4, 1_000_001), Some(RunFault::Budget));
+fn bad_numbers(rt: HostRuntime) {
+    let accepted = COUNTED.accepted(&rt, rt.alloc());
+    for bad in &BAD_NUMBERS {
+        let (units, workers, budget) = (bad.units, bad.workers, bad.budget);
+        let alloc = rt.alloc();
+        let answer = run_workers(&rt, alloc, &accepted, units, workers, budget, First, &Open);
+        assert_eq!(rt; answer.err(), Some(bad.fault));
+    }
 }
 
 #[test]
 fn fewer_workers_than_units(rt: HostRuntime) {
-    let alloc = rt.alloc();
-    let accepted = accepted(&rt, alloc, COUNT, COUNT_CERTIFICATE);
-    let expected = Expected {
-        output: &[10],
-        standing: Standing::Halted,
-        commits: 4,
-        counts: (16, 18),
-    };
+    let accepted = COUNTED.accepted(&rt, rt.alloc());
     for workers in [1, 2, 3] {
+        let alloc = rt.alloc();
         let report = run_workers(&rt, alloc, &accepted, 4, workers, 1_000_000, Last, &Open);
         let report = report.ok().expect(&rt, "a report");
-        expect_report(&rt, &report, &expected);
-        expect_counts(&rt, &report, workers as usize);
+        COUNTED.expect_report(&rt, &report);
+        expect_counts(&rt, &report, workers);
     }
-}
-
-/// Holds two workers up before their first burst, each until it has seen that the other is there, too.
-#[derive(Drop)]
-struct Meeting {
-    rt: HostRuntime,
-    first_here: AtomicBool,
-    second_here: AtomicBool,
-    first_saw: AtomicBool,
-    second_saw: AtomicBool,
-    first_steps: AtomicU32,
-    second_steps: AtomicU32,
-}
-
-impl Meeting {
-    fn new(rt: HostRuntime) -> Meeting {
-        Meeting {
-            rt,
-            first_here: AtomicBool::new(false),
-            second_here: AtomicBool::new(false),
-            first_saw: AtomicBool::new(false),
-            second_saw: AtomicBool::new(false),
-            first_steps: AtomicU32::new(0),
-            second_steps: AtomicU32::new(0),
-        }
-    }
-
-    // Says that one is here, and looks for the other, for ten seconds at most.
-    fn meet(&self, here: &AtomicBool, other: &AtomicBool, saw: &AtomicBool) {
-        if here.swap(true, Ordering::SeqCst) {
-            return;
-        }
-        for _ in 0..10_000 {
-            if other.load(Ordering::SeqCst) {
-                saw.store(true, Ordering::SeqCst);
-                return;
-            }
-            thread::sleep(&self.rt, Duration::from_millis(1));
-        }
-    }
-}
-
-impl RunGate for Meeting {
-    fn before(&self, worker: u32) {
-        if worker == 0 {
-            self.meet(&self.first_here, &self.second_here, &self.first_saw);
-        } else {
-            self.meet(&self.second_here, &self.first_here, &self.second_saw);
-        }
-    }
-
-    fn after(&self, worker: u32, steps: u32) {
-        if worker == 0 {
-            self.first_steps.fetch_add(steps, Ordering::SeqCst);
-        } else {
-            self.second_steps.fetch_add(steps, Ordering::SeqCst);
-        }
-    }
-}
-
-// Whether both workers saw each other.
-fn both_saw(gate: &Meeting) -> bool {
-    gate.first_saw.load(Ordering::SeqCst) && gate.second_saw.load(Ordering::SeqCst)
-}
-
-#[test]
-fn gate_pair(rt: HostRuntime) -> Result<(), Fail> {
-    let alloc = rt.alloc();
-    let accepted = accepted(&rt, alloc, PAIR, PAIR_CERTIFICATE);
-    let gate = Meeting::new(rt.clone()?);
-    let report = run_threads(&rt, alloc, &accepted, 2, 1_000_000, First, &gate);
-    let report = report.ok().expect(&rt, "a report");
-    assert!(rt; both_saw(&gate));
-    assert_eq!(rt; gate.first_steps.load(Ordering::SeqCst), 1);
-    assert_eq!(rt; gate.second_steps.load(Ordering::SeqCst), 1);
-    assert_eq!(rt; report.how, How::Ended);
-    assert_eq!(rt; report.machine.counts(), (2, 3));
-    expect_counts(&rt, &report, 2);
-    Ok(())
-}
-
-// Whether a history assigns a task.
-fn assigns(history: &[EventRun], task: u32) -> bool {
-    history.iter().any(|run| run.event == Event::Assign(task))
-}
-
-#[test]
-fn gate_diamond_predictor(rt: HostRuntime) -> Result<(), Fail> {
-    let alloc = rt.alloc();
-    let accepted = accepted(&rt, alloc, DIAMOND, DIAMOND_CERTIFICATE);
-    let gate = Meeting::new(rt.clone()?);
-    let report = run_threads(&rt, alloc, &accepted, 2, 1_000_000, Last, &gate);
-    let report = report.ok().expect(&rt, "a report");
-    assert!(rt; both_saw(&gate));
-    assert_eq!(rt; report.how, How::Ended);
-    assert_eq!(rt; report.machine.counts(), (3, 6));
-    let history = report.machine.history();
-    assert!(rt; assigns(history, 0));
-    assert!(rt; !assigns(history, 1));
-    assert!(rt; assigns(history, 2));
-    assert!(rt; assigns(history, 3));
-
-    let gate = Meeting::new(rt.clone()?);
-    let report = run_threads(&rt, alloc, &accepted, 2, 1_000_000, First, &gate);
-    let report = report.ok().expect(&rt, "a report");
-    assert_eq!(rt; report.how, How::Ended);
-    assert_eq!(rt; report.machine.counts(), (3, 6));
-    assert!(rt; assigns(report.machine.history(), 1));
-    Ok(())
 }
 
 /// Answers a number that is beyond every list of targets.
@@ -307,16 +221,9 @@ impl Predict for Large {
 }
 
 #[test]
-fn runner_large_answer(rt: HostRuntime) {
-    let alloc = rt.alloc();
-    let accepted = accepted(&rt, alloc, COUNT, COUNT_CERTIFICATE);
-    let expected = Expected {
-        output: &[10],
-        standing: Standing::Halted,
-        commits: 4,
-        counts: (16, 18),
-    };
-    for units in [1, 2, 4, 16] {
-        expect_run(&rt, alloc, &accepted, units, Large, &expected);
+fn large_answers(rt: HostRuntime) {
+    let accepted = COUNTED.accepted(&rt, rt.alloc());
+    for units in UNITS {
+        COUNTED.runs(&rt, rt.alloc(), &accepted, units, Large);
     }
 }

@@ -2,6 +2,7 @@
 
 use annotated_asm::assembler::assemble;
 use annotator::certify::certify;
+use event_json::lines::lines;
 use event_trace::trace::trace;
 use machine_events::event::Event;
 use mark_checker::accept::Accepted;
@@ -46,5 +47,32 @@ pub(crate) fn expect_trace(
         &machine,
     );
     let text = text.ok().expect(rt, "room for a trace");
+    assert_eq!(rt; text.as_str(), expected);
+}
+
+/// Plays the events on a machine of so many units, and compares their lines of JSON.
+pub(crate) fn expect_lines(
+    rt: &impl Abort,
+    alloc: Global,
+    program: &str,
+    units: u32,
+    events: &[Event],
+    expected: &str,
+) {
+    let accepted = accepted(rt, alloc, program);
+    let machine = Machine::new(alloc, &accepted, units).ok();
+    let mut machine = machine.expect(rt, "a machine");
+    for event in events {
+        let _ = machine.apply(*event);
+    }
+    let text = lines(
+        alloc,
+        &accepted,
+        units,
+        program.as_bytes(),
+        events,
+        &machine,
+    );
+    let text = text.ok().expect(rt, "room for lines");
     assert_eq!(rt; text.as_str(), expected);
 }

@@ -4,6 +4,8 @@
 #[cfg(test)]
 mod given;
 #[cfg(test)]
+mod json_lines;
+#[cfg(test)]
 mod memory;
 #[cfg(test)]
 mod tasks;

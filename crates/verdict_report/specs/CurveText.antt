@@ -6,7 +6,10 @@ use Rattle.machine_events.specs.declared.event.Standing.TheVariants.{Running, Ha
 use Rattle.speed_curve.specs.Curve.{AreRows}
 use Rattle.speed_curve.specs.TableText.{table_text}
 use Rattle.speed_curve.specs.declared.row.Row.{Row}
+use Rattle.curve_picture.specs.CurvePicture.{curve_text}
 use Rattle.jobs.specs.declared.job.Prediction.{Prediction}
+use Rattle.jobs.specs.declared.job.CurveEmit.{CurveEmit}
+use Rattle.jobs.specs.declared.job.CurveEmit.TheVariants.{Table, Picture}
 use Rattle.report_texts.specs.OutputTexts.{Report}
 use Rattle.report_texts.specs.JudgedTexts.{Judgement, refused, accepted, judgement}
 use Rattle.verdict_report.specs.RunText.{predictor_of}
@@ -23,18 +26,23 @@ abbrev pub rows_status : List Row → ℕ
 rows_status [] = 0
 rows_status (row ∷ rows) = if nat_eq (end_status row.standing) 0 then rows_status rows else end_status row.standing
 
+-- the rows as a table or as a picture
+abbrev pub rows_text : CurveEmit → List Row → List ℕ
+rows_text Table rows = table_text rows
+rows_text Picture rows = curve_text rows
+
 -- the report of the runs of a program in which nothing is found
-pub record IsCurveReport (units budget : ℕ) (predict : Prediction) (p : Listing) (report : Report) : Type 0 where
+pub record IsCurveReport (units budget : ℕ) (predict : Prediction) (emit : CurveEmit) (p : Listing) (report : Report) : Type 0 where
   pub rows : List Row
   pub right : AreRows p budget (predictor_of predict) units rows
-  pub written : report.bytes ≡ table_text rows
+  pub written : report.bytes ≡ rows_text emit rows
   pub answered : report.status ≡ rows_status rows
 
-abbrev pub IsCurveJudged : (units budget : ℕ) → Prediction → Judgement → Report → Type 0
-IsCurveJudged units budget predict (refused said) report = report ≡ said
-IsCurveJudged units budget predict (accepted p) report = IsCurveReport units budget predict p report
+abbrev pub IsCurveJudged : (units budget : ℕ) → Prediction → CurveEmit → Judgement → Report → Type 0
+IsCurveJudged units budget predict emit (refused said) report = report ≡ said
+IsCurveJudged units budget predict emit (accepted p) report = IsCurveReport units budget predict emit p report
 
 -- what `curve` writes of a program text and the text of its certificate
-abbrev pub IsCurveText : (units budget : ℕ) → Prediction → (program certificate : List ℕ) → Report → Type 0
-IsCurveText units budget predict program certificate report =
-    IsCurveJudged units budget predict (judgement program certificate) report
+abbrev pub IsCurveText : (units budget : ℕ) → Prediction → CurveEmit → (program certificate : List ℕ) → Report → Type 0
+IsCurveText units budget predict emit program certificate report =
+    IsCurveJudged units budget predict emit (judgement program certificate) report

@@ -51,9 +51,9 @@ IsReportOf (Replay source units emit) texts report =
 IsReportOf (Run source schedule units workers budget predict emit) texts report =
     OfCertificate source texts.program.items texts.certificate (λ certificate.
     IsRunText schedule units budget predict emit texts.program.items certificate report)
-IsReportOf (Curve source units budget predict) texts report =
+IsReportOf (Curve source units budget predict emit) texts report =
     OfCertificate source texts.program.items texts.certificate (λ certificate.
-    IsCurveText units budget predict texts.program.items certificate report)
+    IsCurveText units budget predict emit texts.program.items certificate report)
 
 -- a job is done: a report of it was added to what the writer holds, and the status is its
 pub record IsDone (job : Job) (texts : Texts) (status : ℕ) (old new : Option (List ℕ)) : Type 0 where

@@ -2,11 +2,12 @@
 ghost use Rattle.std.specs.Prelude.{◌≡◌, ◌≤◌, IfOk};
 ghost use Rattle.speed_curve.specs.Curve.{AreRows};
 ghost use Rattle.verdict_report.specs.RunText.{predictor_of as predictor_by};
-ghost use Rattle.verdict_report.specs.CurveText.{IsCurveReport, IsCurveText, end_status as end_status_of, rows_status as rows_status_of};
+ghost use Rattle.verdict_report.specs.CurveText.{IsCurveReport, IsCurveText, end_status as end_status_of, rows_status as rows_status_of, rows_text as rows_text_of};
 ghost use Rattle.report_texts.specs.CertificateTexts.{OfCertificate};
 
 use crate::scheduled::predictor_of;
-use jobs::job::{CertificateSource, Prediction, Texts};
+use curve_picture::drawing::draw;
+use jobs::job::{CertificateSource, CurveEmit, Prediction, Texts};
 use jobs::ranges::{Budget, Units};
 use machine_events::event::Standing;
 use mark_checker::accept::Accepted;
@@ -16,22 +17,25 @@ use speed_curve::row::{Row, row_of};
 use speed_curve::table::write;
 use std::alloc::{AllocError, Global};
 
-/// What `curve` writes of a program text and the text of its certificate: the table of its runs in steps on
-/// 1, 2, 3 units and more, up to so many.
+/// What `curve` writes of a program text and the text of its certificate: a table or a picture of its runs in
+/// steps on 1, 2, 3 units and more, up to so many.
 pub fn curve(
     alloc: Global,
     units: Units,
     budget: Budget,
     predict: &Prediction,
+    emit: CurveEmit,
     source: CertificateSource,
     texts: &Texts,
 ) -> Result<Report, AllocError>
     ensures { IfOk result (λ report. OfCertificate source texts.now.program.items texts.now.certificate (λ certificate.
-        IsCurveText units budget predict.now texts.now.program.items certificate report)) }
+        IsCurveText units budget predict.now emit texts.now.program.items certificate report)) }
 {
     match judge(alloc, source, texts)? {
         Judged::Refused(report) => Ok(report),
-        Judged::Accepted(accepted) => curve_of_accepted(alloc, units, budget, predict, &accepted),
+        Judged::Accepted(accepted) => {
+            curve_of_accepted(alloc, units, budget, predict, emit, &accepted)
+        }
     }
 }
 
@@ -41,13 +45,24 @@ fn curve_of_accepted(
     units: Units,
     budget: Budget,
     predict: &Prediction,
+    emit: CurveEmit,
     accepted: &Accepted,
 ) -> Result<Report, AllocError>
-    ensures { IfOk result (IsCurveReport units budget predict.now accepted.now.program) }
+    ensures { IfOk result (IsCurveReport units budget predict.now emit accepted.now.program) }
 {
     let rows = rows_of(alloc, units, budget, predict, accepted)?;
-    let bytes = write(alloc, &rows)?;
+    let bytes = rows_text(alloc, emit, &rows)?;
     Ok(Report::new(bytes, rows_status(&rows)))
+}
+
+// The rows as a table or as a picture.
+fn rows_text(alloc: Global, emit: CurveEmit, rows: &[Row]) -> Result<Vec<u8>, AllocError>
+    ensures { IfOk result (λ bytes. bytes.items ≡ rows_text_of emit rows.now) }
+{
+    match emit {
+        CurveEmit::Table => write(alloc, rows),
+        CurveEmit::Picture => Ok(draw(alloc, rows)?.into_bytes()),
+    }
 }
 
 // The rows of the runs on 1, 2, 3 units and more, each with the predictor as it was at first.

@@ -7,8 +7,10 @@ ghost use Rattle.run_summary.specs.SummaryText.{summary_text};
 ghost use Rattle.run_picture.specs.Picture.{picture_text};
 ghost use Rattle.event_trace.specs.Entries.{places_of};
 ghost use Rattle.event_trace.specs.Trace.{trace_text};
+ghost use Rattle.event_json.specs.Json.{json_text};
 ghost use Rattle.verdict_report.specs.MachineText.{machine_text, retired_text, standing_status, standing_text};
 
+use event_json::lines::lines;
 use event_trace::trace::trace;
 use jobs::ranges::Units;
 use machine_events::event::{Event, Standing};
@@ -115,6 +117,37 @@ pub fn trace_of_history(
 {
     let events = single_events(alloc, machine.history())?;
     trace_of(alloc, units, machine, accepted, program_text, &events)
+}
+
+/// The same as the trace of some events, in JSON: an object on each line.
+pub fn lines_of(
+    alloc: Global,
+    units: Units,
+    machine: &Machine<'_>,
+    accepted: &Accepted,
+    program_text: &[u8],
+    events: &[Event],
+) -> Result<Vec<u8>, AllocError>
+    ensures { IfOk result (λ bytes. bytes.items
+        ≡ json_text accepted.now.program (places_of program_text.now) units events.now (state machine.now)) }
+{
+    let text = lines(alloc, accepted, units.get(), program_text, events, machine)?;
+    Ok(text.into_bytes())
+}
+
+/// The same as the trace of the history of a machine, in JSON: an object on each line.
+pub fn lines_of_history(
+    alloc: Global,
+    units: Units,
+    machine: &Machine<'_>,
+    accepted: &Accepted,
+    program_text: &[u8],
+) -> Result<Vec<u8>, AllocError>
+    ensures { IfOk result (λ bytes. bytes.items
+        ≡ json_text accepted.now.program (places_of program_text.now) units machine.now.history (state machine.now)) }
+{
+    let events = single_events(alloc, machine.history())?;
+    lines_of(alloc, units, machine, accepted, program_text, &events)
 }
 
 /// The status of a run that stands so.

@@ -9,7 +9,9 @@ ghost use Rattle.verdict_report.specs.Playing.{played_so_far};
 ghost use Rattle.verdict_report.specs.ReplayText.{allowed, answers_text, events_report, replay_text, script_report};
 
 use crate::event_text::{refused_script, write_answers};
-use crate::machine_text::{picture_of, standing_status_of, summary_of, trace_of, write_machine};
+use crate::machine_text::{
+    lines_of, picture_of, standing_status_of, summary_of, trace_of, write_machine,
+};
 use event_script::fault::ScriptFault;
 use event_script::reading::read;
 use jobs::job::{CertificateSource, ReplayEmit, Texts};
@@ -79,6 +81,7 @@ fn replay_events(
         ReplayEmit::Summary => summary_of(alloc, units, &machine, accepted.program())?,
         ReplayEmit::Picture => picture_of(alloc, units, &machine, accepted.program())?,
         ReplayEmit::Trace => trace_of(alloc, units, &machine, accepted, text, events)?,
+        ReplayEmit::Json => lines_of(alloc, units, &machine, accepted, text, events)?,
     };
     Ok(Report::new(bytes, standing_status_of(machine.outcome())))
 }

@@ -12,7 +12,7 @@ ghost use Rattle.event_script.specs.ScriptText.{script_text};
 
 use crate::fault::ServeFault;
 use crate::machine_text::{
-    picture_of, standing_status_of, summary_of, trace_of_history, write_machine,
+    lines_of_history, picture_of, standing_status_of, summary_of, trace_of_history, write_machine,
 };
 use crate::ran::{Extent, Ran};
 use crate::scheduled::run_scheduled;
@@ -94,6 +94,7 @@ fn report_of_run(
         RunEmit::Summary => summary(alloc, units, ran, accepted)?,
         RunEmit::Picture => picture_of(alloc, units, &ran.machine, accepted.program())?,
         RunEmit::Trace => trace_of_history(alloc, units, &ran.machine, accepted, text)?,
+        RunEmit::Json => lines_of_history(alloc, units, &ran.machine, accepted, text)?,
     };
     Ok(Report::new(bytes, ending_status_of(ran)))
 }

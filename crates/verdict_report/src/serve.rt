@@ -97,7 +97,8 @@ fn report_of<R: Threads + Wait + Sync>(
             units,
             budget,
             predict,
-        } => Ok(curve(alloc, *units, *budget, predict, *certificate, texts)?),
+            emit,
+        } => Ok(curve(alloc, *units, *budget, predict, *emit, *certificate, texts)?),
     }
 }
 

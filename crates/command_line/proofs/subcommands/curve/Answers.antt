@@ -11,4 +11,5 @@ returns c =
     let three = with_argument c.in_ok-arg-3.ensures two c.least.ensures.rule c.least.ensures.local in
     let four = with_argument c.in_ok-arg-4.ensures three c.most_units.ensures.rule c.most_units.ensures.local in
     let five = with_argument c.in_ok-arg-5.ensures four c.budget.ensures.rule c.budget.ensures.local in
-    IfOk-weaker c.arg-6.result _ _ (λ _ h. with_argument h five c.word.ensures.rule c.word.ensures.local) c.arg-6.ensures
+    let six = with_argument c.in_ok-arg-6.ensures five c.word.ensures.rule c.word.ensures.local in
+    IfOk-weaker c.arg-7.result _ _ (λ _ h. with_argument h six c.word-2.ensures.rule c.word-2.ensures.local) c.arg-7.ensures

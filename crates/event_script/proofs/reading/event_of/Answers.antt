@@ -1,9 +1,8 @@
 -- A line with four words or more spells nothing.
-use Rattle.event_script.specs.EventScript.{names_in}
 use Rattle.event_script.proofs.LineWords.{four_words}
 use Rattle.event_script.proofs.reading.event_of.Goals as goal
 
 pub returns-in-Some-cut-2 : goal.returns-in-Some-cut-2
 returns-in-Some-cut-2 c =
-    four_words (names_in c.args.tasks.now) c.args.line.now c.in-Some.verb.now c.in-Some.operands.now c.in-Some-cut.first.now c.in-Some-cut.second.now
+    four_words c.args.names.now c.args.line.now c.in-Some.verb.now c.in-Some.operands.now c.in-Some-cut.first.now c.in-Some-cut.second.now
     c.in-Some-cut-2.field-0.0.now c.in-Some-cut-2.field-0.1.now c.in-Some.ensures.parts c.in-Some-cut.ensures.parts c.in-Some-cut-2.ensures.parts

@@ -1,5 +1,5 @@
 -- One word more.
-use Rattle.std.proofs.Common.{◌≡◌, ℕ, ◌*◌, List, ◌++◌, ◌∙◌, ap, arith}
+use Rattle.std.proofs.Common.{ℕ, ◌*◌, List, ◌++◌, ◌∙◌, ap, arith}
 use Rattle.std.specs.String.{string_bytes}
 use Rattle.mips_plain.specs.Words.{byte_of}
 use Rattle.mips_plain.specs.MemoryMap.{number_at}

@@ -1,5 +1,5 @@
 -- One register more.
-use Rattle.std.proofs.Common.{◌≡◌, ℕ, List, ◌++◌, ◌∙◌, ap, arith}
+use Rattle.std.proofs.Common.{ℕ, List, ◌++◌, ◌∙◌, ap, arith}
 use Rattle.std.specs.String.{string_bytes}
 use Rattle.sequencer.specs.Seen.{state}
 use Rattle.event_trace.specs.Ending.{head_value, value_line}

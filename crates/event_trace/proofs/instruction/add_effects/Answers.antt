@@ -1,5 +1,5 @@
 -- Four parts, one after the other; sets that have the same registers give the same changes.
-use Rattle.std.proofs.Common.{◌≡◌, ℕ, List, [], ◌∷◌, ◌++◌, Option, Bool, ◌∙◌, sym, ap}
+use Rattle.std.proofs.Common.{◌≡◌, ℕ, List, [], ◌∷◌, ◌++◌, Option, Bool, ◌∙◌, ap}
 use Rattle.std.specs.Prelude.{◌&&◌, not, is_some, unwrap_or}
 use Rattle.mips_plain.specs.Words.{has, byte_of}
 use Rattle.mips_plain.specs.Instruction.{dests, reg_a, reg_b}

@@ -1,11 +1,9 @@
 -- The entries, and the end behind them.
-use Rattle.std.proofs.Common.{◌≡◌, ℕ, List, ◌++◌, ◌∙◌, ap}
+use Rattle.std.proofs.Common.{ℕ, List, ◌++◌, ◌∙◌, ap}
 use Rattle.std.specs.String.{string_bytes}
 use Rattle.task_descriptor.specs.Listing.{Listing}
-use Rattle.machine_model.specs.Machine.{opening}
 use Rattle.sequencer.specs.Seen.{state}
 use Rattle.event_trace.specs.Ending.{end_text}
-use Rattle.event_trace.specs.Entries.{entries_from, places_of}
 use Rattle.event_trace.specs.Trace.{trace_text}
 use Rattle.event_trace.proofs.trace.trace.Goals as goal
 

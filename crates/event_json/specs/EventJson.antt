@@ -1,0 +1,80 @@
+-- An event with its answer and with what it changed, as an object of JSON (own choice).
+use Rattle.std.specs.Prelude.{ℕ, List, [], ◌∷◌, ◌++◌, codes, Result, Ok, Err}
+use Rattle.json.specs.Json.{Json}
+use Rattle.task_descriptor.specs.Listing.{Listing}
+use Rattle.machine_model.specs.Machine.{State}
+use Rattle.machine_model.specs.Answer.{after}
+use Rattle.machine_events.specs.declared.event.Event.{Event}
+use Rattle.machine_events.specs.declared.event.Event.TheVariants.{Assign, Exec, Transfer, Drain, Squash, Retire, Fault, Drop}
+use Rattle.machine_events.specs.declared.event.Refused.{Refused}
+use Rattle.machine_events.specs.declared.event.Refused.TheVariants as refused
+use Rattle.source_map.specs.declared.position.Position.{Position}
+use Rattle.event_trace.specs.declared.change.Change.{Change}
+use Rattle.event_trace.specs.declared.told.Told.{Told}
+use Rattle.event_trace.specs.declared.told.Told.TheVariants as told
+use Rattle.event_trace.specs.Changes.{changes_of}
+use Rattle.event_json.specs.Fields.{Field, line_of, named, number_field, object_of, register_field, task_field, text_field, unit_field}
+use Rattle.event_json.specs.ChangeJson.{changes_field}
+
+abbrev pub kind_field : (kind : List ℕ) → Field
+kind_field kind = text_field (codes "kind") kind
+
+-- an event, in the words of a script
+abbrev pub event_fields : Listing → Event → List Field
+event_fields p (Assign task) = kind_field (codes "assign") ∷ task_field p task ∷ []
+event_fields p (Exec k) = kind_field (codes "exec") ∷ unit_field k ∷ []
+event_fields p (Transfer k r) = kind_field (codes "transfer") ∷ unit_field k ∷ register_field r ∷ []
+event_fields p (Drain k r) = kind_field (codes "drain") ∷ unit_field k ∷ register_field r ∷ []
+event_fields p (Squash k) = kind_field (codes "squash") ∷ unit_field k ∷ []
+event_fields p Retire = kind_field (codes "retire") ∷ []
+event_fields p Fault = kind_field (codes "fault") ∷ []
+event_fields p (Drop k) = kind_field (codes "drop") ∷ unit_field k ∷ []
+
+-- Why an event is refused: the number and the name, and the register that is waited for. NotYet is said of the
+-- register that the event itself names.
+abbrev pub refusal_fields : Refused → List Field
+refusal_fields refused.Ended = named 1 (codes "Ended")
+refusal_fields refused.NoUnit = named 2 (codes "NoUnit")
+refusal_fields refused.NoSuch = named 3 (codes "NoSuch")
+refusal_fields refused.NotATarget = named 4 (codes "NotATarget")
+refusal_fields refused.Stopped = named 5 (codes "Stopped")
+refusal_fields (refused.Waiting r) = named 6 (codes "Waiting") ++ register_field r ∷ []
+refusal_fields refused.NotHead = named 7 (codes "NotHead")
+refusal_fields refused.NotStopped = named 8 (codes "NotStopped")
+refusal_fields refused.AlreadyThere = named 9 (codes "AlreadyThere")
+refusal_fields (refused.NotYet r) = named 10 (codes "NotYet")
+refusal_fields refused.NoMismatch = named 11 (codes "NoMismatch")
+refusal_fields (refused.Unfinished r) = named 12 (codes "Unfinished") ++ register_field r ∷ []
+refusal_fields refused.Mismatch = named 13 (codes "Mismatch")
+refusal_fields refused.NotListed = named 14 (codes "NotListed")
+refusal_fields refused.IsListed = named 15 (codes "IsListed")
+refusal_fields refused.Full = named 16 (codes "Full")
+refusal_fields refused.OutOfMemory = named 17 (codes "OutOfMemory")
+
+-- the event of a number
+abbrev pub numbered_fields : Listing → (number : ℕ) → Event → List Field
+numbered_fields p number event = number_field (codes "event") number ∷ event_fields p event
+
+-- the answer
+abbrev pub answer_field : (answer : List ℕ) → Field
+answer_field answer = text_field (codes "answer") answer
+
+-- an event that was taken, with what it changed
+abbrev pub taken_json : Listing → List Position → (number : ℕ) → Event → List Change → Json
+taken_json p places number event changes =
+    object_of (numbered_fields p number event ++ (answer_field (codes "ok") ∷ changes_field p places changes ∷ []))
+
+-- an event that was refused, with the reason; it changed nothing
+abbrev pub refused_json : Listing → List Position → (number : ℕ) → Event → Refused → Json
+refused_json p places number event refusal =
+    object_of (numbered_fields p number event ++ (answer_field (codes "refused") ∷ (refusal_fields refusal ++ changes_field p places [] ∷ [])))
+
+-- the event of a number, with what is told of it
+abbrev pub told_json : Listing → List Position → (number : ℕ) → Event → Told → Json
+told_json p places number e (told.Taken changes) = taken_json p places number e changes.items
+told_json p places number e (told.Refused refusal) = refused_json p places number e refusal
+
+-- the same on its line, by its answer in a state
+abbrev pub entry_line : Listing → List Position → (number : ℕ) → State → Event → Result (Unit {0}) Refused → List ℕ
+entry_line p places number s e (Ok done) = line_of (taken_json p places number e (changes_of p s e (after p s e)))
+entry_line p places number s e (Err why) = line_of (refused_json p places number e why)

@@ -1,0 +1,5 @@
+pub mod Fields
+pub mod ChangeJson
+pub mod EventJson
+pub mod EndJson
+pub mod Json

@@ -1,0 +1,170 @@
+//! An event with its answer and with what it changed, as an object of JSON.
+
+ghost use Rattle.std.specs.Prelude.{◌≡◌, ◌++◌, [], ◌∷◌, codes, OnOk};
+ghost use Rattle.json.specs.Tree.{json_tokens};
+ghost use Rattle.event_json.specs.Fields.{fields_tokens, named, register_field, task_field, unit_field};
+ghost use Rattle.event_json.specs.ChangeJson.{changes_field};
+ghost use Rattle.event_json.specs.EventJson.{answer_field, event_fields, kind_field, numbered_fields, refusal_fields, refused_json, taken_json, told_json};
+
+use crate::change::write_changes;
+use crate::fields::{write_named, write_register, write_task, write_unit};
+use crate::writer::JsonWriter;
+use event_trace::change::Change;
+use event_trace::told::Told;
+use machine_events::event::{Event, Refused};
+use mips_plain::number::Reg;
+use source_map::position::Position;
+use std::alloc::AllocError;
+use task_descriptor::program::Program;
+
+/// Adds the assignment of a task.
+fn write_assign(out: &mut JsonWriter, program: &Program, task: u32) -> Result<(), AllocError>
+    ensures { OnOk result (out.new ≡ out.old ++ fields_tokens (kind_field (codes "assign") ∷ task_field program.now task ∷ [])) }
+{
+    out.text("kind", "assign")?;
+    write_task(out, program, task)
+}
+
+/// Adds a kind of events with a unit.
+fn write_unit_event(out: &mut JsonWriter, kind: &str, position: u32) -> Result<(), AllocError>
+    ensures { OnOk result (out.new ≡ out.old ++ fields_tokens (kind_field kind.now ∷ unit_field position ∷ [])) }
+{
+    out.text("kind", kind)?;
+    write_unit(out, position)
+}
+
+/// Adds a kind of events with a unit and a register.
+fn write_register_event(
+    out: &mut JsonWriter,
+    kind: &str,
+    position: u32,
+    register: Reg,
+) -> Result<(), AllocError>
+    ensures { OnOk result (out.new ≡ out.old ++ fields_tokens (kind_field kind.now ∷ unit_field position ∷ register_field register ∷ [])) }
+{
+    write_unit_event(out, kind, position)?;
+    write_register(out, register)
+}
+
+/// Adds an event.
+fn write_event(out: &mut JsonWriter, program: &Program, event: &Event) -> Result<(), AllocError>
+    ensures { OnOk result (out.new ≡ out.old ++ fields_tokens (event_fields program.now event.now)) }
+{
+    match *event {
+        Event::Assign(task) => write_assign(out, program, task),
+        Event::Exec(k) => write_unit_event(out, "exec", k),
+        Event::Transfer(k, register) => write_register_event(out, "transfer", k, register),
+        Event::Drain(k, register) => write_register_event(out, "drain", k, register),
+        Event::Squash(k) => write_unit_event(out, "squash", k),
+        Event::Retire => out.text("kind", "retire"),
+        Event::Fault => out.text("kind", "fault"),
+        Event::Drop(k) => write_unit_event(out, "drop", k),
+    }
+}
+
+/// Adds a refusal that waits for a register.
+fn write_waiting(
+    out: &mut JsonWriter,
+    code: u8,
+    name: &str,
+    register: Reg,
+) -> Result<(), AllocError>
+    ensures { OnOk result (out.new ≡ out.old ++ fields_tokens (named code name.now ++ register_field register ∷ [])) }
+{
+    write_named(out, code, name)?;
+    write_register(out, register)
+}
+
+/// Adds why an event is refused.
+fn write_refusal(out: &mut JsonWriter, refusal: Refused) -> Result<(), AllocError>
+    ensures { OnOk result (out.new ≡ out.old ++ fields_tokens (refusal_fields refusal)) }
+{
+    match refusal {
+        Refused::Ended => write_named(out, 1, "Ended"),
+        Refused::NoUnit => write_named(out, 2, "NoUnit"),
+        Refused::NoSuch => write_named(out, 3, "NoSuch"),
+        Refused::NotATarget => write_named(out, 4, "NotATarget"),
+        Refused::Stopped => write_named(out, 5, "Stopped"),
+        Refused::Waiting(register) => write_waiting(out, 6, "Waiting", register),
+        Refused::NotHead => write_named(out, 7, "NotHead"),
+        Refused::NotStopped => write_named(out, 8, "NotStopped"),
+        Refused::AlreadyThere => write_named(out, 9, "AlreadyThere"),
+        Refused::NotYet(_) => write_named(out, 10, "NotYet"),
+        Refused::NoMismatch => write_named(out, 11, "NoMismatch"),
+        Refused::Unfinished(register) => write_waiting(out, 12, "Unfinished", register),
+        Refused::Mismatch => write_named(out, 13, "Mismatch"),
+        Refused::NotListed => write_named(out, 14, "NotListed"),
+        Refused::IsListed => write_named(out, 15, "IsListed"),
+        Refused::Full => write_named(out, 16, "Full"),
+        Refused::OutOfMemory => write_named(out, 17, "OutOfMemory"),
+    }
+}
+
+/// Adds the event of this number.
+fn write_numbered(
+    out: &mut JsonWriter,
+    program: &Program,
+    number: usize,
+    event: &Event,
+) -> Result<(), AllocError>
+    ensures { OnOk result (out.new ≡ out.old ++ fields_tokens (numbered_fields program.now number event.now)) }
+{
+    out.number("event", number)?;
+    write_event(out, program, event)
+}
+
+/// Adds the event of this number, which the machine took, and what it changed.
+fn write_taken(
+    out: &mut JsonWriter,
+    program: &Program,
+    places: &[Position],
+    number: usize,
+    event: &Event,
+    changes: &[Change],
+) -> Result<(), AllocError>
+    ensures { OnOk result (out.new ≡ out.old ++ json_tokens (taken_json program.now places.now number event.now changes.now)) }
+{
+    out.begin_object()?;
+    write_numbered(out, program, number, event)?;
+    out.text("answer", "ok")?;
+    write_changes(out, program, places, changes)?;
+    out.end_object()?;
+    Ok(())
+}
+
+/// Adds the event of this number, which the machine refused, and the reason.
+fn write_refused(
+    out: &mut JsonWriter,
+    program: &Program,
+    places: &[Position],
+    number: usize,
+    event: &Event,
+    refusal: Refused,
+) -> Result<(), AllocError>
+    ensures { OnOk result (out.new ≡ out.old ++ json_tokens (refused_json program.now places.now number event.now refusal)) }
+{
+    out.begin_object()?;
+    write_numbered(out, program, number, event)?;
+    out.text("answer", "refused")?;
+    write_refusal(out, refusal)?;
+    write_changes(out, program, places, &[])?;
+    out.end_object()?;
+    Ok(())
+}
+
+/// Adds the event of this number, with what is told of it. An error says that memory was refused.
+pub(crate) fn write_told(
+    out: &mut JsonWriter,
+    program: &Program,
+    places: &[Position],
+    number: usize,
+    event: &Event,
+    told: &Told,
+) -> Result<(), AllocError>
+    ensures { OnOk result (out.new ≡ out.old ++ json_tokens (told_json program.now places.now number event.now told.now)) }
+{
+    match told {
+        Told::Taken(changes) => write_taken(out, program, places, number, event, changes),
+        Told::Refused(refusal) => write_refused(out, program, places, number, event, *refusal),
+    }
+}

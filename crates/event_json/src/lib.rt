@@ -1,0 +1,9 @@
+//! The trace of a machine as lines of JSON, one object for each event.
+#![tactic(auto)]
+
+mod change;
+mod ending;
+mod event;
+mod fields;
+pub mod lines;
+mod writer;

@@ -1,0 +1,12 @@
+-- What is told of the event is what its answer says.
+use Rattle.std.specs.String.{string_bytes}
+use Rattle.sequencer.specs.Seen.{answer_to, state}
+use Rattle.event_trace.proofs.Steps.{entry_written}
+use Rattle.event_trace.proofs.trace.write_entry.Goals as goal
+
+pub returns-clause-told : goal.returns-clause-told
+returns-clause-told c =
+    let m = c.args.walk in
+    entry_written c.args.program.now m.accepted.program c.args.places.now c.args.number (state m) c.args.event.now (answer_to m c.args.event.now) c.in_ok-next.told
+    (string_bytes c.args.text.now) (string_bytes c.write_told.new.text)
+    c.requires c.in_ok-next.ensures.told c.in_ok-write_told.ensures

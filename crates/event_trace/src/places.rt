@@ -1,0 +1,21 @@
+//! Where a program text has its instructions.
+
+ghost use Rattle.std.specs.Prelude.{◌≡◌, IfOk};
+ghost use Rattle.event_trace.specs.Entries.{places_of};
+
+use annotated_asm::fault::AsmFault;
+use source_map::position::Position;
+use source_map::reading::source_map;
+use std::alloc::{AllocError, Global};
+
+/// Where a program text has its instructions, index 0 first; nowhere if it is no program text. An error says
+/// that memory was refused.
+pub fn places(alloc: Global, text: &[u8]) -> Result<Vec<Position>, AllocError>
+    ensures { IfOk result (λ places. places.items ≡ places_of text.now) }
+{
+    match source_map(alloc, text) {
+        Ok(map) => Ok(map.code),
+        Err(AsmFault::OutOfMemory) => Err(AllocError),
+        Err(_) => Ok(Vec::new(alloc)),
+    }
+}

@@ -1,0 +1,13 @@
+//! What is told of an event.
+
+use crate::change::Change;
+use machine_events::event::Refused;
+
+/// What a walk tells of an event.
+#[derive(Debug, Drop)]
+pub enum Told {
+    /// The event was allowed, and changed this.
+    Taken(Vec<Change>),
+    /// The event was refused for this reason, and changed nothing.
+    Refused(Refused),
+}

@@ -1,0 +1,93 @@
+//! Programs, their certificates, and texts that are long.
+
+use annotated_asm::assembler::assemble;
+use mask_certificate::certificate::Cert;
+use mask_certificate::reading::read;
+use mips_plain::number::RegSet;
+use std::alloc::{AllocError, Global};
+use std::process::Abort;
+use task_descriptor::program::Program;
+
+/// The program that a text spells.
+pub(crate) fn assembled(rt: &impl Abort, alloc: Global, text: &str) -> Program {
+    let program = assemble(alloc, text.as_bytes()).ok();
+    program.expect(rt, "a program")
+}
+
+/// The certificate that a text spells for the program.
+pub(crate) fn cert(rt: &impl Abort, alloc: Global, program: &Program, text: &str) -> Cert {
+    let cert = read(alloc, text.as_bytes(), program).ok();
+    cert.expect(rt, "a certificate")
+}
+
+// Tasks of `COUNT`, and how many masks each has.
+const LENGTHS: [(u32, usize); 3] = [(0, 4), (1, 2), (2, 0)];
+
+// Tasks and instructions of `COUNT`, and their masks.
+const MASKS: [(u32, u32, Option<u64>); 6] = [
+    (0, 0, Some(0x700)),
+    (0, 1, Some(0x600)),
+    (0, 2, Some(0x400)),
+    (0, 3, Some(0)),
+    (0, 4, None),
+    (1, 5, Some(0)),
+];
+
+/// Asserts that a certificate is that of `COUNT`.
+pub(crate) fn expect_counted(rt: &impl Abort, cert: &Cert) {
+    expect_masks(rt, cert);
+    for (task, length) in LENGTHS {
+        assert_eq!(rt; cert.list(task).len(), length, "task {task}");
+    }
+}
+
+fn expect_masks(rt: &impl Abort, cert: &Cert) {
+    for (task, index, bits) in MASKS {
+        let found = cert.mask(task, index).map(RegSet::bits);
+        assert_eq!(rt; found, bits, "task {task} index {index}");
+    }
+}
+
+/// A text in which a part stands many times, and what is said of it.
+#[derive(Clone, Copy)]
+pub(crate) struct Long<'a> {
+    /// What stands before the part.
+    pub(crate) head: &'a str,
+    /// What stands there many times.
+    pub(crate) part: &'a str,
+    /// How many times.
+    pub(crate) times: usize,
+    /// What stands behind it.
+    pub(crate) tail: &'a str,
+    /// How many lines are said of the text.
+    pub(crate) lines: usize,
+    /// How they end.
+    pub(crate) end: &'a str,
+}
+
+impl Long<'_> {
+    /// The text.
+    pub(crate) fn text(&self, rt: &impl Abort, alloc: Global) -> String {
+        self.try_text(alloc).ok().expect(rt, "room for a text")
+    }
+
+    fn try_text(&self, alloc: Global) -> Result<String, AllocError> {
+        let mut text = String::from_str(alloc, self.head)?;
+        for _ in 0..self.times {
+            text.push_str(self.part)?;
+        }
+        text.push_str(self.tail)?;
+        Ok(text)
+    }
+
+    /// Asserts the number of lines that are said, and how they end.
+    pub(crate) fn expect_said(&self, rt: &impl Abort, said: &str) {
+        let lines = said
+            .as_bytes()
+            .iter()
+            .filter(|byte| **byte == b'\n')
+            .count();
+        assert_eq!(rt; lines, self.lines);
+        assert!(rt; said.ends_with(self.end), "{}", self.end);
+    }
+}

@@ -1,0 +1,145 @@
+//! What no clause says: each public call of the plain machine and of sets of registers once.
+
+use crate::memory::zeros;
+use crate::numbers::{gpr, place, reg};
+use mips_plain::instruction::{BranchTwoKind, ImmKind, MoveFromKind, MoveToKind, Op, ThreeKind};
+use mips_plain::number::{Reg, RegSet};
+use mips_plain::outcome::{OutOfMemory, Outcome, Trap};
+use mips_plain::plain::{Plain, PlainFault};
+use std::alloc::Global;
+use std::process::Abort;
+
+#[test]
+fn moves(rt: HostRuntime) {
+    let from = Op::MoveFrom(MoveFromKind::Mfhi, gpr(&rt, 8));
+    assert_eq!(rt; from.sources(), (Some(Reg::HI), None));
+    assert_eq!(rt; from.alu(7, 0, 0x0040_0000, reg(&rt, 8)), Some(7));
+    let to = Op::MoveTo(MoveToKind::Mtlo, gpr(&rt, 8));
+    assert_eq!(rt; to.dests().bits(), 1 << 33);
+    assert_eq!(rt; to.alu(7, 0, 0x0040_0000, Reg::LO), Some(7));
+    assert_eq!(rt; to.alu(7, 0, 0x0040_0000, Reg::HI), None);
+}
+
+// The link is the address behind the jump, also where the register of the jump is that of the link.
+#[test]
+fn links(rt: HostRuntime) {
+    let through = Op::JumpLinkReg(gpr(&rt, 9), gpr(&rt, 9));
+    for (jump, a, link, to) in [
+        (Op::JumpLink(place(&rt, 2)), 0, Reg::LINK, 0x0040_0008),
+        (through, 0x0040_0010, reg(&rt, 9), 0x0040_0010),
+    ] {
+        assert_eq!(rt; jump.alu(a, 0, 0x0040_0000, link), Some(0x0040_0004));
+        assert_eq!(rt; jump.turn(a, 0, 0x0040_0000), to);
+    }
+}
+
+// Register 0 is no destination, but may be waited for.
+#[test]
+fn waits_for_registers(rt: HostRuntime) {
+    let nothing = Op::Three(ThreeKind::Addu, gpr(&rt, 0), gpr(&rt, 0), gpr(&rt, 5));
+    assert!(rt; nothing.dests().is_empty());
+    assert_eq!(rt; nothing.waits().bits(), 0b10_0001);
+    let named = RegSet::empty().insert(reg(&rt, 3)).insert(Reg::HI);
+    assert_eq!(rt; Op::Release(named).waits(), named);
+}
+
+#[test]
+fn sets(rt: HostRuntime) {
+    let three = RegSet::empty().insert(reg(&rt, 3));
+    let named = three.insert(Reg::HI);
+    assert!(rt; named.has(reg(&rt, 3)) && !named.has(reg(&rt, 4)));
+    assert!(rt; three.is_subset(named) && !named.is_subset(three));
+    assert_eq!(rt; named.minus(three).union(three), named);
+    assert_eq!(rt; RegSet::from_bits(1 << 33).map(RegSet::bits), Some(1 << 33));
+    assert_eq!(rt; RegSet::from_bits(1 << 34), None);
+}
+
+// A machine with this code and no data, at the start.
+fn machine(rt: &impl Abort, alloc: Global, code: Vec<Op>, start: u32) -> Plain {
+    Plain::new(alloc, code, &[], &[], place(rt, start))
+        .ok()
+        .expect(rt, "a machine")
+}
+
+fn run(rt: &impl Abort, machine: &mut Plain, steps: u64) -> Result<(), OutOfMemory> {
+    assert!(rt; machine.count() < 1_000 && steps <= u64::MAX / 2);
+    machine.run(steps)
+}
+
+fn step(rt: &impl Abort, machine: &mut Plain) -> Result<(), OutOfMemory> {
+    assert!(rt; machine.count() < 1_000);
+    machine.step()
+}
+
+// Adds 1 to $8 and $8 to $9 until $8 is 4, and puts out $9.
+fn count(rt: &impl Abort, alloc: Global) -> Vec<Op> {
+    let (eight, nine, ten) = (gpr(rt, 8), gpr(rt, 9), gpr(rt, 10));
+    let code = [
+        Op::Imm(ImmKind::Addiu, eight, eight, 1),
+        Op::Three(ThreeKind::Addu, nine, nine, eight),
+        Op::Imm(ImmKind::Slti, ten, eight, 4),
+        Op::BranchTwo(BranchTwoKind::Bne, ten, gpr(rt, 0), place(rt, 0)),
+        Op::Out(nine),
+        Op::Halt,
+    ];
+    code.to_vec(alloc).ok().expect(rt, "room for code")
+}
+
+#[test]
+fn runs_to_the_end(rt: HostRuntime) {
+    let code = count(&rt, rt.alloc());
+    let mut machine = machine(&rt, rt.alloc(), code, 0);
+    assert_eq!(rt; step(&rt, &mut machine), Ok(()));
+    assert_eq!(rt; machine.reg(reg(&rt, 8)), 1);
+    assert_eq!(rt; (machine.count(), machine.pc()), (1, 0x0040_0004));
+    run_to_the_halt(&rt, &mut machine);
+    assert_eq!(rt; machine.output(), [10].as_slice());
+    assert_eq!(rt; (machine.count(), machine.pc()), (18, 0x0040_0014));
+    assert_eq!(rt; machine.memory().bytes().len(), 65_536);
+    assert_eq!(rt; run(&rt, &mut machine, u64::MAX / 2), Ok(()));
+    assert_eq!(rt; machine.count(), 18);
+}
+
+// Where the output finds no room, the step that was refused can be made again.
+fn run_to_the_halt(rt: &impl Abort, machine: &mut Plain) {
+    if run(rt, machine, 100).is_err() {
+        assert_eq!(rt; machine.count(), 16);
+        assert_eq!(rt; machine.outcome(), Outcome::Running);
+        assert_eq!(rt; run(rt, machine, 100), Ok(()));
+    }
+    assert_eq!(rt; machine.outcome(), Outcome::Halted);
+}
+
+#[test]
+fn a_fetch_of_nothing_traps(rt: HostRuntime) {
+    let mut machine = machine(&rt, rt.alloc(), Vec::new(rt.alloc()), 4096);
+    assert_eq!(rt; run(&rt, &mut machine, 5), Ok(()));
+    assert_eq!(rt; machine.outcome(), Outcome::Trapped(Trap::BadPc));
+    assert_eq!(rt; (machine.count(), machine.pc()), (1, 0x0040_4000));
+}
+
+// So many instructions, each a halt.
+fn halts(rt: &impl Abort, alloc: Global, count: usize) -> Vec<Op> {
+    let mut code = Vec::new(alloc);
+    let grown = code.resize(count, Op::Halt);
+    assert!(rt; grown.is_ok());
+    code
+}
+
+#[test]
+fn refusals(rt: HostRuntime) {
+    for (count, size, fault) in [
+        (4097, 0, PlainFault::TooMany),
+        (6, 65_537, PlainFault::TooMuch),
+    ] {
+        let code = halts(&rt, rt.alloc(), count);
+        let data = zeros(&rt, rt.alloc(), size);
+        match Plain::new(rt.alloc(), code, &[], &data, place(&rt, 0)) {
+            Ok(_) => panic!(rt; "{count} instructions and {size} bytes were taken"),
+            Err(refused) => {
+                assert_eq!(rt; refused.fault, fault);
+                assert_eq!(rt; refused.code.len(), count);
+            }
+        }
+    }
+}

@@ -1,0 +1,79 @@
+//! Programs from text, and three faults.
+
+use crate::count::assembled;
+use crate::numbers::gpr;
+use annotated_asm::assembler::assemble;
+use annotated_asm::fault::AsmFault;
+use mips_plain::instruction::{ImmKind, LogicKind, Op};
+use std::process::Abort;
+use task_descriptor::program::Program;
+
+const COUNT: &str = "
+.start A
+.task A create=$8,$9,$10 targets=A,B
+.task B create=- targets=-
+A: addiu $t0,$t0,0x1 !f
+addu $9,$9,$8 !f
+slti $10,$8,4
+bne $10,$0,A !s
+B: out $9
+halt";
+
+#[test]
+fn two_tasks(rt: HostRuntime) {
+    let program = assembled(&rt, rt.alloc(), COUNT);
+    assert_eq!(rt; program.code().len(), 6);
+    assert_eq!(rt; program.tasks().len(), 2);
+    assert_eq!(rt; program.start().get(), 0);
+}
+
+const PSEUDO: &str = ".task A create=$8 targets=-
+A: li $8,65536 !f
+li $8,40000
+li $8,0xFFFFFFFF
+la $8,D
+halt
+.data
+.space 3
+D: .word 258";
+
+#[test]
+fn pseudo_instructions(rt: HostRuntime) {
+    let program = assembled(&rt, rt.alloc(), PSEUDO);
+    let (zero, eight) = (gpr(&rt, 0), gpr(&rt, 8));
+    let wanted = [
+        Op::Lui(eight, 1),
+        Op::Logic(LogicKind::Ori, eight, eight, 0),
+        Op::Logic(LogicKind::Ori, eight, zero, 40_000),
+        Op::Imm(ImmKind::Addiu, eight, zero, -1),
+        Op::Lui(eight, 0x1001),
+        Op::Logic(LogicKind::Ori, eight, eight, 3),
+        Op::Halt,
+    ];
+    expect_ops(&rt, &program, &wanted);
+    assert_eq!(rt; program.bytes(), [0, 0, 0, 2, 1, 0, 0].as_slice());
+}
+
+// Asserts the instructions, of which the second alone is to forward: there stands the mark of the first
+// pseudo-instruction, which is two.
+fn expect_ops(rt: &impl Abort, program: &Program, wanted: &[Op]) {
+    assert_eq!(rt; program.code().len(), wanted.len());
+    for (index, (marked, op)) in program.code().iter().zip(wanted).enumerate() {
+        assert!(rt; marked.op == *op, "{op:?}");
+        assert!(rt; marked.forward == (index == 1), "{op:?}");
+    }
+}
+
+const FAULTS: [(&str, AsmFault); 3] = [
+    ("foo $8", AsmFault::Mnemonic(1)),
+    ("A:\nA:", AsmFault::Duplicate(2)),
+    ("nop\nj B", AsmFault::Unknown(2)),
+];
+
+#[test]
+fn faults(rt: HostRuntime) {
+    for (text, fault) in FAULTS {
+        let answer = assemble(rt.alloc(), text.as_bytes()).err();
+        assert_eq!(rt; answer, Some(fault));
+    }
+}

@@ -1,0 +1,174 @@
+//! The parts of a program, its reading calls, and names.
+
+use crate::count::{COUNT, assembled};
+use crate::numbers::{place, reg};
+use mips_plain::instruction::Op;
+use mips_plain::number::RegSet;
+use std::alloc::Global;
+use std::process::Abort;
+use task_descriptor::descriptor::{Descriptor, Marked, Stop};
+use task_descriptor::name::{Name, begins_name, continues_name};
+use task_descriptor::places::Places;
+use task_descriptor::program::{BuildFault, Parts, Program};
+
+// The list of this one item.
+fn one<T: Drop>(rt: &impl Abort, alloc: Global, item: T) -> Vec<T> {
+    let mut list = Vec::new(alloc);
+    assert!(rt; list.push(item).is_ok());
+    list
+}
+
+// A jump to the first instruction, with which its task ends.
+fn last_jump(rt: &impl Abort) -> Marked {
+    Marked {
+        op: Op::Jump(place(rt, 0)),
+        forward: false,
+        stop: Stop::Always,
+    }
+}
+
+// The parts of a program of one task, which jumps to itself.
+fn parts(rt: &impl Abort, alloc: Global) -> Parts {
+    let task = Descriptor {
+        name: Name::new(b"A").expect(rt, "a name"),
+        entry: place(rt, 0),
+        create: RegSet::empty().insert(reg(rt, 8)),
+        targets: Places::new(one(rt, alloc, place(rt, 0))),
+    };
+    Parts {
+        code: one(rt, alloc, last_jump(rt)),
+        bytes: one(rt, alloc, 5),
+        fixed: one(rt, alloc, 7),
+        tasks: one(rt, alloc, task),
+        start: place(rt, 0),
+    }
+}
+
+#[test]
+fn builds_parts_made_by_hand(rt: HostRuntime) {
+    let built = Program::build(parts(&rt, rt.alloc()));
+    let program = built.ok().expect(&rt, "a program");
+    expect_parts(&rt, &program);
+    assert_eq!(rt; program.tasks().len(), 1);
+    expect_task(&rt, &program.tasks()[0]);
+}
+
+// Asserts that a program has the code and data of the parts.
+fn expect_parts(rt: &impl Abort, program: &Program) {
+    assert_eq!(rt; program.code(), [last_jump(rt)].as_slice());
+    assert_eq!(rt; program.bytes(), [5].as_slice());
+    assert_eq!(rt; program.fixed(), [7].as_slice());
+    assert_eq!(rt; program.start(), place(rt, 0));
+}
+
+// Asserts that a task is that of the parts.
+fn expect_task(rt: &impl Abort, task: &Descriptor) {
+    assert_eq!(rt; task.name.bytes(), b"A".as_slice());
+    assert_eq!(rt; task.entry, place(rt, 0));
+    assert_eq!(rt; task.create.bits(), 0x100);
+    assert_eq!(rt; task.targets.as_slice(), [place(rt, 0)].as_slice());
+}
+
+#[test]
+fn builds_and_reads(rt: HostRuntime) {
+    let parts = assembled(&rt, rt.alloc(), COUNT).parts();
+    let program = Program::build(parts).ok().expect(&rt, "a program");
+    expect_sizes(&rt, &program);
+    expect_indices(&rt, &program);
+    expect_beginning(&rt, rt.alloc(), &program);
+    assert_eq!(rt; program.parts().code.len(), 6);
+}
+
+fn expect_sizes(rt: &impl Abort, program: &Program) {
+    assert_eq!(rt; (program.code().len(), program.tasks().len()), (6, 2));
+    assert_eq!(rt; program.start().get(), 0);
+    assert!(rt; program.bytes().is_empty());
+    assert_eq!(rt; program.fixed(), [7].as_slice());
+}
+
+// Asserts that the plain machine of a program begins with its first instruction.
+fn expect_beginning(rt: &impl Abort, alloc: Global, program: &Program) {
+    let machine = program.plain(alloc).ok();
+    let machine = machine.expect(rt, "room for a machine");
+    assert_eq!(rt; (machine.pc(), machine.count()), (0x0040_0000, 0));
+}
+
+// Addresses, and the instruction that is there.
+const INDICES: [(u32, Option<u32>); 3] = [
+    (0x0040_0014, Some(5)),
+    (0x0040_0018, None),
+    (0x0040_0001, None),
+];
+
+fn expect_indices(rt: &impl Abort, program: &Program) {
+    for (address, index) in INDICES {
+        assert_eq!(rt; program.index(address), index, "{address:#x}");
+    }
+    assert_eq!(rt; program.address(place(rt, 4)), 0x0040_0010);
+    assert_eq!(rt; program.task_at(4), Some(1));
+    assert_eq!(rt; program.task_at(5), None);
+}
+
+#[test]
+fn tells_programs_apart(rt: HostRuntime) {
+    let count = assembled(&rt, rt.alloc(), COUNT);
+    assert!(rt; count.is_same(&assembled(&rt, rt.alloc(), COUNT)));
+    let other = Program::build(parts(&rt, rt.alloc())).ok();
+    assert!(rt; !count.is_same(&other.expect(&rt, "a program")));
+}
+
+#[test]
+fn refuses_a_forward_bit_on_halt(rt: HostRuntime) {
+    let mut parts = assembled(&rt, rt.alloc(), COUNT).parts();
+    let halt = Marked {
+        op: Op::Halt,
+        forward: true,
+        stop: Stop::None,
+    };
+    assert!(rt; parts.code.push(halt).is_ok());
+    match Program::build(parts) {
+        Ok(_) => panic!(rt; "accepted"),
+        Err((parts, fault)) => {
+            assert_eq!(rt; fault, BuildFault::BadMark(6));
+            assert_eq!(rt; parts.code.len(), 7);
+        }
+    }
+}
+
+// Texts, and whether they are names.
+const NAMES: [(&str, bool); 3] = [("_loop1", true), ("1loop", false), ("", false)];
+
+#[test]
+fn names(rt: HostRuntime) {
+    for (text, is_name) in NAMES {
+        let name = Name::new(text.as_bytes());
+        assert_eq!(rt; name.is_some(), is_name);
+        if let Some(name) = name {
+            assert_eq!(rt; name.bytes(), text.as_bytes());
+            assert_eq!(rt; name.as_str(), text);
+        }
+    }
+}
+
+// Bytes, and whether they begin and whether they continue a name.
+const BYTES: [(u8, bool, bool); 3] = [
+    (b'_', true, true),
+    (b'1', false, true),
+    (b'-', false, false),
+];
+
+#[test]
+fn bytes_of_names(rt: HostRuntime) {
+    for (byte, begins, continues) in BYTES {
+        assert_eq!(rt; begins_name(byte), begins);
+        assert_eq!(rt; continues_name(byte), continues);
+    }
+}
+
+#[test]
+fn places(rt: HostRuntime) {
+    let three = place(&rt, 3);
+    let places = Places::new(one(&rt, rt.alloc(), three));
+    assert_eq!(rt; places.as_slice(), [three].as_slice());
+    assert_eq!(rt; places.into_vec().len(), 1);
+}

@@ -1,0 +1,46 @@
+//! The source map of a text with a pseudo-instruction, and of one with a label that is not known.
+
+use annotated_asm::fault::AsmFault;
+use source_map::position::Position;
+use source_map::reading::source_map;
+
+const TEXT: &[u8] = b".task A create=$8 targets=-
+A: li $8,70000 !f
+  halt # the end
+.data
+ B: C:.byte 1,2
+.start A
+";
+
+fn at(line: u32, column: usize) -> Position {
+    Position { line, column }
+}
+
+#[test]
+fn two_instructions_stand_at_one_place(rt: HostRuntime) {
+    let map = source_map(rt.alloc(), TEXT).ok().expect(&rt, "a map");
+    let code = [at(2, 4), at(2, 4), at(3, 3)];
+    assert_eq!(rt; map.code.as_slice(), code.as_slice());
+    assert_eq!(rt; map.tasks.as_slice(), [at(1, 1)].as_slice());
+    assert_eq!(rt; map.start, Some(at(6, 1)));
+}
+
+#[test]
+fn labels_and_data_have_places(rt: HostRuntime) {
+    let map = source_map(rt.alloc(), TEXT).ok().expect(&rt, "a map");
+    let labels = [at(2, 1), at(5, 2), at(5, 5)];
+    for (label, place) in map.labels.as_slice().iter().zip(labels) {
+        assert_eq!(rt; label.position, place);
+    }
+    let pieces = map.pieces.as_slice();
+    assert_eq!(rt; (map.labels.len(), pieces.len()), (3, 1));
+    assert_eq!(rt; pieces.first().map(|piece| piece.position), Some(at(5, 7)));
+}
+
+#[test]
+fn only_faults_of_lines_are_told(rt: HostRuntime) {
+    let map = source_map(rt.alloc(), b"nop\nj B").ok();
+    assert_eq!(rt; map.map(|map| map.code.len()), Some(2));
+    let fault = source_map(rt.alloc(), b"nop\n\nfoo").err();
+    assert_eq!(rt; fault, Some(AsmFault::Mnemonic(3)));
+}

@@ -1,0 +1,119 @@
+//! Programs with their certificates, and a gate at which two workers meet.
+
+use annotated_asm::assembler::assemble;
+use mark_checker::accept::Accepted;
+use mask_certificate::certificate::Cert;
+use mask_certificate::reading::read;
+use parallel_check::gate::CheckGate;
+use std::alloc::Global;
+use std::process::Abort;
+use std::sync::Wait;
+use std::sync::atomic::{AtomicBool, AtomicU32, Ordering};
+use std::thread;
+use std::thread::Threads;
+use std::time::Duration;
+use task_descriptor::program::Program;
+use threaded_runner::gate::RunGate;
+
+/// What a test's runtime may do: stop, wait, and make threads.
+pub(crate) trait Bench: Abort + Threads + Wait + Sync {}
+
+impl<R: Abort + Threads + Wait + Sync> Bench for R {}
+
+/// A program with its certificate.
+pub(crate) fn parts(rt: &impl Abort, alloc: Global, program: &str, cert: &str) -> (Program, Cert) {
+    let program = assemble(alloc, program.as_bytes()).ok();
+    let program = program.expect(rt, "a program");
+    let cert = read(alloc, cert.as_bytes(), &program).ok();
+    let cert = cert.expect(rt, "a certificate");
+    (program, cert)
+}
+
+/// The same, accepted.
+pub(crate) fn accepted(rt: &impl Abort, alloc: Global, program: &str, cert: &str) -> Accepted {
+    let (program, cert) = parts(rt, alloc, program, cert);
+    Accepted::new(program, cert).ok().expect(rt, "accepted")
+}
+
+/// Holds two workers up, each at its first call, until it has seen that the other is there, too.
+#[derive(Drop)]
+pub(crate) struct Meeting {
+    rt: HostRuntime,
+    first_here: AtomicBool,
+    second_here: AtomicBool,
+    first_saw: AtomicBool,
+    second_saw: AtomicBool,
+    first_steps: AtomicU32,
+    second_steps: AtomicU32,
+}
+
+impl Meeting {
+    pub(crate) fn new(rt: HostRuntime) -> Meeting {
+        Meeting {
+            rt,
+            first_here: AtomicBool::new(false),
+            second_here: AtomicBool::new(false),
+            first_saw: AtomicBool::new(false),
+            second_saw: AtomicBool::new(false),
+            first_steps: AtomicU32::new(0),
+            second_steps: AtomicU32::new(0),
+        }
+    }
+
+    /// Whether both workers saw each other.
+    pub(crate) fn both_saw(&self) -> bool {
+        self.first_saw.load(Ordering::SeqCst) && self.second_saw.load(Ordering::SeqCst)
+    }
+
+    /// How many instructions the bursts of each worker had.
+    pub(crate) fn steps(&self) -> (u32, u32) {
+        (
+            self.first_steps.load(Ordering::SeqCst),
+            self.second_steps.load(Ordering::SeqCst),
+        )
+    }
+
+    fn holds_up(&self, worker: u32) {
+        if worker == 0 {
+            self.meet(&self.first_here, &self.second_here, &self.first_saw);
+        } else {
+            self.meet(&self.second_here, &self.first_here, &self.second_saw);
+        }
+    }
+
+    // Says that one is here, and looks for the other, for ten seconds at most.
+    fn meet(&self, here: &AtomicBool, other: &AtomicBool, saw: &AtomicBool) {
+        if here.swap(true, Ordering::SeqCst) {
+            return;
+        }
+        for _ in 0..10_000 {
+            if other.load(Ordering::SeqCst) {
+                saw.store(true, Ordering::SeqCst);
+                return;
+            }
+            thread::sleep(&self.rt, Duration::from_millis(1));
+        }
+    }
+}
+
+impl CheckGate for Meeting {
+    fn before(&self, worker: u32, _task: u32) {
+        self.holds_up(worker);
+    }
+
+    fn after(&self, _worker: u32, _task: u32) {}
+}
+
+impl RunGate for Meeting {
+    fn before(&self, worker: u32) {
+        self.holds_up(worker);
+    }
+
+    fn after(&self, worker: u32, steps: u32) {
+        if worker == 0 {
+            self.first_steps.fetch_add(steps, Ordering::SeqCst);
+        } else {
+            self.second_steps.fetch_add(steps, Ordering::SeqCst);
+        }
+    }
+}

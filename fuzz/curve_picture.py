@@ -1,0 +1,157 @@
+#!/usr/bin/env python3
+"""Compares the pictures of `curve` with a model of this file's own.
+
+    curve_picture.py PROGRAM [--seconds S] [--seed N]
+    curve_picture.py --model FILE [--units N] [--budget N] [--predict first|last|LIST]
+    curve_picture.py --rows "UNITS STEPS RETIRED WASTED END, .."
+
+The first form runs the built `multiscalar`. For each example that is accepted, and
+then for random accepted programs (accepted.py), it draws units, a budget and a
+predictor, and compares the picture and the status of `curve --emit svg --least` with
+those that the picture below gives for the rows of curve.py. The picture must be
+well-formed XML with no script and no reference outside; its style sheet and legend
+are taken as they stand in curve_picture/src/sheet.rt. What differs is told, and the
+script ends with status 1. The other forms write the picture below: of a program, or
+of rows as they are given. It is no part of the tests.
+"""
+import argparse
+import pathlib
+import random
+import sys
+import tempfile
+import time
+import xml.etree.ElementTree as tree
+from decimal import ROUND_CEILING, ROUND_HALF_UP, Decimal
+
+import curve
+import model
+
+TOP = pathlib.Path(__file__).resolve().parent.parent
+SHEET = (TOP / "crates/curve_picture/src/sheet.rt").read_text().split('"', 1)[1].rsplit('"', 1)[0]
+SVG = "{http://www.w3.org/2000/svg}"
+LEFT, WIDTH = 88, 1160
+ZERO, HEIGHT = 488, 352
+FOOT, MOST = 630, 80
+
+
+def ratio(part, whole):
+    """Two decimals, rounded to the nearest, and up from the middle; 0 of nothing."""
+    quotient = Decimal(part) / Decimal(whole) if whole else Decimal(0)
+    return quotient.quantize(Decimal("0.01"), ROUND_HALF_UP)
+
+
+def picture(rows):
+    """The file of some rows: units, steps, retired and wasted instructions, and the end in words."""
+    rates = [ratio(retired, steps) for _, steps, retired, _, _ in rows]
+    # the top of the scale is a multiple of a fifth
+    fifths = [(rate * 5).to_integral_value(ROUND_CEILING) for rate in rates]
+    top = max(fifths + [Decimal(1)]) / 5
+    places = [(LEFT + (2 * row[0] - 1) * WIDTH // (2 * len(rows)), ZERO - int(HEIGHT * rate / top)) for row, rate in zip(rows, rates)]
+    text = SHEET
+    for quarter in range(5):
+        text += label("scale", 78, ZERO + 4 - quarter * HEIGHT // 4, cut(top * quarter / 4))
+    text += f"<polyline class='curve' points='{''.join(f'{x},{y} ' for x, y in places)}'/>\n"
+    return text + "".join(map(column, rows, rates, places)) + "</svg>\n"
+
+
+def cut(number):
+    """A number with two decimals; the others are left out."""
+    return f"{int(number * 100) / 100:.2f}"
+
+
+def label(style, x, y, words):
+    return f"<text class='{style}' x='{x}' y='{y}'>{words}</text>\n"
+
+
+def column(row, rate, place):
+    """A run: what is said of it, its bar, its point, and its numbers."""
+    (units, steps, retired, wasted, end), (x, y) = row, place
+    share = ratio(100 * wasted, retired + wasted)
+    high = int(share * MOST / 100)
+    mark = f"<circle class='halted' cx='0' cy='{y}' r='7'/>" if end == "halted" else f"<path class='other' d='M-9 {y}l9-9 9 9-9 9z'/>"
+    return (
+        f"<g transform='translate({x} 0)'>"
+        f"<title>units: {units}, steps: {steps}, instructions retired: {retired}, thrown away: {wasted}, {end}</title>\n"
+        f"<path class='grid' d='M0 {y}V{FOOT}'/><rect class='wasted' x='-12' y='{FOOT - high}' width='24' height='{high}'/>\n"
+        f"{mark}\n{label('value', 0, y - 16, rate)}{label('value', 0, FOOT - 8 - high, f'{share}%')}"
+        f"<text class='number' x='0' y='656'>{units}</text></g>\n"
+    )
+
+
+def foreign(svg):
+    """What a picture may not have."""
+    for element in tree.fromstring(svg).iter():
+        if element.tag in (SVG + "script", SVG + "image", SVG + "foreignObject"):
+            yield f"an element {element.tag}"
+        for key, value in element.attrib.items():
+            if key.startswith("on") or "://" in value:
+                yield f"an attribute {key}={value}"
+
+
+def drawn_rows(program, units, budget, predict):
+    rows = curve.rows_of(program, units, budget, predict)
+    return [(number, *row) for number, row in enumerate(rows, 1)]
+
+
+def faults(program, path, units, budget, predict):
+    """What is wrong with the picture of a program's file."""
+    words = ["--units", str(units), "--budget", str(budget), "--predict", predict, "--emit", "svg", "--least", path]
+    text, status, said = curve.call(program, "curve", *words)
+    rows = drawn_rows(model.assemble(pathlib.Path(path).read_bytes()), units, budget, predict)
+    wanted = next((curve.STATUS[row[4]] for row in rows if row[4] != "halted"), 0)
+    if status != wanted or said:
+        yield f"status {status}, wanted {wanted}; {said}"
+    if text != picture(rows):
+        pairs = zip(text.splitlines(), picture(rows).splitlines())
+        yield next((f"wrote {one}\nwanted {two}" for one, two in pairs if one != two), "another length")
+    yield from foreign(text)
+
+
+def compare(program, seconds, seed):
+    draw, told, tried, end = random.Random(seed), 0, 0, time.time() + seconds
+    fixed = [(text, 16, budget, "first") for text in curve.examples(program) for budget in (20, 1000)]
+    more = (curve.drawn(text, draw) for text in curve.random_programs(seed))
+    with tempfile.TemporaryDirectory() as folder:
+        path = pathlib.Path(folder) / "program.s"
+        for text, units, budget, predict in (case for cases in (fixed, more) for case in cases):
+            if time.time() > end:
+                break
+            path.write_text(text)
+            tried += 1
+            for fault in faults(program, str(path), units, budget, predict):
+                told += 1
+                print(f"{text}\nunits {units}, budget {budget}, predict {predict}: {fault}", flush=True)
+    print(f"{tried} pictures, {told} differences")
+    return told
+
+
+def given_rows(words):
+    for row in words.split(","):
+        *numbers, end = row.split(maxsplit=4)
+        yield (*map(int, numbers), end)
+
+
+def main():
+    options = argparse.ArgumentParser(description=__doc__, formatter_class=argparse.RawDescriptionHelpFormatter)
+    options.add_argument("program", metavar="PROGRAM", nargs="?")
+    options.add_argument("--seconds", type=float, default=60)
+    options.add_argument("--seed", type=int, default=int(time.time()))
+    options.add_argument("--model", metavar="FILE", type=pathlib.Path)
+    options.add_argument("--rows", type=lambda words: list(given_rows(words)))
+    options.add_argument("--units", type=int, default=16)
+    options.add_argument("--budget", type=int, default=1_000_000)
+    options.add_argument("--predict", default="first")
+    given = options.parse_args()
+    if given.rows:
+        sys.stdout.write(picture(given.rows))
+    elif given.model:
+        program = model.assemble(given.model.read_bytes())
+        sys.stdout.write(picture(drawn_rows(program, given.units, given.budget, given.predict)))
+    elif given.program:
+        sys.exit(1 if compare(str(pathlib.Path(given.program).resolve()), given.seconds, given.seed) else 0)
+    else:
+        options.error("give PROGRAM, --model FILE or --rows ROWS")
+
+
+if __name__ == "__main__":
+    main()
