@@ -18,6 +18,7 @@ import itertools
 import os
 import pathlib
 import string
+import subprocess
 import sys
 import tempfile
 import time
@@ -28,13 +29,24 @@ PROGRAM_LIMIT, FILE_LIMIT = 4_194_304, 134_217_728
 
 # The most memory of a subcommand, in millions of bytes: README.md, "How much memory".
 BOUNDS = {"seq": 410, "print": 410, "annotate": 410, "explain": 410, "check": 545, "run": 545, "replay": 1760, "curve": 545}
-# The same where a trace is written.
+# The same where a trace is written, and where it is written as lines of JSON.
 TRACED = {"run": 700, "replay": 1900}
+AS_JSON = {"run": 1020, "replay": 3450}
 EMITS = ("report", "script", "summary", "svg", "trace")
+
 # How much more than the limit a file without end may take.
 ENDLESS = (FILE_LIMIT + 16_000_000) / 1e6
 
 Ended = collections.namedtuple("Ended", "status out told memory seconds")
+
+
+def bound_of(subcommand, emit):
+    return {"trace": TRACED, "json": AS_JSON}.get(emit, BOUNDS)[subcommand]
+
+
+def writes_json(program):
+    """Whether the help of the program names traces as lines of JSON."""
+    return b"json" in subprocess.run([program, "replay", "--help"], capture_output=True).stdout
 
 
 def ran(program, words, folder):
@@ -146,7 +158,7 @@ def certificates(folder):
     path.unlink()
 
 
-def scripts(folder):
+def scripts(folder, traces):
     """Event scripts at the limit and a byte above, and without end."""
     path = folder / "limit.events"
     words = ["replay", COUNT / "program.s", COUNT / "certificate.cert2", path]
@@ -154,15 +166,22 @@ def scripts(folder):
     yield "the script of the most events", words, 0, b"1 refused", BOUNDS["replay"]
     yield "the script of the most events", [*words, "--emit", "summary"], 0, b"assigned  retired ", BOUNDS["replay"]
     yield "the script of the most events", [*words, "--emit", "svg"], 0, b"<svg ", BOUNDS["replay"]
-    yield "the script of the most events", [*words, "--emit", "trace"], 0, b"1 fault: refused 3 NoSuch\n", TRACED["replay"]
+    for emit in traces:
+        first = b"1 fault: refused 3 NoSuch\n" if emit == "trace" else b'{"event":1,"kind":"fault","answer":"refused","code":3,"name":"NoSuch","changes":[]}\n'
+        yield "the script of the most events", [*words, "--emit", emit], 0, first, bound_of("replay", emit)
     script(path, FILE_LIMIT + 1)
     yield "a script of one byte more", words, 2, path, ENDLESS
     yield "a script without end", [*words[:3], "/dev/zero"], 2, "/dev/zero", ENDLESS
     program = folder / "sends.s"
     program.write_text(sends(1000, "T{}"))
     filled(path, "".join(events_of_sends(1000)).encode(), b"fault\n", b"retire\n", FILE_LIMIT)
-    yield "the longest trace", ["replay", program, "--least", path, "--emit", "trace"], 0, b"1 assign S: ok\n", TRACED["replay"]
+    for emit in traces:
+        yield "the longest trace", ["replay", program, "--least", path, "--emit", emit], 0, FIRST_OF[emit], bound_of("replay", emit)
     path.unlink()
+
+
+# How a trace begins whose first task is S.
+FIRST_OF = {"trace": b"1 assign S: ok\n", "json": b'{"event":1,"kind":"assign","task":"S","answer":"ok",'}
 
 
 def sends(tasks, name):
@@ -186,7 +205,7 @@ def events_of_sends(tasks):
         yield f"assign T{number % tasks}\n" + "exec 0\n" * (1 + is_last) + "retire\n"
 
 
-def runs(folder):
+def runs(folder, traces):
     """The most events, and the most output."""
     folder = folder / "runs"
     folder.mkdir()
@@ -199,25 +218,25 @@ def runs(folder):
         cert.write_text("cert 2\ntask A\n" + "".join(f"{index} {mask if index < 3 else '0' * 16}\n" for index in range(entries)))
         kind = "the most output" if program == out else "the most events"
         yield kind, ["seq", program], 3, None, BOUNDS["seq"]
-        for units, emit in itertools.product(("1", "16"), EMITS):
-            bound = (TRACED if emit == "trace" else BOUNDS)["run"]
+        for units, emit in itertools.product(("1", "16"), (*EMITS, *traces[1:])):
+            bound = bound_of("run", emit)
             for certified in ([cert], ["--least"]):
                 yield kind, ["run", program, *certified, "--units", units, "--emit", emit], 3, None, bound
             yield f"{kind}, in steps", ["run", program, cert, "--schedule", "steps", "--units", units, "--emit", emit], 3, None, bound
         yield kind, ["curve", program, cert], 3, b"units ", BOUNDS["curve"]
-    yield from many_tasks(folder)
+    yield from many_tasks(folder, traces)
     program = folder / "sends.s"
     program.write_text(sends(1000, "T{:031}"))
-    for words in (["--units", "1"], ["--units", "16", "--schedule", "steps"]):
-        yield "the longest trace", ["run", program, "--least", *words, "--emit", "trace"], 3, b"1 assign S: ok\n", TRACED["run"]
+    for words, emit in itertools.product((["--units", "1"], ["--units", "16", "--schedule", "steps"]), traces):
+        yield "the longest trace", ["run", program, "--least", *words, "--emit", emit], 3, FIRST_OF[emit], bound_of("run", emit)
 
 
-def many_tasks(folder):
+def many_tasks(folder, traces):
     """The most tasks that come and go: a third of a million lives."""
     program = folder / "tiny.s"
     program.write_text(".task A create=- targets=A\nA: j A !s\n")
-    for emit in EMITS:
-        bound = (TRACED if emit == "trace" else BOUNDS)["run"]
+    for emit in (*EMITS, *traces[1:]):
+        bound = bound_of("run", emit)
         yield "the most tasks", ["run", program, "--least", "--units", "1", "--emit", emit], 3, None, bound
         yield "the most tasks, in steps", ["run", program, "--least", "--schedule", "steps", "--units", "16", "--emit", emit], 3, None, bound
 
@@ -236,10 +255,10 @@ def faults_of(ended, status, answer, bound, reason=""):
 
 def run(program, minutes=0, seed=0, only=""):
     """One row for each kind of text: its name, the number of runs, what they took, and the differences."""
-    rows = {}
+    rows, traces = {}, ("trace", "json") if writes_json(program) else ("trace",)
     with tempfile.TemporaryDirectory(prefix="multiscalar-limits-") as name:
         folder = pathlib.Path(name)
-        for kind, words, status, answer, bound in itertools.chain(programs(folder), certificates(folder), scripts(folder), runs(folder)):
+        for kind, words, status, answer, bound in itertools.chain(programs(folder), certificates(folder), scripts(folder, traces), runs(folder, traces)):
             if only not in f"{kind} {words[0]}":
                 continue
             ended = ran(program, [str(word) for word in words], folder)

@@ -14,8 +14,8 @@ refused. A run must end, and write what one unit with one worker writes, which i
 compared with `seq`: the words, how it ends, after how many instructions. Where
 means are refused it may also write nothing, name want of memory and end with
 status 2. One run in eight is recorded, and the replay of its script must end with
-the same lines; some write a picture, which must be whole, or a table, which must have the retired tasks
-and instructions. One in three makes the least certificate itself. Beside each, `check` with 2 to 16 workers must write what one
+the same lines; some write a picture, which must be whole, a table, which must have the retired tasks
+and instructions, or a trace, which must be that of its events. One in three makes the least certificate itself. Beside each, `check` with 2 to 16 workers must write what one
 worker writes. Needs python3 and cc. It is no part of the tests.
 """
 import argparse
@@ -135,7 +135,7 @@ long syscall(long n, ...) {
 }
 """
 NOBODY = 64999
-STACKS = (1024, 1536, 2048, 4096)  # KiB; below 1,024 some jobs have too little stack, and the kernel ends them
+STACKS = (1280, 1536, 2048, 4096)  # KiB; below 1,200 some jobs have too little stack, and the kernel ends them
 TOP = pathlib.Path(__file__).resolve().parent.parent
 LARGE = TOP / "crates" / "test_shared_check" / "data"
 CORES = sorted(os.sched_getaffinity(0))
@@ -214,7 +214,7 @@ KINDS = {
     "allocations that sleep": "with allocations that sleep",
     "threads that stop at random moments": "with threads that stop at random moments",
     "stop, two cores, turning": "with threads that stop and allocations that sleep, on two cores, beside threads that turn",
-    "small stacks": "with stacks of 1 to 4 MiB",
+    "small stacks": "with stacks of 1.3 to 4 MiB",
     "few threads": "with few threads",
     "little memory": "with little address space",
     "threads refused": "with one thread refused, or it and all after it",
@@ -266,6 +266,14 @@ def replayed(program, kind, script, folder, source, certificate, wanted):
     if b" refused " in closing:
         return "an event of its script is refused"
     return None if closing == wanted and not told else f"its replay ends with {closing[-60:]!r}"
+
+
+def retraced(program, kind, trace, folder, source, certificate):
+    """What is wrong with a trace, which must be the one of the replay of its own events."""
+    events = folder / "traced.events"
+    events.write_bytes(b"".join(line.split(b" ", 1)[1].removesuffix(b": ok") + b"\n" for line in trace.splitlines() if line.endswith(b": ok")))
+    again = call([program, "replay", kind[0], kind[1], "--emit", "trace", source, certificate, str(events)])
+    return None if again[1] == trace and not again[2] else f"a trace that is not that of its events: {trace[-60:]!r}"
 
 
 def refused_in_turn(program, minutes):
@@ -323,7 +331,7 @@ class Load:
         units = draw.randrange(1, 17)
         workers = draw.choice([1, 2, units, draw.randrange(1, 17)])
         kind = ["--units", str(units), "--workers", str(workers), "--predict", draw.choice(PREDICTIONS)]
-        emit = draw.choices(("report", "script", "summary", "svg"), (12, 2, 1, 1))[0]
+        emit = draw.choices(("report", "script", "summary", "svg", "trace"), (12, 2, 1, 1, 1))[0]
         files = [given, draw.choice((made, made, "--least"))]
         env, begin, may_refuse = limited(how, draw, min(units, workers))
         words = [self.program, "run", *kind, "--emit", emit, *files]
@@ -335,6 +343,8 @@ class Load:
             fault = f"status {status}, {told[:80]!r}, {len(out)} bytes out"
         elif emit == "script":
             fault = replayed(self.program, kind, out, self.folder, given, made, wanted)
+        elif emit == "trace":
+            fault = retraced(self.program, kind, out, self.folder, given, made)
         elif emit == "svg":
             fault = None if refused_growths.is_picture(out) is True else f"no picture: {out[-60:]!r}"
         elif emit == "summary":

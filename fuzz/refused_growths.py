@@ -354,7 +354,7 @@ def run(program, minutes, seed, only="", whole=False):
         # the stack has grown before the limit on the address space can stop it: docs/RELIABILITY.md
         every, end = small + large, begin + 60 * minutes
         rows.append(limited("address space of 9 to 600 MB", resource.RLIMIT_AS, 9e6, 6e8, every, draw, end - 2 * minutes, STACK="1500000"))
-        rows.append(limited("stack of 1.1 to 8 MB", resource.RLIMIT_STACK, 1.1 * 2 ** 20, 2 ** 23, every, draw, end))
+        rows.append(limited("stack of 1.3 to 8 MB", resource.RLIMIT_STACK, 1.25 * 2 ** 20, 2 ** 23, every, draw, end))
     return rows
 
 
