@@ -1,5 +1,6 @@
 mod Reached
 mod LastUpdates
+mod Tabling
 mod Unsent
 mod Picking
 mod NotedTasks

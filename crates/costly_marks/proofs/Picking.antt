@@ -1,5 +1,5 @@
 -- What is picked of some lists in a row is what is picked of each.
-use Rattle.std.proofs.Common.{◌≡◌, ℕ, ◌+◌, ◌↔◌, Bool, true, false, if◌then◌else◌, List, [], ◌∷◌, ◌++◌, refl, sym, subst, add-one, append_assoc, append-nil}
+use Rattle.std.proofs.Common.{◌≡◌, ℕ, ◌+◌, ◌↔◌, Bool, true, false, if◌then◌else◌, List, [], ◌∷◌, ◌++◌, refl, sym, subst, add-one, append_assoc, append-nil, zero, suc}
 use Rattle.task_descriptor.specs.Listing.{Listing}
 use Rattle.costly_marks.specs.declared.mark.CostlyMark.{CostlyMark}
 use Rattle.costly_marks.specs.Costly.{IsCostly}
@@ -44,3 +44,13 @@ pub all_picked : (p : Listing) (one two three list first second : List CostlyMar
     → Picked (IsCostly p) (one ++ (two ++ three)) list
 all_picked p one two three list first second of_one of_two of_three =
     adds_more p one (two ++ three) [] first list of_one (adds_more p two three first second list of_two of_three) [] none
+
+pub none_of : (p : Listing) (f : ℕ → CostlyMark) (n : ℕ) (list : List CostlyMark) → ((r : ℕ) → IsCostly p (f r) → ⊥) → Adds p (up_to (λ r. f r ∷ []) n) list list
+none_of p f zero list never = up_to_none p (λ r. f r ∷ []) list
+none_of p f (suc n) list never =
+    subst (λ (k : ℕ). Adds p (up_to (λ r. f r ∷ []) k) list list) (add-one n)
+    (up_to_more p (λ r. f r ∷ []) n list list list (none_of p f n list never)
+    (adds_one p (f n) false list list (sym (append-nil list)) (λ h. absurd (no h), λ c. absurd (never n c))))
+  where
+    no : false ≡ true → ⊥
+    no h = cc

@@ -3,8 +3,10 @@ use Rattle.std.specs.Prelude.{◌≡◌, ℕ, ◌<◌, ◌↔◌, true, false, B
 use Rattle.std.specs.declared.alloc.Global.{Global}
 use Rattle.std.specs.declared.vec.Vec.{Vec}
 use Rattle.mips_plain.specs.Words.{has}
+use Rattle.mips_plain.specs.Instruction.{released}
 use Rattle.task_descriptor.specs.Listing.{Listing}
 use Rattle.task_descriptor.specs.declared.descriptor.Descriptor.{Descriptor}
+use Rattle.task_descriptor.specs.declared.descriptor.Marked.{Marked}
 use Rattle.task_graph.specs.Edges.{sends}
 use Rattle.task_graph.specs.Neighbours.{Follows}
 use Rattle.task_graph.specs.Members.{Reaches}
@@ -78,11 +80,22 @@ pub record IsBegun (p : Listing) (n : ℕ) (marks : List Bool) (work : List ℕ)
 abbrev pub marks_of : List (Vec Bool Global) → List (List Bool)
 marks_of table = map (λ marks. marks.items) table
 
--- for each of the first n registers, the instructions to which some task may come without having sent it
+-- some instruction releases the register
+pub record IsReleased (p : Listing) (register : ℕ) : Type 0 where
+  pub index : ℕ
+  pub at : Marked
+  pub is_there : slice_get p.code index ≡ Some at
+  pub releases : released at.op register ≡ true
+
+-- the set has each register that one of the first n instructions releases
+abbrev pub HasReleased : List Marked → (n set : ℕ) → Type 0
+HasReleased code n set = (i r : ℕ) (at : Marked) → i < n → slice_get code i ≡ Some at → released at.op r ≡ true → has set r ≡ true
+
+-- for each of the first n registers that is released, the instructions to which some task may come without having sent it
 pub record AreUnsent (p : Listing) (n : ℕ) (table : List (List Bool)) : Type 0 where
   pub sized : length table ≡ n
-  pub widths : (r : ℕ) → r < n → length (slice_index_or table r []) ≡ length p.code
-  pub exact : (r i : ℕ) → r < n → (is_marked (slice_index_or table r []) i ≡ true) ↔ ComesUnsent p r i
+  pub widths : (r : ℕ) → r < n → IsReleased p r → length (slice_index_or table r []) ≡ length p.code
+  pub exact : (r i : ℕ) → r < n → IsReleased p r → (is_marked (slice_index_or table r []) i ≡ true) ↔ ComesUnsent p r i
 
 -- behind the list `old`, the list `new` has those of more marks that cost speed
 abbrev pub Adds : Listing → (more old new : List CostlyMark) → Type 0

@@ -1,6 +1,6 @@
 //! What the instructions of a task write or release.
 
-ghost use Rattle.std.specs.Prelude.{◌≡◌, ℕ, ◌<◌, ◌↔◌, ◌&&◌, true, Some, length, slice_get};
+ghost use Rattle.std.specs.Prelude.{◌≡◌, ℕ, ◌<◌, ◌↔◌, ◌&&◌, true, false, Some, length, slice_get};
 ghost use Rattle.std.specs.List.{All};
 ghost use Rattle.mips_plain.specs.Words.{has};
 ghost use Rattle.mips_plain.specs.Instruction.{released as released_by};
@@ -59,6 +59,16 @@ fn produces(op: &Op) -> RegSet
     match op {
         Op::Release(set) => *set,
         _ => op.dests(),
+    }
+}
+
+/// Whether the instruction is a release.
+pub(crate) fn is_release(op: &Op) -> bool
+    ensures { result ≡ false → (r : ℕ) → released_by op.now r ≡ false }
+{
+    match op {
+        Op::Release(_) => true,
+        _ => false,
     }
 }
 

@@ -8,10 +8,9 @@ ghost use Rattle.costly_marks.specs.Steps.{Adds, AreReaching, AreUnsent, marks_o
 
 use crate::last_update::is_not_forwarded;
 use crate::mark::CostlyMark;
-use crate::production::spare;
+use crate::production::{is_release, spare};
 use crate::reaching::{begins_unreached, reaching_tasks};
 use crate::table::{is_sent_before, unsent_table};
-use annotator::certify::certify;
 use mask_certificate::certificate::Cert;
 use mips_plain::number::{REGISTERS, Reg};
 use std::alloc::{AllocError, Global};
@@ -19,20 +18,24 @@ use task_descriptor::program::Program;
 
 /// The marks of a program that cost speed, and code that no task reaches, of any well-formed program: what
 /// is told of the tasks by task and register, what of the instructions by index and register, and last where
-/// code that no task reaches begins, by index.
+/// code that no task reaches begins, by index. `least` is the program's least certificate.
 ///
 /// # Errors
 ///
 /// `AllocError` where memory was refused.
-pub fn costly_marks(alloc: Global, program: &Program) -> Result<Vec<CostlyMark>, AllocError>
+pub fn costly_marks(
+    alloc: Global,
+    program: &Program,
+    least: &Cert,
+) -> Result<Vec<CostlyMark>, AllocError>
+    requires { IsLeast program.now least.now }
     ensures { IfOk result (λ list. Picked (IsCostly program.now) (candidates program.now) list.items) }
 {
-    let cert = certify(alloc, program)?;
-    let reaching = reaching_tasks(alloc, program, &cert)?;
+    let reaching = reaching_tasks(alloc, program, least)?;
     let table = unsent_table(alloc, program)?;
     let mut list = Vec::new(alloc);
-    add_of_tasks(program, &cert, &mut list)?;
-    add_of_instructions(program, &cert, &reaching, &table, &mut list)?;
+    add_of_tasks(program, least, &mut list)?;
+    add_of_instructions(program, least, &reaching, &table, &mut list)?;
     add_unreached(program, &reaching, &mut list)?;
     Ok(list)
 }
@@ -123,6 +126,9 @@ fn add_sent_before(
     requires there { index < length program.now.code }
     ensures { OnOk result (Adds program.now (of_release index) list.old.items list.new.items) }
 {
+    if !is_release(&program.code()[index as usize].op) {
+        return Ok(());
+    }
     for number in 0..REGISTERS as u8 {
         let Some(register) = Reg::new(number) else {
             unreachable!()

@@ -1,27 +1,61 @@
-//! For each register, the instructions to which some task may come without having sent it.
+//! For each register that is released, the instructions to which some task may come without having sent it.
 
 ghost use Rattle.std.specs.Prelude.{◌≡◌, ℕ, ◌<◌, ◌↔◌, ◌&&◌, true, Some, [], length, IfOk, slice_get, slice_index_or};
+ghost use Rattle.mips_plain.specs.Words.{has};
+ghost use Rattle.mips_plain.specs.Instruction.{released as released_by};
+ghost use Rattle.task_descriptor.specs.declared.descriptor.Marked.{Marked};
 ghost use Rattle.task_graph.specs.SearchSteps.{is_marked};
-ghost use Rattle.costly_marks.specs.Costly.{IsSentBefore};
-ghost use Rattle.costly_marks.specs.Steps.{AreReaching, AreUnsent, marks_of};
+ghost use Rattle.costly_marks.specs.Costly.{ComesUnsent, IsSentBefore};
+ghost use Rattle.costly_marks.specs.Steps.{AreReaching, AreUnsent, HasReleased, IsReleased, marks_of};
 
 use crate::production::released;
 use crate::reaching::is_member;
 use crate::sending::unsent;
-use mips_plain::number::{REGISTERS, Reg};
+use mips_plain::number::{REGISTERS, Reg, RegSet};
 use std::alloc::{AllocError, Global};
+use task_descriptor::descriptor::Marked;
 use task_descriptor::program::Program;
 
-/// The marks of each register, register 0 first.
+/// The registers that instructions release.
+fn all_released(code: &[Marked]) -> RegSet
+    ensures { HasReleased code.now (length code.now) result }
+{
+    let mut set = RegSet::empty();
+    for marked in code {
+        set = set.union(released(&marked.op));
+    }
+    set
+}
+
+/// The marks of a register that is released; none of any other, of which nobody asks.
+fn marks_if_released(
+    alloc: Global,
+    program: &Program,
+    set: RegSet,
+    register: Reg,
+) -> Result<Vec<bool>, AllocError>
+    requires { HasReleased program.now.code (length program.now.code) set }
+    ensures sized { IfOk result (λ v. IsReleased program.now register → length v.items ≡ length program.now.code) }
+    ensures exact { IfOk result (λ v. (i : ℕ) → IsReleased program.now register → (is_marked v.items i ≡ true) ↔ ComesUnsent program.now register i) }
+{
+    if set.has(register) {
+        unsent(alloc, program, register)
+    } else {
+        Ok(Vec::new(alloc))
+    }
+}
+
+/// The marks of each register that is released, register 0 first.
 pub(crate) fn unsent_table(alloc: Global, program: &Program) -> Result<Vec<Vec<bool>>, AllocError>
     ensures { IfOk result (λ table. AreUnsent program.now 34 (marks_of table.items)) }
 {
+    let set = all_released(program.code());
     let mut table = Vec::with_capacity(alloc, REGISTERS)?;
     for number in 0..REGISTERS as u8 {
         let Some(register) = Reg::new(number) else {
             unreachable!()
         };
-        table.push(unsent(alloc, program, register)?)?;
+        table.push(marks_if_released(alloc, program, set, register)?)?;
     }
     Ok(table)
 }

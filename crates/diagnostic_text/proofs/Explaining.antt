@@ -7,10 +7,7 @@ use Rattle.std.proofs.lemmas.Bool.{eqb-true}
 use Rattle.task_descriptor.specs.Listing.{Listing}
 use Rattle.task_graph.specs.Soundness.{Sound}
 use Rattle.program_tokens.specs.Lines.{lines}
-use Rattle.annotated_asm.specs.Steps.{FailsText}
-use Rattle.annotated_asm.specs.ProgramText.{parse, Spells}
-use Rattle.annotated_asm.specs.declared.fault.AsmFault.{AsmFault}
-use Rattle.annotated_asm.specs.declared.fault.AsmFault.TheVariants.{OutOfMemory}
+use Rattle.annotated_asm.specs.ProgramText.{Spells}
 use Rattle.source_map.specs.Sources.{Sources, sources_of}
 use Rattle.finding_paths.specs.declared.shown.ShownFinding.{ShownFinding}
 use Rattle.finding_paths.specs.Shown.{AreShown}
@@ -33,7 +30,7 @@ one_or_more file more false false is e =
 more_said : (file : List ℕ) (more : ℕ) → more_text file more ≡ [] → more ≡ 0
 more_said file more e = one_or_more file more (nat_eq more 0) (nat_eq more 1) (λ none. eqb-true more 0 none) e
 
-nothing_said : (file : List ℕ) (rows : List (List ℕ)) (p : Listing) (s : Sources) (list : List ShownFinding) (more : ℕ)
+pub nothing_said : (file : List ℕ) (rows : List (List ℕ)) (p : Listing) (s : Sources) (list : List ShownFinding) (more : ℕ)
     → (findings_text file rows p s list more ≡ []) ↔ ((list ≡ []) × (more ≡ 0))
 nothing_said file rows p s [] more = (λ e. (refl, more_said file more e), λ both. ap (more_text file) both.1)
 nothing_said file rows p s (x ∷ xs) more = (
@@ -61,8 +58,3 @@ explained file text bytes p s list more spelled mapped shown sound said =
       said = said;
       silent = (λ e. sound.0 (nothing.0 (sym said ∙ e)), λ is. said ∙ nothing.1 (sound.1 is));
     }
-
--- a text that spells a program has a source map, so what its reading tells is want of memory
-pub only_memory : (e : AsmFault) (text : List ℕ) (s : Sources) → sources_of text ≡ Ok s → FailsText e (sources_of text) → FailsText e (parse text)
-only_memory OutOfMemory text s made fails = tt
-only_memory e text s made fails = absurd (cc)

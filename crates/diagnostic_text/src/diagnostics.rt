@@ -1,24 +1,24 @@
 //! The text of findings for the author of a program text.
 
-ghost use Rattle.std.specs.Prelude.{◌≡◌, [], ◌∷◌, ◌++◌, codes, map as each, slice_get, IfOk, IfErr, OnOk};
+ghost use Rattle.std.specs.Prelude.{◌≡◌, [], ◌∷◌, ◌++◌, codes, map as each, slice_get, Ok, IfOk, OnOk};
 ghost use Rattle.std.specs.List.{flat_map};
 ghost use Rattle.std.specs.Fmt.{decimal};
 ghost use Rattle.std.specs.String.{string_bytes};
 ghost use Rattle.program_tokens.specs.Lines.{lines};
-ghost use Rattle.annotated_asm.specs.Steps.{FailsText};
 ghost use Rattle.annotated_asm.specs.ProgramText.{parse};
-ghost use Rattle.source_map.specs.Sources.{sources_in};
+ghost use Rattle.source_map.specs.Sources.{sources_in, sources_of};
 ghost use Rattle.source_excerpt.specs.Excerpt.{position_text};
+ghost use Rattle.annotator.specs.Least.{IsLeast};
 ghost use Rattle.diagnostic_text.specs.Sentences.{number_in as register_number};
 ghost use Rattle.diagnostic_text.specs.Diagnostics.{error_text, text_to_write, todo_text, line_of, path_text, note_text, path_note, finding_text, more_text, findings_text, IsExplained};
 
 use crate::list::{task_name, write_create, write_targets};
 use crate::place::{instruction_stretch, line_of, note_index, note_words, place_of, stretch_by};
 use crate::sentence::{number_in, write_help, write_sentence};
-use annotated_asm::assembler::assemble;
 use annotated_asm::fault::AsmFault;
 use finding_paths::shown::{ShownFinding, ShownFindings, shown_findings};
 use mark_checker::finding::{Finding, Rule};
+use mask_certificate::certificate::Cert;
 use source_excerpt::excerpt::{lines_of, write_excerpt, write_position};
 use source_map::laws::map_fits;
 use source_map::position::{Position, SourceMap};
@@ -250,21 +250,47 @@ pub fn findings_text(
     Ok(text)
 }
 
-/// What is said of the marks of the program that a text spells: of its first `MOST_SHOWN` findings, and how
-/// many more there are; nothing exactly where the marks are sound.
+/// The source map of a text that spells a program.
 ///
 /// # Errors
 ///
-/// The first fault of the text, where it is no program, or `OutOfMemory`.
-pub fn explain(alloc: Global, file: &str, text: &[u8]) -> Result<String, AsmFault>
-    ensures said { IfOk result (λ said. IsExplained file.now text.now (string_bytes said)) }
-    ensures refused { IfErr result (λ fault. FailsText fault (parse text.now)) }
+/// `AllocError` where memory was refused.
+pub fn map_of(alloc: Global, text: &[u8], program: &Program) -> Result<SourceMap, AllocError>
+    requires { parse text.now ≡ Ok program.now }
+    ensures { IfOk result (λ map. sources_of text.now ≡ Ok (sources_in map)) }
 {
-    // A text that spells a program has a source map, so no fault is told of it.
     map_fits();
-    let program = assemble(alloc, text)?;
-    let findings = shown_findings(alloc, &program, MOST_SHOWN)?;
-    let map = source_map(alloc, text)?;
-    let said = findings_text(alloc, file, text, &program, &map, &findings)?;
+    match source_map(alloc, text) {
+        Ok(map) => Ok(map),
+        Err(AsmFault::OutOfMemory) => Err(AllocError),
+        Err(_) => unreachable!(),
+    }
+}
+
+/// What is said of the marks of the program that a text spells: of its first `MOST_SHOWN` findings, and how
+/// many more there are; nothing exactly where the marks are sound. `least` is the program's least certificate.
+///
+/// # Errors
+///
+/// `AllocError` where memory was refused.
+pub fn explain(
+    alloc: Global,
+    file: &str,
+    text: &[u8],
+    program: &Program,
+    least: &Cert,
+) -> Result<String, AllocError>
+    requires spelled { parse text.now ≡ Ok program.now }
+    requires least { IsLeast program.now least.now }
+    ensures { IfOk result (λ said. IsExplained file.now text.now (string_bytes said)) }
+{
+    // The text has a source map, which is made only where something is found.
+    map_fits();
+    let findings = shown_findings(alloc, program, least, MOST_SHOWN)?;
+    if findings.is_empty() {
+        return Ok(String::new(alloc));
+    }
+    let map = map_of(alloc, text, program)?;
+    let said = findings_text(alloc, file, text, program, &map, &findings)?;
     Ok(said)
 }

@@ -3,9 +3,9 @@ ghost use Rattle.std.specs.Prelude.{◌≡◌, ◌&&◌, ◌++◌, Ok, IfOk};
 ghost use Rattle.std.specs.Option.{option_map};
 ghost use Rattle.std.specs.String.{string_bytes};
 ghost use Rattle.annotated_asm.specs.ProgramText.{parse};
-ghost use Rattle.diagnostic_text.specs.Diagnostics.{IsExplained};
 ghost use Rattle.mask_certificate.specs.CertificateReading.{cert_parse, names_of};
 ghost use Rattle.mark_checker.specs.Rules.{all_rules};
+ghost use Rattle.annotator.specs.Least.{IsLeast};
 ghost use Rattle.certificate_remarks.specs.Remarks.{fitting_text};
 ghost use Rattle.explain_report.specs.ExplainText.{AreWarningsSaid, IsCertificateSaid, IsExplainReport, IsFittingSaid, IsProgramExplained, IsReadSaid, is_silent, said_status};
 
@@ -73,10 +73,11 @@ fn explain_program(
     ensures { IfOk result (λ report. IsProgramExplained name.now (option_map string_bytes file.now) warnings
         text.now certificate.now program.now report) }
 {
-    let marks = explain_marks(alloc, name, text, program)?;
+    let least = certify(alloc, program)?;
+    let marks = diagnostics::explain(alloc, name, text, program, &least)?;
     let asked = is_asked(warnings, marks.as_str());
-    let costly = explain_costly(alloc, name, text, program, asked)?;
-    let beside = explain_certificate(alloc, name, file, program, certificate)?;
+    let costly = explain_costly(alloc, name, text, program, &least, asked)?;
+    let beside = explain_certificate(alloc, name, file, program, &least, certificate)?;
     let said = report_of(marks, costly.as_str(), beside.as_str())?;
     Ok(said)
 }
@@ -98,32 +99,17 @@ fn explain_costly(
     name: &str,
     text: &[u8],
     program: &Program,
+    least: &Cert,
     asked: bool,
 ) -> Result<String, AllocError>
-    requires { parse text.now ≡ Ok program.now }
+    requires spelled { parse text.now ≡ Ok program.now }
+    requires least { IsLeast program.now least.now }
     ensures { IfOk result (λ said. AreWarningsSaid asked name.now text.now program.now (string_bytes said)) }
 {
     if asked {
-        warnings(alloc, name, text, program)
+        warnings(alloc, name, text, program, least)
     } else {
         Ok(String::new(alloc))
-    }
-}
-
-// What is said of the marks of the program that a text spells.
-fn explain_marks(
-    alloc: Global,
-    name: &str,
-    text: &[u8],
-    program: &Program,
-) -> Result<String, AllocError>
-    requires { parse text.now ≡ Ok program.now }
-    ensures { IfOk result (λ said. IsExplained name.now text.now (string_bytes said)) }
-{
-    match diagnostics::explain(alloc, name, text) {
-        Ok(said) => Ok(said),
-        Err(AsmFault::OutOfMemory) => Err(AllocError),
-        Err(_) => unreachable!(),
     }
 }
 
@@ -133,13 +119,15 @@ fn explain_certificate(
     name: &str,
     file: &Option<String>,
     program: &Program,
+    least: &Cert,
     certificate: &Text,
 ) -> Result<String, AllocError>
+    requires { IsLeast program.now least.now }
     ensures { IfOk result (λ said. IsCertificateSaid name.now (option_map string_bytes file.now)
         program.now certificate.now (string_bytes said)) }
 {
     match file {
-        Some(file) => explain_text(alloc, name, file.as_str(), program, certificate),
+        Some(file) => explain_text(alloc, name, file.as_str(), program, least, certificate),
         None => Ok(String::new(alloc)),
     }
 }
@@ -150,13 +138,15 @@ fn explain_text(
     name: &str,
     file: &str,
     program: &Program,
+    least: &Cert,
     certificate: &Text,
 ) -> Result<String, AllocError>
+    requires { IsLeast program.now least.now }
     ensures { IfOk result (λ said. IsReadSaid name.now file.now program.now
         (cert_parse certificate.now (names_of program.now)) (string_bytes said)) }
 {
     match read(alloc, certificate, program) {
-        Ok(cert) => explain_fitting(alloc, name, file, program, &cert),
+        Ok(cert) => explain_fitting(alloc, name, file, program, least, &cert),
         Err(CertFault::OutOfMemory) => Err(AllocError),
         Err(fault) => refused(alloc, name, file, fault),
     }
@@ -168,12 +158,13 @@ fn explain_fitting(
     name: &str,
     file: &str,
     program: &Program,
+    least: &Cert,
     cert: &Cert,
 ) -> Result<String, AllocError>
+    requires { IsLeast program.now least.now }
     ensures { IfOk result (λ said. IsFittingSaid name.now file.now program.now cert.now (string_bytes said)) }
 {
-    let least = certify(alloc, program)?;
-    let said = compare(alloc, name, file, program, cert, &least)?;
+    let said = compare(alloc, name, file, program, cert, least)?;
     Ok(said)
 }
 

@@ -5,8 +5,8 @@ ghost use Rattle.std.specs.String.{string_bytes};
 ghost use Rattle.annotated_asm.specs.ProgramText.{parse};
 ghost use Rattle.mask_certificate.specs.CertificateReading.{cert_parse, names_of};
 ghost use Rattle.mark_checker.specs.Rules.{all_rules};
+ghost use Rattle.annotator.specs.Least.{IsLeast};
 ghost use Rattle.sarif_log.specs.Log.{log_text};
-ghost use Rattle.log_entries.specs.Findings.{AreMarksLogged};
 ghost use Rattle.log_entries.specs.Refusals.{refused_entry};
 ghost use Rattle.log_entries.specs.Certificates.{fitting_entries, refused_certificate};
 ghost use Rattle.explain_report.specs.LogText.{IsCertificateLogged, IsFittingLogged, IsLogReport, IsProgramLogged, IsReadLogged, entries_status};
@@ -95,8 +95,9 @@ fn log_program(
     ensures { IfOk result (λ report. IsProgramLogged name.now (option_map string_bytes file.now)
         text.now certificate.now program.now report) }
 {
-    let marks = log_marks(alloc, text, program)?;
-    let beside = log_certificate(alloc, name, file, program, certificate)?;
+    let least = certify(alloc, program)?;
+    let marks = mark_entries(alloc, text, program, &least)?;
+    let beside = log_certificate(alloc, name, file, program, &least, certificate)?;
     let report = report_of(alloc, name, certificate_name(file), marks, beside)?;
     Ok(report)
 }
@@ -126,31 +127,21 @@ fn joined(mut marks: Vec<Entry>, mut beside: Vec<Entry>) -> Result<Vec<Entry>, A
     Ok(marks)
 }
 
-// What is said of the marks of the program that a text spells.
-fn log_marks(alloc: Global, text: &[u8], program: &Program) -> Result<Vec<Entry>, AllocError>
-    requires { parse text.now ≡ Ok program.now }
-    ensures { IfOk result (λ entries. AreMarksLogged text.now entries.items) }
-{
-    match mark_entries(alloc, text) {
-        Ok(entries) => Ok(entries),
-        Err(AsmFault::OutOfMemory) => Err(AllocError),
-        Err(_) => unreachable!(),
-    }
-}
-
 // What is said of a certificate, if a file of one is named.
 fn log_certificate(
     alloc: Global,
     name: &str,
     file: &Option<String>,
     program: &Program,
+    least: &Cert,
     certificate: &Text,
 ) -> Result<Vec<Entry>, AllocError>
+    requires { IsLeast program.now least.now }
     ensures { IfOk result (λ entries. IsCertificateLogged name.now (option_map string_bytes file.now)
         program.now certificate.now entries.items) }
 {
     match file {
-        Some(file) => log_text_of(alloc, name, file.as_str(), program, certificate),
+        Some(file) => log_text_of(alloc, name, file.as_str(), program, least, certificate),
         None => Ok(Vec::new(alloc)),
     }
 }
@@ -161,13 +152,15 @@ fn log_text_of(
     name: &str,
     file: &str,
     program: &Program,
+    least: &Cert,
     certificate: &Text,
 ) -> Result<Vec<Entry>, AllocError>
+    requires { IsLeast program.now least.now }
     ensures { IfOk result (λ entries. IsReadLogged name.now file.now program.now
         (cert_parse certificate.now (names_of program.now)) entries.items) }
 {
     match read(alloc, certificate, program) {
-        Ok(cert) => log_fitting(alloc, name, file, program, &cert),
+        Ok(cert) => log_fitting(alloc, name, file, program, least, &cert),
         Err(CertFault::OutOfMemory) => Err(AllocError),
         Err(fault) => refused_alone(alloc, name, file, fault),
     }
@@ -194,12 +187,13 @@ fn log_fitting(
     name: &str,
     file: &str,
     program: &Program,
+    least: &Cert,
     cert: &Cert,
 ) -> Result<Vec<Entry>, AllocError>
+    requires { IsLeast program.now least.now }
     ensures { IfOk result (λ entries. IsFittingLogged name.now file.now program.now cert.now entries.items) }
 {
-    let least = certify(alloc, program)?;
-    let entries = compare(alloc, name, file, program, cert, &least)?;
+    let entries = compare(alloc, name, file, program, cert, least)?;
     Ok(entries)
 }
 

@@ -1,16 +1,17 @@
 //! The findings of a program's marks, each with a path that shows it.
 
-ghost use Rattle.std.specs.Prelude.{◌≡◌, ◌<◌, ◌↔◌, [], List, length, IfOk, IfSome, IfNone};
+ghost use Rattle.std.specs.Prelude.{◌≡◌, ◌<◌, ◌↔◌, true, [], List, length, IfOk, IfSome, IfNone};
 ghost use Rattle.task_graph.specs.Soundness.{Sound};
+ghost use Rattle.annotator.specs.Least.{IsLeast};
 ghost use Rattle.witnesses.specs.Witnesses.{NoneShorter};
 ghost use Rattle.finding_paths.specs.Queries.{IsFoundBy, CanBeFound};
 ghost use Rattle.finding_paths.specs.Shown.{IsFinding, IsShown, AreShown};
 
 use crate::first::first_findings;
 use crate::query::{Query, query_of};
-use annotator::certify::certify;
 use mark_checker::accept::accepts;
 use mark_checker::finding::Finding;
+use mask_certificate::certificate::Cert;
 use std::alloc::{AllocError, Global};
 use task_descriptor::program::Program;
 use witnesses::paths::{path_onward, path_to};
@@ -32,6 +33,15 @@ pub struct ShownFindings {
     pub list: Vec<ShownFinding>,
     /// How many findings are behind these.
     pub more: usize,
+}
+
+impl ShownFindings {
+    /// Whether nothing was found.
+    pub fn is_empty(&self) -> bool
+        ensures { (result ≡ true) ↔ ((self.now.list.items ≡ []) × (self.now.more ≡ 0)) }
+    {
+        self.list.is_empty() && self.more == 0
+    }
 }
 
 /// A shortest path of those that a query asks for, if there is one.
@@ -73,7 +83,7 @@ pub fn path_of(
 
 /// What is wrong with a program's marks: the first findings in order of task, index, rule and register, at
 /// most `most` of them, each with a shortest path that shows it, and how many more there are. The findings
-/// are those of the least certificate, so there is none exactly where the marks are sound.
+/// are those of `least`, the least certificate, so there is none exactly where the marks are sound.
 ///
 /// Those that are not shown are counted, task by task, and no path is looked for: the memory for them is that
 /// of one task's findings.
@@ -84,17 +94,20 @@ pub fn path_of(
 pub fn shown_findings(
     alloc: Global,
     program: &Program,
+    least: &Cert,
     most: usize,
 ) -> Result<ShownFindings, AllocError>
+    requires { IsLeast program.now least.now }
     ensures shown { IfOk result (λ shown. AreShown program.now most shown.list.items shown.more) }
     ensures sound { IfOk result (λ shown. ((shown.list.items ≡ []) × (shown.more ≡ 0)) ↔ Sound program.now) }
 {
-    let cert = certify(alloc, program)?;
+    // A program is well-formed, as its accessors say.
+    let _ = program.tasks();
     let mut list = Vec::new(alloc);
-    if accepts(program, &cert) {
+    if accepts(program, least) {
         return Ok(ShownFindings { list, more: 0 });
     }
-    let first = first_findings(alloc, program, &cert, most)?;
+    let first = first_findings(alloc, program, least, most)?;
     for finding in &first.list {
         let path = path_of(alloc, program, finding)?;
         list.push(ShownFinding {

@@ -3,10 +3,7 @@ use Rattle.std.proofs.Common.{◌≡◌, ◌↔◌, ℕ, Bool, true, false, nat_
 use Rattle.std.proofs.lemmas.Bool.{eqb-true}
 use Rattle.task_descriptor.specs.Listing.{Listing}
 use Rattle.task_graph.specs.Soundness.{Sound}
-use Rattle.annotated_asm.specs.Steps.{FailsText}
-use Rattle.annotated_asm.specs.ProgramText.{parse, Spells}
-use Rattle.annotated_asm.specs.declared.fault.AsmFault.{AsmFault}
-use Rattle.annotated_asm.specs.declared.fault.AsmFault.TheVariants.{OutOfMemory}
+use Rattle.annotated_asm.specs.ProgramText.{Spells}
 use Rattle.source_map.specs.Sources.{Sources, sources_of}
 use Rattle.finding_paths.specs.declared.shown.ShownFinding.{ShownFinding}
 use Rattle.finding_paths.specs.Shown.{AreShown}
@@ -24,7 +21,7 @@ none_more entry more false is e = absurd (some entry e)
 more_logged : (more : ℕ) → more_entries more ≡ [] → more ≡ 0
 more_logged more e = none_more _ more (nat_eq more 0) (λ none. eqb-true more 0 none) e
 
-nothing_logged : (p : Listing) (s : Sources) (list : List ShownFinding) (more : ℕ)
+pub nothing_logged : (p : Listing) (s : Sources) (list : List ShownFinding) (more : ℕ)
     → (map (finding_entry p s) list ++ more_entries more ≡ []) ↔ ((list ≡ []) × (more ≡ 0))
 nothing_logged p s [] more = (λ e. (refl, more_logged more e), λ both. ap more_entries both.1)
 nothing_logged p s (x ∷ xs) more =
@@ -51,8 +48,3 @@ logged text entries p s list more spelled mapped shown sound said =
       logged = said;
       silent = (λ e. sound.0 (nothing.0 (sym said ∙ e)), λ is. said ∙ nothing.1 (sound.1 is));
     }
-
--- a text that spells a program has a source map, so what its reading tells is want of memory
-pub only_memory : (e : AsmFault) (text : List ℕ) (s : Sources) → sources_of text ≡ Ok s → FailsText e (sources_of text) → FailsText e (parse text)
-only_memory OutOfMemory text s made fails = tt
-only_memory e text s made fails = absurd (cc)

@@ -1,26 +1,24 @@
 //! The entries of findings.
 
-ghost use Rattle.std.specs.Prelude.{◌≡◌, ◌++◌, map as each, IfOk, IfErr, OnOk};
+ghost use Rattle.std.specs.Prelude.{◌≡◌, ◌++◌, map as each, Ok, IfOk, OnOk};
 ghost use Rattle.std.specs.String.{string_bytes};
-ghost use Rattle.annotated_asm.specs.Steps.{FailsText};
 ghost use Rattle.annotated_asm.specs.ProgramText.{parse};
 ghost use Rattle.source_map.specs.Sources.{sources_in};
+ghost use Rattle.annotator.specs.Least.{IsLeast};
 ghost use Rattle.log_entries.specs.Findings.{rule_of, region_of, finding_message, path_message, related_of, finding_entry, more_message, more_entries, AreMarksLogged};
 
-use annotated_asm::assembler::assemble;
-use annotated_asm::fault::AsmFault;
-use diagnostic_text::diagnostics::{MOST_SHOWN, write_path, write_text_to_write};
+use diagnostic_text::diagnostics::{MOST_SHOWN, map_of, write_path, write_text_to_write};
 use diagnostic_text::list::task_name;
 use diagnostic_text::place::{instruction_stretch, note_index, note_words, stretch_by};
 use diagnostic_text::sentence::{number_in, write_help, write_sentence};
 use finding_paths::shown::{ShownFinding, ShownFindings, shown_findings};
 use mark_checker::finding::{Finding, Rule};
+use mask_certificate::certificate::Cert;
 use sarif_log::entry::{Columns, Entry, Level, LoggedFile, Region, Related};
 use sarif_log::rules::LogRule;
 use sarif_log::words::Words;
 use source_map::laws::map_fits;
 use source_map::position::{SourceMap, Stretch};
-use source_map::reading::source_map;
 use std::alloc::{AllocError, Global};
 use task_descriptor::program::Program;
 
@@ -189,20 +187,28 @@ fn finding_entries(
 }
 
 /// What is said of the marks of the program that a text spells: of its first `MOST_SHOWN` findings, and how
-/// many more there are; nothing exactly where the marks are sound.
+/// many more there are; nothing exactly where the marks are sound. `least` is the program's least certificate.
 ///
 /// # Errors
 ///
-/// The first fault of the text, where it is no program, or `OutOfMemory`.
-pub fn mark_entries(alloc: Global, text: &[u8]) -> Result<Vec<Entry>, AsmFault>
-    ensures said { IfOk result (λ entries. AreMarksLogged text.now entries.items) }
-    ensures refused { IfErr result (λ fault. FailsText fault (parse text.now)) }
+/// `AllocError` where memory was refused.
+pub fn mark_entries(
+    alloc: Global,
+    text: &[u8],
+    program: &Program,
+    least: &Cert,
+) -> Result<Vec<Entry>, AllocError>
+    requires spelled { parse text.now ≡ Ok program.now }
+    requires least { IsLeast program.now least.now }
+    ensures { IfOk result (λ entries. AreMarksLogged text.now entries.items) }
 {
-    // A text that spells a program has a source map, so no fault is told of it.
+    // The text has a source map, which is made only where something is found.
     map_fits();
-    let program = assemble(alloc, text)?;
-    let findings = shown_findings(alloc, &program, MOST_SHOWN)?;
-    let map = source_map(alloc, text)?;
-    let entries = finding_entries(alloc, &program, &map, &findings)?;
+    let findings = shown_findings(alloc, program, least, MOST_SHOWN)?;
+    if findings.is_empty() {
+        return Ok(Vec::new(alloc));
+    }
+    let map = map_of(alloc, text, program)?;
+    let entries = finding_entries(alloc, program, &map, &findings)?;
     Ok(entries)
 }

@@ -1,6 +1,8 @@
 //! What is said of marks that are wrong, and nothing of marks that are right.
 
 use crate::given::Long;
+use annotated_asm::assembler::assemble;
+use annotator::certify::certify;
 use diagnostic_text::diagnostics::explain;
 use std::alloc::Global;
 use std::process::Abort;
@@ -54,8 +56,12 @@ const TEXTS: [(&str, &str); 3] = [
 
 // What is said of a program text.
 fn said(rt: &impl Abort, alloc: Global, text: &str) -> String {
-    let said = explain(alloc, "p.s", text.as_bytes()).ok();
-    said.expect(rt, "a program")
+    let program = assemble(alloc, text.as_bytes()).ok();
+    let program = program.expect(rt, "a program");
+    let least = certify(alloc, &program).ok();
+    let least = least.expect(rt, "room for a certificate");
+    let said = explain(alloc, "p.s", text.as_bytes(), &program, &least).ok();
+    said.expect(rt, "room for what is said")
 }
 
 #[test]

@@ -3,6 +3,7 @@
 
 use crate::given::{Long, assembled};
 use annotated_asm::assembler::assemble;
+use annotator::certify::certify;
 use costly_marks::mark::CostlyMark;
 use costly_marks::search::costly_marks;
 use mips_plain::number::Reg;
@@ -56,7 +57,9 @@ p.s:8:1: help: remove it up to the next instruction that a task reaches, or let 
 #[test]
 fn each_kind_is_found_once(rt: HostRuntime) {
     let program = assembled(&rt, rt.alloc(), LOOSE);
-    let found = costly_marks(rt.alloc(), &program).ok();
+    let least = certify(rt.alloc(), &program).ok();
+    let least = least.expect(&rt, "room for a certificate");
+    let found = costly_marks(rt.alloc(), &program, &least).ok();
     let found = found.expect(&rt, "room for marks");
     let wanted = [
         CostlyMark::NeverProduced {
@@ -81,7 +84,9 @@ fn register(rt: &impl Abort, number: u8) -> Reg {
 fn said(rt: &impl Abort, alloc: Global, text: &str) -> String {
     let program = assemble(alloc, text.as_bytes()).ok();
     let program = program.expect(rt, "a program");
-    let said = warnings(alloc, "p.s", text.as_bytes(), &program).ok();
+    let least = certify(alloc, &program).ok();
+    let least = least.expect(rt, "room for a certificate");
+    let said = warnings(alloc, "p.s", text.as_bytes(), &program, &least).ok();
     said.expect(rt, "room for warnings")
 }
 

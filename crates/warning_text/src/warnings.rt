@@ -4,18 +4,19 @@ ghost use Rattle.std.specs.Prelude.{◌≡◌, ◌-◌, [], ◌∷◌, ◌++◌,
 ghost use Rattle.std.specs.List.{flat_map};
 ghost use Rattle.std.specs.String.{string_bytes};
 ghost use Rattle.annotated_asm.specs.ProgramText.{parse};
-ghost use Rattle.source_map.specs.Sources.{sources_in, sources_of};
+ghost use Rattle.source_map.specs.Sources.{sources_in};
 ghost use Rattle.source_excerpt.specs.Excerpt.{position_text};
+ghost use Rattle.annotator.specs.Least.{IsLeast};
 ghost use Rattle.warning_text.specs.WarningText.{sentence_text, help_text, warning_text, more_text, warnings_text, AreTold};
 
 use crate::sentence::{stretch_of, write_help, write_sentence};
-use annotated_asm::fault::AsmFault;
 use costly_marks::mark::CostlyMark;
 use costly_marks::search::costly_marks;
+use diagnostic_text::diagnostics::map_of;
+use mask_certificate::certificate::Cert;
 use source_excerpt::excerpt::{lines_of, write_excerpt, write_position};
 use source_map::laws::map_fits;
 use source_map::position::{Position, SourceMap};
-use source_map::reading::source_map;
 use std::alloc::{AllocError, Global};
 use task_descriptor::program::Program;
 
@@ -121,21 +122,9 @@ fn text_of(
     Ok(text)
 }
 
-/// The source map of a text that spells a program.
-fn map_of(alloc: Global, text: &[u8], program: &Program) -> Result<SourceMap, AllocError>
-    requires { parse text.now ≡ Ok program.now }
-    ensures { IfOk result (λ map. sources_of text.now ≡ Ok (sources_in map)) }
-{
-    map_fits();
-    match source_map(alloc, text) {
-        Ok(map) => Ok(map),
-        Err(AsmFault::OutOfMemory) => Err(AllocError),
-        Err(_) => unreachable!(),
-    }
-}
-
 /// What is said of the marks that cost speed of the program that a text spells, and of code that no task
-/// reaches: of the first `MOST_SHOWN`, and how many more there are. The text stands in a file of this name.
+/// reaches: of the first `MOST_SHOWN`, and how many more there are. The text stands in a file of this name,
+/// and `least` is the program's least certificate.
 ///
 /// # Errors
 ///
@@ -145,11 +134,18 @@ pub fn warnings(
     file: &str,
     text: &[u8],
     program: &Program,
+    least: &Cert,
 ) -> Result<String, AllocError>
-    requires { parse text.now ≡ Ok program.now }
+    requires spelled { parse text.now ≡ Ok program.now }
+    requires least { IsLeast program.now least.now }
     ensures { IfOk result (λ said. AreTold file.now text.now program.now (string_bytes said)) }
 {
-    let list = costly_marks(alloc, program)?;
+    // The text has a source map, which is made only where something is told.
+    map_fits();
+    let list = costly_marks(alloc, program, least)?;
+    if list.is_empty() {
+        return Ok(String::new(alloc));
+    }
     let map = map_of(alloc, text, program)?;
     let lines = lines_of(alloc, text)?;
     let marks = list.as_slice();

@@ -11,7 +11,7 @@ use Rattle.finding_paths.proofs.shown.shown_findings.Goals as goal
 pub returns-clause-sound : goal.returns-clause-sound
 returns-clause-sound c =
     let p = c.args.program.now in
-    let all = all_rules p c.in_ok-cert.cert in
+    let all = all_rules p c.args.least.now in
     let list = c.loop-finding.list.items in
     let first = c.in_ok-first.first in
     let more = first.count - c.len.result in
@@ -20,5 +20,5 @@ returns-clause-sound c =
     let long : length list ≡ length (take c.args.most all) = sym (length-map list (λ (s : ShownFinding). s.finding)) ∙ ap length same in
     let few = take_less c.args.most all in
     let counted : length list + more ≡ length all = omega (arith, long, few, c.len.ensures, c.in_ok-first.ensures.count) in
-    none_refused p c.in_ok-cert.cert list more c.accepts.result c.accepts.ensures.exact c.if-accepts.false
-    c.in_ok-cert.ensures.well_formed c.in_ok-cert.ensures.least counted
+    none_refused p c.args.least.now list more c.accepts.result c.accepts.ensures.exact c.if-accepts.false
+    c.tasks.ensures.well_formed c.requires counted
