@@ -17,7 +17,7 @@ use mips_plain::number::{Gpr, Place};
 use program_statements::statement::{
     Instruction, Marks, Section, Statement, Target, Targets, Task,
 };
-use std::alloc::Global;
+use std::alloc::{AllocError, Global};
 use task_descriptor::descriptor::{Descriptor, Marked};
 use task_descriptor::name::Name;
 use task_descriptor::places::Places;
@@ -249,13 +249,23 @@ fn add_data(parts: &mut Parts, section: Section, bytes: &[u8]) -> Result<(), Asm
     Ok(())
 }
 
+/// Adds zeros behind bytes.
+fn append_zeros(bytes: &mut Vec<u8>, size: u32) -> Result<(), AllocError>
+    ensures { OnOk result (bytes.new.items ≡ bytes.old.items ++ replicate size 0) }
+{
+    let len = bytes.len() + size as usize;
+    bytes.resize(len, 0)
+}
+
 /// Adds zeros to the data of a section.
 fn add_zeros(parts: &mut Parts, section: Section, size: u32) -> Result<(), AsmFault>
     ensures ok { OnOk result (listing_of parts.new ≡ with_data (listing_of parts.old) section (replicate size 0)) }
     ensures err { IfErr result (λ fault. fault ≡ AsmFault.OutOfMemory) }
 {
-    for _ in 0..size {
-        add_data(parts, section, &[0])?;
+    match section {
+        Section::Text => {}
+        Section::Data => append_zeros(&mut parts.bytes, size)?,
+        Section::Rodata => append_zeros(&mut parts.fixed, size)?,
     }
     Ok(())
 }
