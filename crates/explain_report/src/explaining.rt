@@ -168,7 +168,9 @@ fn explain_fitting(
     Ok(said)
 }
 
-// What is said of a certificate beside another one.
+// What is said of a certificate beside another one. Not inlined, so that only a run with a certificate pays for
+// the room on the stack.
+#[inline(never)]
 fn compare(
     alloc: Global,
     name: &str,

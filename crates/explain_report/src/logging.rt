@@ -197,7 +197,9 @@ fn log_fitting(
     Ok(entries)
 }
 
-// What is said of a certificate beside another one.
+// What is said of a certificate beside another one. Not inlined, so that only a run with a certificate pays for
+// the room on the stack.
+#[inline(never)]
 fn compare(
     alloc: Global,
     name: &str,

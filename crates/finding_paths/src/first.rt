@@ -22,6 +22,8 @@ pub(crate) struct FirstFindings {
 
 /// The first findings of a program with its least certificate, at most `most` of them, and how many there
 /// are. It holds the findings of one task at a time.
+// Not inlined: a caller that needs no finding does not pay for the room on the stack.
+#[inline(never)]
 pub(crate) fn first_findings(
     alloc: Global,
     program: &Program,
