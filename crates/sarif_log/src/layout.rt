@@ -7,9 +7,9 @@ ghost use Rattle.json.specs.Tree.{json_tokens, members_tokens, items_tokens};
 ghost use Rattle.sarif_log.specs.Log.{location_json, related_json, related_members, level_word, uri_in, entry_json, rule_json, items_of};
 
 use crate::entry::{Entry, Level, LoggedFile, Region, Related};
-use crate::place::{write_location, write_message, write_physical, write_text};
+use crate::place::{write_location, write_message, write_physical};
 use crate::rules::{LogRule, rule_help, rule_id, rule_short};
-use crate::writer::LogWriter;
+use json_writer::writer::JsonWriter;
 use std::alloc::AllocError;
 
 /// How grave an entry is, in the word of the format.
@@ -33,7 +33,7 @@ fn uri_in<'a>(file: LoggedFile, program: &'a str, certificate: &'a str) -> &'a s
 }
 
 /// Adds a further place.
-fn write_related_place(out: &mut LogWriter, uri: &str, related: &Related) -> Result<(), AllocError>
+fn write_related_place(out: &mut JsonWriter, uri: &str, related: &Related) -> Result<(), AllocError>
     ensures { OnOk result (out.new ≡ out.old ++ json_tokens (related_json uri.now related.now)) }
 {
     out.begin_object()?;
@@ -45,19 +45,18 @@ fn write_related_place(out: &mut LogWriter, uri: &str, related: &Related) -> Res
 }
 
 /// Adds the place that shows an entry, and ends the entry.
-fn write_some_related(out: &mut LogWriter, uri: &str, related: &Related) -> Result<(), AllocError>
+fn write_some_related(out: &mut JsonWriter, uri: &str, related: &Related) -> Result<(), AllocError>
     ensures { OnOk result (out.new ≡ out.old ++ members_tokens (related_members uri.now (Some related.now))) }
 {
-    out.key("relatedLocations")?;
-    out.begin_array()?;
+    out.begin_list("relatedLocations")?;
     write_related_place(out, uri, related)?;
-    out.end_array()?;
+    out.end_list()?;
     out.end_object()
 }
 
 /// Adds the place that shows an entry, if there is one, and ends the entry.
 fn write_related(
-    out: &mut LogWriter,
+    out: &mut JsonWriter,
     uri: &str,
     related: &Option<Related>,
 ) -> Result<(), AllocError>
@@ -70,19 +69,22 @@ fn write_related(
 }
 
 /// Adds where an entry is.
-fn write_locations(out: &mut LogWriter, uri: &str, region: Option<Region>) -> Result<(), AllocError>
+fn write_locations(
+    out: &mut JsonWriter,
+    uri: &str,
+    region: Option<Region>,
+) -> Result<(), AllocError>
     ensures { OnOk result (out.new ≡ out.old
         ++ (key (codes "locations") ∷ begin_array ∷ (json_tokens (location_json uri.now region) ++ end_array ∷ []))) }
 {
-    out.key("locations")?;
-    out.begin_array()?;
+    out.begin_list("locations")?;
     write_location(out, uri, region)?;
-    out.end_array()
+    out.end_list()
 }
 
 /// Adds an entry.
 fn write_entry(
-    out: &mut LogWriter,
+    out: &mut JsonWriter,
     program: &str,
     certificate: &str,
     entry: &Entry,
@@ -91,8 +93,8 @@ fn write_entry(
 {
     let uri = uri_in(entry.file, program, certificate);
     out.begin_object()?;
-    write_text(out, "ruleId", rule_id(entry.rule))?;
-    write_text(out, "level", level_word(entry.level))?;
+    out.text("ruleId", rule_id(entry.rule))?;
+    out.text("level", level_word(entry.level))?;
     out.key("message")?;
     write_message(out, entry.message.as_str())?;
     write_locations(out, uri, entry.region)?;
@@ -101,7 +103,7 @@ fn write_entry(
 
 /// Adds entries.
 fn write_each_entry(
-    out: &mut LogWriter,
+    out: &mut JsonWriter,
     program: &str,
     certificate: &str,
     entries: &[Entry],
@@ -117,7 +119,7 @@ fn write_each_entry(
 
 /// Adds entries, and ends their list.
 pub(crate) fn write_entries(
-    out: &mut LogWriter,
+    out: &mut JsonWriter,
     program: &str,
     certificate: &str,
     entries: &[Entry],
@@ -126,15 +128,15 @@ pub(crate) fn write_entries(
         ≡ out.old ++ items_tokens (items_of (entry_json program.now certificate.now) entries.now)) }
 {
     write_each_entry(out, program, certificate, entries)?;
-    out.end_array()
+    out.end_list()
 }
 
 /// Adds a rule.
-fn write_rule(out: &mut LogWriter, rule: LogRule) -> Result<(), AllocError>
+fn write_rule(out: &mut JsonWriter, rule: LogRule) -> Result<(), AllocError>
     ensures { OnOk result (out.new ≡ out.old ++ json_tokens (rule_json rule)) }
 {
     out.begin_object()?;
-    write_text(out, "id", rule_id(rule))?;
+    out.text("id", rule_id(rule))?;
     out.key("shortDescription")?;
     write_message(out, rule_short(rule))?;
     out.key("help")?;
@@ -143,7 +145,7 @@ fn write_rule(out: &mut LogWriter, rule: LogRule) -> Result<(), AllocError>
 }
 
 /// Adds rules.
-fn write_each_rule(out: &mut LogWriter, rules: &[LogRule]) -> Result<(), AllocError>
+fn write_each_rule(out: &mut JsonWriter, rules: &[LogRule]) -> Result<(), AllocError>
     ensures { OnOk result (out.new ≡ out.old ++ flat_map (λ rule. json_tokens (rule_json rule)) rules.now) }
 {
     for rule in rules {
@@ -153,9 +155,9 @@ fn write_each_rule(out: &mut LogWriter, rules: &[LogRule]) -> Result<(), AllocEr
 }
 
 /// Adds rules, and ends their list.
-pub(crate) fn write_rules(out: &mut LogWriter, rules: &[LogRule]) -> Result<(), AllocError>
+pub(crate) fn write_rules(out: &mut JsonWriter, rules: &[LogRule]) -> Result<(), AllocError>
     ensures { OnOk result (out.new ≡ out.old ++ items_tokens (items_of rule_json rules.now)) }
 {
     write_each_rule(out, rules)?;
-    out.end_array()
+    out.end_list()
 }

@@ -8,4 +8,3 @@ pub mod log;
 mod place;
 pub mod rules;
 pub mod words;
-mod writer;

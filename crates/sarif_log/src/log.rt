@@ -9,9 +9,8 @@ ghost use Rattle.sarif_log.specs.Log.{driver_json, tool_json, run_json, log_json
 
 use crate::entry::Entry;
 use crate::layout::{write_entries, write_rules};
-use crate::place::write_text;
 use crate::rules::{LogRule, RULES};
-use crate::writer::LogWriter;
+use json_writer::writer::JsonWriter;
 use percent_encoding::{AsciiSet, NON_ALPHANUMERIC, ascii_set, percent_encode};
 use std::alloc::{AllocError, Global};
 
@@ -27,20 +26,19 @@ pub const ESCAPED: AsciiSet = ascii_set!(
 );
 
 /// Adds the driver.
-fn write_driver(out: &mut LogWriter, rules: &[LogRule]) -> Result<(), AllocError>
+fn write_driver(out: &mut JsonWriter, rules: &[LogRule]) -> Result<(), AllocError>
     ensures { OnOk result (out.new ≡ out.old ++ json_tokens (driver_json rules.now)) }
 {
     out.begin_object()?;
-    write_text(out, "name", "multiscalar")?;
-    write_text(out, "version", "0.1.0")?;
-    out.key("rules")?;
-    out.begin_array()?;
+    out.text("name", "multiscalar")?;
+    out.text("version", "0.1.0")?;
+    out.begin_list("rules")?;
     write_rules(out, rules)?;
     out.end_object()
 }
 
 /// Adds the tool.
-fn write_tool(out: &mut LogWriter, rules: &[LogRule]) -> Result<(), AllocError>
+fn write_tool(out: &mut JsonWriter, rules: &[LogRule]) -> Result<(), AllocError>
     ensures { OnOk result (out.new ≡ out.old ++ json_tokens (tool_json rules.now)) }
 {
     out.begin_object()?;
@@ -51,7 +49,7 @@ fn write_tool(out: &mut LogWriter, rules: &[LogRule]) -> Result<(), AllocError>
 
 /// Adds the run.
 fn write_run(
-    out: &mut LogWriter,
+    out: &mut JsonWriter,
     rules: &[LogRule],
     program: &str,
     certificate: &str,
@@ -62,16 +60,15 @@ fn write_run(
     out.begin_object()?;
     out.key("tool")?;
     write_tool(out, rules)?;
-    write_text(out, "columnKind", "unicodeCodePoints")?;
-    out.key("results")?;
-    out.begin_array()?;
+    out.text("columnKind", "unicodeCodePoints")?;
+    out.begin_list("results")?;
     write_entries(out, program, certificate, entries)?;
     out.end_object()
 }
 
 /// Adds the log.
 fn write_log(
-    out: &mut LogWriter,
+    out: &mut JsonWriter,
     rules: &[LogRule],
     program: &str,
     certificate: &str,
@@ -80,16 +77,11 @@ fn write_log(
     ensures { OnOk result (out.new ≡ out.old ++ json_tokens (log_json rules.now program.now certificate.now entries.now)) }
 {
     out.begin_object()?;
-    write_text(
-        out,
-        "$schema",
-        "https://json.schemastore.org/sarif-2.1.0.json",
-    )?;
-    write_text(out, "version", "2.1.0")?;
-    out.key("runs")?;
-    out.begin_array()?;
+    out.text("$schema", "https://json.schemastore.org/sarif-2.1.0.json")?;
+    out.text("version", "2.1.0")?;
+    out.begin_list("runs")?;
     write_run(out, rules, program, certificate, entries)?;
-    out.end_array()?;
+    out.end_list()?;
     out.end_object()
 }
 
@@ -118,7 +110,7 @@ pub fn log_text(
 {
     let program = uri(alloc, program)?;
     let certificate = uri(alloc, certificate)?;
-    let mut out = LogWriter::new(alloc);
+    let mut out = JsonWriter::new(alloc);
     write_log(
         &mut out,
         &RULES,

@@ -3,4 +3,4 @@ use Rattle.std.proofs.Common.{append_assoc}
 use Rattle.sarif_log.proofs.layout.write_locations.Goals as goal
 
 pub returns : goal.returns
-returns c = simp (c.in_ok-write_location.ensures, c.in_ok-begin_array.ensures, c.in_ok-key.ensures, append_assoc) at c.end_array.ensures
+returns c = simp (c.in_ok-write_location.ensures, c.in_ok-begin_list.ensures, append_assoc) at c.end_list.ensures

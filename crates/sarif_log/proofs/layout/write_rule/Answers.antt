@@ -5,4 +5,4 @@ use Rattle.sarif_log.proofs.layout.write_rule.Goals as goal
 
 pub returns : goal.returns
 unfolding rule_json
-returns c = simp (c.in_ok-write_message-2.ensures, c.in_ok-key-2.ensures, c.in_ok-write_message.ensures, c.in_ok-key.ensures, c.in_ok-write_text.ensures, c.in_ok-begin_object.ensures, c.rule_id.ensures, c.rule_short.ensures, c.rule_help.ensures, append_assoc) at c.end_object.ensures
+returns c = simp (c.in_ok-write_message-2.ensures, c.in_ok-key-2.ensures, c.in_ok-write_message.ensures, c.in_ok-key.ensures, c.in_ok-text.ensures, c.in_ok-begin_object.ensures, c.rule_id.ensures, c.rule_short.ensures, c.rule_help.ensures, append_assoc) at c.end_object.ensures

@@ -5,4 +5,4 @@ use Rattle.sarif_log.proofs.Listed.{items_listed}
 use Rattle.sarif_log.proofs.layout.write_rules.Goals as goal
 
 pub returns : goal.returns
-returns c = rw (items_listed rule_json c.args.rules.now) (simp (c.in_ok-write_each_rule.ensures, append_assoc) at c.end_array.ensures)
+returns c = rw (items_listed rule_json c.args.rules.now) (simp (c.in_ok-write_each_rule.ensures, append_assoc) at c.end_list.ensures)

@@ -3,4 +3,4 @@ use Rattle.std.proofs.Common.{append_assoc}
 use Rattle.sarif_log.proofs.layout.write_some_related.Goals as goal
 
 pub returns : goal.returns
-returns c = simp append_assoc (simp (c.in_ok-end_array.ensures, c.in_ok-write_related_place.ensures, c.in_ok-begin_array.ensures, c.in_ok-key.ensures, append_assoc) at c.end_object.ensures)
+returns c = simp append_assoc (simp (c.in_ok-end_list.ensures, c.in_ok-write_related_place.ensures, c.in_ok-begin_list.ensures, append_assoc) at c.end_object.ensures)

@@ -5,4 +5,4 @@ use Rattle.sarif_log.proofs.log.write_driver.Goals as goal
 
 pub returns : goal.returns
 unfolding driver_json
-returns c = simp (c.in_ok-write_rules.ensures, c.in_ok-begin_array.ensures, c.in_ok-key.ensures, c.in_ok-write_text-2.ensures, c.in_ok-write_text.ensures, c.in_ok-begin_object.ensures, append_assoc) at c.end_object.ensures
+returns c = simp (c.in_ok-write_rules.ensures, c.in_ok-begin_list.ensures, c.in_ok-text-2.ensures, c.in_ok-text.ensures, c.in_ok-begin_object.ensures, append_assoc) at c.end_object.ensures

@@ -5,4 +5,4 @@ use Rattle.sarif_log.proofs.log.write_run.Goals as goal
 
 pub returns : goal.returns
 unfolding run_json
-returns c = simp (c.in_ok-write_entries.ensures, c.in_ok-begin_array.ensures, c.in_ok-key-2.ensures, c.in_ok-write_text.ensures, c.in_ok-write_tool.ensures, c.in_ok-key.ensures, c.in_ok-begin_object.ensures, append_assoc) at c.end_object.ensures
+returns c = simp (c.in_ok-write_entries.ensures, c.in_ok-begin_list.ensures, c.in_ok-text.ensures, c.in_ok-write_tool.ensures, c.in_ok-key.ensures, c.in_ok-begin_object.ensures, append_assoc) at c.end_object.ensures

@@ -5,4 +5,4 @@ use Rattle.sarif_log.proofs.place.write_physical.Goals as goal
 
 pub returns : goal.returns
 unfolding physical_json
-returns c = simp (c.in_ok-end_object.ensures, c.in_ok-write_text.ensures, c.in_ok-begin_object-2.ensures, c.in_ok-key.ensures, c.in_ok-begin_object.ensures, append_assoc) at c.write_region_member.ensures
+returns c = simp (c.in_ok-end_object.ensures, c.in_ok-text.ensures, c.in_ok-begin_object-2.ensures, c.in_ok-key.ensures, c.in_ok-begin_object.ensures, append_assoc) at c.write_region_member.ensures

@@ -3,4 +3,4 @@ use Rattle.std.proofs.Common.{append_assoc}
 use Rattle.sarif_log.proofs.place.write_region.Goals as goal
 
 pub returns : goal.returns
-returns c = simp (c.in_ok-write_number.ensures, c.in_ok-begin_object.ensures, append_assoc) at c.write_columns.ensures
+returns c = simp (c.in_ok-number.ensures, c.in_ok-begin_object.ensures, append_assoc) at c.write_columns.ensures

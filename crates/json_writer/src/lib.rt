@@ -1,0 +1,4 @@
+//! Texts of JSON, written token by token.
+#![tactic(auto)]
+
+pub mod writer;
