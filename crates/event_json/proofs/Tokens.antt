@@ -1,5 +1,5 @@
 -- The tokens of an object are those of its members, and the tokens of a list those of its values.
-use Rattle.std.proofs.Common.{◌≡◌, ℕ, List, [], ◌∷◌, ◌++◌, refl, ◌∙◌, ap, sym, append_assoc, append-nil, Bool, true, false, subst}
+use Rattle.std.proofs.Common.{◌≡◌, ℕ, List, [], ◌∷◌, ◌++◌, refl, ◌∙◌, ap, sym, append_assoc, append-nil, Bool, true, false}
 use Rattle.std.specs.Prelude.{flat_map, map, if◌then◌else◌}
 use Rattle.std.proofs.lemmas.List.Concat.{flat_map-append}
 use Rattle.json.specs.Token.{Token, begin_array, begin_object, end_array, end_object, key}

@@ -1,5 +1,5 @@
 -- What an event changed, as objects of JSON (own choice).
-use Rattle.std.specs.Prelude.{ℕ, List, [], ◌∷◌, ◌++◌, map, codes}
+use Rattle.std.specs.Prelude.{ℕ, List, [], ◌∷◌, map, codes}
 use Rattle.json.specs.Json.{Json}
 use Rattle.task_descriptor.specs.Listing.{Listing}
 use Rattle.source_map.specs.declared.position.Position.{Position}

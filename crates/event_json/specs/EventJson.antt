@@ -1,18 +1,15 @@
 -- An event with its answer and with what it changed, as an object of JSON (own choice).
-use Rattle.std.specs.Prelude.{ℕ, List, [], ◌∷◌, ◌++◌, codes, Result, Ok, Err}
+use Rattle.std.specs.Prelude.{ℕ, List, [], ◌∷◌, ◌++◌, codes, Result}
 use Rattle.json.specs.Json.{Json}
 use Rattle.task_descriptor.specs.Listing.{Listing}
 use Rattle.machine_model.specs.Machine.{State}
-use Rattle.machine_model.specs.Answer.{after}
 use Rattle.machine_events.specs.declared.event.Event.{Event}
 use Rattle.machine_events.specs.declared.event.Event.TheVariants.{Assign, Exec, Transfer, Drain, Squash, Retire, Fault, Drop}
 use Rattle.machine_events.specs.declared.event.Refused.{Refused}
 use Rattle.machine_events.specs.declared.event.Refused.TheVariants as refused
 use Rattle.source_map.specs.declared.position.Position.{Position}
 use Rattle.event_trace.specs.declared.change.Change.{Change}
-use Rattle.event_trace.specs.declared.told.Told.{Told}
-use Rattle.event_trace.specs.declared.told.Told.TheVariants as told
-use Rattle.event_trace.specs.Changes.{changes_of}
+use Rattle.event_trace.specs.Entries.{entry_of}
 use Rattle.event_json.specs.Fields.{Field, line_of, named, number_field, object_of, register_field, task_field, text_field, unit_field}
 use Rattle.event_json.specs.ChangeJson.{changes_field}
 
@@ -69,12 +66,13 @@ abbrev pub refused_json : Listing → List Position → (number : ℕ) → Event
 refused_json p places number event refusal =
     object_of (numbered_fields p number event ++ (answer_field (codes "refused") ∷ (refusal_fields refusal ++ changes_field p places [] ∷ [])))
 
--- the event of a number, with what is told of it
-abbrev pub told_json : Listing → List Position → (number : ℕ) → Event → Told → Json
-told_json p places number e (told.Taken changes) = taken_json p places number e changes.items
-told_json p places number e (told.Refused refusal) = refused_json p places number e refusal
+-- the same on lines
+abbrev pub taken_line : Listing → List Position → (number : ℕ) → Event → List Change → List ℕ
+taken_line p places number event changes = line_of (taken_json p places number event changes)
 
--- the same on its line, by its answer in a state
+abbrev pub refused_line : Listing → List Position → (number : ℕ) → Event → Refused → List ℕ
+refused_line p places number event refusal = line_of (refused_json p places number event refusal)
+
+-- the line of an event, by its answer in a state
 abbrev pub entry_line : Listing → List Position → (number : ℕ) → State → Event → Result (Unit {0}) Refused → List ℕ
-entry_line p places number s e (Ok done) = line_of (taken_json p places number e (changes_of p s e (after p s e)))
-entry_line p places number s e (Err why) = line_of (refused_json p places number e why)
+entry_line p places = entry_of (taken_line p places) (refused_line p places) p

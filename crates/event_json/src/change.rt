@@ -10,9 +10,9 @@ use crate::fields::{
     write_address_word, write_exit, write_place, write_register_word, write_standing, write_task,
     write_unit, write_word,
 };
-use crate::writer::JsonWriter;
 use event_trace::change::Change;
 use event_trace::unit_change::UnitChange;
+use json_writer::writer::JsonWriter;
 use machine_events::event::Standing;
 use mips_plain::number::Reg;
 use source_map::position::Position;

@@ -10,8 +10,8 @@ ghost use Rattle.event_json.specs.Fields.{address_field, fields_tokens, object_o
 ghost use Rattle.event_json.specs.EndJson.{end_json, memory_field, memory_json, register_json, registers_field, registers_json, word_json};
 
 use crate::fields::{write_address_word, write_register_word, write_standing};
-use crate::writer::JsonWriter;
 use event_trace::ending::word_at;
+use json_writer::writer::JsonWriter;
 use mips_plain::memory::DATA_START;
 use mips_plain::number::Reg;
 use sequencer::machine::Machine;

@@ -4,13 +4,12 @@ ghost use Rattle.std.specs.Prelude.{◌≡◌, ◌++◌, [], ◌∷◌, codes, O
 ghost use Rattle.json.specs.Tree.{json_tokens};
 ghost use Rattle.event_json.specs.Fields.{fields_tokens, named, register_field, task_field, unit_field};
 ghost use Rattle.event_json.specs.ChangeJson.{changes_field};
-ghost use Rattle.event_json.specs.EventJson.{answer_field, event_fields, kind_field, numbered_fields, refusal_fields, refused_json, taken_json, told_json};
+ghost use Rattle.event_json.specs.EventJson.{answer_field, event_fields, kind_field, numbered_fields, refusal_fields, refused_json, taken_json};
 
 use crate::change::write_changes;
 use crate::fields::{write_named, write_register, write_task, write_unit};
-use crate::writer::JsonWriter;
 use event_trace::change::Change;
-use event_trace::told::Told;
+use json_writer::writer::JsonWriter;
 use machine_events::event::{Event, Refused};
 use mips_plain::number::Reg;
 use source_map::position::Position;
@@ -113,8 +112,9 @@ fn write_numbered(
     write_event(out, program, event)
 }
 
-/// Adds the event of this number, which the machine took, and what it changed.
-fn write_taken(
+/// Adds the event of this number, which the machine took, and what it changed. An error says that memory was
+/// refused.
+pub(crate) fn write_taken(
     out: &mut JsonWriter,
     program: &Program,
     places: &[Position],
@@ -132,8 +132,9 @@ fn write_taken(
     Ok(())
 }
 
-/// Adds the event of this number, which the machine refused, and the reason.
-fn write_refused(
+/// Adds the event of this number, which the machine refused, and the reason. An error says that memory was
+/// refused.
+pub(crate) fn write_refused(
     out: &mut JsonWriter,
     program: &Program,
     places: &[Position],
@@ -150,21 +151,4 @@ fn write_refused(
     write_changes(out, program, places, &[])?;
     out.end_object()?;
     Ok(())
-}
-
-/// Adds the event of this number, with what is told of it. An error says that memory was refused.
-pub(crate) fn write_told(
-    out: &mut JsonWriter,
-    program: &Program,
-    places: &[Position],
-    number: usize,
-    event: &Event,
-    told: &Told,
-) -> Result<(), AllocError>
-    ensures { OnOk result (out.new ≡ out.old ++ json_tokens (told_json program.now places.now number event.now told.now)) }
-{
-    match told {
-        Told::Taken(changes) => write_taken(out, program, places, number, event, changes),
-        Told::Refused(refusal) => write_refused(out, program, places, number, event, *refusal),
-    }
 }

@@ -4,8 +4,8 @@ ghost use Rattle.std.specs.Prelude.{◌≡◌, ◌++◌, [], ◌∷◌, slice_ge
 ghost use Rattle.machine_events.specs.declared.event.Standing.TheVariants.{Trapped, Unlisted};
 ghost use Rattle.event_json.specs.Fields.{address_field, exit_fields, fields_tokens, found_fields, line_fields, named, place_fields, register_field, standing_fields, task_field, trap_fields, unit_field, word_field};
 
-use crate::writer::JsonWriter;
 use event_script::writing::task_name;
+use json_writer::writer::JsonWriter;
 use machine_events::event::Standing;
 use mips_plain::number::Reg;
 use mips_plain::outcome::Trap;

@@ -6,4 +6,3 @@ mod ending;
 mod event;
 mod fields;
 pub mod lines;
-mod writer;

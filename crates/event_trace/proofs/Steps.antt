@@ -1,5 +1,5 @@
 -- An event on two machines that are abreast, and one entry more of the text.
-use Rattle.std.proofs.Common.{◌≡◌, ℕ, suc, ◌+◌, ◌<◌, ◌≤◌, List, [], ◌∷◌, ◌++◌, inl, inr, length, drop, get_or, Result, Ok, Err, refl, sym, ap, subst, ◌∙◌, arith, add-one, append_assoc, append-nil, length-append, drop-cons}
+use Rattle.std.proofs.Common.{◌≡◌, ℕ, suc, ◌+◌, ◌<◌, ◌≤◌, List, [], ◌∷◌, ◌++◌, inl, inr, length, drop, get_or, Result, Ok, Err, refl, sym, ap, ◌∙◌, arith, add-one, append_assoc, append-nil, length-append, drop-cons}
 use Rattle.std.proofs.lemmas.List.{drop_all}
 use Rattle.std.specs.declared.alloc.Global.{Global}
 use Rattle.std.specs.declared.vec.Vec.{Vec}
@@ -12,15 +12,12 @@ use Rattle.machine_events.specs.declared.event.Refused.{Refused}
 use Rattle.machine_events.specs.declared.event.Refused.TheVariants as refused
 use Rattle.mark_checker.specs.Places.{Checked}
 use Rattle.sequencer.specs.Seen.{MachineView, Applies, IsAnswered, SameRing, answer_to, state, units_of}
-use Rattle.source_map.specs.declared.position.Position.{Position}
 use Rattle.event_trace.specs.declared.change.Change.{Change}
 use Rattle.event_trace.specs.Changes.{changes_of}
 use Rattle.event_trace.specs.declared.told.Told.{Told}
 use Rattle.event_trace.specs.declared.told.Told.TheVariants as told
-use Rattle.event_trace.specs.TraceText.{taken_text, refused_text}
-use Rattle.event_trace.specs.Entries.{Tells, count_behind, entries_from, state_behind}
+use Rattle.event_trace.specs.Entries.{Tells, count_behind, entries_from, entry_of, state_behind, told_of}
 use Rattle.event_trace.specs.Following.{GoesOn, IsAbreast}
-use Rattle.event_trace.specs.Trace.{entry_text, told_text}
 
 -- machines that are abreast answer alike
 answers_alike : (m n : MachineView) (e : Event) → IsAbreast m n → answer_to n e ≡ answer_to m e
@@ -87,18 +84,19 @@ goes_on_refused m e why is = record {
   kept = record { accepted = refl; units = refl };
 }
 
--- the text with an entry more
-entry_told : (p : Listing) (places : List Position) (number : ℕ) (s : State) (e : Event) (a : Result (Unit {0}) Refused) (t : Told)
-    → Tells p s e a t → told_text p places number e t ≡ entry_text p places number s e a
-entry_told p places number s e (Ok done) (told.Taken changes) is = ap (λ (cs : List Change). taken_text p places number e cs) is
-entry_told p places number s e (Err why) (told.Refused refusal) is = ap (λ (r : Refused). refused_text p number e r) is
-entry_told p places number s e (Ok done) (told.Refused refusal) is = absurd is
-entry_told p places number s e (Err why) (told.Taken changes) is = absurd is
+-- the text with an entry more, in any form
+module _ (taken : ℕ → Event → List Change → List ℕ) (refused : ℕ → Event → Refused → List ℕ) where
+  entry_told : (p : Listing) (number : ℕ) (s : State) (e : Event) (a : Result (Unit {0}) Refused) (t : Told)
+      → Tells p s e a t → told_of taken refused number e t ≡ entry_of taken refused p number s e a
+  entry_told p number s e (Ok done) (told.Taken changes) is = ap (taken number e) is
+  entry_told p number s e (Err why) (told.Refused refusal) is = ap (refused number e) is
+  entry_told p number s e (Ok done) (told.Refused refusal) is = absurd is
+  entry_told p number s e (Err why) (told.Taken changes) is = absurd is
 
-pub entry_written : (p q : Listing) (places : List Position) (number : ℕ) (s : State) (e : Event) (a : Result (Unit {0}) Refused) (t : Told) (old new : List ℕ)
-    → q ≡ p → Tells q s e a t → new ≡ old ++ told_text p places number e t → new ≡ old ++ entry_text p places number s e a
-entry_written p q places number s e a t old new over tells written =
-    written ∙ ap (λ (text : List ℕ). old ++ text) (entry_told p places number s e a t (subst (λ (r : Listing). Tells r s e a t) over tells))
+  pub entry_written : (p : Listing) (number : ℕ) (s : State) (e : Event) (a : Result (Unit {0}) Refused) (t : Told) (old new : List ℕ)
+      → Tells p s e a t → new ≡ old ++ told_of taken refused number e t → new ≡ old ++ entry_of taken refused p number s e a
+  entry_written p number s e a t old new tells written =
+      written ∙ ap (λ (text : List ℕ). old ++ text) (entry_told p number s e a t tells)
 
 -- where two machines run one program on as many units, they answer alike
 pub answers_by : (p : Listing) (units : ℕ) (m : MachineView) (e : Event) → m.accepted.program ≡ p → units_of m ≡ units → answer_to m e ≡ answer p units (state m) (length m.history) e

@@ -9,6 +9,7 @@ use Rattle.machine_events.specs.declared.event.Refused.{Refused}
 use Rattle.source_map.specs.declared.position.Position.{Position}
 use Rattle.source_map.specs.Sources.{Sources, sources_of}
 use Rattle.annotated_asm.specs.declared.fault.AsmFault.{AsmFault}
+use Rattle.event_trace.specs.declared.change.Change.{Change}
 use Rattle.event_trace.specs.declared.told.Told.{Told}
 use Rattle.event_trace.specs.declared.told.Told.TheVariants as told
 use Rattle.event_trace.specs.Changes.{changes_of}
@@ -35,6 +36,16 @@ abbrev pub Tells : Listing → State → Event → Result (Unit {0}) Refused →
 Tells p s e (Ok done) (told.Taken changes) = changes.items ≡ changes_of p s e (after p s e)
 Tells p s e (Err why) (told.Refused refusal) = refusal ≡ why
 Tells p s e answer other = ⊥
+
+-- the same in a form that says this of an event that was taken, and of one that was refused
+abbrev pub told_of : (taken : ℕ → Event → List Change → List ℕ) (refused : ℕ → Event → Refused → List ℕ) → (number : ℕ) → Event → Told → List ℕ
+told_of taken refused number e (told.Taken changes) = taken number e changes.items
+told_of taken refused number e (told.Refused refusal) = refused number e refusal
+
+-- and by its answer in a state
+abbrev pub entry_of : (taken : ℕ → Event → List Change → List ℕ) (refused : ℕ → Event → Refused → List ℕ) → Listing → (number : ℕ) → State → Event → Result (Unit {0}) Refused → List ℕ
+entry_of taken refused p number s e (Ok done) = taken number e (changes_of p s e (after p s e))
+entry_of taken refused p number s e (Err why) = refused number e why
 
 -- What is told of events from a state on, with n events allowed before them; the first has this number. `tell`
 -- says it of one event, by its number, the state before it and its answer.

@@ -7,6 +7,7 @@ pub mod ending;
 mod instruction;
 pub mod places;
 mod registers;
+pub mod telling;
 mod text;
 pub mod told;
 pub mod trace;

@@ -1,19 +1,17 @@
 //! The trace of some events: each with its answer, and under it what it changed.
 
-ghost use Rattle.std.specs.Prelude.{◌≡◌, ◌++◌, ◌<◌, ◌≤◌, length, IfOk, OnOk};
+ghost use Rattle.std.specs.Prelude.{◌≡◌, ◌<◌, ◌≤◌, IfOk};
 ghost use Rattle.std.specs.String.{string_bytes};
-ghost use Rattle.machine_model.specs.Machine.{opening};
-ghost use Rattle.sequencer.specs.Seen.{answer_to, state, units_of};
-ghost use Rattle.event_trace.specs.Entries.{entries_from, places_of};
-ghost use Rattle.event_trace.specs.Following.{GoesOn};
-ghost use Rattle.event_trace.specs.Trace.{entry_text, told_text, trace_text};
+ghost use Rattle.sequencer.specs.Seen.{state};
+ghost use Rattle.event_trace.specs.Entries.{places_of};
+ghost use Rattle.event_trace.specs.Trace.{trace_text};
 
+use crate::change::Change;
 use crate::ending::write_end;
 use crate::places::places;
+use crate::telling::{Telling, entries};
 use crate::text::{write_refused, write_taken};
-use crate::told::Told;
-use crate::walk::Walk;
-use machine_events::event::Event;
+use machine_events::event::{Event, Refused};
 use mark_checker::accept::Accepted;
 use sequencer::machine::Machine;
 use source_map::position::Position;
@@ -37,83 +35,48 @@ pub fn trace(
     ensures { IfOk result (λ text. string_bytes text
         ≡ trace_text accepted.now.program (places_of program_text.now) units events.now (state machine.now)) }
 {
-    let mut text = entries(alloc, accepted, units, program_text, events)?;
-    write_end(&mut text, accepted.program(), machine)?;
-    Ok(text)
-}
-
-/// What is told of each of some events.
-fn entries(
-    alloc: Global,
-    accepted: &Accepted,
-    units: u32,
-    program_text: &[u8],
-    events: &[Event],
-) -> Result<String, AllocError>
-    requires some { 0 < units }
-    requires few { units ≤ 16 }
-    ensures { IfOk result (λ text. string_bytes text
-        ≡ entries_from (entry_text accepted.now.program (places_of program_text.now)) accepted.now.program units 1 0 (opening accepted.now.program) events.now) }
-{
+    let program = accepted.program();
     let places = places(alloc, program_text)?;
-    let walk = Walk::new(alloc, accepted, units)?;
-    let mut text = String::new(alloc);
-    write_entries(alloc, &mut text, accepted.program(), &places, walk, events)?;
+    let telling = InWords {
+        program,
+        places: &places,
+    };
+    let mut text = entries(alloc, accepted, units, events, &telling)?;
+    write_end(&mut text, program, machine)?;
     Ok(text)
 }
 
-/// Adds what is told of some events on a walk.
-fn write_entries(
-    alloc: Global,
-    text: &mut String,
-    program: &Program,
-    places: &[Position],
-    mut walk: Walk<'_>,
-    events: &[Event],
-) -> Result<(), AllocError>
-    requires { walk.accepted.program ≡ program.now }
-    ensures { OnOk result (string_bytes text.new ≡ string_bytes text.old
-        ++ entries_from (entry_text program.now places.now) program.now (units_of walk.entry) 1 (length walk.entry.history) (state walk.entry) events.now) }
-{
-    for (index, event) in events.iter().enumerate() {
-        walk = write_entry(alloc, text, program, places, walk, index + 1, event)?;
+/// The words of a script, and lines for a reader. An instruction is told by its line in the program text.
+#[derive(Drop)]
+struct InWords<'p, 't> {
+    program: &'p Program,
+    places: &'t [Position],
+}
+
+impl Telling for InWords<'_, '_> {
+    ghost use Rattle.event_trace.specs.TraceText.{taken_text, refused_text};
+
+    ghost taken = { λ told. taken_text told.program.now told.places.now };
+
+    ghost refused = { λ told. refused_text told.program.now };
+
+    fn write_taken(
+        &self,
+        text: &mut String,
+        number: usize,
+        event: Event,
+        changes: &[Change],
+    ) -> Result<(), AllocError> {
+        write_taken(text, self.program, self.places, number, event, changes)
     }
-    Ok(())
-}
 
-/// Adds what is told of the next event on a walk.
-fn write_entry<'a>(
-    alloc: Global,
-    text: &mut String,
-    program: &Program,
-    places: &[Position],
-    walk: Walk<'a>,
-    number: usize,
-    event: &Event,
-) -> Result<Walk<'a>, AllocError>
-    requires { walk.accepted.program ≡ program.now }
-    ensures on { IfOk result (λ next. GoesOn walk.entry event.now next) }
-    ensures told { OnOk result (string_bytes text.new ≡ string_bytes text.old
-        ++ entry_text program.now places.now number (state walk.entry) event.now (answer_to walk.entry event.now)) }
-{
-    let (next, told) = walk.step(alloc, event)?;
-    write_told(text, program, places, number, event, &told)?;
-    Ok(next)
-}
-
-/// Adds the event of this number, with what is told of it.
-fn write_told(
-    text: &mut String,
-    program: &Program,
-    places: &[Position],
-    number: usize,
-    event: &Event,
-    told: &Told,
-) -> Result<(), AllocError>
-    ensures { OnOk result (string_bytes text.new ≡ string_bytes text.old ++ told_text program.now places.now number event.now told.now) }
-{
-    match told {
-        Told::Taken(changes) => write_taken(text, program, places, number, *event, changes),
-        Told::Refused(refusal) => write_refused(text, program, number, *event, *refusal),
+    fn write_refused(
+        &self,
+        text: &mut String,
+        number: usize,
+        event: Event,
+        refusal: Refused,
+    ) -> Result<(), AllocError> {
+        write_refused(text, self.program, number, event, refusal)
     }
 }

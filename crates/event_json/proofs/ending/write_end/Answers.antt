@@ -1,5 +1,5 @@
 -- An object with its members.
-use Rattle.std.proofs.Common.{◌≡◌, ℕ, List, ◌∷◌, [], ◌++◌, ◌∙◌, ap}
+use Rattle.std.proofs.Common.{ℕ, List, ◌∷◌, [], ◌++◌, ◌∙◌, ap}
 use Rattle.std.specs.Prelude.{codes}
 use Rattle.mips_plain.specs.Words.{byte_of}
 use Rattle.machine_events.specs.declared.event.Standing.{Standing}

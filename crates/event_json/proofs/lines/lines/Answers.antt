@@ -1,9 +1,13 @@
 -- The lines of the events, and the last one behind them.
-use Rattle.std.proofs.Common.{◌≡◌, ℕ, List, ◌++◌, ◌∙◌, ap}
+use Rattle.std.proofs.Common.{ℕ, List, ◌++◌, ◌∙◌, ap}
 use Rattle.std.specs.String.{string_bytes}
 use Rattle.task_descriptor.specs.Listing.{Listing}
+use Rattle.machine_model.specs.Machine.{opening}
+use Rattle.source_map.specs.declared.position.Position.{Position}
 use Rattle.sequencer.specs.Seen.{state}
+use Rattle.event_trace.specs.Entries.{entries_from, entry_of}
 use Rattle.event_json.specs.Fields.{line_of}
+use Rattle.event_json.specs.EventJson.{taken_line, refused_line}
 use Rattle.event_json.specs.EndJson.{end_json}
 use Rattle.event_json.specs.Json.{json_text}
 use Rattle.event_json.proofs.lines.lines.Goals as goal
@@ -11,7 +15,13 @@ use Rattle.event_json.proofs.lines.lines.Goals as goal
 pub returns : goal.returns
 unfolding json_text
 returns c =
+    let p = c.args.accepted.now.program in
     let s = state c.args.machine.now in
+    let told : Listing → List Position → List ℕ =
+    λ q places. entries_from (entry_of (taken_line q places) (refused_line q places) p) p c.args.units 1 0 (opening p) c.args.events.now in
     c.in_ok-write_end_line.ensures
-    ∙ ap (λ (q : Listing). string_bytes c.in_ok-text.text ++ line_of (end_json q s)) c.program.ensures.value
-    ∙ ap (λ (front : List ℕ). front ++ line_of (end_json c.args.accepted.now.program s)) c.in_ok-text.ensures
+    ∙ ap (λ (q : Listing). string_bytes c.in_ok-text.text ++ line_of (end_json q s)) c.program-program.ensures.value
+    ∙ ap (λ (front : List ℕ). front ++ line_of (end_json p s))
+    (c.in_ok-text.ensures
+    ∙ ap (λ (q : Listing). told q c.deref.result.now) c.program-program.ensures.value
+    ∙ ap (λ (places : List Position). told p places) (c.deref.ensures.value ∙ c.in_ok-places.ensures))

@@ -1,0 +1,22 @@
+-- At the start of a walk nothing is told.
+use Rattle.std.proofs.Common.{ℕ, List, ◌++◌, length, ◌∙◌, ap}
+use Rattle.mark_checker.specs.Places.{Checked}
+use Rattle.machine_model.specs.Machine.{State}
+use Rattle.machine_events.specs.declared.event.Event.{Event}
+use Rattle.sequencer.specs.Seen.{state, units_of}
+use Rattle.event_trace.specs.Entries.{entries_from, entry_of}
+use Rattle.event_trace.proofs.telling.entries.Goals as goal
+
+pub returns : goal.returns
+returns g c =
+    let m = c.in_ok-walk.walk in
+    let start = c.in_ok-walk.ensures in
+    let events = c.args.events.now in
+    let p = c.args.accepted.now.program in
+    let entry = entry_of (g.T.Telling.taken c.args.telling.now) (g.T.Telling.refused c.args.telling.now) in
+    c.in_ok-write_entries.ensures
+    ∙ ap (λ (front : List ℕ). front ++ entries_from (entry m.accepted.program) m.accepted.program (units_of m) 1 (length m.history) (state m) events) c.new-text.ensures.bytes
+    ∙ ap (λ (a : Checked). entries_from (entry a.program) a.program (units_of m) 1 (length m.history) (state m) events) start.accepted
+    ∙ ap (λ (k : ℕ). entries_from (entry p) p k 1 (length m.history) (state m) events) start.units
+    ∙ ap (λ (es : List Event). entries_from (entry p) p c.args.units 1 (length es) (state m) events) start.history
+    ∙ ap (λ (s : State). entries_from (entry p) p c.args.units 1 0 s events) start.opening

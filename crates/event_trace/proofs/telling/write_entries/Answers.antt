@@ -1,0 +1,32 @@
+-- An event more is told.
+use Rattle.std.proofs.Common.{◌+◌, ◌++◌, length, ◌∙◌, ap, arith}
+use Rattle.std.specs.String.{string_bytes}
+use Rattle.mark_checker.specs.Places.{Checked}
+use Rattle.sequencer.specs.Seen.{answer_to, state, units_of}
+use Rattle.event_trace.specs.Entries.{entries_from, entry_of}
+use Rattle.event_trace.proofs.Steps.{entries_on}
+use Rattle.event_trace.proofs.telling.write_entries.Goals as goal
+
+pub loop-index-preserved : goal.loop-index-preserved
+loop-index-preserved g c =
+    let l = c.loop-index in
+    let kept = l.invariant.kept in
+    let on = c.in_ok-walk.ensures.on in
+    let m = c.args.walk in
+    let p = m.accepted.program in
+    let entry = entry_of (g.T.Telling.taken c.args.telling.now) (g.T.Telling.refused c.args.telling.now) in
+    let events = c.args.events.now in
+    let event = c.index-events-index.result in
+    let old = string_bytes c.args.text.now in
+    record {
+      kept = record {
+        accepted = on.kept.accepted ∙ kept.accepted;
+        units = on.kept.units ∙ kept.units;
+      };
+      told =
+          entries_on (entry p) p (units_of m) l.index l.walk c.in_ok-walk.walk events event
+          (string_bytes l.text) (string_bytes c.write_entry.new.text) (old ++ entries_from (entry p) p (units_of m) 1 (length m.history) (state m) events)
+          (ap (λ (a : Checked). a.program) kept.accepted) kept.units on (omega (arith, c.loop-index-test.true)) c.index-events-index.is
+          (c.in_ok-walk.ensures.told ∙ ap (λ (a : Checked). string_bytes l.text ++ entry a.program (l.index + 1) (state l.walk) event (answer_to l.walk event)) kept.accepted)
+          l.invariant.told;
+    }

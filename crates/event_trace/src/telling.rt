@@ -1,0 +1,123 @@
+//! Events on a walk, told in some form.
+
+use crate::change::Change;
+use crate::told::Told;
+use crate::walk::Walk;
+use machine_events::event::{Event, Refused};
+use mark_checker::accept::Accepted;
+use std::alloc::{AllocError, Global};
+
+/// A form in which a trace tells of each event.
+pub trait Telling {
+    ghost use Rattle.std.specs.Prelude.{ℕ, List, ◌≡◌, ◌++◌, OnOk};
+    ghost use Rattle.std.specs.String.{string_bytes};
+    ghost use Rattle.machine_events.specs.declared.event.Event.{Event};
+    ghost use Rattle.machine_events.specs.declared.event.Refused.{Refused};
+    ghost use Rattle.event_trace.specs.declared.change.Change.{Change};
+
+    // What is told of the event of a number that was taken, and changed this.
+    ghost taken: { Self → ℕ → Event → List Change → List ℕ };
+
+    // What is told of the event of a number that was refused for this reason.
+    ghost refused: { Self → ℕ → Event → Refused → List ℕ };
+
+    /// Adds the event of this number, which the machine took, and what it changed. An error says that memory
+    /// was refused.
+    fn write_taken(
+        &self,
+        text: &mut String,
+        number: usize,
+        event: Event,
+        changes: &[Change],
+    ) -> Result<(), AllocError>
+        ensures { OnOk result (string_bytes text.new ≡ string_bytes text.old ++ taken self.now number event changes.now) };
+
+    /// Adds the event of this number, which the machine refused, and the reason. An error says that memory was
+    /// refused.
+    fn write_refused(
+        &self,
+        text: &mut String,
+        number: usize,
+        event: Event,
+        refusal: Refused,
+    ) -> Result<(), AllocError>
+        ensures { OnOk result (string_bytes text.new ≡ string_bytes text.old ++ refused self.now number event refusal) };
+}
+
+ghost use Rattle.std.specs.Prelude.{◌≡◌, ◌++◌, ◌<◌, ◌≤◌, length, IfOk, OnOk};
+ghost use Rattle.std.specs.String.{string_bytes};
+ghost use Rattle.machine_model.specs.Machine.{opening};
+ghost use Rattle.sequencer.specs.Seen.{answer_to, state, units_of};
+ghost use Rattle.event_trace.specs.Entries.{entries_from, entry_of, told_of};
+ghost use Rattle.event_trace.specs.Following.{GoesOn};
+
+/// What is told of each of some events on a machine of so many units that is at the start of an accepted
+/// program. An error says that memory was refused.
+pub fn entries<T: Telling>(
+    alloc: Global,
+    accepted: &Accepted,
+    units: u32,
+    events: &[Event],
+    telling: &T,
+) -> Result<String, AllocError>
+    requires some { 0 < units }
+    requires few { units ≤ 16 }
+    ensures { IfOk result (λ text. string_bytes text
+        ≡ entries_from (entry_of (T.taken telling.now) (T.refused telling.now) accepted.now.program) accepted.now.program units 1 0 (opening accepted.now.program) events.now) }
+{
+    let walk = Walk::new(alloc, accepted, units)?;
+    let mut text = String::new(alloc);
+    write_entries(alloc, &mut text, walk, events, telling)?;
+    Ok(text)
+}
+
+/// Adds what is told of some events on a walk.
+fn write_entries<T: Telling>(
+    alloc: Global,
+    text: &mut String,
+    mut walk: Walk<'_>,
+    events: &[Event],
+    telling: &T,
+) -> Result<(), AllocError>
+    ensures { OnOk result (string_bytes text.new ≡ string_bytes text.old
+        ++ entries_from (entry_of (T.taken telling.now) (T.refused telling.now) walk.entry.accepted.program) walk.entry.accepted.program (units_of walk.entry) 1 (length walk.entry.history) (state walk.entry) events.now) }
+{
+    for (index, event) in events.iter().enumerate() {
+        walk = write_entry(alloc, text, walk, index + 1, event, telling)?;
+    }
+    Ok(())
+}
+
+/// Adds what is told of the next event on a walk.
+fn write_entry<'a, T: Telling>(
+    alloc: Global,
+    text: &mut String,
+    walk: Walk<'a>,
+    number: usize,
+    event: &Event,
+    telling: &T,
+) -> Result<Walk<'a>, AllocError>
+    ensures on { IfOk result (λ next. GoesOn walk.entry event.now next) }
+    ensures told { OnOk result (string_bytes text.new ≡ string_bytes text.old
+        ++ entry_of (T.taken telling.now) (T.refused telling.now) walk.entry.accepted.program number (state walk.entry) event.now (answer_to walk.entry event.now)) }
+{
+    let (next, told) = walk.step(alloc, event)?;
+    write_told(text, number, *event, &told, telling)?;
+    Ok(next)
+}
+
+/// Adds the event of this number, with what is told of it.
+fn write_told<T: Telling>(
+    text: &mut String,
+    number: usize,
+    event: Event,
+    told: &Told,
+    telling: &T,
+) -> Result<(), AllocError>
+    ensures { OnOk result (string_bytes text.new ≡ string_bytes text.old ++ told_of (T.taken telling.now) (T.refused telling.now) number event told.now) }
+{
+    match told {
+        Told::Taken(changes) => telling.write_taken(text, number, event, changes),
+        Told::Refused(refusal) => telling.write_refused(text, number, event, *refusal),
+    }
+}
