@@ -4,6 +4,37 @@ use crate::event::Refused;
 use std::error::Error;
 use std::fmt;
 
+impl Refused {
+    ghost use Rattle.std.specs.Prelude.{◌≡◌};
+    ghost use Rattle.machine_events.specs.RefusedText.{number_and_name};
+
+    /// The number and the name of the refusal.
+    pub fn number_and_name(&self) -> (u8, &'static str)
+        ensures number { result.0 ≡ (number_and_name self.now).0 }
+        ensures name { result.1.now ≡ (number_and_name self.now).1 }
+    {
+        match self {
+            Refused::Ended => (1, "Ended"),
+            Refused::NoUnit => (2, "NoUnit"),
+            Refused::NoSuch => (3, "NoSuch"),
+            Refused::NotATarget => (4, "NotATarget"),
+            Refused::Stopped => (5, "Stopped"),
+            Refused::Waiting(_) => (6, "Waiting"),
+            Refused::NotHead => (7, "NotHead"),
+            Refused::NotStopped => (8, "NotStopped"),
+            Refused::AlreadyThere => (9, "AlreadyThere"),
+            Refused::NotYet(_) => (10, "NotYet"),
+            Refused::NoMismatch => (11, "NoMismatch"),
+            Refused::Unfinished(_) => (12, "Unfinished"),
+            Refused::Mismatch => (13, "Mismatch"),
+            Refused::NotListed => (14, "NotListed"),
+            Refused::IsListed => (15, "IsListed"),
+            Refused::Full => (16, "Full"),
+            Refused::OutOfMemory => (17, "OutOfMemory"),
+        }
+    }
+}
+
 impl fmt::Display for Refused {
     ghost use Rattle.std.specs.Prelude.{Some};
     ghost use Rattle.machine_events.specs.RefusedText.{refusal_text};
@@ -12,33 +43,15 @@ impl fmt::Display for Refused {
 
     /// The number and the name of the refusal, and the register that is waited for (own choice).
     fn fmt<W: fmt::Write>(&self, f: &mut fmt::Formatter<W>) -> fmt::Result {
+        let (number, name) = self.number_and_name();
         match *self {
-            Refused::Ended => write!(f, "1 Ended"),
-            Refused::NoUnit => write!(f, "2 NoUnit"),
-            Refused::NoSuch => write!(f, "3 NoSuch"),
-            Refused::NotATarget => write!(f, "4 NotATarget"),
-            Refused::Stopped => write!(f, "5 Stopped"),
-            Refused::Waiting(register) => {
-                let number = register.get();
-                write!(f, "6 Waiting ${number}")
+            Refused::Waiting(register)
+            | Refused::NotYet(register)
+            | Refused::Unfinished(register) => {
+                let register = register.get();
+                write!(f, "{number} {name} ${register}")
             }
-            Refused::NotHead => write!(f, "7 NotHead"),
-            Refused::NotStopped => write!(f, "8 NotStopped"),
-            Refused::AlreadyThere => write!(f, "9 AlreadyThere"),
-            Refused::NotYet(register) => {
-                let number = register.get();
-                write!(f, "10 NotYet ${number}")
-            }
-            Refused::NoMismatch => write!(f, "11 NoMismatch"),
-            Refused::Unfinished(register) => {
-                let number = register.get();
-                write!(f, "12 Unfinished ${number}")
-            }
-            Refused::Mismatch => write!(f, "13 Mismatch"),
-            Refused::NotListed => write!(f, "14 NotListed"),
-            Refused::IsListed => write!(f, "15 IsListed"),
-            Refused::Full => write!(f, "16 Full"),
-            Refused::OutOfMemory => write!(f, "17 OutOfMemory"),
+            _ => write!(f, "{number} {name}"),
         }
     }
 }
