@@ -11,3 +11,4 @@ mod marks;
 mod masks;
 pub mod propose;
 pub mod soundness;
+pub mod updates;

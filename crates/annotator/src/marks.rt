@@ -4,19 +4,15 @@ ghost use Rattle.std.specs.Prelude.{◌≡◌, ℕ, ◌<◌, ◌||◌, ◌↔◌
 ghost use Rattle.std.specs.List.{All};
 ghost use Rattle.mips_plain.specs.Words.{has};
 ghost use Rattle.task_descriptor.specs.Listing.{IsWellFormed};
-ghost use Rattle.task_descriptor.specs.declared.descriptor.Marked.{Marked};
 ghost use Rattle.mark_checker.specs.CheckerSteps.{holds_at};
 ghost use Rattle.annotator.specs.Least.{IsLeast};
-ghost use Rattle.annotator.specs.Proposed.{produces as produces_of, WritesLast};
 ghost use Rattle.annotator.specs.Spreading.{AreExact};
-ghost use Rattle.annotator.specs.Marking.{WrittenBehind, indices_of, AreMarked, AreMembers, ProducedAt, AreCreates, AreForwards};
+ghost use Rattle.annotator.specs.Marking.{WrittenBehind, indices_of, AreMarked, AreMembers, AreCreates, AreForwards};
 
+use crate::updates::{produced_at, writes_last};
 use mask_certificate::certificate::Cert;
-use mips_plain::instruction::Op;
 use mips_plain::number::RegSet;
 use std::alloc::{AllocError, Global};
-use task_descriptor::descriptor::Marked;
-use task_descriptor::marks::has_member;
 use task_descriptor::program::Program;
 use task_graph::edges::next_inside;
 
@@ -61,24 +57,13 @@ pub(crate) fn forward_bits(
     let mut bits = Vec::with_capacity(alloc, code.len())?;
     for (i, marked) in code.iter().enumerate() {
         let bit = if members[i] {
-            writes_last(program, masks, &marked.op, i as u32)
+            writes_last(&marked.op, written_behind(program, masks, i as u32))
         } else {
             marked.forward
         };
         bits.push(bit)?;
     }
     Ok(bits)
-}
-
-/// Whether the instruction has a destination, and none of them may be written again behind it.
-fn writes_last(program: &Program, masks: &[RegSet], op: &Op, i: u32) -> bool
-    requires masks { AreExact program.now masks.now }
-    requires there { i < length program.now.code }
-    ensures { (result ≡ true) ↔ WritesLast program.now i op.now }
-{
-    let written = op.dests();
-    let again = written_behind(program, masks, i);
-    has_member(written) && written.is_subset(written.minus(again))
 }
 
 /// The registers that paths from the inner successors of the instruction may write.
@@ -117,26 +102,4 @@ pub(crate) fn create_masks(
         sets.push(produced_at(program.code(), cert.list(task as u32)))?;
     }
     Ok(sets)
-}
-
-/// The registers that the instructions of a list write or release.
-fn produced_at(code: &[Marked], list: &[(u32, RegSet)]) -> RegSet
-    requires { All (λ entry. entry.0 < length code.now) list.now }
-    ensures { (r : ℕ) → (has result r ≡ true) ↔ ProducedAt code.now (indices_of list.now) r }
-{
-    let mut set = RegSet::empty();
-    for (index, _) in list {
-        set = set.union(produces(&code[*index as usize].op));
-    }
-    set
-}
-
-/// The registers that an instruction writes or releases.
-fn produces(op: &Op) -> RegSet
-    ensures { (r : ℕ) → has result r ≡ produces_of op.now r }
-{
-    match op {
-        Op::Release(set) => *set,
-        _ => op.dests(),
-    }
 }

@@ -6,16 +6,14 @@ ghost use Rattle.mask_certificate.specs.Lists.{list_of, mask_at};
 ghost use Rattle.mark_checker.specs.CheckerSteps.{holds_at};
 ghost use Rattle.mark_checker.specs.Rules.{in_mask};
 ghost use Rattle.annotator.specs.Least.{IsLeast};
-ghost use Rattle.annotator.specs.Proposed.{WritesLast};
 ghost use Rattle.annotator.specs.Marking.{WrittenBehind};
 ghost use Rattle.costly_marks.specs.Costly.{IsNotForwarded};
 ghost use Rattle.costly_marks.specs.Steps.{AreReaching};
 
 use crate::reaching::{is_awaited, some_task_lacks};
+use annotator::updates::writes_last;
 use mask_certificate::certificate::Cert;
-use mips_plain::instruction::Op;
 use mips_plain::number::RegSet;
-use task_descriptor::marks::has_member;
 use task_descriptor::program::Program;
 use task_graph::edges::next_inside;
 
@@ -38,7 +36,8 @@ pub(crate) fn is_not_forwarded(
     let Some(task) = reaching[index as usize] else {
         return false;
     };
-    if !writes_last(program, cert, task, &marked.op, index) {
+    let again = written_behind(program, cert, task, index);
+    if !writes_last(&marked.op, again) {
         return false;
     }
     if is_awaited(program, cert, index) {
@@ -46,19 +45,6 @@ pub(crate) fn is_not_forwarded(
     } else {
         false
     }
-}
-
-/// Whether the instruction, which the task reaches, has a destination, and none of them may be written again
-/// behind it.
-fn writes_last(program: &Program, cert: &Cert, task: u32, op: &Op, index: u32) -> bool
-    requires least { IsLeast program.now cert.now }
-    requires task { task < length program.now.tasks }
-    requires reaches { IsSome (mask_at (list_of cert.now task) index) }
-    ensures { (result ≡ true) ↔ WritesLast program.now index op.now }
-{
-    let written = op.dests();
-    let again = written_behind(program, cert, task, index);
-    has_member(written) && written.is_subset(written.minus(again))
 }
 
 /// The registers that paths from the inner successors of the instruction, which the task reaches, may write.

@@ -1,20 +1,18 @@
 //! What the instructions of a task write or release.
 
 ghost use Rattle.std.specs.Prelude.{◌≡◌, ℕ, ◌<◌, ◌↔◌, ◌&&◌, true, false, Some, length, slice_get};
-ghost use Rattle.std.specs.List.{All};
 ghost use Rattle.mips_plain.specs.Words.{has};
 ghost use Rattle.mips_plain.specs.Instruction.{released as released_by};
 ghost use Rattle.task_descriptor.specs.declared.descriptor.Descriptor.{Descriptor};
 ghost use Rattle.annotator.specs.Least.{IsLeast};
-ghost use Rattle.annotator.specs.Proposed.{Produces, produces as produced_by};
-ghost use Rattle.annotator.specs.Marking.{indices_of, ProducedAt};
+ghost use Rattle.annotator.specs.Proposed.{Produces};
 ghost use Rattle.costly_marks.specs.Costly.{IsNeverProduced};
 
 use crate::reaching::has_target;
+use annotator::updates::produced_at;
 use mask_certificate::certificate::Cert;
 use mips_plain::instruction::Op;
 use mips_plain::number::RegSet;
-use task_descriptor::descriptor::Marked;
 use task_descriptor::program::Program;
 
 /// The registers of a task's create mask that it never produces; none of a task without a target.
@@ -38,28 +36,6 @@ fn produced(program: &Program, cert: &Cert, task: u32) -> RegSet
     ensures { (d : Descriptor) → slice_get program.now.tasks task ≡ Some d → (r : ℕ) → (has result r ≡ true) ↔ Produces program.now d r }
 {
     produced_at(program.code(), cert.list(task))
-}
-
-/// The registers that the instructions of a list write or release.
-fn produced_at(code: &[Marked], list: &[(u32, RegSet)]) -> RegSet
-    requires { All (λ entry. entry.0 < length code.now) list.now }
-    ensures { (r : ℕ) → (has result r ≡ true) ↔ ProducedAt code.now (indices_of list.now) r }
-{
-    let mut set = RegSet::empty();
-    for (index, _) in list {
-        set = set.union(produces(&code[*index as usize].op));
-    }
-    set
-}
-
-/// The registers that an instruction writes or releases.
-fn produces(op: &Op) -> RegSet
-    ensures { (r : ℕ) → has result r ≡ produced_by op.now r }
-{
-    match op {
-        Op::Release(set) => *set,
-        _ => op.dests(),
-    }
 }
 
 /// Whether the instruction is a release.

@@ -23,8 +23,8 @@ loop-i-preserved c =
     (elim c.if-members-i.branch [
       | then-members-i w ↦
           member_bit p i m c.if-members-i.bit (c.requires.members.only i w.if-members-i.true) (
-            λ set. w.writes_last-bit.ensures.0 (sym w.bit-is ∙ set),
-            λ last. w.bit-is ∙ w.writes_last-bit.ensures.1 last,
+            λ set. (w.writes_last-bit.ensures p i w.written_behind.ensures).0 (sym w.bit-is ∙ set),
+            λ last. w.bit-is ∙ (w.writes_last-bit.ensures p i w.written_behind.ensures).1 last,
           )
       | else-members-i w ↦
           other_bit p i m c.if-members-i.bit (λ member. both (is_marked c.args.members.now i) w.if-members-i.false

@@ -8,12 +8,12 @@ use Rattle.costly_marks.proofs.LastUpdates.{not_forwarded_exact}
 use Rattle.costly_marks.proofs.NotedTasks.{mask_there, not_member, task_within}
 use Rattle.costly_marks.proofs.last_update.is_not_forwarded.Goals as goal
 
-pub writes_last-requires-clause-task : goal.writes_last-requires-clause-task
-writes_last-requires-clause-task c =
+pub written_behind-again-requires-clause-task : goal.written_behind-again-requires-clause-task
+written_behind-again-requires-clause-task c =
     task_within c.args.program.now c.in-Some.task c.args.index (c.requires.table.reaches c.args.index c.in-Some.task c.in-Some.is)
 
-pub writes_last-requires-clause-reaches : goal.writes_last-requires-clause-reaches
-writes_last-requires-clause-reaches c =
+pub written_behind-again-requires-clause-reaches : goal.written_behind-again-requires-clause-reaches
+written_behind-again-requires-clause-reaches c =
     mask_there c.args.program.now c.args.cert.now c.in-Some.task c.args.index c.requires.least (c.requires.table.reaches c.args.index c.in-Some.task c.in-Some.is)
 
 pub returns-in_default : goal.returns-in_default
@@ -27,7 +27,7 @@ returns-then-not-writes_last c =
     let m = c.index-code-index.result in
     let there = read_there p c.code.result.now c.args.index m c.code.ensures.value c.requires.there c.index-code-index.is in
     refused (λ n. let same : n.at ≡ m = cc (n.is_there, there) in
-    both c.writes_last.result (c.writes_last.ensures.1 (subst (λ (x : Marked). WritesLast p c.args.index x.op) same n.last)) c.if-not-writes_last.true)
+    both c.writes_last.result ((c.writes_last.ensures p c.args.index c.written_behind-again.ensures).1 (subst (λ (x : Marked). WritesLast p c.args.index x.op) same n.last)) c.if-not-writes_last.true)
 
 pub returns-then-is_awaited : goal.returns-then-is_awaited
 returns-then-is_awaited c =
@@ -37,4 +37,4 @@ returns-then-is_awaited c =
     let bare : m.forward ≡ false = cc in
     not_forwarded_exact p c.args.index c.dests.result m c.some_task_lacks.result there bare
     (c.is_awaited.ensures.0 c.if-is_awaited.true)
-    (c.writes_last.ensures.0 c.if-not-writes_last.false) c.dests.ensures c.some_task_lacks.ensures
+    ((c.writes_last.ensures p c.args.index c.written_behind-again.ensures).0 c.if-not-writes_last.false) c.dests.ensures c.some_task_lacks.ensures

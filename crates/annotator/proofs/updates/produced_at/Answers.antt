@@ -4,7 +4,7 @@ use Rattle.std.proofs.lemmas.Option.{slice_get-get_or}
 use Rattle.mips_plain.specs.Words.{has}
 use Rattle.annotator.specs.Marking.{indices_of, ProducedAt}
 use Rattle.annotator.proofs.MarkLemmas.{produced_none, produced_more, one_index_more}
-use Rattle.annotator.proofs.marks.produced_at.Goals as goal
+use Rattle.annotator.proofs.updates.produced_at.Goals as goal
 
 nothing : false ≡ true → ⊥
 nothing h = cc

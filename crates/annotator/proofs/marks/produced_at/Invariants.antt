@@ -1,7 +1,0 @@
-use Rattle.std.proofs.Common.{◌≡◌, ◌↔◌, true, ℕ, take}
-use Rattle.mips_plain.specs.Words.{has}
-use Rattle.annotator.specs.Marking.{indices_of, ProducedAt}
-use Rattle.annotator.proofs.marks.produced_at.Given as goal
-
-abbrev pub invariant-loop-index : goal.invariant-loop-index
-invariant-loop-index l = (r : ℕ) → (has l.set r ≡ true) ↔ ProducedAt l.code (indices_of (take l.index-index l.list)) r
