@@ -1,4 +1,4 @@
-pub mod Cuts
+pub mod FirstLine
 pub mod Numbers
 pub mod LineWords
 pub mod EventsLoop

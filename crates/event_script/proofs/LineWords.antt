@@ -6,7 +6,7 @@ use Rattle.std.proofs.lemmas.List.{length-map}
 use Rattle.task_descriptor.specs.declared.descriptor.Descriptor.{Descriptor}
 use Rattle.event_script.specs.declared.fault.LineFault.TheVariants.{NoForm}
 use Rattle.event_script.specs.EventScript.{is_space, event_of, event_in, names_in}
-use Rattle.event_script.proofs.Cuts.{split_cons}
+use Rattle.text_pieces.proofs.Splits.{split_cons}
 
 place_named : (name : List ℕ) (tasks : List Descriptor) → position_or_len (λ other. bytes_eq other name) (names_in tasks) ≡ position_or_len (λ task. bytes_eq task.name name) tasks
 place_named name [] = refl

@@ -24,7 +24,7 @@ use Rattle.event_script.specs.declared.fault.LineFault.TheVariants.{NoForm}
 use Rattle.event_script.specs.declared.fault.ScriptFault.{ScriptFault}
 use Rattle.event_script.specs.EventScript.{is_newline, is_space, is_number, number_in, register_in, if_register, if_task, assigned, at_position, with_two, event_of, event_in, at_line, ◌>>=◌, events_from, lines, names_in, script_of}
 use Rattle.event_script.specs.ScriptText.{name_at, event_text, script_text, IsTold, NamesRegister}
-use Rattle.event_script.proofs.Cuts.{lines_more}
+use Rattle.event_script.proofs.FirstLine.{lines_more}
 use Rattle.event_script.proofs.LineWords.{position_named}
 use Rattle.event_script.proofs.Numbers.{no_leading_zero}
 

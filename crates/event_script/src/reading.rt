@@ -11,23 +11,7 @@ use mips_plain::number::Reg;
 use std::alloc::Global;
 use task_descriptor::name::Name;
 use task_descriptor::program::Program;
-
-fn place_of(wanted: u8, bytes: &[u8]) -> Option<usize>
-    ensures { result ≡ position (λ byte. byte == wanted) bytes.now }
-{
-    bytes.iter().position(|byte| *byte == wanted)
-}
-
-/// What stands before the first such byte and behind it; `None` where there is none.
-fn cut(byte: u8, text: &[u8]) -> Option<(&[u8], &[u8])>
-    ensures parts { MatchOption result
-        (slice_split (λ other. other == byte) text.now ≡ text.now ∷ [])
-        (λ found. slice_split (λ other. other == byte) text.now ≡ found.0.now ∷ slice_split (λ other. other == byte) found.1.now) }
-    ensures shorter { IfSome result (λ found. length found.1.now < length text.now) }
-{
-    let end = place_of(byte, text)?;
-    Some((&text[..end], &text[end + 1..]))
-}
+use text_pieces::cutting::cut;
 
 /// The first line of a text that is not empty, without its LF, and the text of the other lines.
 fn next_line(text: &[u8]) -> (&[u8], &[u8])

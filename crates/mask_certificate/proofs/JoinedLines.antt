@@ -6,7 +6,8 @@ use Rattle.std.proofs.lemmas.List.{append_assoc, append-nil}
 use Rattle.text_pieces.specs.Pieces.{IsLines}
 use Rattle.mask_certificate.specs.declared.fault.Spelling.{Spelling}
 use Rattle.mask_certificate.specs.CertificateReading.{is_newline, Judged, judged, lines_of, lines_in}
-use Rattle.mask_certificate.proofs.LineLemmas.{split_cons, lines_cons}
+use Rattle.text_pieces.proofs.Splits.{split_cons}
+use Rattle.mask_certificate.proofs.LineLemmas.{lines_cons}
 
 -- ---- the parts between LFs
 

@@ -12,7 +12,8 @@ use Rattle.mask_certificate.specs.declared.fault.Spelling.TheVariants.{Narrow, W
 use Rattle.mask_certificate.specs.CertificateText.{first_line}
 use Rattle.mask_certificate.specs.CertificateReading.{is_newline, Judged, entry_line, task_line, no_line, lines_in, entries_in, opens, misplaced, behind_task_line, at_end, spelling_of}
 use Rattle.mask_certificate.specs.Blocks.{IsEnd}
-use Rattle.mask_certificate.proofs.LineLemmas.{split_at, split_nowhere, lines_more, lines_last}
+use Rattle.text_pieces.proofs.Splits.{split_at, split_nowhere}
+use Rattle.mask_certificate.proofs.LineLemmas.{lines_more, lines_last}
 use Rattle.mask_certificate.proofs.JoinedLines.{lines_joined}
 
 -- ---- an end of whole lines is whole lines

@@ -10,7 +10,8 @@ use Rattle.std.proofs.lemmas.Option.{cond_some}
 use Rattle.mask_certificate.specs.declared.fault.Spelling.{Spelling}
 use Rattle.mask_certificate.specs.CertificateText.{hexadecimal, entry_text, mask_digits}
 use Rattle.mask_certificate.specs.CertificateReading.{is_newline, is_space, index_in, mask_in, entry_in, entry_line, lines_in, entries_in}
-use Rattle.mask_certificate.proofs.LineLemmas.{split_at, split_nowhere, no_entries_last, no_entries_other}
+use Rattle.text_pieces.proofs.Splits.{split_at, split_nowhere}
+use Rattle.mask_certificate.proofs.LineLemmas.{no_entries_last, no_entries_other}
 use Rattle.mask_certificate.proofs.AgainLemmas.{Fits, index_read, mask_read, hexadecimal_read, entry_read, cut_at}
 use Rattle.mask_certificate.proofs.SpelledLemmas.{index_spelled, mask_spelled, entry_fits}
 

@@ -22,15 +22,10 @@ use std::alloc::{AllocError, Global};
 use task_descriptor::descriptor::Descriptor;
 use task_descriptor::name::Name;
 use task_descriptor::program::Program;
+use text_pieces::cutting::cut;
 
 /// How many bytes the first line has, with its LF.
 const FIRST_LINE: usize = 7;
-
-fn place_of(wanted: u8, bytes: &[u8]) -> Option<usize>
-    ensures { result ≡ position (λ byte. byte == wanted) bytes.now }
-{
-    bytes.iter().position(|byte| *byte == wanted)
-}
 
 /// How many digits an index has at most.
 const MOST_INDEX_DIGITS: usize = 5;
@@ -164,18 +159,6 @@ fn name_of(line: &[u8]) -> Option<&[u8]>
     }
 }
 
-/// The first line of a text, without its LF, and what follows; `None` where there is no LF.
-fn next_line(text: &[u8]) -> Option<(&[u8], &[u8])>
-    ensures parts { MatchOption result
-        (slice_split is_newline text.now ≡ text.now ∷ [])
-        (λ found. slice_split is_newline text.now ≡ found.0.now ∷ slice_split is_newline found.1.now) }
-    ensures shorter { IfSome result (λ found. length found.1.now < length text.now) }
-    ensures end { IfSome result (λ found. IsEnd text.now found.1.now) }
-{
-    let end = place_of(b'\n', text)?;
-    Some((&text[..end], &text[end + 1..]))
-}
-
 /// The entry of the first line, and what follows that line; `None` where that line is no entry.
 fn next_entry(spelling: Spelling, text: &[u8]) -> Option<((u32, RegSet), &[u8])>
     ensures found { MatchOption result
@@ -224,7 +207,7 @@ fn behind<'a>(text: &'a [u8], line: usize, name: &Name) -> Result<&'a [u8], Cert
     if text.is_empty() {
         return Err(CertFault::MissingTask);
     }
-    let Some((first, rest)) = next_line(text) else {
+    let Some((first, rest)) = cut(b'\n', text) else {
         return Err(CertFault::Line(line));
     };
     let Some(found) = name_of(first) else {
@@ -245,7 +228,7 @@ fn check_end(text: &[u8], line: usize) -> Result<(), CertFault>
     if text.is_empty() {
         return Ok(());
     }
-    let Some((first, _)) = next_line(text) else {
+    let Some((first, _)) = cut(b'\n', text) else {
         return Err(CertFault::Line(line));
     };
     match name_of(first) {

@@ -1,5 +1,5 @@
 -- The first LF ends the first line; without one the text is one line.
-use Rattle.event_script.proofs.Cuts.{lines_more}
+use Rattle.event_script.proofs.FirstLine.{lines_more}
 use Rattle.event_script.proofs.reading.next_line.Goals as goal
 
 pub returns-in-Some-clause-lines : goal.returns-in-Some-clause-lines
