@@ -6,7 +6,8 @@ use Rattle.machine_model.specs.Machine.{State}
 use Rattle.machine_events.specs.declared.event.Event.{Event}
 use Rattle.machine_events.specs.declared.event.Event.TheVariants.{Assign, Exec, Transfer, Drain, Squash, Retire, Fault, Drop}
 use Rattle.machine_events.specs.declared.event.Refused.{Refused}
-use Rattle.machine_events.specs.declared.event.Refused.TheVariants as refused
+use Rattle.machine_events.specs.declared.event.Refused.TheVariants.{Waiting, Unfinished}
+use Rattle.machine_events.specs.RefusedText.{number_and_name}
 use Rattle.source_map.specs.declared.position.Position.{Position}
 use Rattle.event_trace.specs.declared.change.Change.{Change}
 use Rattle.event_trace.specs.Entries.{entry_of}
@@ -29,24 +30,13 @@ event_fields p (Drop k) = kind_field (codes "drop") ∷ unit_field k ∷ []
 
 -- Why an event is refused: the number and the name, and the register that is waited for. NotYet is said of the
 -- register that the event itself names.
+abbrev pub awaited_fields : Refused → List Field
+awaited_fields (Waiting r) = register_field r ∷ []
+awaited_fields (Unfinished r) = register_field r ∷ []
+awaited_fields _ = []
+
 abbrev pub refusal_fields : Refused → List Field
-refusal_fields refused.Ended = named 1 (codes "Ended")
-refusal_fields refused.NoUnit = named 2 (codes "NoUnit")
-refusal_fields refused.NoSuch = named 3 (codes "NoSuch")
-refusal_fields refused.NotATarget = named 4 (codes "NotATarget")
-refusal_fields refused.Stopped = named 5 (codes "Stopped")
-refusal_fields (refused.Waiting r) = named 6 (codes "Waiting") ++ register_field r ∷ []
-refusal_fields refused.NotHead = named 7 (codes "NotHead")
-refusal_fields refused.NotStopped = named 8 (codes "NotStopped")
-refusal_fields refused.AlreadyThere = named 9 (codes "AlreadyThere")
-refusal_fields (refused.NotYet r) = named 10 (codes "NotYet")
-refusal_fields refused.NoMismatch = named 11 (codes "NoMismatch")
-refusal_fields (refused.Unfinished r) = named 12 (codes "Unfinished") ++ register_field r ∷ []
-refusal_fields refused.Mismatch = named 13 (codes "Mismatch")
-refusal_fields refused.NotListed = named 14 (codes "NotListed")
-refusal_fields refused.IsListed = named 15 (codes "IsListed")
-refusal_fields refused.Full = named 16 (codes "Full")
-refusal_fields refused.OutOfMemory = named 17 (codes "OutOfMemory")
+refusal_fields refusal = named (number_and_name refusal).0 (number_and_name refusal).1 ++ awaited_fields refusal
 
 -- the event of a number
 abbrev pub numbered_fields : Listing → (number : ℕ) → Event → List Field

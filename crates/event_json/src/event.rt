@@ -2,9 +2,9 @@
 
 ghost use Rattle.std.specs.Prelude.{◌≡◌, ◌++◌, [], ◌∷◌, codes, OnOk};
 ghost use Rattle.json.specs.Tree.{json_tokens};
-ghost use Rattle.event_json.specs.Fields.{fields_tokens, named, register_field, task_field, unit_field};
+ghost use Rattle.event_json.specs.Fields.{fields_tokens, register_field, task_field, unit_field};
 ghost use Rattle.event_json.specs.ChangeJson.{changes_field};
-ghost use Rattle.event_json.specs.EventJson.{answer_field, event_fields, kind_field, numbered_fields, refusal_fields, refused_json, taken_json};
+ghost use Rattle.event_json.specs.EventJson.{answer_field, awaited_fields, event_fields, kind_field, numbered_fields, refusal_fields, refused_json, taken_json};
 
 use crate::change::write_changes;
 use crate::fields::{write_named, write_register, write_task, write_unit};
@@ -61,42 +61,23 @@ fn write_event(out: &mut JsonWriter, program: &Program, event: &Event) -> Result
     }
 }
 
-/// Adds a refusal that waits for a register.
-fn write_waiting(
-    out: &mut JsonWriter,
-    code: u8,
-    name: &str,
-    register: Reg,
-) -> Result<(), AllocError>
-    ensures { OnOk result (out.new ≡ out.old ++ fields_tokens (named code name.now ++ register_field register ∷ [])) }
+/// Adds the register that is waited for, if there is one.
+fn write_awaited(out: &mut JsonWriter, refusal: Refused) -> Result<(), AllocError>
+    ensures { OnOk result (out.new ≡ out.old ++ fields_tokens (awaited_fields refusal)) }
 {
-    write_named(out, code, name)?;
-    write_register(out, register)
+    match refusal {
+        Refused::Waiting(register) | Refused::Unfinished(register) => write_register(out, register),
+        _ => Ok(()),
+    }
 }
 
 /// Adds why an event is refused.
 fn write_refusal(out: &mut JsonWriter, refusal: Refused) -> Result<(), AllocError>
     ensures { OnOk result (out.new ≡ out.old ++ fields_tokens (refusal_fields refusal)) }
 {
-    match refusal {
-        Refused::Ended => write_named(out, 1, "Ended"),
-        Refused::NoUnit => write_named(out, 2, "NoUnit"),
-        Refused::NoSuch => write_named(out, 3, "NoSuch"),
-        Refused::NotATarget => write_named(out, 4, "NotATarget"),
-        Refused::Stopped => write_named(out, 5, "Stopped"),
-        Refused::Waiting(register) => write_waiting(out, 6, "Waiting", register),
-        Refused::NotHead => write_named(out, 7, "NotHead"),
-        Refused::NotStopped => write_named(out, 8, "NotStopped"),
-        Refused::AlreadyThere => write_named(out, 9, "AlreadyThere"),
-        Refused::NotYet(_) => write_named(out, 10, "NotYet"),
-        Refused::NoMismatch => write_named(out, 11, "NoMismatch"),
-        Refused::Unfinished(register) => write_waiting(out, 12, "Unfinished", register),
-        Refused::Mismatch => write_named(out, 13, "Mismatch"),
-        Refused::NotListed => write_named(out, 14, "NotListed"),
-        Refused::IsListed => write_named(out, 15, "IsListed"),
-        Refused::Full => write_named(out, 16, "Full"),
-        Refused::OutOfMemory => write_named(out, 17, "OutOfMemory"),
-    }
+    let (number, name) = refusal.number_and_name();
+    write_named(out, number, name)?;
+    write_awaited(out, refusal)
 }
 
 /// Adds the event of this number.

@@ -1,6 +1,0 @@
--- What is written piece by piece stands behind what there was.
-use Rattle.std.proofs.Common.{append_assoc}
-use Rattle.event_json.proofs.event.write_waiting.Goals as goal
-
-pub returns : goal.returns
-returns c = simp (c.in_ok-write_named.ensures, append_assoc) at c.write_register.ensures
