@@ -9,7 +9,8 @@ use Rattle.mask_certificate.specs.Lists.{mask_at, list_of}
 use Rattle.mark_checker.specs.Rules.{in_mask}
 use Rattle.mark_checker.specs.Places.{Checked}
 use Rattle.machine_model.specs.Machine.{Active, State, value}
-use Rattle.machine_model.specs.Step.{Next, after_exec}
+use Rattle.machine_model.specs.Unit.{after_exec}
+use Rattle.machine_model.specs.Step.{Next}
 use Rattle.machine_model.specs.Replay.{Replays}
 use Rattle.machine_model.specs.Answer.{after}
 use Rattle.machine_model.specs.Claims.{Claims, EndsLike}

@@ -16,9 +16,11 @@ use Rattle.task_descriptor.specs.WellFormed.{waits_below}
 use Rattle.task_descriptor.specs.declared.descriptor.Descriptor.{Descriptor}
 use Rattle.task_descriptor.specs.declared.descriptor.Marked.{Marked}
 use Rattle.machine_model.specs.Machine.{Active, State, opening, no_task, creates, begins, value, pass}
-use Rattle.machine_model.specs.Step.{Next, Does, Assigns, Execs, Transfers, Drains, Squashes, Retires, Faults, Drops, put, is_listed, follows, exec_leaves, next_begins, retire_leaves}
+use Rattle.machine_model.specs.Unit.{IsNext, put, instruction_at, exit_of, operand, lacks, after_drain}
+use Rattle.machine_model.specs.Step.{Next, Does, Assigns, Execs, Transfers, Drains, Squashes, Retires, Faults, Drops, is_listed, follows, exec_leaves, next_begins, retire_leaves}
 use Rattle.machine_model.specs.Replay.{ReplaysFrom, Replays}
-use Rattle.machine_model.specs.Answer.{most_events, least, unless, for_some, for_none, instruction_at, exit_of, operand, is_running, refusal, first_refusal, ok_unless, answer, index_of_place, exec_after, with_unit, with_queue, after, next_state, replay_from, replay}
+use Rattle.machine_model.specs.Refusals.{least, unless, for_some, for_none}
+use Rattle.machine_model.specs.Answer.{most_events, is_running, refusal, first_refusal, ok_unless, answer, index_of_place, exec_after, with_unit, with_queue, after, next_state, replay_from, replay}
 use Rattle.machine_events.specs.declared.event.Event.{Event}
 use Rattle.machine_events.specs.declared.event.Event.TheVariants.{Assign, Exec, Transfer, Drain, Squash, Retire, Fault, Drop}
 use Rattle.machine_events.specs.declared.event.Refused.{Refused}
@@ -208,7 +210,7 @@ module _ (p : Listing) (formed : IsWellFormed p) (units : ℕ) (s : State) where
       let two = some_passed (instruction_at p u.place) _ _ one.2 in
       let m : Marked = two.0 in
       let place = instruction_inside p u.place m two.1 in
-      let three = none_passed (least (waits m.op) (λ r. is_none (value u r))) _ _ two.2 in
+      let three = none_passed (lacks u m.op) _ _ two.2 in
       let four = unless_passed (nat_eq k 0 || may_run_ahead m.op (operand u (reg_a m.op))) _ _ three.1 in
       let has : (r : ℕ) → waits m.op r ≡ true → value u r ≡ Some (operand u r) = λ r w.
       some_is (value u r) (least_nothing (waits m.op) (λ x. is_none (value u x)) three.0 r (waits_below p formed place.0 m place.2 r w) w) in
@@ -216,14 +218,16 @@ module _ (p : Listing) (formed : IsWellFormed p) (units : ℕ) (s : State) where
         unit = u;
         is_unit = one.1;
         index = place.0;
-        is_inside = place.1;
         at = m;
-        is_there = place.2;
         a = operand u (reg_a m.op);
-        has_a = source_waits u (source_a m.op) (λ r w. has r (or_left _ _ (or_left _ _ w)));
         b = operand u (reg_b m.op);
-        has_b = source_waits u (source_b m.op) (λ r w. has r (or_left _ _ (or_right _ _ w)));
-        has_released = λ r w. ap is_some (has r (or_right _ _ w));
+        next = record {
+          is_inside = place.1;
+          is_there = place.2;
+          has_a = source_waits u (source_a m.op) (λ r w. has r (or_left _ _ (or_left _ _ w)));
+          has_b = source_waits u (source_b m.op) (λ r w. has r (or_left _ _ (or_right _ _ w)));
+          has_released = λ r w. ap is_some (has r (or_right _ _ w));
+        };
         may = elim (or_cases (nat_eq k 0) (may_run_ahead m.op (operand u (reg_a m.op))) four.0) [
           | inl z ↦ inl (eqb-true k 0 z)
           | inr g ↦ inr g
@@ -266,13 +270,17 @@ module _ (p : Listing) (formed : IsWellFormed p) (units : ℕ) (s : State) where
       record {
         unit = u;
         is_unit = one.1;
-        is_created = two.0;
-        exit = three.0;
-        has_stopped = exit_stopped u.place three.0 three.1;
-        is_unsent = none_is (u.sent r) four.0;
-        word = operand u r;
-        has_word = is_some_some (value u r) five.0;
-        is = ap (λ (o : Option Active). with_unit s o (λ v. with_queue s (slice_set s.queue k (record v { sent = put r (operand v r) v.sent })))) one.1;
+        after = after_drain u r (operand u r);
+        sends = record {
+          is_created = two.0;
+          exit = three.0;
+          has_stopped = exit_stopped u.place three.0 three.1;
+          is_unsent = none_is (u.sent r) four.0;
+          word = operand u r;
+          has_word = is_some_some (value u r) five.0;
+          is = refl;
+        };
+        is = ap (λ (o : Option Active). with_unit s o (λ v. with_queue s (slice_set s.queue k (after_drain v r (operand v r))))) one.1;
       }
 
   squash_may : (k : ℕ) → refusal p units s (Squash k) ≡ None → Squashes p s k (after p s (Squash k))
@@ -357,15 +365,15 @@ module _ (p : Listing) (units : ℕ) (s s' : State) where
   )
 
   -- no register that the instruction waits for lacks a value
-  nothing_waits : (u : Active) (m : Marked) (a b : ℕ) → value u (reg_a m.op) ≡ Some a → value u (reg_b m.op) ≡ Some b → ((r : ℕ) → released m.op r ≡ true → is_some (value u r) ≡ true) → (r : ℕ) → waits m.op r ≡ true → is_none (value u r) ≡ false
-  nothing_waits u m a b has_a has_b has_released r w =
+  nothing_waits : (u : Active) (i : ℕ) (m : Marked) (a b : ℕ) → IsNext p u i m a b → (r : ℕ) → waits m.op r ≡ true → is_none (value u r) ≡ false
+  nothing_waits u i m a b next r w =
       some_not_none (value u r)
       (elim (or_cases (is_source (source_a m.op) r || is_source (source_b m.op) r) (released m.op r) w) [
         | inl source ↦ elim (or_cases (is_source (source_a m.op) r) (is_source (source_b m.op) r) source) [
-          | inl first ↦ source_is u (source_a m.op) a has_a r first
-          | inr second ↦ source_is u (source_b m.op) b has_b r second
+          | inl first ↦ source_is u (source_a m.op) a next.has_a r first
+          | inr second ↦ source_is u (source_b m.op) b next.has_b r second
         ]
-        | inr named ↦ has_released r named
+        | inr named ↦ next.has_released r named
       ])
 
   ahead_or_head : (k : ℕ) (m : Marked) (a : ℕ) → (k ≡ 0) ⊎ (may_run_ahead m.op a ≡ true) → (nat_eq k 0 || may_run_ahead m.op a) ≡ true
@@ -376,19 +384,19 @@ module _ (p : Listing) (units : ℕ) (s s' : State) where
   exec_is k d =
       let u : Active = d.unit in
       let m : Marked = d.at in
-      let there : instruction_at p u.place ≡ Some m = ap (instruction_at p) d.is_inside ∙ d.is_there in
-      let first : operand u (reg_a m.op) ≡ d.a = ap (λ (o : Option ℕ). unwrap_or o 0) d.has_a in
-      let second : operand u (reg_b m.op) ≡ d.b = ap (λ (o : Option ℕ). unwrap_or o 0) d.has_b in (
+      let there : instruction_at p u.place ≡ Some m = ap (instruction_at p) d.next.is_inside ∙ d.next.is_there in
+      let first : operand u (reg_a m.op) ≡ d.a = ap (λ (o : Option ℕ). unwrap_or o 0) d.next.has_a in
+      let second : operand u (reg_b m.op) ≡ d.b = ap (λ (o : Option ℕ). unwrap_or o 0) d.next.has_b in (
         some_pass (slice_get s.queue k) _ _ u d.is_unit
             (some_pass (instruction_at p u.place) _ _ m there
-            (none_pass (least (waits m.op) (λ r. is_none (value u r))) _ _
-            (least_none (waits m.op) (λ r. is_none (value u r)) (nothing_waits u m d.a d.b d.has_a d.has_b d.has_released))
+            (none_pass (lacks u m.op) _ _
+            (least_none (waits m.op) (λ r. is_none (value u r)) (nothing_waits u d.index m d.a d.b d.next))
             (unless_pass (nat_eq k 0 || may_run_ahead m.op (operand u (reg_a m.op))) _ _
             (ap (λ (x : ℕ). nat_eq k 0 || may_run_ahead m.op x) first ∙ ahead_or_head k m d.a d.may) refl))),
         d.is
             ∙ ap (exec_leaves p s k u m d.index d.a) (sym second)
             ∙ ap (λ (x : ℕ). exec_leaves p s k u m d.index x (operand u (reg_b m.op))) (sym first)
-            ∙ ap (λ (x : Spot). exec_leaves p s k u m (index_of_place x) (operand u (reg_a m.op)) (operand u (reg_b m.op))) (sym d.is_inside)
+            ∙ ap (λ (x : Spot). exec_leaves p s k u m (index_of_place x) (operand u (reg_a m.op)) (operand u (reg_b m.op))) (sym d.next.is_inside)
             ∙ ap (exec_after p s k u) (sym there)
             ∙ ap (λ (o : Option Active). with_unit s o (λ v. exec_after p s k v (instruction_at p v.place))) (sym d.is_unit),
       )
@@ -408,16 +416,18 @@ module _ (p : Listing) (units : ℕ) (s s' : State) where
       )
 
   drain_is : (k r : ℕ) → Drains p s k r s' → (refusal p units s (Drain k r) ≡ None) × (s' ≡ after p s (Drain k r))
-  drain_is k r d = (
-    some_pass (slice_get s.queue k) _ _ d.unit d.is_unit
-        (unless_pass (creates p d.unit.task r) _ _ d.is_created
-        (some_pass (exit_of d.unit.place) _ _ d.exit (ap exit_of d.has_stopped)
-        (unless_pass (is_none (d.unit.sent r)) _ _ (ap is_none d.is_unsent)
-        (unless_pass (is_some (value d.unit r)) _ _ (ap is_some d.has_word) refl)))),
-    d.is
-        ∙ ap (λ (o : Option ℕ). with_queue s (slice_set s.queue k (record (d.unit) { sent = put r (unwrap_or o 0) d.unit.sent }))) (sym d.has_word)
-        ∙ ap (λ (o : Option Active). with_unit s o (λ v. with_queue s (slice_set s.queue k (record v { sent = put r (operand v r) v.sent })))) (sym d.is_unit),
-  )
+  drain_is k r d =
+      let one = d.sends in (
+        some_pass (slice_get s.queue k) _ _ d.unit d.is_unit
+            (unless_pass (creates p d.unit.task r) _ _ one.is_created
+            (some_pass (exit_of d.unit.place) _ _ one.exit (ap exit_of one.has_stopped)
+            (unless_pass (is_none (d.unit.sent r)) _ _ (ap is_none one.is_unsent)
+            (unless_pass (is_some (value d.unit r)) _ _ (ap is_some one.has_word) refl)))),
+        d.is
+            ∙ ap (λ (v : Active). with_queue s (slice_set s.queue k v)) one.is
+            ∙ ap (λ (o : Option ℕ). with_queue s (slice_set s.queue k (after_drain d.unit r (unwrap_or o 0)))) (sym one.has_word)
+            ∙ ap (λ (o : Option Active). with_unit s o (λ v. with_queue s (slice_set s.queue k (after_drain v r (operand v r))))) (sym d.is_unit),
+      )
 
   squash_is : (k : ℕ) → Squashes p s k s' → (refusal p units s (Squash k) ≡ None) × (s' ≡ after p s (Squash k))
   squash_is k d = (

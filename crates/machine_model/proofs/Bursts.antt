@@ -13,7 +13,8 @@ use Rattle.mips_plain.specs.declared.outcome.Outcome.TheVariants.{Running}
 use Rattle.task_descriptor.specs.Listing.{Listing}
 use Rattle.task_graph.specs.Edges.{edge, leaves, sends}
 use Rattle.machine_model.specs.Machine.{Words, Active, State, value}
-use Rattle.machine_model.specs.Step.{Next, with_written, place_after, moved, executed, after_exec, stands}
+use Rattle.machine_model.specs.Unit.{with_written, place_after, moved, executed, after_exec}
+use Rattle.machine_model.specs.Step.{Next, stands}
 use Rattle.machine_model.specs.Replay.{ReplaysFrom}
 use Rattle.machine_model.specs.Answer.{with_queue}
 use Rattle.machine_model.specs.Burst.{no_memory, StepsAlone, Burst, AllIn, with_arrived}
@@ -84,7 +85,7 @@ module _ (p : Listing) (u u' : Active) (step : StepsAlone p u u') (arrived : Wor
   sent_has : (r : ℕ) → sends step.at r ≡ true → (is_some (words no_memory r) ≡ true) ⊎ (is_some (value u r) ≡ true)
   sent_has r e = elim (or_cases (step.at.forward && dests step.at.op r) (released step.at.op r) e) [
     | inl f ↦ inl (dest_written step.at.op step.a step.b (address step.index) (byte_of p.fixed) no_memory r step.may_run_ahead (and_parts (step.at.forward) (dests step.at.op r) f).1)
-    | inr g ↦ inr (step.has_released r g)
+    | inr g ↦ inr (step.next.has_released r g)
   ]
 
   abbrev with_both : Words → Words → Active
@@ -130,14 +131,16 @@ module _ (p : Listing) (u u' : Active) (step : StepsAlone p u u') (arrived : Wor
       unit = with_arrived u arrived;
       is_unit = is_unit;
       index = step.index;
-      is_inside = step.is_inside;
       at = step.at;
-      is_there = step.is_there;
       a = step.a;
-      has_a = has_more (reg_a step.at.op) step.a step.has_a;
       b = step.b;
-      has_b = has_more (reg_b step.at.op) step.b step.has_b;
-      has_released = λ r e. some_more (nat_eq 0 r) (u.local r) (u.arrived r) (arrived r) (more r) (step.has_released r e);
+      next = record {
+        is_inside = step.next.is_inside;
+        is_there = step.next.is_there;
+        has_a = has_more (reg_a step.at.op) step.a step.next.has_a;
+        has_b = has_more (reg_b step.at.op) step.b step.next.has_b;
+        has_released = λ r e. some_more (nat_eq 0 r) (u.local r) (u.arrived r) (arrived r) (more r) (step.next.has_released r e);
+      };
       may = inr (step.may_run_ahead);
       is = ap (λ (x : Active). with_queue s (slice_set s.queue k (with_arrived x arrived))) step.is
           ∙ ap (λ (x : Active). with_queue s (slice_set s.queue k x)) (sym (after_same s.memory))

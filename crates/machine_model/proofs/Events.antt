@@ -5,14 +5,14 @@ use Rattle.std.proofs.lemmas.Bool.{cond-true}
 use Rattle.std.specs.Prelude.{slice_get, slice_set, nat_eq, IsSome, is_some}
 use Rattle.std.specs.Option.{option_or}
 use Rattle.mips_plain.specs.Words.{address, byte_of}
-use Rattle.mips_plain.specs.Instruction.{reg_a, reg_b}
 use Rattle.mips_plain.specs.Effect.{written, memory_after, output_after, outcome_after}
 use Rattle.mips_plain.specs.declared.outcome.Outcome.TheVariants.{Running}
 use Rattle.task_descriptor.specs.Listing.{Listing}
 use Rattle.task_descriptor.specs.declared.descriptor.Marked.{Marked}
 use Rattle.task_graph.specs.Soundness.{Sound}
 use Rattle.machine_model.specs.Machine.{Words, Active, task_at, creates, begins, value, pass}
-use Rattle.machine_model.specs.Step.{put, is_reserved, follows, next_begins, filled, moved, handed_over}
+use Rattle.machine_model.specs.Unit.{IsNext, put, moved}
+use Rattle.machine_model.specs.Step.{is_reserved, follows, next_begins, filled, handed_over}
 use Rattle.machine_model.specs.Claims.{plain_of, by_head}
 use Rattle.machine_events.specs.declared.event.Spot.TheVariants.{Inside, Stopped}
 use Rattle.std.specs.List.{last_or}
@@ -152,13 +152,12 @@ module _ (p : Listing) where
 
     -- Exec of the head, which goes on
     module _ (c : ℕ) (u : Active) (us : List Active) (next : ℕ) (memory : ℕ → ℕ) (output : List ℕ) (q : QueueRight p c (u ∷ us) next memory output)
-        (i : ℕ) (inside : u.place ≡ Inside i) (at : Marked) (there : slice_get p.code i ≡ Some at)
-        (a : ℕ) (has_a : value u (reg_a at.op) ≡ Some a) (b : ℕ) (has_b : value u (reg_b at.op) ≡ Some b) where
+        (i : ℕ) (at : Marked) (a b : ℕ) (is_next : IsNext p u i at a b) where
       abbrev pub h : UnitRight p false c u
       h = head_right c u us next memory output q
 
       pub head_leaves : Leaves p h.now i at a b
-      head_leaves = step_leaves p h.now i at a b (stands_there p fits sound false c u h i inside at there a has_a b has_b)
+      head_leaves = step_leaves p h.now i at a b (stands_there p fits sound false c u h i at a b is_next)
 
       pub memory_now : memory ≡ (plain_of p h.now).memory
       memory_now = q.memory_is ∙ ap (λ (k : ℕ). (plain_of p k).memory) (sym h.count)
@@ -176,7 +175,7 @@ module _ (p : Listing) where
         begins = q.begins;
         full = q.full;
         right = λ start. (
-          moved_right p fits sound false c u h i inside at there a has_a b has_b runs memory
+          moved_right p fits sound false c u h i at a b is_next runs memory
               (λ r. ap (λ (m : ℕ → ℕ). written at.op a b (address i) (byte_of p.fixed) m r) memory_now)
               (λ e. absurd (true≢false (sym e))),
           (q.right start).1,

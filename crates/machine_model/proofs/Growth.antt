@@ -6,7 +6,8 @@ use Rattle.mips_plain.specs.Words.{address}
 use Rattle.mips_plain.specs.declared.outcome.Read.{Read}
 use Rattle.task_descriptor.specs.Listing.{Listing}
 use Rattle.machine_model.specs.Machine.{Active, State}
-use Rattle.machine_model.specs.Step.{Next, after_exec, put, started, filled, handed_over, retire_leaves}
+use Rattle.machine_model.specs.Unit.{after_exec, put}
+use Rattle.machine_model.specs.Step.{Next, started, filled, handed_over, retire_leaves}
 use Rattle.machine_model.specs.Claims.{by_head, count_c, count_h}
 use Rattle.machine_model.specs.HeadEvent.{growth, retired_after, active_after}
 use Rattle.machine_events.specs.declared.event.Event.{Event}
@@ -67,7 +68,7 @@ module _ (p : Listing) (units : ℕ) (s s' : State) where
       h_by s s' _ (Transfer k r) d.is (still (count_c s) (by_head s.queue) _ (by_head_same s.queue k d.unit (record (d.unit) { arrived = put r d.word d.unit.arrived }) d.is_unit refl))
   events_grow (Drain k r) next =
       let d = next.does in
-      h_by s s' _ (Drain k r) d.is (still (count_c s) (by_head s.queue) _ (by_head_same s.queue k d.unit (record (d.unit) { sent = put r d.word d.unit.sent }) d.is_unit refl))
+      h_by s s' _ (Drain k r) d.is (still (count_c s) (by_head s.queue) _ (by_head_same s.queue k d.unit d.after d.is_unit (ap (λ (u : Active). u.log) d.sends.is)))
   events_grow (Squash k) next =
       let d = next.does in
       h_by s s' _ (Squash k) d.is (still (count_c s) (by_head s.queue) _ (by_head_front s.queue k))

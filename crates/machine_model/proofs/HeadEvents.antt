@@ -15,9 +15,11 @@ use Rattle.task_descriptor.specs.declared.descriptor.Descriptor.{Descriptor}
 use Rattle.task_graph.specs.Edges.{Path, stay, onward}
 use Rattle.task_graph.specs.Soundness.{Sound, is_entry}
 use Rattle.machine_model.specs.Machine.{Active, State, opening, task_at, no_task, creates, value}
+use Rattle.machine_model.specs.Unit.{after_drain}
 use Rattle.machine_model.specs.Step.{Next, follows, is_listed, next_begins}
 use Rattle.machine_model.specs.Replay.{ReplaysFrom, Replays}
-use Rattle.machine_model.specs.Answer.{least, is_running, after}
+use Rattle.machine_model.specs.Refusals.{least}
+use Rattle.machine_model.specs.Answer.{is_running, after}
 use Rattle.machine_model.specs.Claims.{plain_of, count_c}
 use Rattle.machine_model.specs.HeadEvent.{task_beginning, drain_or_retire, event_of_head, event_of_queue, head_event}
 use Rattle.machine_events.specs.declared.event.Event.{Event}
@@ -165,14 +167,16 @@ module _ (p : Listing) (formed : IsWellFormed p) (sound : Sound p) where
                   unit = u;
                   is_unit = is_head;
                   index = i;
-                  is_inside = inside;
                   at = found.0;
-                  is_there = found.2;
                   a = (plain_of p (count_c s + length u.log)).regs (reg_a found.0.op);
-                  has_a = has_value (reg_a found.0.op);
                   b = (plain_of p (count_c s + length u.log)).regs (reg_b found.0.op);
-                  has_b = has_value (reg_b found.0.op);
-                  has_released = λ r e. ap is_some (has_value r);
+                  next = record {
+                    is_inside = inside;
+                    is_there = found.2;
+                    has_a = has_value (reg_a found.0.op);
+                    has_b = has_value (reg_b found.0.op);
+                    has_released = λ r e. ap is_some (has_value r);
+                  };
                   may = inl refl;
                   is = refl;
                 };
@@ -220,12 +224,16 @@ module _ (p : Listing) (formed : IsWellFormed p) (sound : Sound p) where
               does = record {
                 unit = u;
                 is_unit = is_head;
-                is_created = unsent.0;
-                exit = exit;
-                has_stopped = stopped;
-                is_unsent = none_is (u.sent r) unsent.1;
-                word = (plain_of p (count_c s + length u.log)).regs r;
-                has_word = has_value r;
+                after = after_drain u r ((plain_of p (count_c s + length u.log)).regs r);
+                sends = record {
+                  is_created = unsent.0;
+                  exit = exit;
+                  has_stopped = stopped;
+                  is_unsent = none_is (u.sent r) unsent.1;
+                  word = (plain_of p (count_c s + length u.log)).regs r;
+                  has_word = has_value r;
+                  is = refl;
+                };
                 is = refl;
               };
             },

@@ -4,7 +4,6 @@ use Rattle.std.proofs.Common.{◌≡◌, ℕ, zero, suc, ◌+◌, ◌<◌, ◌�
 use Rattle.std.specs.Prelude.{slice_get, slice_set}
 use Rattle.std.specs.List.{AllByRecursion, fold}
 use Rattle.mips_plain.specs.Words.{address, byte_of}
-use Rattle.mips_plain.specs.Instruction.{reg_a, reg_b}
 use Rattle.mips_plain.specs.Effect.{memory_after, output_after, outcome_after, may_run_ahead}
 use Rattle.mips_plain.specs.PlainMachine.{plain, reads}
 use Rattle.mips_plain.specs.declared.outcome.Outcome.{Outcome}
@@ -14,13 +13,14 @@ use Rattle.task_descriptor.specs.Listing.{Listing}
 use Rattle.task_descriptor.specs.declared.descriptor.Marked.{Marked}
 use Rattle.task_graph.specs.Soundness.{Sound}
 use Rattle.machine_model.specs.Machine.{Active, State, opening, value}
-use Rattle.machine_model.specs.Step.{Next, Assigns, Transfers, Drains, Squashes, Retires, Faults, Drops, put, is_listed, started, executed, after_exec, stands, exec_leaves, retire_leaves}
+use Rattle.machine_model.specs.Unit.{IsNext, put, executed, after_exec}
+use Rattle.machine_model.specs.Step.{Next, Assigns, Transfers, Drains, Squashes, Retires, Faults, Drops, is_listed, started, stands, exec_leaves, retire_leaves}
 use Rattle.machine_model.specs.Replay.{ReplaysFrom, Replays}
 use Rattle.machine_model.specs.Claims.{plain_of, reads_of, by_head, count_c, EndsLike, Claims}
 use Rattle.machine_events.specs.declared.event.Commit.{Commit}
 use Rattle.machine_events.specs.declared.event.Event.{Event}
 use Rattle.machine_events.specs.declared.event.Event.TheVariants.{Assign, Exec, Transfer, Drain, Squash, Retire, Fault, Drop}
-use Rattle.machine_events.specs.declared.event.Spot.TheVariants.{Inside, Stopped}
+use Rattle.machine_events.specs.declared.event.Spot.TheVariants.{Stopped}
 use Rattle.machine_events.specs.declared.event.Standing.TheVariants as standing
 use Rattle.machine_model.proofs.Instructions.{ahead_memory, ahead_output, ahead_runs, ended_writes}
 use Rattle.machine_model.proofs.PlainRuns.{Leaves}
@@ -83,9 +83,11 @@ module _ (p : Listing) where
 
   drain_good : (s s' : State) (k r : ℕ) → s.outcome ≡ standing.Running → InvAt p (count_c s) s → Drains p s k r s' → Good p s'
   drain_good s s' k r runs inv d =
-      subst (Good p) (sym d.is) (good_queue s (slice_set s.queue k (record (d.unit) { sent = put r d.word d.unit.sent })) runs inv
-      (unit_changes p (count_c s) s.queue s.next s.memory s.output k d.unit (record (d.unit) { sent = put r d.word d.unit.sent }) d.is_unit refl refl refl
-      (λ q i h. drained p d.unit r d.word d.exit d.has_stopped d.has_word h) inv.queue))
+      let one = d.sends in
+      subst (Good p) (sym d.is) (good_queue s (slice_set s.queue k d.after) runs inv
+      (unit_changes p (count_c s) s.queue s.next s.memory s.output k d.unit d.after d.is_unit
+      (ap (λ (u : Active). u.task) one.is) (ap (λ (u : Active). u.log) one.is) (ap (λ (u : Active). u.arrived) one.is)
+      (λ q i h. subst (UnitRight p q i) (sym one.is) (drained p d.unit r one.word one.exit one.has_stopped one.has_word h)) inv.queue))
 
   squash_good : (s s' : State) (k : ℕ) → s.outcome ≡ standing.Running → InvAt p (count_c s) s → Squashes p s k s' → Good p s'
   squash_good s s' k runs inv d =
@@ -144,8 +146,8 @@ module _ (p : Listing) where
         (moved_on p fits sound (count_c s) s.queue s.next s.memory s.output d.ahead r d.word d.giver d.unit d.is_giver here d.has_word inv.queue))
 
     -- Exec behind the head: memory, output and outcome stay
-    ahead_good : (s : State) (k : ℕ) (u : Active) (i : ℕ) (at : Marked) (a b : ℕ) → s.outcome ≡ standing.Running → InvAt p (count_c s) s → slice_get s.queue (suc k) ≡ Some u → u.place ≡ Inside i → slice_get p.code i ≡ Some at → value u (reg_a at.op) ≡ Some a → value u (reg_b at.op) ≡ Some b → may_run_ahead at.op a ≡ true → Good p (exec_leaves p s (suc k) u at i a b)
-    ahead_good s k u i at a b runs inv is_u inside there has_a has_b ahead =
+    ahead_good : (s : State) (k : ℕ) (u : Active) (i : ℕ) (at : Marked) (a b : ℕ) → s.outcome ≡ standing.Running → InvAt p (count_c s) s → slice_get s.queue (suc k) ≡ Some u → IsNext p u i at a b → may_run_ahead at.op a ≡ true → Good p (exec_leaves p s (suc k) u at i a b)
+    ahead_good s k u i at a b runs inv is_u is_next ahead =
         settled (exec_leaves p s (suc k) u at i a b) (ap stands (ahead_runs at.op a ahead)) (record {
           reads_are = inv.reads_are;
           number = inv.number;
@@ -156,13 +158,12 @@ module _ (p : Listing) where
               (subst (QueueRight p (count_c s) (slice_set s.queue (suc k) (after_exec p u at i a b s.memory)) s.next s.memory) (sym (ahead_output at.op a s.output ahead))
               (behind_changes p (count_c s) s.queue s.next s.memory s.output k u (after_exec p u at i a b s.memory) is_u
               (ap (λ (o : Outcome). (executed o p u at i a b s.memory).task) (ahead_runs at.op a ahead))
-              (λ q n h. exec_ahead p fits sound q n u h i inside at there a has_a b has_b s.memory ahead) inv.queue));
+              (λ q n h. exec_ahead p fits sound q n u h i at a b is_next s.memory ahead) inv.queue));
         })
 
     -- Exec of the head
     module _ (s : State) (u : Active) (us : List Active) (is_queue : s.queue ≡ u ∷ us) (runs : s.outcome ≡ standing.Running) (inv : InvAt p (count_c s) s)
-        (i : ℕ) (inside : u.place ≡ Inside i) (at : Marked) (there : slice_get p.code i ≡ Some at)
-        (a : ℕ) (has_a : value u (reg_a at.op) ≡ Some a) (b : ℕ) (has_b : value u (reg_b at.op) ≡ Some b) where
+        (i : ℕ) (at : Marked) (a b : ℕ) (is_next : IsNext p u i at a b) where
       c : ℕ
       c = count_c s
 
@@ -173,10 +174,10 @@ module _ (p : Listing) where
       h = head_right p (count_c s) u us s.next s.memory s.output q
 
       abbrev left : Leaves p h.now i at a b
-      left = head_leaves p fits sound (count_c s) u us s.next s.memory s.output q i inside at there a has_a b has_b
+      left = head_leaves p fits sound (count_c s) u us s.next s.memory s.output q i at a b is_next
 
       abbrev on : suc h.now ≡ count_c s + length (u.log ++ record { pc = address i; a = a; b = b } ∷ [])
-      on = grown p fits sound (count_c s) u us s.next s.memory s.output q i inside at there a has_a b has_b
+      on = grown p fits sound (count_c s) u us s.next s.memory s.output q i at a b is_next
 
       -- the state that it leaves, by how the instruction leaves the run
       abbrev leaves_by : Outcome → State
@@ -194,9 +195,9 @@ module _ (p : Listing) where
           reads = inv.reads_are;
           number = inv.number;
           exits = inv.exits_are;
-          output = ap (output_after at.op a) (output_now p fits sound (count_c s) u us s.next s.memory s.output q i inside at there a has_a b has_b)
+          output = ap (output_after at.op a) (output_now p fits sound (count_c s) u us s.next s.memory s.output q i at a b is_next)
               ∙ sym left.output ∙ ap (λ (k : ℕ). (plain_of p k).output) on;
-          memory = ap (memory_after at.op a b) (memory_now p fits sound (count_c s) u us s.next s.memory s.output q i inside at there a has_a b has_b)
+          memory = ap (memory_after at.op a b) (memory_now p fits sound (count_c s) u us s.next s.memory s.output q i at a b is_next)
               ∙ sym left.memory ∙ ap (λ (k : ℕ). (plain_of p k).memory) on;
           head = λ v e r.
               let same : record (executed o p u at i a b s.memory) { log = u.log ++ record { pc = address i; a = a; b = b } ∷ [] } ≡ v = cc in
@@ -222,7 +223,7 @@ module _ (p : Listing) where
         exits_are = inv.exits_are;
         regs_are = inv.regs_are;
         runs = inv.runs;
-        queue = exec_on p fits sound (count_c s) u us s.next s.memory s.output q i inside at there a has_a b has_b e;
+        queue = exec_on p fits sound (count_c s) u us s.next s.memory s.output q i at a b is_next e;
       })
       head_by Halted e = ended Halted refl (λ r. cc) (λ r. cc) (outcome_then Halted e)
       head_by (Trapped trap) e = ended (Trapped trap) refl (λ r. cc) (λ r. cc) (outcome_then (Trapped trap) e)
@@ -230,14 +231,14 @@ module _ (p : Listing) where
       pub head_good : Good p (exec_leaves p s 0 u at i a b)
       head_good = subst (λ (x : List Active). Good p (record (exec_leaves p s 0 u at i a b) { queue = slice_set x 0 (after_exec p u at i a b s.memory) })) (sym is_queue) (head_by (outcome_after at.op a) refl)
 
-    exec_good : (s : State) (us : List Active) (k : ℕ) (u : Active) (i : ℕ) (at : Marked) (a b : ℕ) → s.queue ≡ us → s.outcome ≡ standing.Running → InvAt p (count_c s) s → slice_get us k ≡ Some u → u.place ≡ Inside i → slice_get p.code i ≡ Some at → value u (reg_a at.op) ≡ Some a → value u (reg_b at.op) ≡ Some b → (k ≡ 0) ⊎ (may_run_ahead at.op a ≡ true) → Good p (exec_leaves p s k u at i a b)
-    exec_good s [] zero u i at a b is_queue runs inv is_u inside there has_a has_b may = absurd (cc)
-    exec_good s (x ∷ us) zero u i at a b is_queue runs inv is_u inside there has_a has_b may =
+    exec_good : (s : State) (us : List Active) (k : ℕ) (u : Active) (i : ℕ) (at : Marked) (a b : ℕ) → s.queue ≡ us → s.outcome ≡ standing.Running → InvAt p (count_c s) s → slice_get us k ≡ Some u → IsNext p u i at a b → (k ≡ 0) ⊎ (may_run_ahead at.op a ≡ true) → Good p (exec_leaves p s k u at i a b)
+    exec_good s [] zero u i at a b is_queue runs inv is_u is_next may = absurd (cc)
+    exec_good s (x ∷ us) zero u i at a b is_queue runs inv is_u is_next may =
         let same : x ≡ u = cc in
-        head_good s u us (is_queue ∙ ap (λ (y : Active). y ∷ us) same) runs inv i inside at there a has_a b has_b
-    exec_good s us (suc k) u i at a b is_queue runs inv is_u inside there has_a has_b (inl zero_is) = absurd (omega arith)
-    exec_good s us (suc k) u i at a b is_queue runs inv is_u inside there has_a has_b (inr ahead) =
-        ahead_good s k u i at a b runs inv (ap (λ (x : List Active). slice_get x (suc k)) is_queue ∙ is_u) inside there has_a has_b ahead
+        head_good s u us (is_queue ∙ ap (λ (y : Active). y ∷ us) same) runs inv i at a b is_next
+    exec_good s us (suc k) u i at a b is_queue runs inv is_u is_next (inl zero_is) = absurd (omega arith)
+    exec_good s us (suc k) u i at a b is_queue runs inv is_u is_next (inr ahead) =
+        ahead_good s k u i at a b runs inv (ap (λ (x : List Active). slice_get x (suc k)) is_queue ∙ is_u) is_next ahead
 
     retire_good : (s s' : State) → s.outcome ≡ standing.Running → InvAt p (count_c s) s → Retires p s s' → Good p s'
     retire_good s s' runs inv d =
@@ -261,7 +262,7 @@ module _ (p : Listing) where
     step_good units s s' (Assign t) good next = assign_good units s s' t next.runs (good.inv next.runs) next.does
     step_good units s s' (Exec k) good next =
         let d = next.does in
-        subst (Good p) (sym d.is) (exec_good s s.queue k d.unit d.index d.at d.a d.b refl next.runs (good.inv next.runs) d.is_unit d.is_inside d.is_there d.has_a d.has_b d.may)
+        subst (Good p) (sym d.is) (exec_good s s.queue k d.unit d.index d.at d.a d.b refl next.runs (good.inv next.runs) d.is_unit d.next d.may)
     step_good units s s' (Transfer k r) good next = transfer_good s s' k r next.runs (good.inv next.runs) next.does
     step_good units s s' (Drain k r) good next = drain_good s s' k r next.runs (good.inv next.runs) next.does
     step_good units s s' (Squash k) good next = squash_good s s' k next.runs (good.inv next.runs) next.does

@@ -13,7 +13,7 @@ use Rattle.mips_plain.specs.MemoryMap.{Region, Fixed, Ordinary, Nowhere, region,
 use Rattle.mips_plain.specs.PlainMachine.{fetch}
 use Rattle.mips_plain.specs.declared.instruction.LoadKind.{LoadKind}
 use Rattle.mips_plain.specs.declared.instruction.Op.{Op}
-use Rattle.mips_plain.specs.declared.instruction.Op.TheVariants.{Three, ShiftBy, ShiftVar, Imm, Logic, Lui, Mult, MoveFrom, MoveTo, Load, Store, BranchTwo, BranchOne, Jump, JumpLink, JumpReg, JumpLinkReg, Out, Halt}
+use Rattle.mips_plain.specs.declared.instruction.Op.TheVariants.{Load, Store, BranchTwo, BranchOne, Jump, JumpLink, JumpReg, JumpLinkReg, Out, Halt}
 use Rattle.mips_plain.specs.declared.outcome.Outcome.TheVariants.{Running}
 use Rattle.task_descriptor.specs.Listing.{Listing, input}
 use Rattle.task_descriptor.specs.declared.descriptor.Marked.{Marked}

@@ -10,7 +10,8 @@ use Rattle.task_descriptor.specs.Listing.{Listing, input}
 use Rattle.task_graph.specs.Edges.{Path, stay, MayWrite}
 use Rattle.task_graph.specs.Soundness.{Sound}
 use Rattle.machine_model.specs.Machine.{Words, Active, task_at, creates, begins, value, pass}
-use Rattle.machine_model.specs.Step.{put, is_reserved, filled}
+use Rattle.machine_model.specs.Unit.{put}
+use Rattle.machine_model.specs.Step.{is_reserved, filled}
 use Rattle.machine_model.specs.Claims.{plain_of, reads_of}
 use Rattle.machine_events.specs.declared.event.Spot.{Spot}
 use Rattle.machine_events.specs.declared.event.Spot.TheVariants.{Inside, Stopped}

@@ -11,7 +11,8 @@ use Rattle.task_descriptor.specs.declared.descriptor.Marked.{Marked}
 use Rattle.task_graph.specs.Edges.{Edge, Path, stay, onward, edge, leaves}
 use Rattle.task_graph.specs.Soundness.{Sound}
 use Rattle.machine_model.specs.Machine.{Active, State, opening, task_at}
-use Rattle.machine_model.specs.Step.{Next, put, started, place_after, executed, after_exec, filled}
+use Rattle.machine_model.specs.Unit.{put, place_after, executed, after_exec}
+use Rattle.machine_model.specs.Step.{Next, started, filled}
 use Rattle.machine_model.specs.Replay.{ReplaysFrom, Replays}
 use Rattle.machine_model.specs.Places.{PlaceValid}
 use Rattle.machine_events.specs.declared.event.Event.{Event}
@@ -100,7 +101,7 @@ module _ (p : Listing) (formed : IsWellFormed p) (sound : Sound p) where
       let d = next.does in
       subst (λ (x : State). AllValid p x.queue) (sym d.is)
       (set_valid p s.queue k (after_exec p d.unit d.at d.index d.a d.b s.memory) h
-      (stays_valid d.unit d.index d.at d.a d.b s.memory (valid_at p s.queue k d.unit h d.is_unit) d.is_inside d.is_there))
+      (stays_valid d.unit d.index d.at d.a d.b s.memory (valid_at p s.queue k d.unit h d.is_unit) d.next.is_inside d.next.is_there))
   step_valid units s s' (Transfer k r) h next =
       let d = next.does in
       subst (λ (x : State). AllValid p x.queue) (sym d.is)
@@ -108,7 +109,8 @@ module _ (p : Listing) (formed : IsWellFormed p) (sound : Sound p) where
   step_valid units s s' (Drain k r) h next =
       let d = next.does in
       subst (λ (x : State). AllValid p x.queue) (sym d.is)
-      (set_valid p s.queue k (record (d.unit) { sent = put r d.word d.unit.sent }) h (same_place p d.unit _ refl refl (valid_at p s.queue k d.unit h d.is_unit)))
+      (set_valid p s.queue k d.after h
+      (same_place p d.unit d.after (ap (λ (u : Active). u.task) d.sends.is) (ap (λ (u : Active). u.place) d.sends.is) (valid_at p s.queue k d.unit h d.is_unit)))
   step_valid units s s' (Squash k) h next =
       let d = next.does in
       subst (λ (x : State). AllValid p x.queue) (sym d.is) (take_valid p s.queue (suc k) h)

@@ -1,10 +1,10 @@
 -- A register that was sent is in no mask from its unit's place on, so no later instruction writes it.
-use Rattle.std.proofs.Common.{◌≡◌, ℕ, inl, inr, Bool, true, false, cond, Option, Some, None, refl, sym, ap, ◌∙◌, true≢false}
+use Rattle.std.proofs.Common.{◌≡◌, ℕ, inl, inr, Bool, false, cond, Option, Some, refl, sym, ap, ◌∙◌, true≢false}
 use Rattle.std.specs.Prelude.{slice_get, nat_eq}
 use Rattle.std.specs.Option.{option_or}
 use Rattle.std.proofs.lemmas.Bool.{false_from_ne_true}
 use Rattle.mips_plain.specs.Words.{address, byte_of}
-use Rattle.mips_plain.specs.Instruction.{dests, taken, turn}
+use Rattle.mips_plain.specs.Instruction.{dests, taken}
 use Rattle.mips_plain.specs.Effect.{written, outcome_after}
 use Rattle.mips_plain.specs.declared.outcome.Outcome.{Outcome}
 use Rattle.mips_plain.specs.declared.outcome.Outcome.TheVariants.{Running, Halted, Trapped}
@@ -12,7 +12,7 @@ use Rattle.task_descriptor.specs.Listing.{Listing}
 use Rattle.task_descriptor.specs.declared.descriptor.Marked.{Marked}
 use Rattle.task_graph.specs.Edges.{Edge, edge, leaves, sends}
 use Rattle.machine_model.specs.Machine.{Active, value}
-use Rattle.machine_model.specs.Step.{with_written, executed, after_exec}
+use Rattle.machine_model.specs.Unit.{with_written, executed, after_exec}
 use Rattle.machine_model.specs.Burst.{MasksFit, SentIsLast}
 use Rattle.machine_events.specs.declared.event.Spot.TheVariants.{Inside}
 use Rattle.machine_model.proofs.Instructions.{written_dest}

@@ -1,7 +1,7 @@
 -- A right unit is right after one more instruction, wherever it stands: its operands are the plain
 -- machine's, so the instruction writes what the plain machine's next step writes.
 use Rattle.std.proofs.Common.{◌≡◌, ℕ, suc, ◌+◌, ◌≤◌, Bool, true, false, cond, ◌⊎◌, inl, inr, List, [], ◌∷◌, ◌++◌, length, Option, Some, None, refl, sym, ap, ◌∙◌, subst, arith, unwrap_or, append_assoc, length-append, eqb-true}
-use Rattle.std.specs.Prelude.{slice_get, nat_eq}
+use Rattle.std.specs.Prelude.{nat_eq}
 use Rattle.std.specs.Option.{option_or}
 use Rattle.mips_plain.specs.Words.{address, byte_of}
 use Rattle.mips_plain.specs.Instruction.{reg_a, reg_b, taken, turn}
@@ -15,7 +15,7 @@ use Rattle.task_descriptor.specs.declared.descriptor.Marked.{Marked}
 use Rattle.task_graph.specs.Edges.{Edge, onward, MayWrite, edge, leaves, sends}
 use Rattle.task_graph.specs.Soundness.{Sound}
 use Rattle.machine_model.specs.Machine.{Active, value}
-use Rattle.machine_model.specs.Step.{with_written, place_after, moved, executed, after_exec}
+use Rattle.machine_model.specs.Unit.{IsNext, with_written, place_after, moved, executed, after_exec}
 use Rattle.machine_model.specs.Claims.{plain_of, reads_of}
 use Rattle.machine_events.specs.declared.event.Spot.{Spot}
 use Rattle.machine_events.specs.declared.event.Spot.TheVariants.{Inside}
@@ -37,32 +37,30 @@ either_kept (Some v) l x y kept e = absurd (cc)
 either_kept None l x y kept e = kept e
 
 module _ (p : Listing) (fits : length p.code ≤ 4096) (sound : Sound p) where
-  module _ (behind : Bool) (n : ℕ) (u : Active) (h : UnitRight p behind n u) (i : ℕ) (inside : u.place ≡ Inside i)
-      (at : Marked) (there : slice_get p.code i ≡ Some at)
-      (a : ℕ) (has_a : value u (reg_a at.op) ≡ Some a) (b : ℕ) (has_b : value u (reg_b at.op) ≡ Some b) where
+  module _ (behind : Bool) (n : ℕ) (u : Active) (h : UnitRight p behind n u) (i : ℕ) (at : Marked) (a b : ℕ) (is_next : IsNext p u i at a b) where
     stood : PlaceRight p u.task n h.now (Inside i)
-    stood = subst (PlaceRight p u.task n h.now) inside h.place
+    stood = subst (PlaceRight p u.task n h.now) is_next.is_inside h.place
 
     -- the plain machine stands there too, with the same operands
     pub stands_there : At p h.now i at a b
     stands_there = record {
       runs = h.runs;
       pc_is = stood.2;
-      is_there = there;
-      has_a = value_right p h (reg_a at.op) a has_a;
-      has_b = value_right p h (reg_b at.op) b has_b;
+      is_there = is_next.is_there;
+      has_a = value_right p h (reg_a at.op) a is_next.has_a;
+      has_b = value_right p h (reg_b at.op) b is_next.has_b;
     }
 
     left : Leaves p h.now i at a b
     left = step_leaves p h.now i at a b stands_there
 
     not_again : (r w : ℕ) → u.sent r ≡ Some w → MayWrite p i r → ⊥
-    not_again r w e = let last : Last p (Inside i) r = subst (λ (s : Spot). Last p s r) inside (h.last r w e) in last
+    not_again r w e = let last : Last p (Inside i) r = subst (λ (s : Spot). Last p s r) is_next.is_inside (h.last r w e) in last
 
     stays : (r : ℕ) → (MayWrite p i r → ⊥) → (plain_of p (suc h.now)).regs r ≡ (plain_of p h.now).regs r
     stays r never =
         left.regs r
-        ∙ ap (λ (w : Option ℕ). unwrap_or w ((plain_of p h.now).regs r)) (written_dest at.op a b (address i) (byte_of p.fixed) (plain_of p h.now).memory r (not_dest p i r at there never))
+        ∙ ap (λ (w : Option ℕ). unwrap_or w ((plain_of p h.now).regs r)) (written_dest at.op a b (address i) (byte_of p.fixed) (plain_of p h.now).memory r (not_dest p i r at is_next.is_there never))
 
     quiet_on : (q : Bool) → (q ≡ true → may_run_ahead at.op a ≡ true) → Quiet p q n h.now → Quiet p q n (suc h.now)
     quiet_on false ahead quiet = tt
@@ -83,19 +81,19 @@ module _ (p : Listing) (fits : length p.code ≤ 4096) (sound : Sound p) where
       place_on : (leaving : Bool) (o : Option ℕ) → leaves at.stop (taken at.op a b) ≡ leaving → edge at.op i (taken at.op a b) ≡ o → PlaceRight p u.task n (suc h.now) (place_after leaving o (turn at.op a b (address i)))
       place_on true o kind e = (end_now stood.1 (step true kind), turned)
       place_on false (Some to) kind e =
-          let on : Leads at.op a b i = leads_inside p fits sound u.task i at a b h.is_task stood.0 there kind runs in
+          let on : Leads at.op a b i = leads_inside p fits sound u.task i at a b h.is_task stood.0 is_next.is_there kind runs in
           let same_end : on.to ≡ to = (let f = on.leads in cc) in (
-            onward stood.0 (record { at = at; is_there = there; taken = taken at.op a b; leads = e; kind = kind }),
+            onward stood.0 (record { at = at; is_there = is_next.is_there; taken = taken at.op a b; leads = e; kind = kind }),
             follow_on stood.1 (step false kind),
             turned ∙ on.turns ∙ ap address same_end,
           )
       place_on false None kind e =
-          let on : Leads at.op a b i = leads_inside p fits sound u.task i at a b h.is_task stood.0 there kind runs in
+          let on : Leads at.op a b i = leads_inside p fits sound u.task i at a b h.is_task stood.0 is_next.is_there kind runs in
           absurd (let f = on.leads in cc)
 
       last_on : (leaving : Bool) (o : Option ℕ) (r : ℕ) → leaves at.stop (taken at.op a b) ≡ leaving → edge at.op i (taken at.op a b) ≡ o → ((j : ℕ) → Edge p false i j → MayWrite p j r → ⊥) → Last p (place_after leaving o (turn at.op a b (address i))) r
       last_on true o r kind e never = tt
-      last_on false (Some to) r kind e never = never to (record { at = at; is_there = there; taken = taken at.op a b; leads = e; kind = kind })
+      last_on false (Some to) r kind e never = never to (record { at = at; is_there = is_next.is_there; taken = taken at.op a b; leads = e; kind = kind })
       last_on false None r kind e never = tt
 
       written_now : (r : ℕ) → (plain_of p (suc h.now)).regs r ≡ unwrap_or (written at.op a b (address i) (byte_of p.fixed) memory r) ((plain_of p h.now).regs r)
@@ -131,7 +129,7 @@ module _ (p : Listing) (fits : length p.code ≤ 4096) (sound : Sound p) where
         last = λ r w e. last_on (leaves at.stop (taken at.op a b)) (edge at.op i (taken at.op a b)) r refl refl
             (elim (sent_found (sends at r) (u.sent r) (value (with_written u (written at.op a b (address i) (byte_of p.fixed) memory)) r) w e) [
               | inl g ↦ λ j over writes. not_again r w g (may_write_first over writes)
-              | inr g ↦ (sound_at p fits sound u.task h.is_task).sends_last i at stood.0 there r g.0
+              | inr g ↦ (sound_at p fits sound u.task h.is_task).sends_last i at stood.0 is_next.is_there r g.0
             ]);
         quiet = quiet_on behind ahead h.quiet;
       }

@@ -1,15 +1,18 @@
 -- What the machine answers to an event: the first refusal whose condition holds; and replays as a
 -- function (own).
-use Rattle.std.specs.Prelude.{◌≡◌, ℕ, zero, suc, List, [], ◌∷◌, ◌++◌, Bool, true, false, not, ◌||◌, nat_eq, nat_lt, length, take, drop, pred, ◌<◌, if◌then◌else◌, slice_get, slice_set, is_some, is_none, Option, Some, None}
-use Rattle.std.specs.List.{find, filter, fold, range_with_len, last_or}
+use Rattle.std.specs.Prelude.{ℕ, zero, suc, List, [], ◌∷◌, ◌++◌, Bool, true, false, not, nat_eq, nat_lt, length, take, drop, pred, if◌then◌else◌, slice_get, slice_set, is_some, is_none, Option, Some, None}
+use Rattle.std.specs.List.{fold, last_or}
 use Rattle.std.specs.Option.{option_or, option_and_then, unwrap_or}
 use Rattle.std.specs.Prelude.{Result, Ok, Err}
-use Rattle.mips_plain.specs.Instruction.{reg_a, reg_b, waits}
-use Rattle.mips_plain.specs.Effect.{may_run_ahead}
+use Rattle.mips_plain.specs.Instruction.{reg_a, reg_b}
 use Rattle.task_descriptor.specs.Listing.{Listing}
 use Rattle.task_descriptor.specs.declared.descriptor.Marked.{Marked}
-use Rattle.machine_model.specs.Machine.{Active, State, opening, creates, begins, value, pass}
-use Rattle.machine_model.specs.Step.{put, is_listed, follows, started, exec_leaves, next_begins, retire_leaves}
+use Rattle.machine_model.specs.Machine.{Active, State, opening, creates, begins, pass}
+use Rattle.machine_model.specs.Refusals.{unless, for_some, for_none}
+unfoldable pub use Rattle.machine_model.specs.Refusals.{least}
+use Rattle.machine_model.specs.Unit.{put, exec_refusal, drain_refusal, after_drain}
+pub use Rattle.machine_model.specs.Unit.{instruction_at, exit_of, operand}
+use Rattle.machine_model.specs.Step.{is_listed, follows, started, exec_leaves, next_begins, retire_leaves}
 use Rattle.machine_events.specs.declared.event.Event.{Event}
 use Rattle.machine_events.specs.declared.event.Event.TheVariants.{Assign, Exec, Transfer, Drain, Squash, Retire, Fault, Drop}
 use Rattle.machine_events.specs.declared.event.Refused.{Refused}
@@ -26,58 +29,20 @@ is_running _ = false
 abbrev pub most_events : ℕ
 most_events = 1000000
 
--- the least register of a set that lacks something
-unfoldable pub least : (set lacks : ℕ → Bool) → Option ℕ
-least set lacks = find lacks (filter set (range_with_len 0 34))
-
--- a refusal where the test fails, or else what comes behind it
-abbrev pub unless : Bool → Refused → Option Refused → Option Refused
-unless true refusal behind = behind
-unless false refusal behind = Some refusal
-
--- a refusal where there is nothing, or else what comes behind it
-abbrev pub for_some : {A : Type 0} → Option A → Refused → (A → Option Refused) → Option Refused
-for_some None refusal behind = Some refusal
-for_some (Some x) refusal behind = behind x
-
--- a refusal that names a register, if there is one, or else what comes behind it
-abbrev pub for_none : Option ℕ → (ℕ → Refused) → Option Refused → Option Refused
-for_none None refusal behind = behind
-for_none (Some r) refusal behind = Some (refusal r)
-
-abbrev pub instruction_at : Listing → Spot → Option Marked
-instruction_at p (Inside index) = slice_get p.code index
-instruction_at p (Stopped at) = None
-
-abbrev pub exit_of : Spot → Option ℕ
-exit_of (Inside index) = None
-exit_of (Stopped at) = Some at
-
--- the operand that a unit has for an instruction
-abbrev pub operand : Active → ℕ → ℕ
-operand u r = unwrap_or (value u r) 0
-
 abbrev pub refusal : Listing → (units : ℕ) → State → Event → Option Refused
 refusal p units s (Assign t) =
     unless (nat_lt (length s.queue) units) refused.NoUnit (
     unless (nat_lt t (length p.tasks)) refused.NoSuch (
     unless (follows p s.next t (last_or None s.queue)) refused.NotATarget None))
 refusal p units s (Exec k) =
-    for_some (slice_get s.queue k) refused.NoSuch (λ u.
-    for_some (instruction_at p u.place) refused.Stopped (λ m.
-    for_none (least (waits m.op) (λ r. is_none (value u r))) refused.Waiting (
-    unless (nat_eq k 0 || may_run_ahead m.op (operand u (reg_a m.op))) refused.NotHead None)))
+    for_some (slice_get s.queue k) refused.NoSuch (λ u. exec_refusal p (nat_eq k 0) u)
 refusal p units s (Transfer zero r) = Some refused.NoSuch
 refusal p units s (Transfer (suc k) r) =
     for_some (slice_get s.queue (suc k)) refused.NoSuch (λ u.
     unless (is_none (u.arrived r)) refused.AlreadyThere (
     unless (is_some (option_and_then (λ giver. pass p giver r) (slice_get s.queue k))) (refused.NotYet r) None))
 refusal p units s (Drain k r) =
-    for_some (slice_get s.queue k) refused.NoSuch (λ u.
-    unless (creates p u.task r) refused.NoSuch (
-    for_some (exit_of u.place) refused.NotStopped (λ exit.
-    unless (is_none (u.sent r)) refused.AlreadyThere (
-    unless (is_some (value u r)) (refused.NotYet r) None))))
+    for_some (slice_get s.queue k) refused.NoSuch (λ u. drain_refusal p u r)
 refusal p units s (Squash k) =
     for_some (slice_get s.queue (suc k)) refused.NoSuch (λ after.
     for_some (option_and_then (λ u. exit_of u.place) (slice_get s.queue k)) refused.NotStopped (λ exit.
@@ -96,11 +61,13 @@ refusal p units s (Drop k) =
     for_some (slice_get s.queue k) refused.NoSuch (λ u.
     unless (nat_lt 0 k) refused.NoSuch None)
 
+-- where the run goes on, with n events before it
+abbrev pub later_refusal : Listing → (units : ℕ) → State → (n : ℕ) → Event → Option Refused
+later_refusal p units s n e = option_or (refusal p units s e) (unless (nat_lt n most_events) refused.Full None)
+
 -- with n events before it
 abbrev pub first_refusal : Listing → (units : ℕ) → State → (n : ℕ) → Event → Option Refused
-first_refusal p units s n e =
-    unless (is_running s.outcome) refused.Ended (
-    option_or (refusal p units s e) (unless (nat_lt n most_events) refused.Full None))
+first_refusal p units s n e = unless (is_running s.outcome) refused.Ended (later_refusal p units s n e)
 
 abbrev pub ok_unless : Option Refused → Result (Unit {0}) Refused
 ok_unless None = Ok tt
@@ -137,7 +104,7 @@ after p s (Transfer k r) = with_unit s (slice_get s.queue k) (λ u.
       arrived = put r (unwrap_or (option_and_then (λ giver. pass p giver r) (slice_get s.queue (pred k))) 0) u.arrived;
     })))
 after p s (Drain k r) = with_unit s (slice_get s.queue k) (λ u.
-    with_queue s (slice_set s.queue k (record u { sent = put r (operand u r) u.sent })))
+    with_queue s (slice_set s.queue k (after_drain u r (operand u r))))
 after p s (Squash k) = with_queue s (take (suc k) s.queue)
 after p s Retire = with_unit s (slice_get s.queue 0) (λ u.
     retire_leaves p s u (drop 1 s.queue) (unwrap_or (exit_of u.place) 0))

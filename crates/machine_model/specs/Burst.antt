@@ -1,13 +1,13 @@
 -- Bursts: instructions of one unit that need nothing but its own registers and read-only data, so that
 -- they may be made away from the machine and handed in later (own).
-use Rattle.std.specs.Prelude.{◌≡◌, ℕ, zero, suc, Bool, true, false, slice_get, IsSome, Some}
-use Rattle.mips_plain.specs.Instruction.{reg_a, reg_b, released, dests}
+use Rattle.std.specs.Prelude.{◌≡◌, ℕ, zero, suc, Bool, true, false, Some}
+use Rattle.mips_plain.specs.Instruction.{dests}
 use Rattle.mips_plain.specs.Effect.{may_run_ahead}
 use Rattle.task_descriptor.specs.Listing.{Listing}
 use Rattle.task_descriptor.specs.declared.descriptor.Marked.{Marked}
 use Rattle.task_graph.specs.Edges.{Edge, sends}
-use Rattle.machine_model.specs.Machine.{Words, Active, value}
-use Rattle.machine_model.specs.Step.{after_exec}
+use Rattle.machine_model.specs.Machine.{Words, Active}
+use Rattle.machine_model.specs.Unit.{IsNext, after_exec}
 use Rattle.machine_events.specs.declared.event.Spot.TheVariants.{Inside}
 
 -- data memory does not matter to such an instruction
@@ -17,14 +17,10 @@ no_memory offset = 0
 -- one Exec of a unit by itself
 pub record StepsAlone (p : Listing) (u u' : Active) : Type 0 where
   pub index : ℕ
-  pub is_inside : u.place ≡ Inside index
   pub at : Marked
-  pub is_there : slice_get p.code index ≡ Some at
   pub a : ℕ
-  pub has_a : value u (reg_a at.op) ≡ Some a
   pub b : ℕ
-  pub has_b : value u (reg_b at.op) ≡ Some b
-  pub has_released : (r : ℕ) → released at.op r ≡ true → IsSome (value u r)
+  pub next : IsNext p u index at a b
   pub may_run_ahead : may_run_ahead at.op a ≡ true
   pub is : u' ≡ after_exec p u at index a b no_memory
 

@@ -18,7 +18,8 @@ use Rattle.task_descriptor.specs.declared.descriptor.Descriptor.{Descriptor}
 use Rattle.task_descriptor.specs.declared.descriptor.Marked.{Marked}
 use Rattle.task_descriptor.specs.declared.descriptor.Stop.TheVariants as stop
 use Rattle.machine_model.specs.Machine.{Active, opening, value}
-use Rattle.machine_model.specs.Answer.{Played, play, least}
+use Rattle.machine_model.specs.Refusals.{least}
+use Rattle.machine_model.specs.Answer.{Played, play}
 use Rattle.machine_model.specs.Claims.{count_c, count_h}
 use Rattle.machine_model.specs.HeadEvent.{head_event}
 use Rattle.machine_events.specs.declared.event.Event.{Event}

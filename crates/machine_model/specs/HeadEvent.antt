@@ -6,7 +6,8 @@ use Rattle.mips_plain.specs.Words.{address}
 use Rattle.task_descriptor.specs.Listing.{Listing}
 use Rattle.machine_model.specs.Machine.{Active, State, creates}
 use Rattle.machine_model.specs.Step.{is_listed, next_begins}
-use Rattle.machine_model.specs.Answer.{least, is_running}
+use Rattle.machine_model.specs.Refusals.{least}
+use Rattle.machine_model.specs.Answer.{is_running}
 use Rattle.machine_model.specs.Claims.{by_head}
 use Rattle.machine_events.specs.declared.event.Event.{Event}
 use Rattle.machine_events.specs.declared.event.Event.TheVariants.{Assign, Exec, Transfer, Drain, Squash, Retire, Fault, Drop}

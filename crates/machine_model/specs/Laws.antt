@@ -4,7 +4,8 @@ use Rattle.task_descriptor.specs.Listing.{Listing, IsWellFormed}
 use Rattle.task_descriptor.specs.declared.descriptor.Marked.{Marked}
 use Rattle.task_graph.specs.Soundness.{Sound}
 use Rattle.machine_model.specs.Machine.{Words, Active, State, value}
-use Rattle.machine_model.specs.Step.{Next, started, after_exec}
+use Rattle.machine_model.specs.Unit.{after_exec}
+use Rattle.machine_model.specs.Step.{Next, started}
 use Rattle.machine_model.specs.Replay.{ReplaysFrom, Replays}
 use Rattle.machine_model.specs.Answer.{most_events, answer, after, with_queue, replay}
 use Rattle.machine_model.specs.Claims.{Claims, EndsLike, count_h}

@@ -1,4 +1,6 @@
 pub mod Machine
+pub mod Refusals
+pub mod Unit
 pub mod Step
 pub mod Replay
 pub mod Answer

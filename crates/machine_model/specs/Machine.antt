@@ -69,10 +69,13 @@ creates p t r = has (task_at p t).create r
 abbrev pub begins : Listing → ℕ → ℕ
 begins p t = address (task_at p t).entry
 
--- a unit's value of a register: register 0 has 0, any other the unit's own last write, or else what
--- arrived
+-- the value of a register: register 0 has 0, any other the last own write, or else what arrived
+abbrev pub value_in : (own arrived : Words) → Words
+value_in own arrived r = if nat_eq 0 r then Some 0 else option_or (own r) (arrived r)
+
+-- a unit's value of a register
 abbrev pub value : Active → ℕ → Option ℕ
-value u r = if nat_eq 0 r then Some 0 else option_or (u.local r) (u.arrived r)
+value u r = value_in u.local u.arrived r
 
 -- what a unit passes on: what it sent of the registers that its task may produce, and what arrived
 -- of the others

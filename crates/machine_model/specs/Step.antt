@@ -3,27 +3,21 @@
 use Rattle.std.specs.Prelude.{◌≡◌, ℕ, suc, ◌<◌, ◌⊎◌, List, [], ◌∷◌, ◌++◌, Bool, true, false, ◌&&◌, nat_eq, if◌then◌else◌, length, take, slice_get, slice_set, IsSome, Option, Some, None}
 use Rattle.std.specs.List.{list_any, last_or}
 use Rattle.std.specs.Option.{option_or, unwrap_or}
-use Rattle.mips_plain.specs.Words.{address, byte_of}
-use Rattle.mips_plain.specs.Instruction.{reg_a, reg_b, released, taken, turn}
-use Rattle.mips_plain.specs.Effect.{written, memory_after, output_after, outcome_after, may_run_ahead}
+use Rattle.mips_plain.specs.Words.{address}
+use Rattle.mips_plain.specs.Effect.{memory_after, output_after, outcome_after, may_run_ahead}
 use Rattle.mips_plain.specs.declared.outcome.Outcome.{Outcome}
 use Rattle.mips_plain.specs.declared.outcome.Outcome.TheVariants.{Running, Halted, Trapped}
-use Rattle.mips_plain.specs.declared.outcome.Read.{Read}
 use Rattle.task_descriptor.specs.Listing.{Listing}
 use Rattle.task_descriptor.specs.declared.descriptor.Marked.{Marked}
-use Rattle.task_graph.specs.Edges.{edge, leaves, sends}
 use Rattle.task_graph.specs.Soundness.{is_target}
-use Rattle.machine_model.specs.Machine.{Words, task_at, Active, State, creates, begins, value, pass}
+use Rattle.machine_model.specs.Machine.{task_at, Active, State, creates, begins, pass}
+use Rattle.machine_model.specs.Unit.{put, IsNext, after_exec, Sends}
 use Rattle.machine_events.specs.declared.event.Event.{Event}
 use Rattle.machine_events.specs.declared.event.Event.TheVariants.{Assign, Exec, Transfer, Drain, Squash, Retire, Fault, Drop}
 use Rattle.machine_events.specs.declared.event.Spot.{Spot}
 use Rattle.machine_events.specs.declared.event.Spot.TheVariants.{Inside, Stopped}
 use Rattle.machine_events.specs.declared.event.Standing.{Standing}
 use Rattle.machine_events.specs.declared.event.Standing.TheVariants as standing
-
--- the pairs with a pair for a register put in
-abbrev pub put : (r word : ℕ) → Words → Words
-put r word words s = if nat_eq s r then Some word else words s
 
 -- whether an address is that of a target of a task
 abbrev pub is_listed : Listing → (t at : ℕ) → Bool
@@ -63,43 +57,6 @@ pub record Assigns (p : Listing) (units : ℕ) (s : State) (t : ℕ) (s' : State
 
 -- Exec: one instruction of a unit
 
--- a unit with the words that an instruction writes
-abbrev pub with_written : Active → Words → Active
-with_written u words = record u { local = λ r. option_or (words r) (u.local r) }
-
--- a unit that has sent the registers of a set, too; what is sent stays as it was sent first
-abbrev pub with_sent : Active → (ℕ → Bool) → Active
-with_sent u set = record u { sent = λ r. option_or (u.sent r) (if set r then value u r else None) }
-
--- A unit stops over an exit edge, and else goes on at the next index. An inner edge without an index, of
--- a jump to a register that does not stop always, is in no sound program; the unit then stops too.
-abbrev pub place_after : (leaving : Bool) → Option ℕ → (next : ℕ) → Spot
-place_after true index next = Stopped next
-place_after false (Some index) next = Inside index
-place_after false None next = Stopped next
-
-abbrev pub with_place : Active → Spot → Active
-with_place u place = record u { place = place }
-
-abbrev pub with_log : Active → List Read → Active
-with_log u log = record u { log = log }
-
--- a halt or a trap leaves the place, and writes and sends nothing
-abbrev pub moved : Listing → Active → Marked → (index a b : ℕ) → (ℕ → ℕ) → Active
-moved p u m index a b memory =
-    with_place
-    (with_sent (with_written u (written m.op a b (address index) (byte_of p.fixed) memory)) (sends m))
-    (place_after (leaves m.stop (taken m.op a b)) (edge m.op index (taken m.op a b)) (turn m.op a b (address index)))
-
-abbrev pub executed : Outcome → Listing → Active → Marked → (index a b : ℕ) → (ℕ → ℕ) → Active
-executed Running p u m index a b memory = moved p u m index a b memory
-executed _ p u m index a b memory = u
-
--- the log grows by what was read in any case
-abbrev pub after_exec : Listing → Active → Marked → (index a b : ℕ) → (ℕ → ℕ) → Active
-after_exec p u m index a b memory =
-    with_log (executed (outcome_after m.op a) p u m index a b memory) (u.log ++ record { pc = address index; a = a; b = b } ∷ [])
-
 abbrev pub stands : Outcome → Standing
 stands Running = standing.Running
 stands Halted = standing.Halted
@@ -117,14 +74,10 @@ pub record Execs (p : Listing) (s : State) (k : ℕ) (s' : State) : Type 0 where
   pub unit : Active
   pub is_unit : slice_get s.queue k ≡ Some unit
   pub index : ℕ
-  pub is_inside : unit.place ≡ Inside index
   pub at : Marked
-  pub is_there : slice_get p.code index ≡ Some at
   pub a : ℕ
-  pub has_a : value unit (reg_a at.op) ≡ Some a
   pub b : ℕ
-  pub has_b : value unit (reg_b at.op) ≡ Some b
-  pub has_released : (r : ℕ) → released at.op r ≡ true → IsSome (value unit r)
+  pub next : IsNext p unit index at a b
   pub may : (k ≡ 0) ⊎ (may_run_ahead at.op a ≡ true)
   pub is : s' ≡ exec_leaves p s k unit at index a b
 
@@ -142,18 +95,14 @@ pub record Transfers (p : Listing) (s : State) (k r : ℕ) (s' : State) : Type 0
   pub has_word : pass p giver r ≡ Some word
   pub is : s' ≡ record s { queue = slice_set s.queue k (record unit { arrived = put r word unit.arrived }) }
 
--- Drain: a unit that has stopped sends a register that it has not sent
+-- Drain: a unit sends a register
 
 pub record Drains (p : Listing) (s : State) (k r : ℕ) (s' : State) : Type 0 where
   pub unit : Active
   pub is_unit : slice_get s.queue k ≡ Some unit
-  pub is_created : creates p unit.task r ≡ true
-  pub exit : ℕ
-  pub has_stopped : unit.place ≡ Stopped exit
-  pub is_unsent : unit.sent r ≡ None
-  pub word : ℕ
-  pub has_word : value unit r ≡ Some word
-  pub is : s' ≡ record s { queue = slice_set s.queue k (record unit { sent = put r word unit.sent }) }
+  pub after : Active
+  pub sends : Sends p unit r after
+  pub is : s' ≡ record s { queue = slice_set s.queue k after }
 
 -- Squash: the next unit begins elsewhere than this one stopped, so all behind this one go
 

@@ -1,51 +1,29 @@
 -- One instruction of a unit in a queue is the Exec event of the machine step.
-use Rattle.std.proofs.Common.{◌≡◌, ℕ, zero, suc, ◌<◌, ◌≤◌, ◌⊎◌, inl, inr, Result, Ok, Err, lt-ltb, Bool, true, false, ◌||◌, List, Option, Some, None, refl, sym, ap, ◌∙◌, subst, arith, cond}
-use Rattle.std.specs.Prelude.{slice_get, slice_set, slice_index, nat_eq, nat_lt, is_none, OnOk, OnErr, IfErr}
-use Rattle.std.specs.Option.{option_map, option_or}
+use Rattle.std.proofs.Common.{◌≡◌, ℕ, zero, suc, ◌<◌, ◌≤◌, ◌⊎◌, inl, inr, Result, Ok, Err, lt-ltb, Bool, true, false, List, Option, Some, None, refl, sym, ap, ◌∙◌, subst, arith}
+use Rattle.std.specs.Prelude.{slice_get, slice_set, slice_index, nat_eq, nat_lt, OnOk, OnErr, IfErr}
+use Rattle.std.specs.Option.{option_or}
 use Rattle.std.proofs.lemmas.Bool.{le-ltb}
 use Rattle.std.proofs.Math.Dec.{eqb-suc-zero}
-use Rattle.mips_plain.specs.Instruction.{reg_a, waits}
-use Rattle.mips_plain.specs.Effect.{may_run_ahead, outcome_after}
+use Rattle.mips_plain.specs.Effect.{outcome_after}
 use Rattle.mips_plain.specs.declared.outcome.Outcome.{Outcome}
 use Rattle.mips_plain.specs.declared.outcome.Outcome.TheVariants as outcome
 use Rattle.task_descriptor.specs.Listing.{Listing}
 use Rattle.task_descriptor.specs.declared.descriptor.Marked.{Marked}
-use Rattle.machine_model.specs.Machine.{Active, State, value}
-use Rattle.machine_model.specs.Step.{Next, executed}
+use Rattle.machine_model.specs.Machine.{Active, State}
+use Rattle.machine_model.specs.Unit.{exec_refusal, executed}
+use Rattle.machine_model.specs.Step.{Next}
 use Rattle.machine_model.specs.Burst.{StepsAlone, with_arrived}
 use Rattle.machine_model.specs.Laws.{BurstsAreEvents}
-use Rattle.machine_model.specs.Answer.{for_some, for_none, unless, least, instruction_at, operand, refusal, with_queue, most_events}
+use Rattle.machine_model.specs.Refusals.{for_some, unless}
+use Rattle.machine_model.specs.Answer.{refusal, with_queue, most_events}
 use Rattle.machine_events.specs.declared.event.Event.TheVariants.{Exec}
 use Rattle.machine_events.specs.declared.event.Refused.{Refused}
 use Rattle.machine_events.specs.declared.event.Refused.TheVariants as refused
 use Rattle.machine_events.specs.declared.event.Standing.TheVariants.{Running}
-use Rattle.unit_core.specs.UnitStep.{wait_of, wait_at, wait_with}
 use Rattle.unit_core.specs.Worlds.{WorldView, memory_of}
-use Rattle.processor_steps.specs.Seen.{ProcessorView, state_of, actives, Steps}
-use Rattle.processor_steps.specs.Parts.{HeadStep, AheadStep, IsRefusedBy, refused_by, exec_refusal}
+use Rattle.processor_steps.specs.Processors.{ProcessorView, state_of, actives, Steps}
+use Rattle.processor_steps.specs.CallParts.{HeadStep, AheadStep, IsRefusedBy}
 use Rattle.processor_steps.proofs.Outcomes.{refusal_at}
-
--- what a unit waits for is what refuses the event
-
-by_test : (b : Bool) → option_map refused_by (cond b None (Some Rattle.unit_core.specs.declared.wait.Wait.TheVariants.NotHead)) ≡ unless b refused.NotHead None
-by_test true = refl
-by_test false = refl
-
-by_lacking : (head : Bool) (u : Active) (m : Marked) (o : Option ℕ) → option_map refused_by (wait_with head u m o) ≡ for_none o refused.Waiting (unless (head || may_run_ahead m.op (operand u (reg_a m.op))) refused.NotHead None)
-by_lacking head u m None = by_test (head || may_run_ahead m.op (operand u (reg_a m.op)))
-by_lacking head u m (Some r) = refl
-
-by_instruction : (head : Bool) (u : Active) (o : Option Marked) → option_map refused_by (wait_at head u o) ≡ for_some o refused.Stopped (λ m. for_none (least (waits m.op) (λ r. is_none (value u r))) refused.Waiting (unless (head || may_run_ahead m.op (operand u (reg_a m.op))) refused.NotHead None))
-by_instruction head u None = refl
-by_instruction head u (Some m) = by_lacking head u m (least (waits m.op) (λ r. is_none (value u r)))
-
-for_each : (o : Option Active) (f g : Active → Option Refused) → ((u : Active) → f u ≡ g u) → for_some o refused.NoSuch f ≡ for_some o refused.NoSuch g
-for_each None f g same = refl
-for_each (Some u) f g same = same u
-
-pub exec_refused : (p : Listing) (units : ℕ) (s : State) (k : ℕ) → exec_refusal p s.queue k ≡ refusal p units s (Exec k)
-exec_refused p units s k =
-    for_each (slice_get s.queue k) _ _ (λ u. by_instruction (nat_eq k 0) u (instruction_at p u.place))
 
 -- the head
 
@@ -54,7 +32,6 @@ pub head_steps : (p : Listing) (units : ℕ) (old new : ProcessorView) → (stat
     → Next p units (state_of old) (Exec 0) (state_of new)
 head_steps p units old new runs step regs next reads commits assigns =
     let d = step.step in
-    let n = d.next in
     let queue = step.is ∙ ap (λ (u : Active). slice_set (actives old.queue) 0 u) d.is in
     record {
       runs = runs;
@@ -62,14 +39,10 @@ head_steps p units old new runs step regs next reads commits assigns =
         unit = step.unit;
         is_unit = step.is_unit;
         index = d.index;
-        is_inside = n.is_inside;
         at = d.at;
-        is_there = n.is_there;
         a = d.a;
-        has_a = n.has_a;
         b = d.b;
-        has_b = n.has_b;
-        has_released = n.has_released;
+        next = d.next;
         may = inl refl;
         is = λ j. record {
           queue = queue j;
@@ -135,11 +108,11 @@ pub record LeavesRest (old new : ProcessorView) : Type 0 where
 
 pub head_tried : (p : Listing) (old new : ProcessorView) (n : ℕ) (result : Result (Unit {0}) Refused) → n < most_events → (state_of old).outcome ≡ Running → LeavesRest old new
     → OnOk result (HeadStep p (actives old.queue) (actives new.queue) old.world new.world)
-    → IfErr result (λ why. IsRefusedBy why (exec_refusal p (actives old.queue) 0)) → OnErr result (new ≡ old) → Steps p old n (Exec 0) result new
+    → IfErr result (λ why. IsRefusedBy why (refusal p old.queue.places (state_of old) (Exec 0))) → OnErr result (new ≡ old) → Steps p old n (Exec 0) result new
 head_tried p old new n (Ok done) room runs rest ok refused err =
-    let may : exec_refusal p (actives old.queue) 0 ≡ None = refusal_at p (actives old.queue) 0 ok.unit None ok.is_unit ok.may in
+    let may : refusal p old.queue.places (state_of old) (Exec 0) ≡ None = refusal_at p true (actives old.queue) 0 ok.unit None ok.is_unit ok.may in
     record {
-      allowed = room_none _ n (sym (exec_refused p old.queue.places (state_of old) 0) ∙ may) room;
+      allowed = room_none _ n may room;
       refused = tt;
       next = head_steps p old.queue.places old new runs ok (ap (λ (xs : List ℕ). λ r. slice_index xs r) rest.registers) rest.next rest.reads rest.commits rest.assigns;
       kept = record { places = rest.places; fixed = ok.step.fixed };
@@ -147,7 +120,7 @@ head_tried p old new n (Ok done) room runs rest ok refused err =
     }
 head_tried p old new n (Err why) room runs rest ok refused err = record {
   allowed = tt;
-  refused = refused_later _ n why room (subst (IsRefusedBy why) (exec_refused p old.queue.places (state_of old) 0) refused);
+  refused = refused_later _ n why room refused;
   next = tt;
   kept = record { places = rest.places; fixed = ap (λ (v : ProcessorView). v.world.contents.fixed) err };
   err = err;
@@ -155,12 +128,12 @@ head_tried p old new n (Err why) room runs rest ok refused err = record {
 
 pub ahead_tried : BurstsAreEvents → (p : Listing) (old new : ProcessorView) (n k : ℕ) (result : Result (Unit {0}) Refused) → n < most_events → nat_eq k 0 ≡ false → (state_of old).outcome ≡ Running → LeavesRest old new → new.world ≡ old.world
     → OnOk result (AheadStep p k (actives old.queue) (actives new.queue))
-    → IfErr result (λ why. IsRefusedBy why (exec_refusal p (actives old.queue) k)) → OnErr result (new ≡ old) → Steps p old n (Exec k) result new
+    → IfErr result (λ why. IsRefusedBy why (for_some (slice_get (actives old.queue) k) refused.NoSuch (exec_refusal p false))) → OnErr result (new ≡ old) → Steps p old n (Exec k) result new
 ahead_tried law p old new n k (Ok done) room behind runs rest world ok refused err =
-    let may : exec_refusal p (actives old.queue) k ≡ None =
-    refusal_at p (actives old.queue) k ok.unit None ok.is_unit (ap (λ (b : Bool). wait_of p b ok.unit) behind ∙ ok.may) in
+    let may : refusal p old.queue.places (state_of old) (Exec k) ≡ None =
+    refusal_at p (nat_eq k 0) (actives old.queue) k ok.unit None ok.is_unit (ap (λ (b : Bool). exec_refusal p b ok.unit) behind ∙ ok.may) in
     record {
-      allowed = room_none _ n (sym (exec_refused p old.queue.places (state_of old) k) ∙ may) room;
+      allowed = room_none _ n may room;
       refused = tt;
       next =
           ahead_steps law p old.queue.places k (state_of old) (state_of new) runs (actives new.queue) ok
@@ -178,9 +151,11 @@ ahead_tried law p old new n k (Ok done) room behind runs rest world ok refused e
       kept = record { places = rest.places; fixed = ap (λ (w : WorldView). w.contents.fixed) world };
       err = tt;
     }
-ahead_tried law p old new n k (Err why) room behind runs rest world ok refused err = record {
+ahead_tried law p old new n k (Err why) room behind runs rest world ok by err = record {
   allowed = tt;
-  refused = refused_later _ n why room (subst (IsRefusedBy why) (exec_refused p old.queue.places (state_of old) k) refused);
+  refused =
+      refused_later _ n why room
+      (subst (λ (b : Bool). IsRefusedBy why (for_some (slice_get (actives old.queue) k) refused.NoSuch (exec_refusal p b))) (sym behind) by);
   next = tt;
   kept = record { places = rest.places; fixed = ap (λ (w : WorldView). w.contents.fixed) world };
   err = err;

@@ -5,7 +5,7 @@ use Rattle.std.specs.List.{position_or_len}
 use Rattle.std.proofs.lemmas.Bool.{cond-true, cond-false, eq-eqb, ne_eqb, lt-ltb, le-ltb}
 use Rattle.std.proofs.lemmas.Option.{slice_get_within}
 use Rattle.machine_model.specs.Machine.{Active}
-use Rattle.processor_steps.specs.Seen.{position_with}
+use Rattle.processor_steps.specs.Processors.{position_with}
 
 abbrev pub IsFirst : List Active → (serial k : ℕ) → Type 0
 IsFirst us serial k = (j : ℕ) (u : Active) → j < k → slice_get us j ≡ Some u → u.serial ≡ serial → ⊥

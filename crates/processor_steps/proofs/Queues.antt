@@ -10,7 +10,7 @@ use Rattle.std.specs.List.{last_or, list_any}
 use Rattle.std.specs.Option.{option_map}
 use Rattle.machine_model.specs.Machine.{Active}
 use Rattle.unit_core.specs.Units.{UnitView, active_of}
-use Rattle.processor_steps.specs.Seen.{QueueView, actives}
+use Rattle.processor_steps.specs.Processors.{QueueView, actives}
 
 last_from : {X : Type 0} (x : X) (xs : List X) → slice_get (x ∷ xs) (length xs) ≡ last_or (Some x) xs
 last_from x [] = refl

@@ -5,14 +5,15 @@ use Rattle.std.specs.Option.{option_or}
 use Rattle.task_descriptor.specs.Listing.{Listing}
 use Rattle.machine_model.specs.Machine.{State}
 use Rattle.machine_model.specs.Step.{Next}
-use Rattle.machine_model.specs.Answer.{unless, refusal, is_running, ok_unless, most_events, after}
+use Rattle.machine_model.specs.Refusals.{unless}
+use Rattle.machine_model.specs.Answer.{refusal, later_refusal, is_running, ok_unless, most_events, after}
 use Rattle.machine_events.specs.declared.event.Event.{Event}
 use Rattle.machine_events.specs.declared.event.Refused.{Refused}
 use Rattle.machine_events.specs.declared.event.Refused.TheVariants as refused
 use Rattle.machine_events.specs.declared.event.Standing.{Standing}
 use Rattle.machine_events.specs.declared.event.Standing.TheVariants.{Running}
-use Rattle.processor_steps.specs.Seen.{ProcessorView, state_of, Steps, later_refusal}
-use Rattle.processor_steps.specs.Parts.{Does}
+use Rattle.processor_steps.specs.Processors.{ProcessorView, state_of, Steps}
+use Rattle.processor_steps.specs.CallParts.{Does}
 
 first_none : (o b : Option Refused) → option_or o b ≡ None → o ≡ None
 first_none None b e = refl

@@ -4,16 +4,16 @@ use Rattle.std.specs.Prelude.{◌≡◌, false, [], ◌∷◌, ◌++◌, replica
 use Rattle.std.proofs.Common.{refl, arith, inl, inr}
 use Rattle.mips_plain.specs.Words.{address}
 use Rattle.machine_model.specs.Machine.{Active}
-use Rattle.machine_model.specs.Answer.{least}
+use Rattle.machine_model.specs.Refusals.{least}
+use Rattle.machine_model.specs.Answer.{refusal, later_refusal}
 use Rattle.machine_model.specs.Examples.{count, value_of}
 use Rattle.machine_events.specs.declared.event.Event.TheVariants.{Assign, Exec, Retire, Drop}
 use Rattle.machine_events.specs.declared.event.Refused.TheVariants as refused
 use Rattle.machine_events.specs.declared.event.Spot.TheVariants.{Inside, Stopped}
 use Rattle.machine_events.specs.declared.event.Standing.TheVariants as standing
 use Rattle.unit_core.specs.Units.{UnitView, active_of}
-use Rattle.processor_steps.specs.Seen.{ProcessorView, actives, state_of, takes_memory, later_refusal, Steps, executed_by}
+use Rattle.processor_steps.specs.Processors.{ProcessorView, state_of, takes_memory, Steps, executed_by}
 use Rattle.processor_steps.specs.Choices.{targets_behind, task_behind}
-use Rattle.processor_steps.specs.Parts.{exec_refusal}
 
 -- Task A of `count` has gone round once and stopped where it begins. It wrote registers 8, 9 and 10,
 -- each with 1, and sent 8 and 9.
@@ -87,25 +87,25 @@ executed = refl
 
 -- Exec: the head has stopped, `addu $9,$9,$8` of the tail waits for register 9, and
 -- there is no third unit
-pub exec_of_stopped : exec_refusal count (actives processor.queue) 0 ≡ Some refused.Stopped
+pub exec_of_stopped : refusal count 2 (state_of processor) (Exec 0) ≡ Some refused.Stopped
 exec_of_stopped = refl
 
-pub exec_of_waiting : exec_refusal count (actives processor.queue) 1 ≡ Some (refused.Waiting 9)
+pub exec_of_waiting : refusal count 2 (state_of processor) (Exec 1) ≡ Some (refused.Waiting 9)
 unfolding least
 exec_of_waiting = refl
 
-pub exec_of_none : exec_refusal count (actives processor.queue) 2 ≡ Some refused.NoSuch
+pub exec_of_none : refusal count 2 (state_of processor) (Exec 2) ≡ Some refused.NoSuch
 exec_of_none = refl
 
 -- a `halt` is executed by the head alone
 abbrev pub halting : Active
 halting = active_of (record tail { task = 1; place = Inside 5 })
 
-pub halt_at_head : exec_refusal count (halting ∷ []) 0 ≡ None
+pub halt_at_head : refusal count 2 (record (state_of processor) { queue = halting ∷ [] }) (Exec 0) ≡ None
 unfolding least
 halt_at_head = refl
 
-pub halt_behind : exec_refusal count (active_of head ∷ halting ∷ []) 1 ≡ Some refused.NotHead
+pub halt_behind : refusal count 2 (record (state_of processor) { queue = active_of head ∷ halting ∷ [] }) (Exec 1) ≡ Some refused.NotHead
 unfolding least
 halt_behind = refl
 

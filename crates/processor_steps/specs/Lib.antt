@@ -1,5 +1,5 @@
-pub mod Seen
+pub mod Processors
 pub mod Choices
-pub mod Parts
+pub mod CallParts
 pub mod LeastRegisters
 pub mod Examples

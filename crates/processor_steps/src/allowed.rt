@@ -7,10 +7,12 @@ ghost use Rattle.std.specs.Option.{option_and_then};
 ghost use Rattle.std.specs.List.{last_or};
 ghost use Rattle.machine_model.specs.Machine.{Active, creates, pass};
 ghost use Rattle.machine_model.specs.Step.{follows, next_begins};
-ghost use Rattle.machine_model.specs.Answer.{refusal, least, exit_of, unless, most_events};
+ghost use Rattle.machine_model.specs.Refusals.{least, unless};
+ghost use Rattle.machine_model.specs.Unit.{exit_of};
+ghost use Rattle.machine_model.specs.Answer.{refusal, most_events};
 ghost use Rattle.machine_events.specs.declared.event.Event.TheVariants as event;
 ghost use Rattle.machine_events.specs.declared.event.Refused.TheVariants as refused;
-ghost use Rattle.processor_steps.specs.Seen.{state_of};
+ghost use Rattle.processor_steps.specs.Processors.{state_of};
 ghost use Rattle.unit_core.specs.Units.{active_of};
 
 use crate::listing::{begins, created, is_listed, may_follow};

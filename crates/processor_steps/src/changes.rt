@@ -4,9 +4,10 @@
 ghost use Rattle.std.specs.Prelude.{◌≡◌, ℕ, ◌+◌, ◌-◌, ◌^◌, ◌<◌, None, Some, IfErr, OnOk, OnErr, drop, length, slice_get, slice_set, slice_index};
 ghost use Rattle.std.specs.Option.{option_and_then};
 ghost use Rattle.machine_model.specs.Machine.{Active, pass};
-ghost use Rattle.machine_model.specs.Answer.{refusal, after, exit_of, with_queue};
+ghost use Rattle.machine_model.specs.Unit.{exit_of};
+ghost use Rattle.machine_model.specs.Answer.{refusal, after, with_queue};
 ghost use Rattle.machine_events.specs.declared.event.Event.TheVariants as event;
-ghost use Rattle.processor_steps.specs.Seen.{state_of, actives, Keeps, ArePlaced};
+ghost use Rattle.processor_steps.specs.Processors.{state_of, actives, Keeps, ArePlaced};
 ghost use Rattle.unit_core.specs.Units.{active_of};
 ghost use Rattle.unit_core.specs.Bursts.{HasMore, carried_on};
 

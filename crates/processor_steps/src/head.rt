@@ -4,7 +4,7 @@ ghost use Rattle.std.specs.Prelude.{◌≡◌, slice_get, drop};
 ghost use Rattle.std.specs.List.{last_or};
 ghost use Rattle.machine_model.specs.Machine.{Active};
 ghost use Rattle.machine_model.specs.HeadEvent.{event_of_head as event_of_head_at, event_of_queue};
-ghost use Rattle.processor_steps.specs.Seen.{state_of};
+ghost use Rattle.processor_steps.specs.Processors.{state_of};
 ghost use Rattle.processor_steps.specs.Choices.{targets_behind, task_behind, task_at_spot, task_chosen};
 ghost use Rattle.unit_core.specs.Units.{active_of};
 ghost use Rattle.machine_events.specs.declared.event.Spot.TheVariants as spot;

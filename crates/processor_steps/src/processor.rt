@@ -36,7 +36,7 @@ pub struct Processor {
 }
 
 impl Model for Processor {
-    ghost use Rattle.processor_steps.specs.Seen.{ProcessorView};
+    ghost use Rattle.processor_steps.specs.Processors.{ProcessorView};
 
     ghost Value = { ProcessorView };
 
@@ -57,7 +57,7 @@ impl Processor {
     ghost use Rattle.mips_plain.specs.Words.{byte_of};
     ghost use Rattle.machine_model.specs.Machine.{opening};
     ghost use Rattle.unit_core.specs.Units.{active_of};
-    ghost use Rattle.processor_steps.specs.Seen.{state_of, position_with as position_with_serial};
+    ghost use Rattle.processor_steps.specs.Processors.{state_of, position_with as position_with_serial};
 
     /// A processor at the start of a program, with so many units, at most 16, none of them at work.
     ///

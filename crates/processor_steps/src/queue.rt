@@ -24,7 +24,7 @@ pub(crate) struct Queue {
 
 impl Model for Queue {
     ghost use Rattle.std.specs.Prelude.{◌≤◌, length};
-    ghost use Rattle.processor_steps.specs.Seen.{QueueView};
+    ghost use Rattle.processor_steps.specs.Processors.{QueueView};
 
     ghost Value = { QueueView };
 
@@ -34,18 +34,19 @@ impl Model for Queue {
 }
 
 impl Queue {
-    ghost use Rattle.std.specs.Prelude.{◌≡◌, ℕ, ◌<◌, ◌≤◌, ◌↔◌, IsTrue, [], ◌∷◌, ◌++◌, None, Some, length, take, drop, slice_get, slice_set, slice_index, IfOk, IfErr, OnOk, OnErr};
+    ghost use Rattle.std.specs.Prelude.{◌≡◌, ℕ, ◌<◌, ◌≤◌, ◌↔◌, IsTrue, [], ◌∷◌, ◌++◌, None, Some, length, take, drop, nat_eq, slice_get, slice_set, slice_index, true, false, IfOk, IfErr, OnOk, OnErr};
     ghost use Rattle.std.specs.Option.{option_copied, option_map};
     ghost use Rattle.std.specs.List.{last_or};
     ghost use Rattle.mips_plain.specs.Words.{has};
     ghost use Rattle.machine_model.specs.Machine.{Active};
-    ghost use Rattle.machine_model.specs.Step.{put, is_reserved, filled};
-    ghost use Rattle.machine_model.specs.Answer.{operand};
+    ghost use Rattle.machine_model.specs.Refusals.{for_some};
+    ghost use Rattle.machine_model.specs.Unit.{exec_refusal as refusal_of, drain_refusal, after_drain, put, operand};
+    ghost use Rattle.machine_model.specs.Step.{is_reserved, filled};
     ghost use Rattle.unit_core.specs.Units.{active_of};
-    ghost use Rattle.unit_core.specs.UnitStep.{drain_fault};
     ghost use Rattle.unit_core.specs.Bursts.{HasMore, carried_on};
-    ghost use Rattle.processor_steps.specs.Seen.{actives, ArePlaced, position_with as position_with_serial};
-    ghost use Rattle.processor_steps.specs.Parts.{HeadStep, AheadStep, IsRefusedBy, exec_refusal as exec_refusal_of};
+    ghost use Rattle.processor_steps.specs.Processors.{actives, ArePlaced, position_with as position_with_serial};
+    ghost use Rattle.processor_steps.specs.CallParts.{HeadStep, AheadStep, IsRefusedBy};
+    ghost use Rattle.machine_events.specs.declared.event.Refused.TheVariants as refused;
     ghost use Rattle.machine_events.specs.declared.event.Standing.TheVariants as standing;
 
     /// A queue without a unit, with so many places.
@@ -155,8 +156,8 @@ impl Queue {
     #[inline]
     pub(crate) fn send(&mut self, position: usize, accepted: &Accepted, register: Reg)
         requires { ArePlaced accepted.now (actives self.old) }
-        ensures active { (u : Active) → slice_get (actives self.old) position ≡ Some u → drain_fault accepted.now.program u register ≡ None
-            → actives self.new ≡ slice_set (actives self.old) position (record u { sent = put register (operand u register) u.sent }) }
+        ensures active { (u : Active) → slice_get (actives self.old) position ≡ Some u → drain_refusal accepted.now.program u register ≡ None
+            → actives self.new ≡ slice_set (actives self.old) position (after_drain u register (operand u register)) }
         ensures places { self.new.places ≡ self.old.places }
     {
         let Some(unit) = self.ring.get_mut(position) else {
@@ -186,7 +187,7 @@ impl Queue {
         requires placed { ArePlaced accepted.now (actives self.old) }
         requires runs { world.old.outcome ≡ standing.Running }
         ensures ok { OnOk result (HeadStep accepted.now.program (actives self.old) (actives self.new) world.old world.new) }
-        ensures refused { IfErr result (λ why. IsRefusedBy why (exec_refusal_of accepted.now.program (actives self.old) 0)) }
+        ensures refused { IfErr result (λ why. IsRefusedBy why (for_some (slice_get (actives self.old) 0) refused.NoSuch (refusal_of accepted.now.program true))) }
         ensures err { OnErr result ((self.new ≡ self.old) × (world.new ≡ world.old)) }
         ensures places { self.new.places ≡ self.old.places }
     {
@@ -205,7 +206,7 @@ impl Queue {
         requires behind { 0 < position }
         requires placed { ArePlaced accepted.now (actives self.old) }
         ensures ok { OnOk result (AheadStep accepted.now.program position (actives self.old) (actives self.new)) }
-        ensures refused { IfErr result (λ why. IsRefusedBy why (exec_refusal_of accepted.now.program (actives self.old) position)) }
+        ensures refused { IfErr result (λ why. IsRefusedBy why (for_some (slice_get (actives self.old) position) refused.NoSuch (refusal_of accepted.now.program false))) }
         ensures err { OnErr result (self.new ≡ self.old) }
         ensures places { self.new.places ≡ self.old.places }
     {
@@ -266,7 +267,7 @@ impl Queue {
     /// What the unit at a position is refused an instruction by, want of memory aside.
     pub(crate) fn exec_refusal(&self, position: usize, accepted: &Accepted) -> Option<Refused>
         requires { ArePlaced accepted.now (actives self.now) }
-        ensures { result ≡ exec_refusal_of accepted.now.program (actives self.now) position }
+        ensures { result ≡ for_some (slice_get (actives self.now) position) refused.NoSuch (refusal_of accepted.now.program (nat_eq position 0)) }
     {
         let Some(unit) = self.ring.get(position) else {
             return Some(Refused::NoSuch);
@@ -282,7 +283,7 @@ ghost use Rattle.std.specs.Prelude.{◌≡◌, ℕ, map};
 ghost use Rattle.mips_plain.specs.Words.{has};
 ghost use Rattle.machine_model.specs.Step.{is_reserved};
 ghost use Rattle.unit_core.specs.Units.{active_of};
-ghost use Rattle.processor_steps.specs.Parts.{refused_by as refused_by_wait};
+ghost use Rattle.unit_core.specs.UnitStep.{refused_by as refused_by_wait};
 
 /// The create masks of the tasks of some units together.
 fn created_by(program: &Program, units: &[Unit]) -> RegSet

@@ -4,12 +4,12 @@ ghost use Rattle.std.specs.Prelude.{◌≡◌, ℕ, ◌<◌, ◌↔◌, ◌&&◌
 ghost use Rattle.std.specs.Option.{option_map};
 ghost use Rattle.mips_plain.specs.Words.{has};
 ghost use Rattle.machine_model.specs.Machine.{Active, creates, pass, value};
-ghost use Rattle.machine_model.specs.Answer.{refusal, exit_of};
+ghost use Rattle.machine_model.specs.Unit.{exec_refusal, exit_of};
+ghost use Rattle.machine_model.specs.Answer.{refusal};
 ghost use Rattle.machine_events.specs.declared.event.Event.TheVariants as event;
 ghost use Rattle.unit_core.specs.Units.{active_of};
-ghost use Rattle.unit_core.specs.UnitStep.{wait_of};
 ghost use Rattle.processor_steps.specs.LeastRegisters.{IsLeast};
-ghost use Rattle.processor_steps.specs.Seen.{state_of, ArePlaced};
+ghost use Rattle.processor_steps.specs.Processors.{state_of, ArePlaced};
 
 use crate::listing::created;
 use crate::processor::Processor;
@@ -38,7 +38,7 @@ impl Processor {
     #[inline]
     pub fn can_run_ahead(&self, accepted: &Accepted, position: u32) -> bool
         requires { ArePlaced accepted.now (state_of self.now).queue }
-        ensures { IsTrue result ↔ ((u : Active) × (slice_get (state_of self.now).queue position ≡ Some u) × (wait_of accepted.now.program false u ≡ None)) }
+        ensures { IsTrue result ↔ ((u : Active) × (slice_get (state_of self.now).queue position ≡ Some u) × (exec_refusal accepted.now.program false u ≡ None)) }
     {
         match self.unit(position) {
             Some(unit) => unit.wait(accepted, false).is_none(),

@@ -6,8 +6,8 @@ ghost use Rattle.machine_model.specs.Answer.{refusal};
 ghost use Rattle.machine_events.specs.declared.event.Refused.TheVariants as refused;
 ghost use Rattle.machine_events.specs.declared.event.Event.TheVariants as events;
 ghost use Rattle.machine_events.specs.declared.event.Standing.TheVariants as standing;
-ghost use Rattle.processor_steps.specs.Seen.{state_of, ArePlaced, Steps, executed_by};
-ghost use Rattle.processor_steps.specs.Parts.{Does};
+ghost use Rattle.processor_steps.specs.Processors.{state_of, ArePlaced, Steps, executed_by};
+ghost use Rattle.processor_steps.specs.CallParts.{Does};
 
 use crate::allowed::room_behind;
 use crate::known::known;

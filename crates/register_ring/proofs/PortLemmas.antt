@@ -8,7 +8,7 @@ use Rattle.std.proofs.lemmas.List.{get_or_past}
 use Rattle.std.proofs.lemmas.Nat.Bits.{bit_at_ones, bit_at_above}
 use Rattle.mips_plain.specs.Words.{has}
 use Rattle.machine_model.specs.Machine.{Words}
-use Rattle.machine_model.specs.Step.{put}
+use Rattle.machine_model.specs.Unit.{put}
 use Rattle.machine_model.specs.Burst.{AllIn}
 use Rattle.register_ring.specs.Held.{Held, pairs, put_first}
 use Rattle.register_ring.specs.Ports.{arrived_fresh, filled_with}

@@ -4,7 +4,7 @@ use Rattle.std.specs.List.{range_with_len}
 use Rattle.std.proofs.Common.{refl, arith}
 use Rattle.std.proofs.lemmas.Bool.Decides.{nat_tests}
 use Rattle.machine_model.specs.Machine.{Words}
-use Rattle.machine_model.specs.Step.{put}
+use Rattle.machine_model.specs.Unit.{put}
 use Rattle.machine_model.specs.Burst.{AllIn}
 use Rattle.register_ring.specs.Held.{no_pairs, put_first}
 use Rattle.register_ring.specs.Ports.{Ports, arrived_of, sent_of, arrived_fresh, filled_with, passed}

@@ -25,7 +25,7 @@ impl RegisterWords {
     ghost use Rattle.std.specs.Prelude.{◌≡◌, ℕ, ◌<◌, ◌^◌, IsTrue, ◌↔◌, if◌then◌else◌, slice_index, Some, None};
     ghost use Rattle.std.specs.Option.{option_or};
     ghost use Rattle.mips_plain.specs.Words.{has};
-    ghost use Rattle.machine_model.specs.Step.{put};
+    ghost use Rattle.machine_model.specs.Unit.{put};
     ghost use Rattle.machine_model.specs.Burst.{AllIn};
     ghost use Rattle.register_ring.specs.Held.{pairs, no_pairs};
 

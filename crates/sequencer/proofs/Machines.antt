@@ -5,13 +5,14 @@ use Rattle.std.specs.Option.{option_or}
 use Rattle.mips_plain.specs.Words.{byte_of}
 use Rattle.machine_model.specs.Machine.{State}
 use Rattle.machine_model.specs.Replay.{ReplaysFrom, Replays}
-use Rattle.machine_model.specs.Answer.{unless, is_running, ok_unless, most_events}
+use Rattle.machine_model.specs.Refusals.{unless}
+use Rattle.machine_model.specs.Answer.{is_running, ok_unless, most_events}
 use Rattle.machine_events.specs.declared.event.Event.{Event}
 use Rattle.machine_events.specs.declared.event.Refused.{Refused}
 use Rattle.machine_events.specs.declared.event.Refused.TheVariants as refused
 use Rattle.machine_events.specs.declared.event.Standing.{Standing}
 use Rattle.machine_events.specs.declared.event.Standing.TheVariants.{Running, Halted, Trapped, Unlisted}
-use Rattle.processor_steps.specs.Seen.{ProcessorView, Keeps, Steps, state_of}
+use Rattle.processor_steps.specs.Processors.{ProcessorView, Keeps, Steps, state_of}
 use Rattle.sequencer.specs.Seen.{MachineView, IsMachine, state, units_of, IsAnswered}
 use Rattle.sequencer.proofs.Verdicts.{refused_where_running}
 

@@ -8,9 +8,10 @@ use Rattle.std.proofs.lemmas.Option.{slice_get_within, get_or_from_slice_get}
 use Rattle.mips_plain.specs.Words.{address}
 use Rattle.task_descriptor.specs.Listing.{Listing}
 use Rattle.machine_model.specs.Machine.{Active, State, opening}
-use Rattle.machine_model.specs.Step.{Next, after_exec, put, started, filled, handed_over, retire_leaves}
+use Rattle.machine_model.specs.Unit.{after_exec, put}
+use Rattle.machine_model.specs.Step.{Next, started, filled, handed_over, retire_leaves}
 use Rattle.machine_model.specs.Replay.{ReplaysFrom, Replays}
-use Rattle.processor_steps.specs.Seen.{by_units, executed_by}
+use Rattle.processor_steps.specs.Processors.{by_units, executed_by}
 use Rattle.machine_model.specs.Laws.{ReplayCut, EventsCount}
 use Rattle.machine_model.specs.HeadEvent.{active_after}
 use Rattle.machine_events.specs.declared.event.Commit.{Commit}
@@ -75,7 +76,7 @@ module _ (p : Listing) (units : ℕ) (s s' : State) where
       within_one s s' _ d.is (omega arith)
   executes (Drain k r) next =
       let d = next.does in
-      let same = by_same s.queue k d.unit (record (d.unit) { sent = put r d.word d.unit.sent }) d.is_unit refl in
+      let same = by_same s.queue k d.unit d.after d.is_unit (ap (λ (u : Active). u.log) d.sends.is) in
       within_one s s' _ d.is (omega arith)
   executes (Squash k) next =
       let d = next.does in

@@ -8,7 +8,8 @@ use Rattle.mips_plain.specs.declared.outcome.Outcome.TheVariants.{Running, Halte
 use Rattle.task_descriptor.specs.Listing.{Listing}
 use Rattle.task_descriptor.specs.declared.descriptor.Marked.{Marked}
 use Rattle.machine_model.specs.Machine.{Active, State, opening}
-use Rattle.machine_model.specs.Step.{Next, started, executed, after_exec, filled, handed_over}
+use Rattle.machine_model.specs.Unit.{executed, after_exec}
+use Rattle.machine_model.specs.Step.{Next, started, filled, handed_over}
 use Rattle.machine_model.specs.Replay.{ReplaysFrom, Replays}
 use Rattle.machine_events.specs.declared.event.Event.{Event}
 use Rattle.machine_events.specs.declared.event.Event.TheVariants.{Assign, Exec, Transfer, Drain, Squash, Retire, Fault, Drop}
@@ -72,7 +73,7 @@ module _ (p : Listing) (units : ℕ) (s s' : State) (h : Rises s) where
       let v = after_exec p d.unit d.at d.index d.a d.b s.memory in
       keeps _ d.is (set 0 s.queue s.assigns k d.unit v d.is_unit (exec_serial (outcome_after d.at.op d.a) p d.unit d.at d.index d.a d.b s.memory) h)
   event_rises (Transfer k r) next = (let d = next.does in keeps _ d.is (set 0 s.queue s.assigns k d.unit _ d.is_unit refl h))
-  event_rises (Drain k r) next = (let d = next.does in keeps _ d.is (set 0 s.queue s.assigns k d.unit _ d.is_unit refl h))
+  event_rises (Drain k r) next = (let d = next.does in keeps _ d.is (set 0 s.queue s.assigns k d.unit d.after d.is_unit (ap (λ (u : Active). u.serial) d.sends.is) h))
   event_rises (Squash k) next = keeps _ next.does.is (taken 0 s.queue s.assigns (suc k) h)
   event_rises Retire next =
       let d = next.does in

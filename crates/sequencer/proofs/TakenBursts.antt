@@ -6,14 +6,14 @@ use Rattle.task_descriptor.specs.Listing.{Listing}
 use Rattle.machine_model.specs.Machine.{State, Active}
 use Rattle.machine_model.specs.Replay.{ReplaysFrom}
 use Rattle.machine_model.specs.Answer.{with_queue, most_events}
-use Rattle.machine_model.specs.Step.{with_log}
+use Rattle.machine_model.specs.Unit.{with_log}
 use Rattle.machine_model.specs.Laws.{BurstsAreEvents}
 use Rattle.machine_events.specs.declared.event.Event.{Event}
 use Rattle.machine_events.specs.declared.event.Event.TheVariants.{Exec}
 use Rattle.machine_events.specs.declared.event.Standing.TheVariants.{Running}
 use Rattle.unit_core.specs.Units.{active_of}
 use Rattle.unit_core.specs.Bursts.{BurstView, IsMade, IsOf, HasMore, carried_on}
-use Rattle.processor_steps.specs.Seen.{ProcessorView, Keeps, state_of, position_with}
+use Rattle.processor_steps.specs.Processors.{ProcessorView, Keeps, state_of, position_with}
 use Rattle.processor_steps.proofs.Positions.{first_with}
 use Rattle.sequencer.specs.Seen.{MachineView, IsMachine, state, units_of}
 use Rattle.sequencer.specs.Rings.{AreDistinct}

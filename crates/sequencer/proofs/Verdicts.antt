@@ -2,7 +2,8 @@
 use Rattle.std.proofs.Common.{◌≡◌, Option, Some, None, Ok, refl, sym, ap, ◌∙◌}
 use Rattle.std.specs.Prelude.{nat_lt}
 use Rattle.std.specs.Option.{option_or}
-use Rattle.machine_model.specs.Answer.{unless, is_running, ok_unless, most_events}
+use Rattle.machine_model.specs.Refusals.{unless}
+use Rattle.machine_model.specs.Answer.{is_running, ok_unless, most_events}
 use Rattle.machine_events.specs.declared.event.Refused.{Refused}
 use Rattle.machine_events.specs.declared.event.Refused.TheVariants as refused
 use Rattle.machine_events.specs.declared.event.Standing.{Standing}

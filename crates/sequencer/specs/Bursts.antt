@@ -10,7 +10,7 @@ use Rattle.machine_events.specs.declared.event.Spot.TheVariants.{Inside}
 use Rattle.machine_events.specs.declared.event.Standing.TheVariants.{Running}
 use Rattle.unit_core.specs.Units.{active_of}
 use Rattle.unit_core.specs.Bursts.{BurstView, IsOf, HasMore}
-use Rattle.processor_steps.specs.Seen.{position_with}
+use Rattle.processor_steps.specs.Processors.{position_with}
 use Rattle.sequencer.specs.Seen.{MachineView, state, units_of}
 
 -- the unit of the ring with this number is at work as this active task, and has not stopped; the head

@@ -5,7 +5,8 @@ use Rattle.std.proofs.Common.{refl}
 use Rattle.mips_plain.specs.Words.{address, index_of}
 use Rattle.mips_plain.specs.MemoryMap.{region, effective}
 use Rattle.machine_model.specs.Machine.{State, opening}
-use Rattle.machine_model.specs.Answer.{play, least}
+use Rattle.machine_model.specs.Refusals.{least}
+use Rattle.machine_model.specs.Answer.{play}
 use Rattle.machine_model.specs.HeadEvent.{unit_of}
 use Rattle.machine_model.specs.Examples.{count}
 use Rattle.machine_events.specs.declared.event.Event.TheVariants.{Assign, Exec, Drain, Retire, Drop}

@@ -9,7 +9,7 @@ use Rattle.machine_model.specs.HeadEvent.{head_event}
 use Rattle.machine_events.specs.declared.event.Event.{Event}
 use Rattle.machine_events.specs.declared.event.Refused.{Refused}
 use Rattle.machine_events.specs.declared.event.Refused.TheVariants.{Full, OutOfMemory}
-use Rattle.processor_steps.specs.Seen.{takes_memory}
+use Rattle.processor_steps.specs.Processors.{takes_memory}
 use Rattle.sequencer.specs.Seen.{MachineView, state}
 
 -- each event is the head event where h is below a goal, and leaves the next state by the machine step

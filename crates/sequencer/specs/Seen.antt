@@ -9,7 +9,7 @@ use Rattle.machine_model.specs.Replay.{Replays}
 use Rattle.machine_events.specs.declared.event.Event.{Event}
 use Rattle.machine_events.specs.declared.event.Refused.{Refused}
 use Rattle.machine_events.specs.declared.event.Refused.TheVariants as refused
-use Rattle.processor_steps.specs.Seen.{ProcessorView, state_of, takes_memory}
+use Rattle.processor_steps.specs.Processors.{ProcessorView, state_of, takes_memory}
 
 -- the machine: the accepted program with its certificate, what the events changed, and the events
 pub record MachineView : Type 0 where

@@ -11,12 +11,12 @@ impl<'a> Machine<'a> {
     ghost use Rattle.std.specs.Prelude.{◌≡◌, ℕ, ◌+◌, ◌%◌, ◌<◌, ◌≤◌, [], length, slice_get, Some, IfOk, IfErr, IfSome, IfNone, IsOk, IsTrue, ◌↔◌};
     ghost use Rattle.std.specs.Option.{option_map};
     ghost use Rattle.machine_model.specs.Machine.{Active};
-    ghost use Rattle.machine_model.specs.Step.{with_log};
+    ghost use Rattle.machine_model.specs.Unit.{with_log};
     ghost use Rattle.machine_events.specs.declared.event.Event.TheVariants.{Exec};
     ghost use Rattle.machine_events.specs.declared.event.Standing.TheVariants as standing;
     ghost use Rattle.unit_core.specs.Units.{active_of};
     ghost use Rattle.unit_core.specs.Bursts.{HasMore, IsOf};
-    ghost use Rattle.processor_steps.specs.Seen.{position_with};
+    ghost use Rattle.processor_steps.specs.Processors.{position_with};
     ghost use Rattle.sequencer.specs.Seen.{state, units_of, SameRing};
     ghost use Rattle.sequencer.specs.Rings.{unit_for};
     ghost use Rattle.sequencer.specs.Bursts.{IsAtWork, IsFresh, IsRefusedBurst, Takes};

@@ -8,12 +8,12 @@ impl<'a> Machine<'a> {
     ghost use Rattle.std.specs.Prelude.{◌≡◌, ◌↔◌, ◌<◌, false, None, Some, Ok, IsTrue, slice_get, length};
     ghost use Rattle.std.specs.Option.{option_map};
     ghost use Rattle.machine_model.specs.Machine.{Active, State};
+    ghost use Rattle.machine_model.specs.Unit.{exec_refusal};
     ghost use Rattle.machine_model.specs.Step.{Next};
     ghost use Rattle.machine_model.specs.Answer.{refusal, most_events};
     ghost use Rattle.machine_events.specs.declared.event.Event.{Event};
     ghost use Rattle.machine_events.specs.declared.event.Event.TheVariants.{Exec, Transfer, Drain};
     ghost use Rattle.machine_events.specs.declared.event.Standing.TheVariants as standing;
-    ghost use Rattle.unit_core.specs.UnitStep.{wait_of};
     ghost use Rattle.processor_steps.specs.LeastRegisters.{IsLeast};
     ghost use Rattle.sequencer.specs.Seen.{state, units_of, answer_to};
     ghost use Rattle.sequencer.specs.Rings.{unit_for};
@@ -39,7 +39,7 @@ impl<'a> Machine<'a> {
     /// the unit's registers and read-only data: so it may stand in a burst. An Exec of it is then
     /// refused by nothing but the run's end or a full history. Takes no memory.
     pub fn can_run_ahead(&self, position: u32) -> bool
-        ensures alone { IsTrue result ↔ ((u : Active) × (slice_get (state self.now).queue position ≡ Some u) × (wait_of self.now.accepted.program false u ≡ None)) }
+        ensures alone { IsTrue result ↔ ((u : Active) × (slice_get (state self.now).queue position ≡ Some u) × (exec_refusal self.now.accepted.program false u ≡ None)) }
         ensures allowed { IsTrue result → refusal self.now.accepted.program (units_of self.now) (state self.now) (Exec position) ≡ None }
     {
         self.is_known();

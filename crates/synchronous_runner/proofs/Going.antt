@@ -9,7 +9,8 @@ use Rattle.task_descriptor.specs.Listing.{Listing}
 use Rattle.mark_checker.specs.Places.{Checked}
 use Rattle.machine_model.specs.Machine.{Active, State, opening, creates}
 use Rattle.machine_model.specs.Step.{is_listed, next_begins}
-use Rattle.machine_model.specs.Answer.{after, is_running, least, refusal}
+use Rattle.machine_model.specs.Refusals.{least}
+use Rattle.machine_model.specs.Answer.{after, is_running, refusal}
 use Rattle.machine_model.specs.HeadEvent.{head_event, event_of_head, event_of_queue, task_beginning, drain_or_retire}
 use Rattle.machine_model.specs.Laws.{NextIsAfter}
 use Rattle.machine_events.specs.declared.event.Event.{Event}

@@ -14,7 +14,8 @@ use Rattle.mips_plain.specs.declared.outcome.Outcome.{Outcome}
 use Rattle.mips_plain.specs.declared.outcome.Outcome.TheVariants as plain
 use Rattle.mips_plain.specs.Effect.{outcome_after}
 use Rattle.machine_model.specs.Machine.{Active, State, opening, begins}
-use Rattle.machine_model.specs.Step.{Next, Assigns, Execs, Transfers, Drains, Squashes, Retires, Faults, executed, after_exec, exec_leaves, put, follows, follows_at, started, is_listed, next_begins, retire_leaves}
+use Rattle.machine_model.specs.Unit.{executed, after_exec, put}
+use Rattle.machine_model.specs.Step.{Next, Assigns, Execs, Transfers, Drains, Squashes, Retires, Faults, exec_leaves, follows, follows_at, started, is_listed, next_begins, retire_leaves}
 use Rattle.machine_model.specs.Answer.{after, with_queue}
 use Rattle.machine_model.specs.Replay.{ReplaysFrom, Replays}
 use Rattle.machine_model.specs.Laws.{NextIsAfter, ReplayCut}
@@ -146,14 +147,10 @@ module _ (p : Listing) (units k : ℕ) (s0 s : State) (h : Untouched p (suc k) s
               unit = x.unit;
               is_unit = there j x.unit less x.is_unit;
               index = x.index;
-              is_inside = x.is_inside;
               at = x.at;
-              is_there = x.is_there;
               a = x.a;
-              has_a = x.has_a;
               b = x.b;
-              has_b = x.has_b;
-              has_released = x.has_released;
+              next = x.next;
               may = x.may;
               is = refl;
             };
@@ -184,20 +181,15 @@ module _ (p : Listing) (units k : ℕ) (s0 s : State) (h : Untouched p (suc k) s
         )
     allowed (Drain j r) d long place next =
         let x : Drains p s j r d = next.does in
-        let unit : Active = x.unit in
         let less : j < suc k = omega arith in (
-          with_queue s0 (slice_set s0.queue j (record unit { sent = put r x.word unit.sent })),
+          with_queue s0 (slice_set s0.queue j x.after),
           record {
             runs = running;
             does = record {
               unit = x.unit;
               is_unit = there j x.unit less x.is_unit;
-              is_created = x.is_created;
-              exit = x.exit;
-              has_stopped = x.has_stopped;
-              is_unsent = x.is_unsent;
-              word = x.word;
-              has_word = x.has_word;
+              after = x.after;
+              sends = x.sends;
               is = refl;
             };
           },
@@ -316,8 +308,7 @@ module _ (p : Listing) (units k : ℕ) (s0 s : State) (h : Untouched p (suc k) s
       set_there d j x.unit (record unit { arrived = put r x.word unit.arrived }) place (ap (λ (st : State). st.queue) x.is) x.is_unit refl
   touched (Drain j r) d behind place next =
       let x : Drains p s j r d = next.does in
-      let unit : Active = x.unit in
-      set_there d j x.unit (record unit { sent = put r x.word unit.sent }) place (ap (λ (st : State). st.queue) x.is) x.is_unit refl
+      set_there d j x.unit x.after place (ap (λ (st : State). st.queue) x.is) x.is_unit (ap (λ (u : Active). u.task) x.sends.is)
   touched (Squash j) d behind place next =
       let x : Squashes p s j d = next.does in
       let less : j < suc k = omega arith in

@@ -4,7 +4,7 @@ use Rattle.std.specs.Prelude.{◌≡◌, ◌<◌, [], ◌∷◌, false}
 use Rattle.std.proofs.Common.{refl, arith, lit<}
 use Rattle.mips_plain.specs.Words.{address, index_of}
 use Rattle.mips_plain.specs.MemoryMap.{region, effective}
-use Rattle.machine_model.specs.Answer.{least}
+use Rattle.machine_model.specs.Refusals.{least}
 use Rattle.machine_model.specs.Examples.{count}
 use Rattle.machine_events.specs.declared.event.Event.TheVariants.{Assign, Exec, Transfer, Drain, Retire}
 use Rattle.synchronous_runner.specs.declared.predictor.Predictor.TheVariants as predictor

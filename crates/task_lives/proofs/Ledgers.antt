@@ -14,7 +14,8 @@ use Rattle.task_descriptor.specs.declared.descriptor.Marked.{Marked}
 use Rattle.machine_events.specs.declared.event.Event.{Event}
 use Rattle.machine_events.specs.declared.event.Event.TheVariants.{Assign, Exec, Transfer, Drain, Squash, Retire, Fault, Drop}
 use Rattle.machine_model.specs.Machine.{Active, State}
-use Rattle.machine_model.specs.Step.{Next, started, executed, after_exec, put, filled, handed_over}
+use Rattle.machine_model.specs.Unit.{executed, after_exec, put}
+use Rattle.machine_model.specs.Step.{Next, started, filled, handed_over}
 use Rattle.task_lives.specs.Sums.{Work, work_of_unit, work_of_commit}
 use Rattle.task_lives.specs.Lives.{Fits}
 
@@ -139,7 +140,7 @@ module _ (p : Listing) (units : ℕ) (s s' : State) where
   becomes (Drain k r) next =
       let d = next.does in
       becomes_by s s' _ (Drain k r) d.is (record {
-        queue = same_work s.queue k d.unit (record (d.unit) { sent = put r d.word d.unit.sent }) d.is_unit refl;
+        queue = same_work s.queue k d.unit d.after d.is_unit (ap work_of_unit d.sends.is);
         retired = refl;
         fits = tt;
       })

@@ -4,7 +4,8 @@ use Rattle.std.specs.Prelude.{nat_lt, if◌then◌else◌}
 use Rattle.std.proofs.lemmas.Bool.{lt-ltb}
 use Rattle.task_descriptor.specs.Listing.{Listing}
 use Rattle.machine_model.specs.Machine.{State}
-use Rattle.machine_model.specs.Answer.{unless, refusal}
+use Rattle.machine_model.specs.Refusals.{unless}
+use Rattle.machine_model.specs.Answer.{refusal}
 use Rattle.machine_events.specs.declared.event.Event.TheVariants.{Assign}
 use Rattle.machine_events.specs.declared.event.Refused.{Refused}
 use Rattle.sequencer.specs.Choices.{MayFollow}

@@ -1,12 +1,12 @@
 -- What a worker does next for one unit (own).
 use Rattle.std.specs.Prelude.{◌≡◌, ℕ, ◌+◌, ◌*◌, ◌-◌, ◌<◌, [], false, length, slice_get, Some, None, Ok}
 use Rattle.machine_model.specs.Machine.{Active}
+use Rattle.machine_model.specs.Unit.{exec_refusal}
 use Rattle.machine_model.specs.Answer.{most_events}
 use Rattle.machine_model.specs.HeadEvent.{head_event}
 use Rattle.machine_events.specs.declared.event.Event.{Event}
 use Rattle.machine_events.specs.declared.event.Event.TheVariants.{Assign, Exec}
 use Rattle.machine_model.specs.Claims.{count_h}
-use Rattle.unit_core.specs.UnitStep.{wait_of}
 use Rattle.sequencer.specs.Seen.{MachineView, state, units_of, answer_to}
 use Rattle.sequencer.specs.Rings.{unit_for}
 use Rattle.sequencer.specs.Choices.{choices_of}
@@ -32,7 +32,7 @@ pub record MayBurst (m : MachineView) (unit : ℕ) : Type 0 where
   pub is_own : IsOwn m unit (Exec position)
   pub active : Active
   pub is_unit : slice_get (state m).queue position ≡ Some active
-  pub runs_ahead : wait_of m.accepted.program false active ≡ None
+  pub runs_ahead : exec_refusal m.accepted.program false active ≡ None
 
 abbrev pub IsTurn : MachineView → (unit : ℕ) → Turn → Type 0
 IsTurn m unit (Apply e) = IsOwn m unit e

@@ -17,10 +17,8 @@ use Rattle.mips_plain.specs.declared.instruction.Op.{Op}
 use Rattle.mips_plain.specs.declared.instruction.Op.TheVariants.{Load}
 use Rattle.task_descriptor.specs.Listing.{Listing}
 use Rattle.task_descriptor.specs.declared.descriptor.Marked.{Marked}
-use Rattle.task_graph.specs.Edges.{edge, leaves, sends}
-use Rattle.mips_plain.specs.Instruction.{taken, turn}
 use Rattle.machine_model.specs.Machine.{Words, Active}
-use Rattle.machine_model.specs.Step.{with_written, with_sent, with_place, with_log, place_after, executed, after_exec}
+use Rattle.machine_model.specs.Unit.{with_log, gone_on, executed, after_exec}
 use Rattle.machine_model.specs.Burst.{no_memory, StepsAlone, Burst}
 use Rattle.unit_core.specs.Units.{UnitView, active_of}
 use Rattle.unit_core.specs.Bursts.{no_stretch, longer, index_of_read, is_load_at, stretch_of, SameStretch, Makes, HasSentTheSame, SendsLast}
@@ -36,9 +34,7 @@ same_after : (o : Outcome) (p q : Listing) (u : Active) (m : Marked) (index a b 
 same_after Running p q u m index a b before log log' fixed is =
     let words : written m.op a b (address index) (byte_of p.fixed) no_memory ≡ written m.op a b (address index) (byte_of q.fixed) no_memory =
     fun_ext (λ r. same_written p q m.op a b (address index) r fixed) in
-    λ j. with_log
-    (with_place (with_sent (with_written u (words j)) (sends m)) (place_after (leaves m.stop (taken m.op a b)) (edge m.op index (taken m.op a b)) (turn m.op a b (address index))))
-    (is j)
+    λ j. with_log (gone_on u m index a b (address index) (words j)) (is j)
 same_after Halted p q u m index a b before log log' fixed is = ap (with_log u) is
 same_after (Trapped trap) p q u m index a b before log log' fixed is = ap (with_log u) is
 
@@ -47,14 +43,16 @@ same_step p q u u' step same fixed log =
     let read : List Read = record { pc = address step.index; a = step.a; b = step.b } ∷ [] in
     record {
       index = step.index;
-      is_inside = step.is_inside;
       at = step.at;
-      is_there = same ∙ step.is_there;
       a = step.a;
-      has_a = step.has_a;
       b = step.b;
-      has_b = step.has_b;
-      has_released = step.has_released;
+      next = record {
+        is_inside = step.next.is_inside;
+        is_there = same ∙ step.next.is_there;
+        has_a = step.next.has_a;
+        has_b = step.next.has_b;
+        has_released = step.next.has_released;
+      };
       may_run_ahead = step.may_run_ahead;
       is =
           ap (λ (x : Active). with_log x (log ++ x.log)) step.is
@@ -108,7 +106,7 @@ pub longer_stretch : (p : Listing) (s s' : Stretch) (loads : Bool) (u u' : Activ
 longer_stretch p s s' loads u u' step is_loads is before =
     let read : Read = record { pc = address step.index; a = step.a; b = step.b } in
     let index : index_of_read read ≡ step.index = ap (λ (o : Option ℕ). unwrap_or o 0) (index_back step.index) in
-    let at : is_load_at p step.index ≡ is_load step.at.op = ap (λ (o : Option Marked). unwrap_or (option_map (λ (m : Marked). is_load m.op) o) false) step.is_there in
+    let at : is_load_at p step.index ≡ is_load step.at.op = ap (λ (o : Option Marked). unwrap_or (option_map (λ (m : Marked). is_load m.op) o) false) step.next.is_there in
     let log : u'.log ≡ u.log ++ read ∷ [] = ap (λ (x : Active). x.log) step.is in
     is
     ∙ (λ j. longer (before j) (sym index j) ((is_loads ∙ sym at) j))

@@ -8,9 +8,9 @@ use Rattle.mips_plain.specs.Instruction.{alu, dests, is_register_only, computed}
 use Rattle.mips_plain.specs.InstructionTable.{general}
 use Rattle.mips_plain.specs.declared.instruction.Op.{Op}
 use Rattle.machine_model.specs.Machine.{Words}
-use Rattle.machine_model.specs.Step.{put}
+use Rattle.machine_model.specs.Unit.{put, with_own, sent_with}
 use Rattle.register_ring.specs.Held.{put_first}
-use Rattle.unit_core.specs.Parts.{in_general, writes, with_own, sent_with, replaced}
+use Rattle.unit_core.specs.ExecParts.{in_general, writes, replaced}
 
 -- the registers below are as they shall be, the others as they were
 pub record SoFar (old target words : Words) (from : ℕ) : Type 0 where

@@ -8,7 +8,7 @@ use Rattle.mips_plain.specs.declared.outcome.Read.{Read}
 use Rattle.task_descriptor.specs.Listing.{Listing}
 use Rattle.mark_checker.specs.Places.{Checked}
 use Rattle.machine_model.specs.Machine.{Active}
-use Rattle.machine_model.specs.Step.{with_log}
+use Rattle.machine_model.specs.Unit.{with_log}
 use Rattle.machine_model.specs.Burst.{Burst, AllIn, with_arrived}
 use Rattle.unit_core.specs.Units.{UnitView, active_of, IsPlaced}
 use Rattle.unit_core.specs.declared.stretch.Stretch.{Stretch}

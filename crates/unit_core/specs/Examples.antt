@@ -12,18 +12,16 @@ use Rattle.mips_plain.specs.declared.instruction.Op.TheVariants.{Three, Load, St
 use Rattle.task_descriptor.specs.Listing.{Listing}
 use Rattle.mark_checker.specs.Places.{Checked}
 use Rattle.machine_model.specs.Machine.{Active, value}
-use Rattle.machine_model.specs.Step.{put}
-use Rattle.machine_model.specs.Answer.{least}
+use Rattle.machine_model.specs.Unit.{put, exec_refusal, drain_refusal}
+use Rattle.machine_model.specs.Refusals.{least}
 use Rattle.machine_model.specs.Burst.{with_arrived}
 use Rattle.machine_model.specs.Examples.{bare, task, count}
+use Rattle.machine_events.specs.declared.event.Refused.TheVariants as refused
 use Rattle.machine_events.specs.declared.event.Spot.{Spot}
 use Rattle.machine_events.specs.declared.event.Spot.TheVariants.{Inside, Stopped}
 use Rattle.unit_core.specs.Units.{UnitView, active_of}
-use Rattle.unit_core.specs.UnitStep.{wait_of, drain_fault}
 use Rattle.unit_core.specs.Bursts.{HasMore}
 use Rattle.unit_core.specs.SentRegisters.{mask_has}
-use Rattle.unit_core.specs.declared.wait.Wait.TheVariants as wait
-use Rattle.unit_core.specs.declared.wait.DrainFault.TheVariants as drain
 
 -- A unit of the first task. For register r of these sets 100 + r has arrived, it wrote 200 + r, and it
 -- sent 300 + r; register 0 has arrived with 0.
@@ -92,73 +90,73 @@ addressed index address = active_of (record {
 })
 
 -- a unit that has stopped executes nothing, not even as the head
-pub has_stopped : wait_of moves true (active_of (unit (Stopped 0x400018) but_three 0 0)) ≡ Some wait.Stopped
+pub has_stopped : exec_refusal moves true (active_of (unit (Stopped 0x400018) but_three 0 0)) ≡ Some refused.Stopped
 unfolding least
 has_stopped = refl
 
 -- `addu $9,$10,$9` waits for the least of its registers, and `release $9,$10` for each of its own
-pub waits_for_least : wait_of moves true (addressed 2 0) ≡ Some (wait.Waiting 9)
+pub waits_for_least : exec_refusal moves true (addressed 2 0) ≡ Some (refused.Waiting 9)
 unfolding least
 waits_for_least = refl
 
-pub release_waits : wait_of moves true (addressed 3 0) ≡ Some (wait.Waiting 9)
+pub release_waits : exec_refusal moves true (addressed 3 0) ≡ Some (refused.Waiting 9)
 unfolding least
 release_waits = refl
 
 -- `out $9` waits for its register first, and only then for the head
-pub register_first : wait_of moves false (addressed 4 0) ≡ Some (wait.Waiting 9)
+pub register_first : exec_refusal moves false (addressed 4 0) ≡ Some (refused.Waiting 9)
 unfolding least
 register_first = refl
 
-pub halt_behind : wait_of moves false (addressed 5 0) ≡ Some wait.NotHead
+pub halt_behind : exec_refusal moves false (addressed 5 0) ≡ Some refused.NotHead
 unfolding least
 halt_behind = refl
 
 -- the last word of read-only data is loaded ahead of the head
-pub load_ahead : wait_of moves false (addressed 0 0x1000FFFC) ≡ None
+pub load_ahead : exec_refusal moves false (addressed 0 0x1000FFFC) ≡ None
 unfolding least region effective
 load_ahead = refl
 
 -- the first word of data memory is not, nor what is no whole word of read-only data
-pub load_behind : wait_of moves false (addressed 0 0x10010000) ≡ Some wait.NotHead
+pub load_behind : exec_refusal moves false (addressed 0 0x10010000) ≡ Some refused.NotHead
 unfolding least region effective
 load_behind = refl
 
-pub unaligned_behind : wait_of moves false (addressed 0 0x10000002) ≡ Some wait.NotHead
+pub unaligned_behind : exec_refusal moves false (addressed 0 0x10000002) ≡ Some refused.NotHead
 unfolding least region effective
 unaligned_behind = refl
 
-pub load_at_head : wait_of moves true (addressed 0 0x10010000) ≡ None
+pub load_at_head : exec_refusal moves true (addressed 0 0x10010000) ≡ None
 unfolding least
 load_at_head = refl
 
 -- a store waits for the head at any address
-pub store_behind : wait_of moves false (addressed 1 0x10010000) ≡ Some wait.NotHead
+pub store_behind : exec_refusal moves false (addressed 1 0x10010000) ≡ Some refused.NotHead
 unfolding least region effective
 store_behind = refl
 
-pub store_fixed_behind : wait_of moves false (addressed 1 0x10000000) ≡ Some wait.NotHead
+pub store_fixed_behind : exec_refusal moves false (addressed 1 0x10000000) ≡ Some refused.NotHead
 unfolding least region effective
 store_fixed_behind = refl
 
 -- Task A of `count` wrote registers 8, 9 and 10 of its create mask and sent 8 and 9. A register outside
 -- the mask is refused before all else, then a unit that has not stopped, then what is sent
-pub drain_outside : drain_fault count (active_of (unit (Inside 3) but_three 0x700 0x300)) 7 ≡ Some drain.NotInCreate
+pub drain_outside : drain_refusal count (active_of (unit (Inside 3) but_three 0x700 0x300)) 7 ≡ Some refused.NoSuch
 drain_outside = refl
 
-pub drain_early : drain_fault count (active_of (unit (Inside 3) but_three 0x700 0x300)) 8 ≡ Some drain.NotStopped
+pub drain_early : drain_refusal count (active_of (unit (Inside 3) but_three 0x700 0x300)) 8 ≡ Some refused.NotStopped
 drain_early = refl
 
-pub drain_again : drain_fault count (active_of (unit (Stopped 0x400000) but_three 0x700 0x300)) 8 ≡ Some drain.AlreadySent
+pub drain_again : drain_refusal count (active_of (unit (Stopped 0x400000) but_three 0x700 0x300)) 8 ≡ Some refused.AlreadyThere
 drain_again = refl
 
-pub drain_allowed : drain_fault count (active_of (unit (Stopped 0x400000) but_three 0x700 0x300)) 10 ≡ None
+pub drain_allowed : drain_refusal count (active_of (unit (Stopped 0x400000) but_three 0x700 0x300)) 10 ≡ None
 drain_allowed = refl
 
 -- register 7 in the create mask, too, which the task does not write: while it is reserved it has no value
 pub drain_reserved :
-    drain_fault (record count { tasks = task 0 0x780 (0 ∷ 4 ∷ []) ∷ [] }) (active_of (unit (Stopped 0x400000) 0x3FFFFF87F 0x700 0x300)) 7
-    ≡ Some drain.NoValue
+    drain_refusal (record count { tasks = task 0 0x780 (0 ∷ 4 ∷ []) ∷ [] }) (active_of (unit (Stopped 0x400000) 0x3FFFFF87F 0x700 0x300)) 7
+    ≡ Some (refused.NotYet 7)
 drain_reserved = refl
 
 -- the certificate of `count`: register 8 may still be written at index 0, and not behind it

@@ -5,7 +5,7 @@ ghost use Rattle.std.specs.Prelude.{◌≡◌, ℕ, ◌<◌, ◌≤◌, ◌++◌
 ghost use Rattle.mips_plain.specs.Words.{has};
 ghost use Rattle.mips_plain.specs.declared.outcome.Read.{Read};
 ghost use Rattle.task_descriptor.specs.Listing.{Listing};
-ghost use Rattle.machine_model.specs.Step.{with_log};
+ghost use Rattle.machine_model.specs.Unit.{with_log};
 ghost use Rattle.machine_model.specs.Burst.{StepsAlone};
 ghost use Rattle.unit_core.specs.Units.{active_of, IsPlaced};
 ghost use Rattle.unit_core.specs.Bursts.{HasMore, IsMade, IsOf, Makes, SameStretch, SendsLast, carried_on, stretch_of};

@@ -7,13 +7,13 @@ ghost use Rattle.mips_plain.specs.Instruction.{dests as dests_of, released, take
 ghost use Rattle.mips_plain.specs.Access.{is_load as is_load_of};
 ghost use Rattle.mips_plain.specs.Effect.{may_run_ahead};
 ghost use Rattle.task_graph.specs.Edges.{edge, leaves, sends};
-ghost use Rattle.machine_model.specs.Step.{place_after};
+ghost use Rattle.machine_model.specs.Unit.{place_after, with_own, sent_with};
 ghost use Rattle.machine_model.specs.Burst.{no_memory};
 ghost use Rattle.register_ring.specs.Held.{pairs};
-ghost use Rattle.machine_model.specs.Machine.{value};
+ghost use Rattle.machine_model.specs.Machine.{value, value_in};
 ghost use Rattle.register_ring.specs.Ports.{arrived_of, sent_of};
 ghost use Rattle.mips_plain.specs.InstructionTable.{general};
-ghost use Rattle.unit_core.specs.Parts.{in_general, loads, writes, with_own, value_in, sent_with, replaced};
+ghost use Rattle.unit_core.specs.ExecParts.{in_general, loads, writes, replaced};
 ghost use Rattle.unit_core.specs.declared.wait.Wait.TheVariants as wait;
 
 use crate::wait::Wait;

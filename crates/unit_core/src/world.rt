@@ -30,7 +30,7 @@ impl World {
     ghost use Rattle.mips_plain.specs.Effect.{memory_after, output_after, outcome_after};
     ghost use Rattle.machine_model.specs.Step.{stands};
     ghost use Rattle.unit_core.specs.Worlds.{memory_of};
-    ghost use Rattle.unit_core.specs.Parts.{loads, IsAddress};
+    ghost use Rattle.unit_core.specs.ExecParts.{loads, IsAddress};
     ghost use Rattle.machine_events.specs.declared.event.Standing.TheVariants.{Running};
 
     /// A world with this memory, in which nothing was put out and the run goes on. Takes no memory.

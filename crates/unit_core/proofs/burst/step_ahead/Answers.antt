@@ -31,9 +31,9 @@ returns-in-Ok-clause-step c = λ q same log.
     let code : c.code.result.now ≡ p.code = c.code.ensures.value ∙ ap (λ (l : Listing). l.code) c.program.ensures.value in
     let there : slice_get p.code index ≡ Some m =
     item_there p.code c.code.result.now index m code (c.requires.inside index place) c.index-code-index.is in
-    let at_index : Inside index ≡ Inside step.index = sym place ∙ step.is_inside in
+    let at_index : Inside index ≡ Inside step.index = sym place ∙ step.next.is_inside in
     let same_index : index ≡ step.index = cc in
-    let at_marked : Some m ≡ Some step.at = sym there ∙ ap (slice_get p.code) same_index ∙ step.is_there in
+    let at_marked : Some m ≡ Some step.at = sym there ∙ ap (slice_get p.code) same_index ∙ step.next.is_there in
     let same_marked : m ≡ step.at = cc in
     same_step p q _ _ step
     (subst (λ k. slice_get q.code k ≡ slice_get p.code k) same_index (has_instruction c.args.stretch index loads p q longer_same))
@@ -51,9 +51,9 @@ returns-in-Ok-clause-stretch c = λ before.
     let code : c.code.result.now ≡ p.code = c.code.ensures.value ∙ ap (λ (l : Listing). l.code) c.program.ensures.value in
     let there : slice_get p.code index ≡ Some m =
     item_there p.code c.code.result.now index m code (c.requires.inside index place) c.index-code-index.is in
-    let at_index : Inside index ≡ Inside step.index = sym place ∙ step.is_inside in
+    let at_index : Inside index ≡ Inside step.index = sym place ∙ step.next.is_inside in
     let same_index : index ≡ step.index = cc in
-    let at_marked : Some m ≡ Some step.at = sym there ∙ ap (slice_get p.code) same_index ∙ step.is_there in
+    let at_marked : Some m ≡ Some step.at = sym there ∙ ap (slice_get p.code) same_index ∙ step.next.is_there in
     let same_marked : m ≡ step.at = cc in
     longer_stretch p c.args.stretch c.with.result c.is_load-loads.result (active_of u) (active_of c.exec_ahead.new.self) step
     (c.is_load-loads.ensures ∙ ap (λ (x : Marked). is_load x.op) same_marked)

@@ -13,7 +13,7 @@ use Rattle.mark_checker.specs.Rules.{in_mask}
 use Rattle.mark_checker.specs.Places.{Checked, PlaceSays}
 use Rattle.mark_checker.proofs.Acceptance.{place_says}
 use Rattle.machine_model.specs.Machine.{Active, task_at}
-use Rattle.machine_model.specs.Step.{executed, after_exec}
+use Rattle.machine_model.specs.Unit.{executed, after_exec}
 use Rattle.machine_model.specs.Burst.{MasksFit, SentIsLast}
 use Rattle.machine_model.proofs.SentRegisters as model
 use Rattle.unit_core.specs.SentRegisters.{mask_has}

@@ -2,7 +2,7 @@ use Rattle.std.specs.Prelude.{Option}
 use Rattle.std.specs.Option.{option_or}
 use Rattle.std.proofs.Common.{ap, sym, ◌∙◌, ℕ}
 use Rattle.register_ring.specs.Held.{pairs}
-use Rattle.unit_core.specs.Parts.{replaced}
+use Rattle.unit_core.specs.ExecParts.{replaced}
 use Rattle.unit_core.proofs.step.put_some.Goals as goal
 
 pub returns-in-Some : goal.returns-in-Some

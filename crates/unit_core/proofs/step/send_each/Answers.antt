@@ -2,10 +2,10 @@ use Rattle.std.specs.Prelude.{◌≡◌, ℕ, ◌+◌}
 use Rattle.std.specs.Option.{option_or}
 use Rattle.std.proofs.Common.{ap, sym, ◌∙◌, subst, arith}
 use Rattle.mips_plain.specs.Words.{has}
-use Rattle.machine_model.specs.Machine.{Words}
+use Rattle.machine_model.specs.Machine.{Words, value_in}
 use Rattle.register_ring.specs.Held.{pairs}
 use Rattle.register_ring.specs.Ports.{arrived_of, sent_of}
-use Rattle.unit_core.specs.Parts.{value_in, sent_with}
+use Rattle.machine_model.specs.Unit.{sent_with}
 use Rattle.unit_core.proofs.StepLemmas.{SoFar, one_more, all_done, sent_off, sent_on}
 use Rattle.unit_core.proofs.step.send_each.Goals as goal
 

@@ -2,7 +2,8 @@ use Rattle.std.specs.Prelude.{◌≡◌, ℕ, ◌-◌, ◌<◌, ◌≤◌}
 use Rattle.mips_plain.specs.Words.{has}
 use Rattle.register_ring.specs.Held.{pairs}
 use Rattle.register_ring.specs.Ports.{arrived_of, sent_of}
-use Rattle.unit_core.specs.Parts.{value_in, sent_with}
+use Rattle.machine_model.specs.Machine.{value_in}
+use Rattle.machine_model.specs.Unit.{sent_with}
 use Rattle.unit_core.proofs.step.send_each.Given as goal
 
 -- the registers below have what the call promises, and the others what they had

@@ -2,7 +2,7 @@ use Rattle.std.specs.Prelude.{Option}
 use Rattle.std.specs.Option.{option_or}
 use Rattle.std.proofs.Common.{ap, sym, ◌∙◌, ℕ}
 use Rattle.register_ring.specs.Ports.{sent_of}
-use Rattle.unit_core.specs.Parts.{replaced}
+use Rattle.unit_core.specs.ExecParts.{replaced}
 use Rattle.unit_core.proofs.StepLemmas.{first_replaced}
 use Rattle.unit_core.proofs.step.send_some.Goals as goal
 

@@ -3,7 +3,8 @@ use Rattle.std.specs.Option.{option_or}
 use Rattle.std.proofs.Common.{ap, sym, ◌∙◌, subst, arith}
 use Rattle.mips_plain.specs.Instruction.{dests}
 use Rattle.register_ring.specs.Held.{pairs}
-use Rattle.unit_core.specs.Parts.{writes, with_own}
+use Rattle.machine_model.specs.Unit.{with_own}
+use Rattle.unit_core.specs.ExecParts.{writes}
 use Rattle.unit_core.proofs.StepLemmas.{SoFar, one_more, all_done, writes_none, writes_at, own_none}
 use Rattle.unit_core.proofs.step.write_each.Goals as goal
 

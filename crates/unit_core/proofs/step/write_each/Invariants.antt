@@ -1,6 +1,7 @@
 use Rattle.std.specs.Prelude.{◌≡◌, ℕ, ◌-◌, ◌<◌, ◌≤◌}
 use Rattle.register_ring.specs.Held.{pairs}
-use Rattle.unit_core.specs.Parts.{writes, with_own}
+use Rattle.machine_model.specs.Unit.{with_own}
+use Rattle.unit_core.specs.ExecParts.{writes}
 use Rattle.unit_core.proofs.step.write_each.Given as goal
 
 -- the registers below have what the call promises, and the others what they had

@@ -1,10 +1,10 @@
 use Rattle.std.specs.Prelude.{Bool, ◌&&◌}
 use Rattle.std.proofs.Common.{◌≡◌, ℕ, ap, sym, ◌∙◌}
 use Rattle.mips_plain.specs.InstructionTable.{general}
-use Rattle.machine_model.specs.Step.{put}
+use Rattle.machine_model.specs.Unit.{put, sent_with}
 use Rattle.register_ring.specs.Held.{pairs, put_first}
 use Rattle.register_ring.specs.Ports.{sent_of}
-use Rattle.unit_core.specs.Parts.{in_general, sent_with}
+use Rattle.unit_core.specs.ExecParts.{in_general}
 use Rattle.unit_core.proofs.StepLemmas.{own_general, sent_general}
 use Rattle.unit_core.proofs.step.write_word.Goals as goal
 

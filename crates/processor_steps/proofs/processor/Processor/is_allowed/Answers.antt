@@ -1,5 +1,5 @@
 use Rattle.std.proofs.Common.{sym, subst}
-use Rattle.processor_steps.specs.Seen.{ProcessorView, actives, ArePlaced}
+use Rattle.processor_steps.specs.Processors.{ProcessorView, actives, ArePlaced}
 use Rattle.processor_steps.proofs.processor.Processor.is_allowed.Goals as goal
 
 pub exec_refusal-requires : goal.exec_refusal-requires

@@ -2,7 +2,7 @@ use Rattle.std.proofs.Common.{◌≡◌, ◌<◌, ℕ, refl, sym, ap, ◌∙◌,
 use Rattle.machine_model.specs.Answer.{most_events}
 use Rattle.machine_events.specs.declared.event.Event.TheVariants.{Exec}
 use Rattle.machine_events.specs.declared.event.Standing.TheVariants.{Running}
-use Rattle.processor_steps.specs.Seen.{QueueView, ProcessorView, actives, ArePlaced, Steps}
+use Rattle.processor_steps.specs.Processors.{QueueView, ProcessorView, actives, ArePlaced, Steps}
 use Rattle.processor_steps.proofs.Executions.{LeavesRest, head_tried, ahead_tried, on_err, not_zero}
 use Rattle.processor_steps.proofs.processor.Processor.try_exec.Goals as goal
 

@@ -2,12 +2,13 @@ use Rattle.std.proofs.Common.{None, Option, Ok, ap, ◌∙◌}
 use Rattle.std.specs.Prelude.{nat_lt}
 use Rattle.std.specs.Option.{option_or}
 use Rattle.task_descriptor.specs.Listing.{Listing}
-use Rattle.machine_model.specs.Answer.{refusal, after, unless, most_events}
+use Rattle.machine_model.specs.Refusals.{unless}
+use Rattle.machine_model.specs.Answer.{refusal, after, most_events}
 use Rattle.machine_events.specs.declared.event.Event.TheVariants.{Retire}
 use Rattle.machine_events.specs.declared.event.Refused.{Refused}
 use Rattle.machine_events.specs.declared.event.Refused.TheVariants as refused
-use Rattle.processor_steps.specs.Seen.{state_of}
-use Rattle.processor_steps.specs.Parts.{Does}
+use Rattle.processor_steps.specs.Processors.{state_of}
+use Rattle.processor_steps.specs.CallParts.{Does}
 use Rattle.processor_steps.proofs.TriedSteps.{does_steps}
 use Rattle.processor_steps.proofs.processor.Processor.try_retire.Goals as goal
 

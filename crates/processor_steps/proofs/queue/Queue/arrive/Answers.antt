@@ -1,8 +1,8 @@
 use Rattle.std.proofs.Common.{◌≡◌, ap, ◌∙◌}
 use Rattle.machine_model.specs.Machine.{Active}
-use Rattle.machine_model.specs.Step.{put}
+use Rattle.machine_model.specs.Unit.{put}
 use Rattle.unit_core.specs.Units.{active_of}
-use Rattle.processor_steps.specs.Seen.{QueueView, actives}
+use Rattle.processor_steps.specs.Processors.{QueueView, actives}
 use Rattle.processor_steps.proofs.Queues.{unit_is, changed}
 use Rattle.processor_steps.proofs.Outcomes.{arrived_ok}
 use Rattle.processor_steps.proofs.queue.Queue.arrive.Goals as goal

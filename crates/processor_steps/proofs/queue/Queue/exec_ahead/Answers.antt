@@ -1,10 +1,7 @@
-use Rattle.std.proofs.Common.{◌≡◌, ◌⊎◌, Bool, false, Some, None, refl, sym, ap, ◌∙◌, subst, List}
-use Rattle.std.specs.Prelude.{slice_set, nat_eq}
-use Rattle.unit_core.specs.UnitStep.{wait_of}
-use Rattle.unit_core.specs.declared.wait.Wait.TheVariants as wait
-use Rattle.processor_steps.proofs.Executions.{not_zero}
+use Rattle.std.proofs.Common.{false, refl, ap, ◌∙◌, List}
+use Rattle.std.specs.Prelude.{slice_set}
 use Rattle.unit_core.specs.Units.{UnitView, active_of}
-use Rattle.processor_steps.specs.Seen.{QueueView, actives}
+use Rattle.processor_steps.specs.Processors.{QueueView, actives}
 use Rattle.processor_steps.proofs.Queues.{is_there, changed, set_back}
 use Rattle.processor_steps.proofs.Outcomes.{refused_at}
 use Rattle.processor_steps.proofs.queue.Queue.exec_ahead.Goals as goal
@@ -34,9 +31,7 @@ pub returns-in-Err-clause-refused : goal.returns-in-Err-clause-refused
 returns-in-Err-clause-refused c =
     let x = c.in-Some.unit.now in
     let there = is_there c.self.inside.ring.items c.args.self.now c.args.position x (ap (λ (q : QueueView). actives q) c.self.view_is) c.in-Some.ensures.value in
-    let behind : nat_eq c.args.position 0 ≡ false = not_zero c.args.position c.requires.behind in
-    refused_at c.args.accepted.now.program (actives c.args.self.now) c.args.position (active_of x) c.in-Err.wait c.refused_by.result there c.refused_by.ensures
-    (subst (λ (b : Bool). (wait_of c.args.accepted.now.program b (active_of x) ≡ Some c.in-Err.wait) ⊎ ((c.in-Err.wait ≡ wait.OutOfMemory) × (wait_of c.args.accepted.now.program b (active_of x) ≡ None))) (sym behind) c.in-Err.ensures.refused)
+    refused_at c.args.accepted.now.program false (actives c.args.self.now) c.args.position (active_of x) c.in-Err.wait c.refused_by.result there c.refused_by.ensures c.in-Err.ensures.refused
 
 pub returns-in-Err-clause-err : goal.returns-in-Err-clause-err
 returns-in-Err-clause-err c =

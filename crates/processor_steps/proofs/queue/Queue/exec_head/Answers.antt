@@ -1,7 +1,7 @@
-use Rattle.std.proofs.Common.{refl, ap, ◌∙◌, List}
+use Rattle.std.proofs.Common.{true, refl, ap, ◌∙◌, List}
 use Rattle.std.specs.Prelude.{slice_set}
 use Rattle.unit_core.specs.Units.{UnitView, active_of}
-use Rattle.processor_steps.specs.Seen.{QueueView, actives}
+use Rattle.processor_steps.specs.Processors.{QueueView, actives}
 use Rattle.processor_steps.proofs.Queues.{is_there, changed, set_back}
 use Rattle.processor_steps.proofs.Outcomes.{refused_at}
 use Rattle.processor_steps.proofs.queue.Queue.exec_head.Goals as goal
@@ -31,7 +31,7 @@ pub returns-in-Err-clause-refused : goal.returns-in-Err-clause-refused
 returns-in-Err-clause-refused c =
     let x = c.in-Some.head.now in
     let there = is_there c.self.inside.ring.items c.args.self.now 0 x (ap (λ (q : QueueView). actives q) c.self.view_is) c.in-Some.ensures.value in
-    refused_at c.args.accepted.now.program (actives c.args.self.now) 0 (active_of x) c.in-Err.wait c.refused_by.result there c.refused_by.ensures c.in-Err.ensures.refused
+    refused_at c.args.accepted.now.program true (actives c.args.self.now) 0 (active_of x) c.in-Err.wait c.refused_by.result there c.refused_by.ensures c.in-Err.ensures.refused
 
 pub returns-in-Err-clause-err : goal.returns-in-Err-clause-err
 returns-in-Err-clause-err c =

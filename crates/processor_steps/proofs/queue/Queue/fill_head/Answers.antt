@@ -4,7 +4,7 @@ use Rattle.machine_model.specs.Machine.{Active}
 use Rattle.machine_model.specs.Step.{filled}
 use Rattle.register_ring.specs.Ports.{filled_with}
 use Rattle.unit_core.specs.Units.{UnitView, active_of}
-use Rattle.processor_steps.specs.Seen.{QueueView, actives}
+use Rattle.processor_steps.specs.Processors.{QueueView, actives}
 use Rattle.processor_steps.proofs.queue.Queue.fill_head.Goals as goal
 
 -- the head filled is the queue filled

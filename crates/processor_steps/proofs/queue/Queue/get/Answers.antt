@@ -2,7 +2,7 @@ use Rattle.std.proofs.Common.{ap, ◌∙◌}
 use Rattle.std.specs.Prelude.{slice_get}
 use Rattle.std.specs.Option.{option_map}
 use Rattle.unit_core.specs.Units.{active_of}
-use Rattle.processor_steps.specs.Seen.{QueueView, actives}
+use Rattle.processor_steps.specs.Processors.{QueueView, actives}
 use Rattle.processor_steps.proofs.Queues.{at_map}
 use Rattle.processor_steps.proofs.queue.Queue.get.Goals as goal
 

@@ -2,7 +2,7 @@ use Rattle.std.proofs.Common.{◌∙◌, sym, ap}
 use Rattle.std.proofs.lemmas.Bool.{eqb-true, eq-eqb}
 use Rattle.machine_model.specs.Machine.{Active}
 use Rattle.unit_core.specs.Units.{active_of}
-use Rattle.processor_steps.specs.Seen.{QueueView, actives}
+use Rattle.processor_steps.specs.Processors.{QueueView, actives}
 use Rattle.processor_steps.proofs.Queues.{is_there, unit_is}
 use Rattle.processor_steps.proofs.queue.Queue.has_serial.Goals as goal
 

@@ -3,7 +3,7 @@ use Rattle.std.proofs.Common.{◌≡◌, List, ◌++◌, drop, sym, ap, ◌∙�
 use Rattle.std.specs.Prelude.{slice_set, OnErr, Result, Ok, Err}
 use Rattle.machine_model.specs.Machine.{Active}
 use Rattle.unit_core.specs.Units.{UnitView, active_of}
-use Rattle.processor_steps.specs.Seen.{QueueView, actives}
+use Rattle.processor_steps.specs.Processors.{QueueView, actives}
 use Rattle.processor_steps.proofs.Queues.{unit_is, behind_head, set_back}
 use Rattle.processor_steps.proofs.queue.Queue.pop_into.Goals as goal
 

@@ -4,7 +4,7 @@ use Rattle.std.proofs.lemmas.Bool.{cases_lt}
 use Rattle.std.proofs.lemmas.List.{length-map}
 use Rattle.machine_model.specs.Machine.{Active}
 use Rattle.unit_core.specs.Units.{active_of}
-use Rattle.processor_steps.specs.Seen.{actives}
+use Rattle.processor_steps.specs.Processors.{actives}
 use Rattle.processor_steps.proofs.Positions.{first_with, none_with}
 use Rattle.processor_steps.proofs.queue.Queue.position_with.Goals as goal
 

@@ -2,7 +2,7 @@
 use Rattle.std.proofs.Common.{◌≡◌, ℕ, ◌<◌, Some}
 use Rattle.std.specs.Prelude.{slice_get}
 use Rattle.machine_model.specs.Machine.{Active}
-use Rattle.processor_steps.specs.Seen.{actives}
+use Rattle.processor_steps.specs.Processors.{actives}
 use Rattle.processor_steps.proofs.queue.Queue.position_with.Given as goal
 
 abbrev pub invariant-loop-position : goal.invariant-loop-position

@@ -3,7 +3,7 @@ use Rattle.std.specs.Prelude.{map}
 use Rattle.mips_plain.specs.Words.{has}
 use Rattle.machine_model.specs.Step.{is_reserved}
 use Rattle.unit_core.specs.Units.{UnitView, active_of}
-use Rattle.processor_steps.specs.Seen.{QueueView, actives}
+use Rattle.processor_steps.specs.Processors.{QueueView, actives}
 use Rattle.processor_steps.proofs.Queues.{reserved_joined}
 use Rattle.processor_steps.proofs.queue.Queue.reserved.Goals as goal
 

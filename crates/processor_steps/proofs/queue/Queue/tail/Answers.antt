@@ -2,7 +2,7 @@ use Rattle.std.proofs.Common.{None, ap, ◌∙◌}
 use Rattle.std.specs.Option.{option_map}
 use Rattle.std.specs.List.{last_or}
 use Rattle.unit_core.specs.Units.{active_of}
-use Rattle.processor_steps.specs.Seen.{QueueView, actives}
+use Rattle.processor_steps.specs.Processors.{QueueView, actives}
 use Rattle.processor_steps.proofs.Queues.{last_is, last_map}
 use Rattle.processor_steps.proofs.queue.Queue.tail.Goals as goal
 

@@ -3,7 +3,7 @@ use Rattle.std.proofs.Common.{ap, sym, ◌∙◌, arith}
 use Rattle.std.proofs.lemmas.Bool.{cond-true, lt-ltb}
 use Rattle.mips_plain.specs.Words.{has}
 use Rattle.machine_model.specs.Machine.{Words}
-use Rattle.machine_model.specs.Step.{put}
+use Rattle.machine_model.specs.Unit.{put}
 use Rattle.register_ring.specs.Held.{pairs}
 use Rattle.register_ring.specs.Ports.{arrived_of, sent_of}
 use Rattle.register_ring.proofs.PortLemmas.{ring_put, over_ring, no_pair}

@@ -1,5 +1,5 @@
 use Rattle.std.proofs.Common.{sym, subst}
-use Rattle.processor_steps.specs.Seen.{ArePlaced}
+use Rattle.processor_steps.specs.Processors.{ArePlaced}
 use Rattle.sequencer.specs.Seen.{MachineView, state}
 use Rattle.sequencer.proofs.machine.Machine.allows.Goals as goal
 

@@ -1,6 +1,6 @@
 use Rattle.std.proofs.Common.{ℕ, List, length, ◌++◌, ◌∷◌, [], Ok, sym, ap, ◌∙◌, subst}
 use Rattle.machine_events.specs.declared.event.Event.{Event}
-use Rattle.processor_steps.specs.Seen.{ProcessorView, Steps, ArePlaced}
+use Rattle.processor_steps.specs.Processors.{ProcessorView, Steps, ArePlaced}
 use Rattle.sequencer.specs.Seen.{MachineView, IsMachine, state}
 use Rattle.sequencer.proofs.machine.Machine.apply.Goals as goal
 

@@ -4,7 +4,7 @@ use Rattle.std.specs.Prelude.{replicate}
 use Rattle.machine_events.specs.declared.event.Event.TheVariants.{Exec}
 use Rattle.machine_events.specs.declared.event.Standing.TheVariants.{Running}
 use Rattle.unit_core.specs.Bursts.{BurstView}
-use Rattle.processor_steps.specs.Seen.{Keeps}
+use Rattle.processor_steps.specs.Processors.{Keeps}
 use Rattle.sequencer.specs.Seen.{MachineView, IsMachine, state}
 use Rattle.sequencer.specs.Rings.{AreDistinct}
 use Rattle.sequencer.specs.Bursts.{Takes}

@@ -8,7 +8,7 @@ use Rattle.task_descriptor.specs.declared.descriptor.Descriptor.{Descriptor}
 use Rattle.machine_model.specs.Machine.{task_at, no_task, creates}
 use Rattle.register_ring.specs.Ports.{sent_of}
 use Rattle.unit_core.specs.Units.{UnitView, active_of}
-use Rattle.unit_core.specs.UnitStep.{drain_fault, Sends}
+use Rattle.machine_model.specs.Unit.{Sends, drain_refusal}
 use Rattle.unit_core.proofs.UnitLemmas.{none_is, drains}
 use Rattle.unit_core.proofs.unit.Unit.drain.Goals as goal
 
@@ -29,6 +29,6 @@ returns-clause-answer c =
     sym (ap (λ (d : Descriptor). has d.create r) task) ∙ (sym c.has.ensures.member ∙ c.if-not-has.false) in
     let unsent : sent_of u.port r ≡ None =
     none_is (sent_of u.port r) (sym (c.sent_set.ensures.members r) ∙ (sym c.has-2.ensures.member ∙ c.if-has.false)) in
-    subst (λ (v : UnitView). (drain_fault p (active_of v) r ≡ None) × Sends p (active_of v) r (active_of after)) c.self.view_is
+    subst (λ (v : UnitView). (drain_refusal p (active_of v) r ≡ None) × Sends p (active_of v) r (active_of after)) c.self.view_is
     (drains p u c.send.new.self r c.in-Stopped.field-0 c.in-Some.word created c.in-Stopped.is unsent (sym c.value_of.ensures ∙ c.in-Some.is)
     c.send.ensures.sent c.send.ensures.arrived)

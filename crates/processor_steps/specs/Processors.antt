@@ -1,14 +1,13 @@
 -- The processor as contracts see it: lists for its arrays and vectors, and one word from them to the
 -- state that the machine step speaks of.
-use Rattle.std.specs.Prelude.{◌≡◌, ℕ, ◌+◌, ◌⊎◌, List, map, length, slice_index, slice_get, nat_eq, nat_lt, position, Bool, true, false, Option, Some, None, Result, OnOk, OnErr, IfErr}
+use Rattle.std.specs.Prelude.{◌≡◌, ℕ, ◌+◌, ◌⊎◌, List, map, length, slice_index, slice_get, nat_eq, position, Bool, true, false, Option, Some, None, Result, OnOk, OnErr, IfErr}
 use Rattle.std.specs.List.{sum_by}
-use Rattle.std.specs.Option.{option_or}
 use Rattle.mips_plain.specs.declared.outcome.Read.{Read}
 use Rattle.task_descriptor.specs.Listing.{Listing}
 use Rattle.mark_checker.specs.Places.{Checked}
 use Rattle.machine_model.specs.Machine.{Active, State}
 use Rattle.machine_model.specs.Step.{Next}
-use Rattle.machine_model.specs.Answer.{unless, refusal, most_events}
+use Rattle.machine_model.specs.Answer.{later_refusal}
 use Rattle.machine_model.specs.Claims.{committed}
 use Rattle.machine_events.specs.declared.event.Commit.{Commit}
 use Rattle.machine_events.specs.declared.event.Event.{Event}
@@ -67,10 +66,6 @@ abbrev pub takes_memory : Event → Bool
 takes_memory (Exec k) = true
 takes_memory Retire = true
 takes_memory _ = false
-
--- what refuses an event with n before it where the run goes on
-abbrev pub later_refusal : Listing → (units : ℕ) → State → (n : ℕ) → Event → Option Refused
-later_refusal p units s n e = option_or (refusal p units s e) (unless (nat_lt n most_events) refused.Full None)
 
 -- a call on a processor where the run goes on: it answers what refuses the event, or for one that
 -- takes memory that it is wanted; Ok leaves a state by the machine step, else nothing is changed

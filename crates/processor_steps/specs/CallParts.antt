@@ -1,25 +1,23 @@
 -- What the parts of a call on a processor do: words for private functions alone.
-use Rattle.std.specs.Prelude.{◌≡◌, ℕ, ◌⊎◌, List, slice_get, slice_set, nat_eq, true, false, Option, Some, None, Result, OnOk, OnErr}
+use Rattle.std.specs.Prelude.{◌≡◌, ℕ, ◌⊎◌, List, slice_get, slice_set, true, false, Option, Some, None, Result, OnOk, OnErr}
 use Rattle.std.specs.Result.{result_err}
-use Rattle.std.specs.Option.{option_map}
 use Rattle.task_descriptor.specs.Listing.{Listing}
 use Rattle.machine_model.specs.Machine.{Active}
-use Rattle.machine_model.specs.Answer.{for_some, after}
+use Rattle.machine_model.specs.Unit.{exec_refusal}
+use Rattle.machine_model.specs.Answer.{after, later_refusal}
 use Rattle.machine_model.specs.Burst.{StepsAlone}
 use Rattle.machine_events.specs.declared.event.Event.{Event}
 use Rattle.machine_events.specs.declared.event.Refused.{Refused}
 use Rattle.machine_events.specs.declared.event.Refused.TheVariants as refused
-use Rattle.unit_core.specs.UnitStep.{StepsAtHead, wait_of}
+use Rattle.unit_core.specs.UnitStep.{StepsAtHead}
 use Rattle.unit_core.specs.Worlds.{WorldView}
-use Rattle.unit_core.specs.declared.wait.Wait.{Wait}
-use Rattle.unit_core.specs.declared.wait.Wait.TheVariants as wait
-use Rattle.processor_steps.specs.Seen.{ProcessorView, state_of, Keeps, later_refusal}
+use Rattle.processor_steps.specs.Processors.{ProcessorView, state_of, Keeps}
 
 -- the head executes one instruction
 pub record HeadStep (p : Listing) (us us' : List Active) (w w' : WorldView) : Type 0 where
   pub unit : Active
   pub is_unit : slice_get us 0 ≡ Some unit
-  pub may : wait_of p true unit ≡ None
+  pub may : exec_refusal p true unit ≡ None
   pub after : Active
   pub step : StepsAtHead p unit after w w'
   pub is : us' ≡ slice_set us 0 after
@@ -28,22 +26,10 @@ pub record HeadStep (p : Listing) (us us' : List Active) (w w' : WorldView) : Ty
 pub record AheadStep (p : Listing) (k : ℕ) (us us' : List Active) : Type 0 where
   pub unit : Active
   pub is_unit : slice_get us k ≡ Some unit
-  pub may : wait_of p false unit ≡ None
+  pub may : exec_refusal p false unit ≡ None
   pub after : Active
   pub step : StepsAlone p unit after
   pub is : us' ≡ slice_set us k after
-
--- the refusal of an event whose unit waits
-abbrev pub refused_by : Wait → Refused
-refused_by wait.Stopped = refused.Stopped
-refused_by (wait.Waiting r) = refused.Waiting r
-refused_by wait.NotHead = refused.NotHead
-refused_by wait.OutOfMemory = refused.OutOfMemory
-
--- what an Exec is refused by, by what its unit waits for
-abbrev pub exec_refusal : Listing → List Active → ℕ → Option Refused
-exec_refusal p us k =
-    for_some (slice_get us k) refused.NoSuch (λ u. option_map refused_by (wait_of p (nat_eq k 0) u))
 
 -- the refusal holds, or there is none and memory is wanted
 abbrev pub IsRefusedBy : Refused → Option Refused → Type 0
