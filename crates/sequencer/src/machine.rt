@@ -10,17 +10,20 @@ use mips_plain::number::{Place, Reg};
 use processor_steps::processor::{MOST_EVENTS, Processor};
 use std::alloc::Global;
 use std::marker::Model;
+use thiserror::Error;
 use unit_core::read_log::ReadLog;
 
 /// The most units of a machine.
 pub const MOST_UNITS: u32 = 16;
 
 /// Why a machine isn't made.
-#[derive(Clone, Copy, Debug, PartialEq, Eq)]
+#[derive(Clone, Copy, Debug, PartialEq, Eq, Error)]
 pub enum MachineFault {
     /// 1: not 1 to 16 units.
+    #[error("1 Units")]
     Units,
     /// 2: want of memory.
+    #[error("2 OutOfMemory")]
     OutOfMemory,
 }
 
@@ -60,7 +63,7 @@ impl<'a> Machine<'a> {
     ghost use Rattle.machine_model.specs.Replay.{Replays, ReplaysFrom};
     ghost use Rattle.machine_model.specs.Claims.{Claims, EndsLike, count_c, count_h};
     ghost use Rattle.mips_plain.specs.Words.{byte_of};
-    ghost use Rattle.processor_steps.specs.Seen.{ProcessorView, Keeps, Steps, ArePlaced, executed_by, state_of};
+    ghost use Rattle.processor_steps.specs.Processors.{ProcessorView, Keeps, Steps, ArePlaced, executed_by, state_of};
     ghost use Rattle.sequencer.specs.Seen.{IsMachine, state, units_of, answer_to, IsAnswered, Applies, SameRing};
     ghost use Rattle.sequencer.specs.Choices.{choices_of, choice_of, MayFollow};
     ghost use Rattle.sequencer.specs.Finish.{RunsByHead, IsHeadRefused};

@@ -1,15 +1,19 @@
 //! What a run in steps leaves.
 
 use sequencer::machine::Machine;
+use thiserror::Error;
 
 /// Why there is no report of a run.
-#[derive(Clone, Copy, Debug, PartialEq, Eq)]
+#[derive(Clone, Copy, Debug, PartialEq, Eq, Error)]
 pub enum StepsFault {
     /// 1: not 1 to 16 units.
+    #[error("1 Units")]
     Units,
     /// 2: not a budget of 1 to 1,000,000 events.
+    #[error("2 Budget")]
     Budget,
     /// 3: want of memory.
+    #[error("3 OutOfMemory")]
     OutOfMemory,
 }
 

@@ -154,6 +154,14 @@ fn unit_waits(rt: HostRuntime) {
 }
 
 #[test]
+fn texts_of_answers(rt: HostRuntime) {
+    let waiting = Wait::Waiting(register(&rt, 33));
+    let text = format!(in rt.alloc(); "{waiting}, {}", DrainFault::NoValue).ok();
+    let text = text.expect(&rt, "room for a text");
+    assert_eq!(rt; text.as_str(), "2 Waiting $33, 4 NoValue");
+}
+
+#[test]
 fn arrived_register_is_used(rt: HostRuntime) {
     let accepted = count(&rt, rt.alloc());
     let mut head = Trial::new(&rt, rt.alloc(), &accepted, two_in_register_8(&rt));

@@ -3,19 +3,24 @@
 use mips_plain::number::Reg;
 use mips_plain::outcome::OutOfMemory;
 use std::alloc::AllocError;
+use thiserror::Error;
 
 /// Why a unit does not execute its next instruction. The first that holds, in this order, is the
 /// answer; nothing is changed.
-#[derive(Clone, Copy, Debug, PartialEq, Eq)]
+#[derive(Clone, Copy, Debug, PartialEq, Eq, Error)]
 pub enum Wait {
     /// 1: it has stopped.
+    #[error("1 Stopped")]
     Stopped,
     /// 2: this register, of those that the instruction needs the least without a value, is reserved.
+    #[error("2 Waiting ${}", .0.get())]
     Waiting(Reg),
     /// 3: the instruction is a memory operation, `out` or `halt`, which wait until the unit is the
     /// head, and no load of read-only data.
+    #[error("3 NotHead")]
     NotHead,
     /// 4: a growth of the log or of the output was refused.
+    #[error("4 OutOfMemory")]
     OutOfMemory,
 }
 
@@ -43,14 +48,18 @@ impl From<OutOfMemory> for Wait {
 
 /// Why a unit does not send a register at its end. The first that holds, in this order, is the
 /// answer; nothing is changed.
-#[derive(Clone, Copy, Debug, PartialEq, Eq)]
+#[derive(Clone, Copy, Debug, PartialEq, Eq, Error)]
 pub enum DrainFault {
     /// 1: the register is not in the create mask of the unit's task.
+    #[error("1 NotInCreate")]
     NotInCreate,
     /// 2: the unit has not stopped.
+    #[error("2 NotStopped")]
     NotStopped,
     /// 3: the register has been sent.
+    #[error("3 AlreadySent")]
     AlreadySent,
     /// 4: the register has no value.
+    #[error("4 NoValue")]
     NoValue,
 }
