@@ -7,7 +7,7 @@ use Rattle.json.specs.Json.{Json, number, string, array, object, Items, no_items
 use Rattle.json.specs.Tree.{json_tokens}
 use Rattle.json.specs.Print.{print}
 use Rattle.sarif_log.specs.declared.entry.Level.{Level}
-use Rattle.sarif_log.specs.declared.entry.Level.TheVariants.{Error, Note}
+use Rattle.sarif_log.specs.declared.entry.Level.TheVariants.{Error, Warning, Note}
 use Rattle.sarif_log.specs.declared.entry.LoggedFile.{LoggedFile}
 use Rattle.sarif_log.specs.declared.entry.LoggedFile.TheVariants.{Program, Certificate}
 use Rattle.sarif_log.specs.declared.entry.Columns.{Columns}
@@ -56,6 +56,7 @@ related_members uri (Some r) = member (codes "relatedLocations") (array (item (r
 
 abbrev pub level_word : Level → List ℕ
 level_word Error = codes "error"
+level_word Warning = codes "warning"
 level_word Note = codes "note"
 
 -- the one of two files that is meant

@@ -1,8 +1,8 @@
 -- The rules of a log (own words): what can be wrong with a program text, with the marks of its program, and
--- with its certificate.
+-- with its certificate, and which marks cost speed.
 use Rattle.std.specs.Prelude.{ℕ, List, codes}
 use Rattle.sarif_log.specs.declared.rules.LogRule.{LogRule}
-use Rattle.sarif_log.specs.declared.rules.LogRule.TheVariants.{EntryWithoutMask, NextWithoutMask, LacksDestination, LacksNext, ExceedsCreate, ForwardedInNext, ReleasedInNext, SentNotCreated, ExitNotListed, FallsOff, IndirectGoesOn, TargetNotEntry, TooLong, NotAscii, Token, Mnemonic, Operand, Number, Mark, Duplicate, Unknown, Build, Header, Line, TaskName, MissingTask, Shape, Unfit, More}
+use Rattle.sarif_log.specs.declared.rules.LogRule.TheVariants.{EntryWithoutMask, NextWithoutMask, LacksDestination, LacksNext, ExceedsCreate, ForwardedInNext, ReleasedInNext, SentNotCreated, ExitNotListed, FallsOff, IndirectGoesOn, TargetNotEntry, TooLong, NotAscii, Token, Mnemonic, Operand, Number, Mark, Duplicate, Unknown, Build, Header, Line, TaskName, MissingTask, Shape, Unfit, NeverProduced, NotForwarded, SentBefore, Unreached, More}
 
 -- its identifier: the rule's number, or the number and the name of the fault
 abbrev pub rule_id : LogRule → List ℕ
@@ -34,6 +34,10 @@ rule_id TaskName = codes "certificate-3-TaskName"
 rule_id MissingTask = codes "certificate-4-MissingTask"
 rule_id Shape = codes "certificate-5-Shape"
 rule_id Unfit = codes "certificate-unfit"
+rule_id NeverProduced = codes "warning-NeverProduced"
+rule_id NotForwarded = codes "warning-NotForwarded"
+rule_id SentBefore = codes "warning-SentBefore"
+rule_id Unreached = codes "warning-Unreached"
 rule_id More = codes "more"
 
 -- what is wrong where it is broken
@@ -66,7 +70,11 @@ rule_short TaskName = codes "A line names a task that is not the program's next 
 rule_short MissingTask = codes "The certificate lacks a task of the program"
 rule_short Shape = codes "The indices of a task do not rise, or one is too large"
 rule_short Unfit = codes "The certificate is not one of the program as it stands"
-rule_short More = codes "More is wrong than is shown"
+rule_short NeverProduced = codes "A create mask has a register that no instruction of the task writes or releases"
+rule_short NotForwarded = codes "A last update has no forward bit"
+rule_short SentBefore = codes "A release names a register that was sent before"
+rule_short Unreached = codes "No task reaches the code from here on"
+rule_short More = codes "There is more than is shown"
 
 -- where it is explained
 abbrev pub rule_help : LogRule → List ℕ
@@ -98,4 +106,8 @@ rule_help TaskName = codes "multiscalar annotate --emit keep PROGRAM makes a cer
 rule_help MissingTask = codes "multiscalar annotate --emit keep PROGRAM makes a certificate of the program as it stands"
 rule_help Shape = codes "multiscalar annotate --emit keep PROGRAM makes a certificate of the program as it stands"
 rule_help Unfit = codes "multiscalar annotate --emit keep PROGRAM makes a certificate of the program as it stands"
+rule_help NeverProduced = codes "docs/RULES.md explains each warning with an example"
+rule_help NotForwarded = codes "docs/RULES.md explains each warning with an example"
+rule_help SentBefore = codes "docs/RULES.md explains each warning with an example"
+rule_help Unreached = codes "docs/RULES.md explains each warning with an example"
 rule_help More = codes "mend what is shown, and ask again"

@@ -8,6 +8,8 @@ use crate::words::Words;
 pub enum Level {
     /// Something is wrong.
     Error,
+    /// Something is right, but could be better.
+    Warning,
     /// Something to know.
     Note,
 }

@@ -18,6 +18,7 @@ fn level_word(level: Level) -> &'static str
 {
     match level {
         Level::Error => "error",
+        Level::Warning => "warning",
         Level::Note => "note",
     }
 }

@@ -1,4 +1,4 @@
-//! The rules of a log: what can be wrong with a program, its marks and its certificate.
+//! The rules of a log: what can be wrong with a program, its marks and its certificate, and what costs speed.
 
 ghost use Rattle.std.specs.Prelude.{◌≡◌};
 ghost use Rattle.sarif_log.specs.Rules.{rule_id, rule_short, rule_help};
@@ -62,12 +62,20 @@ pub enum LogRule {
     Shape,
     /// The certificate can be read, but is not one of the program as it stands.
     Unfit,
+    /// A warning: a create mask has a register that no instruction of the task writes or releases.
+    NeverProduced,
+    /// A warning: a last update has no forward bit.
+    NotForwarded,
+    /// A warning: a release names a register that was sent before.
+    SentBefore,
+    /// A warning: no task reaches the code from here on.
+    Unreached,
     /// How many things are not shown.
     More,
 }
 
 /// All rules, in the order in which a log lists them.
-pub const RULES: [LogRule; 29] = [
+pub const RULES: [LogRule; 33] = [
     LogRule::EntryWithoutMask,
     LogRule::NextWithoutMask,
     LogRule::LacksDestination,
@@ -96,6 +104,10 @@ pub const RULES: [LogRule; 29] = [
     LogRule::MissingTask,
     LogRule::Shape,
     LogRule::Unfit,
+    LogRule::NeverProduced,
+    LogRule::NotForwarded,
+    LogRule::SentBefore,
+    LogRule::Unreached,
     LogRule::More,
 ];
 
@@ -132,6 +144,10 @@ pub(crate) fn rule_id(rule: LogRule) -> &'static str
         LogRule::MissingTask => "certificate-4-MissingTask",
         LogRule::Shape => "certificate-5-Shape",
         LogRule::Unfit => "certificate-unfit",
+        LogRule::NeverProduced => "warning-NeverProduced",
+        LogRule::NotForwarded => "warning-NotForwarded",
+        LogRule::SentBefore => "warning-SentBefore",
+        LogRule::Unreached => "warning-Unreached",
         LogRule::More => "more",
     }
 }
@@ -174,7 +190,12 @@ pub(crate) fn rule_short(rule: LogRule) -> &'static str
         LogRule::MissingTask => "The certificate lacks a task of the program",
         LogRule::Shape => "The indices of a task do not rise, or one is too large",
         LogRule::Unfit => "The certificate is not one of the program as it stands",
-        LogRule::More => "More is wrong than is shown",
+        LogRule::NeverProduced =>
+            "A create mask has a register that no instruction of the task writes or releases",
+        LogRule::NotForwarded => "A last update has no forward bit",
+        LogRule::SentBefore => "A release names a register that was sent before",
+        LogRule::Unreached => "No task reaches the code from here on",
+        LogRule::More => "There is more than is shown",
     }
 }
 
@@ -212,6 +233,8 @@ pub(crate) fn rule_help(rule: LogRule) -> &'static str
         | LogRule::Shape
         | LogRule::Unfit =>
             "multiscalar annotate --emit keep PROGRAM makes a certificate of the program as it stands",
+        LogRule::NeverProduced | LogRule::NotForwarded | LogRule::SentBefore | LogRule::Unreached =>
+            "docs/RULES.md explains each warning with an example",
         LogRule::More => "mend what is shown, and ask again",
     }
 }
