@@ -24,9 +24,9 @@ label_tokens _ = 0
 abbrev pub span_at : List Span → (index : ℕ) → Span
 span_at spans index = unwrap_or (slice_get spans index) (span 1 1)
 
--- the place behind another one
+-- the place behind another one, which has no bytes
 abbrev pub behind : Span → Span
-behind at = span (min (at.column + at.len) (2 ^ 64 - 1)) 1
+behind at = span (min (at.column + at.len) (2 ^ 64 - 1)) 0
 
 -- Operands.
 

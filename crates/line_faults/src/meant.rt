@@ -32,13 +32,13 @@ pub fn span_at(spans: &[Span], index: usize) -> Span
     spans.get(index).copied().unwrap_or(LINE_START)
 }
 
-/// The place behind another one.
+/// The place behind another one, which has no bytes.
 fn behind(span: Span) -> Span
     ensures { result ≡ behind span }
 {
     Span {
         column: span.column.saturating_add(span.len),
-        len: 1,
+        len: 0,
     }
 }
 
