@@ -1,7 +1,8 @@
+pub mod Reading
 pub mod Faults
 pub mod LineSentences
-pub mod LineTexts
-pub mod NameFaults
-pub mod Reading
+pub mod LineDiagnoses
+pub mod NameDiagnoses
+pub mod MeantDiagnoses
+pub mod Diagnoses
 pub mod Refusals
-pub mod MeantTexts

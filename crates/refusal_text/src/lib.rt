@@ -2,10 +2,12 @@
 //! be right there; and the same of further lines with a fault.
 #![tactic(auto)]
 
+pub mod diagnoses;
+pub mod diagnosis;
+mod line_diagnosis;
 mod line_sentence;
-mod line_text;
-mod meant_text;
-mod name_fault;
+pub mod meant_diagnosis;
+mod name_diagnosis;
 mod reading;
 pub mod refusal;
 mod sentence;

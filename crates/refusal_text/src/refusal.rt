@@ -1,156 +1,161 @@
 //! The text of a refusal for the author of a program text.
 
-ghost use Rattle.std.specs.Prelude.{◌≡◌, IfOk, Ok, Err};
+ghost use Rattle.std.specs.Prelude.{◌≡◌, ◌++◌, map, IfOk, OnOk};
+ghost use Rattle.std.specs.List.{flat_map};
 ghost use Rattle.std.specs.String.{string_bytes};
-ghost use Rattle.program_tokens.specs.Lines.{lines};
-ghost use Rattle.source_map.specs.Sources.{sources_of};
-ghost use Rattle.refusal_text.specs.LineTexts.{lines_text};
-ghost use Rattle.refusal_text.specs.NameFaults.{labels_in, name_text};
-ghost use Rattle.refusal_text.specs.Refusals.{whole_text, instruction_place, placed_text, program_text, build_text, line_start, refusal_text};
+ghost use Rattle.refusal_text.specs.Refusals.{error_words, help_words, whole_text, other_text, note_text, placed_text, diagnosis_text, more_text, refusal_text};
 
-use crate::line_text::write_lines;
-use crate::meant_text::write_meant;
-use crate::name_fault::{labels_in, write_name_fault, write_named};
-use crate::sentence::{fault_help, fault_sentence};
+use crate::diagnoses::{diagnoses_in, rows_of};
+use crate::diagnosis::Diagnosis;
+use crate::meant_diagnosis::note_sentence;
 use annotated_asm::fault::AsmFault;
-use program_places::fault_place::fault_place;
-use source_excerpt::excerpt::lines_of;
-use source_map::position::Position;
-use source_map::reading::source_map;
+use source_excerpt::excerpt::{write_excerpt, write_position};
+use source_map::position::Stretch;
 use std::alloc::{AllocError, Global};
-use task_descriptor::program::BuildFault;
 
-/// What is said of a fault that is in no one line.
+/// Adds what is wrong, with the fault's number and name.
+fn write_error(said: &mut String, sentence: &str, fault: AsmFault) -> Result<(), AllocError>
+    ensures { OnOk result (string_bytes said.new ≡ string_bytes said.old ++ error_words sentence.now fault) }
+{
+    writeln!(said, "error: {sentence} [{fault}]")
+}
+
+/// Adds what would be right.
+fn write_help(said: &mut String, help: &str) -> Result<(), AllocError>
+    ensures { OnOk result (string_bytes said.new ≡ string_bytes said.old ++ help_words help.now) }
+{
+    writeln!(said, "help: {help}")
+}
+
+/// Adds what is said of a fault that is in no one line.
 #[tactic(auto, unfolding(crate::specs::Refusals::whole_text))]
-fn whole_text(alloc: Global, file: &str, fault: AsmFault) -> Result<String, AllocError>
-    ensures { IfOk result (λ said. string_bytes said ≡ whole_text file.now fault) }
-{
-    let sentence = fault_sentence(fault);
-    let help = fault_help(fault);
-    let mut said = String::new(alloc);
-    writeln!(said, "{file}: error: {sentence} [{fault}]")?;
-    writeln!(said, "{file}: help: {help}")?;
-    Ok(said)
-}
-
-/// What is said of a text whose line of this number has this fault.
-fn lines_text(
-    alloc: Global,
+fn write_whole(
+    said: &mut String,
     file: &str,
-    text: &[u8],
-    line: u32,
+    sentence: &str,
+    help: &str,
     fault: AsmFault,
-) -> Result<String, AllocError>
-    ensures { IfOk result (λ said. string_bytes said ≡ lines_text file.now (lines text.now) line fault) }
+) -> Result<(), AllocError>
+    ensures { OnOk result (string_bytes said.new ≡ string_bytes said.old ++ whole_text file.now sentence.now help.now fault) }
 {
-    let rows = lines_of(alloc, text)?;
-    let mut said = String::new(alloc);
-    write_lines(alloc, &mut said, file, &rows, line, fault)?;
-    Ok(said)
+    write!(said, "{file}: ")?;
+    write_error(said, sentence, fault)?;
+    write!(said, "{file}: ")?;
+    write_help(said, help)
 }
 
-/// What is said of a name in a line of a text.
-fn name_text(
+/// Adds the other bytes that a fault is about.
+#[tactic(auto, unfolding(crate::specs::Refusals::other_text))]
+fn write_other(
     alloc: Global,
+    said: &mut String,
     file: &str,
-    text: &[u8],
-    line: u32,
+    rows: &[&[u8]],
     fault: AsmFault,
-) -> Result<String, AllocError>
-    ensures { IfOk result (λ said. string_bytes said ≡ name_text file.now (lines text.now) (labels_in (sources_of text.now)) line fault) }
+    at: Stretch,
+) -> Result<(), AllocError>
+    ensures { OnOk result (string_bytes said.new
+        ≡ string_bytes said.old ++ other_text file.now (map (λ row. row.now) rows.now) fault at) }
 {
-    let rows = lines_of(alloc, text)?;
-    let labels = labels_in(alloc, text)?;
-    let mut said = String::new(alloc);
-    write_name_fault(alloc, &mut said, file, &rows, &labels, line, fault)?;
-    Ok(said)
+    let sentence = note_sentence(fault);
+    write_position(said, file, at.position)?;
+    writeln!(said, "note: {sentence}")?;
+    write_excerpt(alloc, said, rows, at.position, at.width)
 }
 
-/// Where the instruction of an index stands in a text.
-fn instruction_place(alloc: Global, text: &[u8], index: u32) -> Result<Option<Position>, AllocError>
-    ensures { IfOk result (λ at. at ≡ instruction_place (sources_of text.now) index) }
+/// Adds the other bytes that a fault is about, if there are some.
+fn write_note(
+    alloc: Global,
+    said: &mut String,
+    file: &str,
+    rows: &[&[u8]],
+    fault: AsmFault,
+    note: Option<Stretch>,
+) -> Result<(), AllocError>
+    ensures { OnOk result (string_bytes said.new
+        ≡ string_bytes said.old ++ note_text file.now (map (λ row. row.now) rows.now) fault note) }
 {
-    match source_map(alloc, text) {
-        Ok(map) => Ok(map.code.get(index as usize).copied()),
-        Err(AsmFault::OutOfMemory) => Err(AllocError),
-        Err(_) => Ok(None),
+    match note {
+        Some(at) => write_other(alloc, said, file, rows, fault, at),
+        None => Ok(()),
     }
 }
 
-/// What is said of a fault at a place, if it is at one.
-fn placed_text(
+/// Adds what is said of a fault at some bytes.
+#[tactic(auto, unfolding(crate::specs::Refusals::placed_text))]
+fn write_placed(
     alloc: Global,
+    said: &mut String,
     file: &str,
-    text: &[u8],
-    place: Option<Position>,
-    fault: AsmFault,
-) -> Result<String, AllocError>
-    ensures { IfOk result (λ said. string_bytes said ≡ placed_text file.now (lines text.now) place fault) }
+    rows: &[&[u8]],
+    at: Stretch,
+    diagnosis: &Diagnosis,
+) -> Result<(), AllocError>
+    ensures { OnOk result (string_bytes said.new
+        ≡ string_bytes said.old ++ placed_text file.now (map (λ row. row.now) rows.now) at diagnosis.now) }
 {
-    let Some(at) = place else {
-        return whole_text(alloc, file, fault);
-    };
-    let rows = lines_of(alloc, text)?;
-    let mut said = String::new(alloc);
-    let words = (fault_sentence(fault), fault_help(fault));
-    write_named(alloc, &mut said, file, &rows, (at, 1), words, fault)?;
-    Ok(said)
+    write_position(said, file, at.position)?;
+    write_error(said, diagnosis.sentence.as_str(), diagnosis.fault)?;
+    write_excerpt(alloc, said, rows, at.position, at.width)?;
+    write_note(alloc, said, file, rows, diagnosis.fault, diagnosis.note)?;
+    write_position(said, file, at.position)?;
+    write_help(said, diagnosis.help.as_str())
 }
 
-/// What is said of a fault of the program as a whole: at the token that is meant, if one is, else at a place.
-fn program_text(
+/// Adds a diagnosis, in a text of these lines.
+fn write_diagnosis(
     alloc: Global,
+    said: &mut String,
     file: &str,
-    text: &[u8],
-    place: Option<Position>,
-    fault: AsmFault,
-) -> Result<String, AllocError>
-    ensures { IfOk result (λ said. string_bytes said ≡ program_text file.now (lines text.now) place fault) }
+    rows: &[&[u8]],
+    diagnosis: &Diagnosis,
+) -> Result<(), AllocError>
+    ensures { OnOk result (string_bytes said.new
+        ≡ string_bytes said.old ++ diagnosis_text file.now (map (λ row. row.now) rows.now) diagnosis.now) }
 {
-    let rows = lines_of(alloc, text)?;
-    let Some(meant) = fault_place(alloc, &rows, fault)? else {
-        return placed_text(alloc, file, text, place, fault);
-    };
-    let mut said = String::new(alloc);
-    write_meant(alloc, &mut said, file, &rows, meant, fault)?;
-    Ok(said)
-}
-
-/// What is said of parts that make no program.
-fn build_text(
-    alloc: Global,
-    file: &str,
-    text: &[u8],
-    fault: BuildFault,
-) -> Result<String, AllocError>
-    ensures { IfOk result (λ said. string_bytes said ≡ build_text file.now text.now fault) }
-{
-    match fault {
-        BuildFault::BadMark(index) => {
-            let place = instruction_place(alloc, text, index)?;
-            placed_text(alloc, file, text, place, AsmFault::Build(fault))
+    match diagnosis.place {
+        Some(at) => write_placed(alloc, said, file, rows, at, diagnosis),
+        None => {
+            let sentence = diagnosis.sentence.as_str();
+            let help = diagnosis.help.as_str();
+            write_whole(said, file, sentence, help, diagnosis.fault)
         }
-        BuildFault::NoTask => whole_text(alloc, file, AsmFault::Build(fault)),
-        BuildFault::TooMany
-        | BuildFault::BadEntry
-        | BuildFault::DuplicateEntry
-        | BuildFault::BadMask
-        | BuildFault::BadStart => program_text(alloc, file, text, None, AsmFault::Build(fault)),
     }
 }
 
-/// The beginning of a line.
-fn line_start(line: u32) -> Position
-    ensures { result ≡ line_start line }
+/// Adds some diagnoses.
+fn write_each(
+    alloc: Global,
+    said: &mut String,
+    file: &str,
+    rows: &[&[u8]],
+    list: &[Diagnosis],
+) -> Result<(), AllocError>
+    ensures { OnOk result (string_bytes said.new
+        ≡ string_bytes said.old ++ flat_map (diagnosis_text file.now (map (λ row. row.now) rows.now)) list.now) }
 {
-    Position { line, column: 1 }
+    for diagnosis in list {
+        write_diagnosis(alloc, said, file, rows, diagnosis)?;
+    }
+    Ok(())
 }
 
-/// What is said of a text, in a file of this name, whose first fault this is, in the form of gcc and clang:
-/// where it is, what is wrong, the fault's number and name, the line with the bytes that are meant, and what
-/// would be right there. Where the fault is one of 2 to 7, the same is said of up to 19 further lines with
-/// such a fault, and how many more there are. A fault of the program as a whole is told where it shows, with
-/// what else it is about; a text that is too long and a program without a task have no line.
+/// Adds how many lines with a fault are not shown, if there are any.
+fn write_more(said: &mut String, file: &str, more: usize) -> Result<(), AllocError>
+    ensures { OnOk result (string_bytes said.new ≡ string_bytes said.old ++ more_text file.now more) }
+{
+    if more == 0 {
+        return Ok(());
+    }
+    if more == 1 {
+        return writeln!(said, "{file}: note: 1 more line with a fault");
+    }
+    writeln!(said, "{file}: note: {more} more lines with a fault")
+}
+
+/// What is said of a text, in a file of this name, whose first fault this is, in the form of gcc and clang: each
+/// diagnosis with its place, the fault's number and name and the line with the bytes that are meant, and how many
+/// more lines have a fault.
 ///
 /// # Errors
 ///
@@ -163,18 +168,10 @@ pub fn refusal(
 ) -> Result<String, AllocError>
     ensures { IfOk result (λ said. string_bytes said ≡ refusal_text file.now text.now fault) }
 {
-    match fault {
-        AsmFault::NotAscii(line)
-        | AsmFault::Token(line)
-        | AsmFault::Mnemonic(line)
-        | AsmFault::Operand(line)
-        | AsmFault::Number(line)
-        | AsmFault::Mark(line) => lines_text(alloc, file, text, line, fault),
-        AsmFault::Duplicate(line) => {
-            program_text(alloc, file, text, Some(line_start(line)), fault)
-        }
-        AsmFault::Unknown(line) => name_text(alloc, file, text, line, fault),
-        AsmFault::Build(fault) => build_text(alloc, file, text, fault),
-        AsmFault::TooLong | AsmFault::OutOfMemory => whole_text(alloc, file, fault),
-    }
+    let rows = rows_of(alloc, text, fault)?;
+    let found = diagnoses_in(alloc, text, &rows, fault)?;
+    let mut said = String::new(alloc);
+    write_each(alloc, &mut said, file, &rows, &found.list)?;
+    write_more(&mut said, file, found.more)?;
+    Ok(said)
 }

@@ -1,7 +1,7 @@
 //! What a log says: one entry for each result.
 
 use crate::rules::LogRule;
-use crate::words::Words;
+use message_words::words::Words;
 
 /// How grave an entry is (SARIF 2.1.0, section 3.27.10).
 #[derive(Clone, Copy, Debug, PartialEq, Eq)]

@@ -7,4 +7,4 @@ mod layout;
 pub mod log;
 mod place;
 pub mod rules;
-pub mod words;
+mod writer;

@@ -48,8 +48,20 @@ pub enum LogRule {
     Duplicate,
     /// Fault 9.
     Unknown,
-    /// Fault 10.
-    Build,
+    /// Fault 10, part 1.
+    TooMany,
+    /// Part 2.
+    NoTask,
+    /// Part 3.
+    BadEntry,
+    /// Part 4.
+    DuplicateEntry,
+    /// Part 5.
+    BadMask,
+    /// Part 6.
+    BadMark,
+    /// Part 7.
+    BadStart,
     /// Fault 1 of a certificate's text.
     Header,
     /// Fault 2.
@@ -75,7 +87,7 @@ pub enum LogRule {
 }
 
 /// All rules, in the order in which a log lists them.
-pub const RULES: [LogRule; 33] = [
+pub const RULES: [LogRule; 39] = [
     LogRule::EntryWithoutMask,
     LogRule::NextWithoutMask,
     LogRule::LacksDestination,
@@ -97,7 +109,13 @@ pub const RULES: [LogRule; 33] = [
     LogRule::Mark,
     LogRule::Duplicate,
     LogRule::Unknown,
-    LogRule::Build,
+    LogRule::TooMany,
+    LogRule::NoTask,
+    LogRule::BadEntry,
+    LogRule::DuplicateEntry,
+    LogRule::BadMask,
+    LogRule::BadMark,
+    LogRule::BadStart,
     LogRule::Header,
     LogRule::Line,
     LogRule::TaskName,
@@ -137,7 +155,13 @@ pub(crate) fn rule_id(rule: LogRule) -> &'static str
         LogRule::Mark => "refused-7-Mark",
         LogRule::Duplicate => "refused-8-Duplicate",
         LogRule::Unknown => "refused-9-Unknown",
-        LogRule::Build => "refused-10-Build",
+        LogRule::TooMany => "refused-10-Build-1-TooMany",
+        LogRule::NoTask => "refused-10-Build-2-NoTask",
+        LogRule::BadEntry => "refused-10-Build-3-BadEntry",
+        LogRule::DuplicateEntry => "refused-10-Build-4-DuplicateEntry",
+        LogRule::BadMask => "refused-10-Build-5-BadMask",
+        LogRule::BadMark => "refused-10-Build-6-BadMark",
+        LogRule::BadStart => "refused-10-Build-7-BadStart",
         LogRule::Header => "certificate-1-Header",
         LogRule::Line => "certificate-2-Line",
         LogRule::TaskName => "certificate-3-TaskName",
@@ -183,7 +207,13 @@ pub(crate) fn rule_short(rule: LogRule) -> &'static str
         LogRule::Mark => "A mark is unknown, stands a second time, or stands on a directive",
         LogRule::Duplicate => "A label, a task or .start stands a second time",
         LogRule::Unknown => "A name is no label of the kind that is wanted",
-        LogRule::Build => "The parts of the program text make no program",
+        LogRule::TooMany => "The program is larger than a program may be",
+        LogRule::NoTask => "The program has no task",
+        LogRule::BadEntry => "A task begins where there is no instruction",
+        LogRule::DuplicateEntry => "Two tasks begin at one instruction",
+        LogRule::BadMask => "A create mask has $0, which nothing writes",
+        LogRule::BadMark => "An instruction cannot have its mark, or releases nothing",
+        LogRule::BadStart => "The program starts where no task begins",
         LogRule::Header => "The first line is not that of a certificate",
         LogRule::Line => "A line is none of a certificate",
         LogRule::TaskName => "A line names a task that is not the program's next one",
@@ -225,7 +255,13 @@ pub(crate) fn rule_help(rule: LogRule) -> &'static str
         | LogRule::Mark
         | LogRule::Duplicate
         | LogRule::Unknown
-        | LogRule::Build => "docs/FORMATS.md has the grammar of program texts",
+        | LogRule::TooMany
+        | LogRule::NoTask
+        | LogRule::BadEntry
+        | LogRule::DuplicateEntry
+        | LogRule::BadMask
+        | LogRule::BadMark
+        | LogRule::BadStart => "docs/FORMATS.md has the grammar of program texts",
         LogRule::Header
         | LogRule::Line
         | LogRule::TaskName

@@ -5,19 +5,20 @@ ghost use Rattle.std.specs.Option.{option_map};
 ghost use Rattle.std.specs.String.{string_bytes};
 ghost use Rattle.line_faults.specs.Near.{nearest};
 ghost use Rattle.source_map.specs.Sources.{sources_of};
-ghost use Rattle.refusal_text.specs.NameFaults.{labels_in, begins_with_equals, is_label, unknown_from, unknown_index, name_span, name_sentence, near_label, near_help, name_help, named_text, name_position, name_text};
+ghost use Rattle.refusal_text.specs.NameDiagnoses.{labels_in, begins_with_equals, is_label, unknown_from, unknown_index, name_span, name_sentence, near_label, near_help, name_help, name_diagnosis};
 
+use crate::diagnosis::Diagnosis;
+use crate::line_diagnosis::{read_or_none, row_at, stretch_in};
 use crate::line_sentence::write_quoted;
-use crate::line_text::{read_or_none, row_at, write_error, write_help};
 use crate::sentence::{fault_help, fault_sentence};
 use annotated_asm::fault::AsmFault;
 use line_faults::bytes::bytes_at;
 use line_faults::meant::{label_tokens, span_at};
 use line_faults::near::is_near;
+use message_words::words::Words;
 use program_tokens::span::{Span, read_spans};
 use program_tokens::token::Token;
-use source_excerpt::excerpt::write_excerpt;
-use source_map::position::{LabelSource, Position};
+use source_map::position::LabelSource;
 use source_map::reading::source_map;
 use std::alloc::{AllocError, Global};
 use task_descriptor::name::Name;
@@ -126,7 +127,7 @@ fn unknown_index(labels: &[LabelSource], tokens: &[Token]) -> Option<usize>
 }
 
 /// The bytes that are meant; the line's first where the line does not tell which.
-#[tactic(auto, unfolding(crate::specs::NameFaults::name_span))]
+#[tactic(auto, unfolding(crate::specs::NameDiagnoses::name_span))]
 fn name_span(index: Option<usize>, spans: &[Span]) -> Span
     ensures { result ≡ name_span index spans.now }
 {
@@ -137,7 +138,7 @@ fn name_span(index: Option<usize>, spans: &[Span]) -> Span
 }
 
 /// Adds what is wrong with a name.
-#[tactic(auto, unfolding(crate::specs::NameFaults::name_sentence))]
+#[tactic(auto, unfolding(crate::specs::NameDiagnoses::name_sentence))]
 fn write_name_sentence(
     said: &mut String,
     fault: AsmFault,
@@ -189,7 +190,7 @@ fn write_near_help(said: &mut String, fault: AsmFault, near: Option<&str>) -> Re
 }
 
 /// Adds what would be right in place of a name.
-#[tactic(auto, unfolding(crate::specs::NameFaults::name_help))]
+#[tactic(auto, unfolding(crate::specs::NameDiagnoses::name_help))]
 fn write_name_help(
     said: &mut String,
     fault: AsmFault,
@@ -205,47 +206,20 @@ fn write_name_help(
     write_near_help(said, fault, near_label(labels, name))
 }
 
-/// Adds what is said of a fault at a place.
+/// What is said of a name in a line of a text of these lines and labels.
 ///
 /// # Errors
 ///
 /// `AllocError` where memory was refused.
-#[tactic(auto, unfolding(crate::specs::NameFaults::named_text))]
-pub(crate) fn write_named(
+pub(crate) fn name_diagnosis(
     alloc: Global,
-    said: &mut String,
-    file: &str,
-    rows: &[&[u8]],
-    place: (Position, usize),
-    words: (&str, &str),
-    fault: AsmFault,
-) -> Result<(), AllocError>
-    ensures { OnOk result (string_bytes said.new ≡ string_bytes said.old
-        ++ named_text file.now (map (λ row. row.now) rows.now) place.0 place.1 words.entry.0.now words.entry.1.now fault) }
-{
-    let (at, len) = place;
-    let (sentence, help) = words;
-    write_error(said, file, at, sentence, fault)?;
-    write_excerpt(alloc, said, rows, at, len)?;
-    write_help(said, file, at, help)
-}
-
-/// Adds all that is said of a name in a line of a text of these lines and labels.
-///
-/// # Errors
-///
-/// `AllocError` where memory was refused.
-pub(crate) fn write_name_fault(
-    alloc: Global,
-    said: &mut String,
-    file: &str,
     rows: &[&[u8]],
     labels: &[LabelSource],
     line: u32,
     fault: AsmFault,
-) -> Result<(), AllocError>
-    ensures { OnOk result (string_bytes said.new
-        ≡ string_bytes said.old ++ name_text file.now (map (λ row. row.now) rows.now) labels.now line fault) }
+) -> Result<Diagnosis, AllocError>
+    ensures { IfOk result (λ diagnosis. diagnosis
+        ≡ name_diagnosis (map (λ row. row.now) rows.now) labels.now line fault) }
 {
     let row = row_at(rows, line);
     let mut tokens = Vec::new(alloc);
@@ -259,10 +233,11 @@ pub(crate) fn write_name_fault(
     let mut help = String::new(alloc);
     write_name_sentence(&mut sentence, fault, index, name)?;
     write_name_help(&mut help, fault, index, labels, name)?;
-    let position = Position {
-        line,
-        column: at.column,
-    };
-    let words = (sentence.as_str(), help.as_str());
-    write_named(alloc, said, file, rows, (position, at.len), words, fault)
+    Ok(Diagnosis {
+        fault,
+        place: Some(stretch_in(line, at)),
+        sentence: Words::new(sentence),
+        help: Words::new(help),
+        note: None,
+    })
 }

@@ -1,7 +1,7 @@
 -- The tokens that were passed over are labels or no names.
 use Rattle.std.proofs.Common.{◌≡◌, ◌+◌, length}
-use Rattle.refusal_text.specs.NameFaults.{unknown_from}
-use Rattle.refusal_text.proofs.name_fault.unknown_from.Given as goal
+use Rattle.refusal_text.specs.NameDiagnoses.{unknown_from}
+use Rattle.refusal_text.proofs.name_diagnosis.unknown_from.Given as goal
 
 abbrev pub invariant-loop-rest : goal.invariant-loop-rest
 invariant-loop-rest l = record {

@@ -1,5 +1,6 @@
-//! A text that a log quotes.
+//! A text that a message has.
 
+use std::alloc::{AllocError, Global};
 use std::marker::Model;
 
 /// A text, which a contract sees as its bytes.
@@ -21,7 +22,7 @@ impl Model for Words {
 }
 
 impl Words {
-    ghost use Rattle.std.specs.Prelude.{◌≡◌};
+    ghost use Rattle.std.specs.Prelude.{◌≡◌, IfOk};
     ghost use Rattle.std.specs.String.{string_bytes};
 
     /// These words.
@@ -29,6 +30,19 @@ impl Words {
         ensures { result ≡ string_bytes text }
     {
         Words { text }
+    }
+
+    /// The words of a text that stays where it is.
+    ///
+    /// # Errors
+    ///
+    /// `AllocError` where memory was refused.
+    pub fn of(alloc: Global, words: &str) -> Result<Words, AllocError>
+        ensures { IfOk result (λ made. made ≡ words.now) }
+    {
+        let mut text = String::new(alloc);
+        text.push_str(words)?;
+        Ok(Words::new(text))
     }
 
     /// The text.

@@ -8,15 +8,14 @@ use Rattle.program_tokens.specs.declared.span.Span.{Span}
 use Rattle.program_tokens.specs.declared.token.Token.{Token}
 use Rattle.program_tokens.specs.declared.token.Token.TheVariants as token
 use Rattle.annotated_asm.specs.declared.fault.AsmFault.{AsmFault}
-use Rattle.source_map.specs.declared.position.Position.{Position}
 use Rattle.source_map.specs.declared.position.LabelSource.{LabelSource}
 use Rattle.source_map.specs.Sources.{Sources}
-use Rattle.source_excerpt.specs.Excerpt.{excerpt_text}
 use Rattle.line_faults.specs.Near.{nearest}
 use Rattle.line_faults.specs.Bytes.{span, bytes_at}
 use Rattle.line_faults.specs.Meant.{label_tokens, span_at}
+use Rattle.refusal_text.specs.declared.diagnosis.Diagnosis.{Diagnosis}
 use Rattle.refusal_text.specs.LineSentences.{tokens_in, quoted}
-use Rattle.refusal_text.specs.LineTexts.{error_row, help_row, row_at}
+use Rattle.refusal_text.specs.LineDiagnoses.{row_at, stretch_in}
 use Rattle.refusal_text.specs.Faults.{fault_sentence, fault_help}
 
 -- the labels of a text, if its lines can be read
@@ -71,19 +70,16 @@ name_help fault (Some index) labels name = near_help fault (near_label labels na
 
 -- What is said.
 
--- by the bytes that are meant and by what is said of them
-unfoldable pub named_text : (file : List ℕ) → (rows : List (List ℕ)) → Position → (len : ℕ) → (sentence help : List ℕ) → AsmFault → List ℕ
-named_text file rows at len sentence help fault =
-    error_row file at sentence fault ++ (excerpt_text rows at len ++ help_row file at help)
-
-abbrev pub name_position : (n : ℕ) → Span → Position
-name_position n at = record { line = n; column = at.column }
-
--- all that is said of a name in line n of a text of these lines and labels
-abbrev pub name_text : (file : List ℕ) → (rows : List (List ℕ)) → List LabelSource → (n : ℕ) → AsmFault → List ℕ
-name_text file rows labels n fault =
+-- of a name in line n of a text of these lines and labels
+abbrev pub name_diagnosis : (rows : List (List ℕ)) → List LabelSource → (n : ℕ) → AsmFault → Diagnosis
+name_diagnosis rows labels n fault =
     let line = row_at rows n in
     let index = unknown_index labels (tokens_in line) in
     let at = name_span index (line_spans line) in
-    named_text file rows (name_position n at) at.len
-    (name_sentence fault index (bytes_at line at)) (name_help fault index labels (bytes_at line at)) fault
+    record {
+      fault = fault;
+      place = Some (stretch_in n at);
+      sentence = name_sentence fault index (bytes_at line at);
+      help = name_help fault index labels (bytes_at line at);
+      note = None;
+    }

@@ -1,7 +1,7 @@
 -- A near label is sought among those that are left.
 use Rattle.std.proofs.Common.{◌≡◌, drop, map}
 use Rattle.line_faults.specs.Near.{nearest}
-use Rattle.refusal_text.proofs.name_fault.nearest.Given as goal
+use Rattle.refusal_text.proofs.name_diagnosis.nearest.Given as goal
 
 abbrev pub invariant-loop-label : goal.invariant-loop-label
 invariant-loop-label l =

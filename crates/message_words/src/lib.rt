@@ -1,0 +1,4 @@
+//! The words of a message.
+#![tactic(auto)]
+
+pub mod words;
