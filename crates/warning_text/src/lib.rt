@@ -2,5 +2,5 @@
 //! the column that it is about, that line with a caret, and what to do.
 #![tactic(auto)]
 
-mod sentence;
+pub mod sentence;
 pub mod warnings;

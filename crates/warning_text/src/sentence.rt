@@ -13,7 +13,7 @@ use std::alloc::AllocError;
 use task_descriptor::program::Program;
 
 /// What a warning is about: a create mask, or an instruction.
-pub(crate) fn stretch_of(map: &SourceMap, mark: &CostlyMark) -> Stretch
+pub fn stretch_of(map: &SourceMap, mark: &CostlyMark) -> Stretch
     ensures { result ≡ stretch_of (sources_in map.now) mark.now }
 {
     match mark {
@@ -25,7 +25,11 @@ pub(crate) fn stretch_of(map: &SourceMap, mark: &CostlyMark) -> Stretch
 }
 
 /// Adds what costs speed.
-pub(crate) fn write_sentence(
+///
+/// # Errors
+///
+/// `AllocError` where memory was refused.
+pub fn write_sentence(
     text: &mut String,
     program: &Program,
     mark: &CostlyMark,
@@ -57,7 +61,11 @@ pub(crate) fn write_sentence(
 }
 
 /// Adds what to do.
-pub(crate) fn write_help(
+///
+/// # Errors
+///
+/// `AllocError` where memory was refused.
+pub fn write_help(
     text: &mut String,
     program: &Program,
     mark: &CostlyMark,

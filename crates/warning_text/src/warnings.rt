@@ -90,7 +90,7 @@ fn write_more(text: &mut String, file: &str, more: usize) -> Result<(), AllocErr
 }
 
 /// The first marks of a list, of which at most so many are shown.
-fn first_of(list: &[CostlyMark], most: usize) -> &[CostlyMark]
+pub fn first_of(list: &[CostlyMark], most: usize) -> &[CostlyMark]
     ensures { result.now ≡ take most list.now }
 {
     if most < list.len() {
