@@ -9,7 +9,7 @@ use Rattle.finding_paths.specs.declared.shown.ShownFinding.{ShownFinding}
 use Rattle.finding_paths.specs.Shown.{AreShown}
 use Rattle.diagnostic_text.specs.Diagnostics.{most_shown}
 use Rattle.sarif_log.specs.declared.entry.Entry.{Entry}
-use Rattle.log_entries.specs.Findings.{finding_entry, more_entries, AreMarksLogged}
+use Rattle.log_entries.specs.Findings.{finding_entry, more_findings, AreMarksLogged}
 
 none_more : (entry : Entry) (more : ℕ) (none : Bool) → (none ≡ true → more ≡ 0) → (if none then [] else entry ∷ []) ≡ [] → more ≡ 0
 none_more entry more true is e = is refl
@@ -18,14 +18,14 @@ none_more entry more false is e = absurd (some entry e)
     some : (y : Entry) → y ∷ [] ≡ [] → ⊥
     some y e = cc
 
-more_logged : (more : ℕ) → more_entries more ≡ [] → more ≡ 0
+more_logged : (more : ℕ) → more_findings more ≡ [] → more ≡ 0
 more_logged more e = none_more _ more (nat_eq more 0) (λ none. eqb-true more 0 none) e
 
 pub nothing_logged : (p : Listing) (s : Sources) (list : List ShownFinding) (more : ℕ)
-    → (map (finding_entry p s) list ++ more_entries more ≡ []) ↔ ((list ≡ []) × (more ≡ 0))
-nothing_logged p s [] more = (λ e. (refl, more_logged more e), λ both. ap more_entries both.1)
+    → (map (finding_entry p s) list ++ more_findings more ≡ []) ↔ ((list ≡ []) × (more ≡ 0))
+nothing_logged p s [] more = (λ e. (refl, more_logged more e), λ both. ap more_findings both.1)
 nothing_logged p s (x ∷ xs) more =
-    (λ e. absurd (some (finding_entry p s x) (map (finding_entry p s) xs ++ more_entries more) e), λ both. absurd (found x xs both.0))
+    (λ e. absurd (some (finding_entry p s x) (map (finding_entry p s) xs ++ more_findings more) e), λ both. absurd (found x xs both.0))
   where
     some : (y : Entry) (ys : List Entry) → y ∷ ys ≡ [] → ⊥
     some y ys e = cc
@@ -34,7 +34,7 @@ nothing_logged p s (x ∷ xs) more =
     found y ys e = cc
 
 pub logged : (text : List ℕ) (entries : List Entry) (p : Listing) (s : Sources) (list : List ShownFinding) (more : ℕ) → Spells text p → sources_of text ≡ Ok s
-    → AreShown p most_shown list more → ((list ≡ []) × (more ≡ 0)) ↔ Sound p → entries ≡ map (finding_entry p s) list ++ more_entries more → AreMarksLogged text entries
+    → AreShown p most_shown list more → ((list ≡ []) × (more ≡ 0)) ↔ Sound p → entries ≡ map (finding_entry p s) list ++ more_findings more → AreMarksLogged text entries
 logged text entries p s list more spelled mapped shown sound said =
     let nothing = nothing_logged p s list more in
     record {

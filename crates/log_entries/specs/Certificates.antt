@@ -11,7 +11,7 @@ use Rattle.sarif_log.specs.declared.entry.Level.TheVariants.{Error}
 use Rattle.sarif_log.specs.declared.entry.LoggedFile.TheVariants.{Certificate}
 use Rattle.sarif_log.specs.declared.entry.Region.{Region}
 use Rattle.sarif_log.specs.declared.entry.Entry.{Entry}
-use Rattle.log_entries.specs.Refusals.{line_region}
+use Rattle.log_entries.specs.Regions.{line_region}
 
 abbrev pub certificate_rule : CertFault → LogRule
 certificate_rule fault.Header = rule.Header

@@ -1,12 +1,10 @@
 -- The entries of a log that say what is wrong with the marks of a program (own choice): one for each finding
 -- that is shown, in their order, with the words and the places of the text form.
-use Rattle.std.specs.Prelude.{◌≡◌, ◌↔◌, ℕ, ◌+◌, ◌-◌, ◌^◌, min, nat_eq, if◌then◌else◌, List, [], ◌∷◌, ◌++◌, map, codes, slice_get, Option, Some, None, Ok}
-use Rattle.std.specs.Fmt.{decimal}
+use Rattle.std.specs.Prelude.{◌≡◌, ◌↔◌, ℕ, List, [], ◌∷◌, ◌++◌, map, codes, slice_get, Option, Some, None, Ok}
 use Rattle.std.specs.declared.alloc.Global.{Global}
 use Rattle.std.specs.declared.vec.Vec.{Vec}
 use Rattle.task_descriptor.specs.Listing.{Listing}
 use Rattle.annotated_asm.specs.ProgramText.{Spells}
-use Rattle.source_map.specs.declared.position.Stretch.{Stretch}
 use Rattle.source_map.specs.Sources.{Sources, sources_of}
 use Rattle.task_graph.specs.Soundness.{Sound}
 use Rattle.mark_checker.specs.declared.finding.Rule.{Rule}
@@ -19,11 +17,12 @@ use Rattle.diagnostic_text.specs.Lists.{task_name}
 use Rattle.diagnostic_text.specs.Diagnostics.{instruction_stretch, stretch_by, text_to_write, path_text, note_index, note_words, most_shown}
 use Rattle.sarif_log.specs.declared.rules.LogRule.{LogRule}
 use Rattle.sarif_log.specs.declared.rules.LogRule.TheVariants as rule
-use Rattle.sarif_log.specs.declared.entry.Level.TheVariants.{Error, Note}
+use Rattle.sarif_log.specs.declared.entry.Level.TheVariants.{Error}
 use Rattle.sarif_log.specs.declared.entry.LoggedFile.TheVariants.{Program}
-use Rattle.sarif_log.specs.declared.entry.Region.{Region}
 use Rattle.sarif_log.specs.declared.entry.Related.{Related}
 use Rattle.sarif_log.specs.declared.entry.Entry.{Entry}
+use Rattle.log_entries.specs.Regions.{region_of}
+use Rattle.log_entries.specs.More.{more_entries}
 
 -- the rule of the log that stands for one of the checker
 abbrev pub rule_of : Rule → LogRule
@@ -39,14 +38,6 @@ rule_of checked.ExitNotListed = rule.ExitNotListed
 rule_of checked.FallsOff = rule.FallsOff
 rule_of checked.IndirectGoesOn = rule.IndirectGoesOn
 rule_of checked.TargetNotEntry = rule.TargetNotEntry
-
--- A stretch as a region, whose columns end behind it; a column is at most the largest number of 64 bits, which
--- no text reaches.
-abbrev pub region_of : Stretch → Region
-region_of s = record {
-  line = s.position.line;
-  columns = Some (record { first = s.position.column; end = min (s.position.column + s.width) (2 ^ 64 - 1) });
-}
 
 -- what is wrong and, on a line of its own, what to do
 unfoldable pub finding_message : Listing → Finding → List ℕ
@@ -79,13 +70,8 @@ finding_entry p s shown =
     }
 
 -- how many more findings there are
-abbrev pub more_message : ℕ → List ℕ
-more_message more = if nat_eq more 1 then codes "1 more finding" else decimal more ++ codes " more findings"
-
-abbrev pub more_entries : ℕ → List Entry
-more_entries more =
-    if nat_eq more 0 then []
-    else record { rule = rule.More; level = Note; file = Program; region = None; message = more_message more; related = None } ∷ []
+abbrev pub more_findings : ℕ → List Entry
+more_findings more = more_entries more (codes "1 more finding") (codes " more findings")
 
 -- The entries say what is wrong with the marks of the program that the text spells.
 pub record AreMarksLogged (text : List ℕ) (entries : List Entry) : Type 0 where
@@ -96,6 +82,6 @@ pub record AreMarksLogged (text : List ℕ) (entries : List Entry) : Type 0 wher
   pub list : List ShownFinding
   pub more : ℕ
   pub shown : AreShown program most_shown list more
-  pub logged : entries ≡ map (finding_entry program sources) list ++ more_entries more
+  pub logged : entries ≡ map (finding_entry program sources) list ++ more_findings more
   -- there is none exactly where the marks are sound
   pub silent : (entries ≡ []) ↔ Sound program

@@ -1,3 +1,6 @@
+pub mod Regions
+pub mod More
 pub mod Findings
+pub mod Warnings
 pub mod Refusals
 pub mod Certificates

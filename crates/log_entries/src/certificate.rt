@@ -4,14 +4,14 @@ ghost use Rattle.std.specs.Prelude.{◌≡◌, IfOk};
 ghost use Rattle.std.specs.String.{string_bytes};
 ghost use Rattle.log_entries.specs.Certificates.{certificate_rule, certificate_region, certificate_entry, refused_certificate, if_said, fitting_entries};
 
-use crate::refused::line_region;
+use crate::region::line_region;
 use certificate_remarks::fitting::fitting;
 use certificate_remarks::refused::refused;
 use mark_checker::finding::Finding;
 use mask_certificate::fault::CertFault;
+use message_words::words::Words;
 use sarif_log::entry::{Entry, Level, LoggedFile, Region};
 use sarif_log::rules::LogRule;
-use sarif_log::words::Words;
 use std::alloc::{AllocError, Global};
 
 /// The rule of the log that stands for a fault.

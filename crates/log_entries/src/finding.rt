@@ -1,12 +1,13 @@
 //! The entries of findings.
 
-ghost use Rattle.std.specs.Prelude.{◌≡◌, ◌++◌, map as each, Ok, IfOk, OnOk};
-ghost use Rattle.std.specs.String.{string_bytes};
+ghost use Rattle.std.specs.Prelude.{◌≡◌, ◌++◌, map as each, Ok, IfOk};
 ghost use Rattle.annotated_asm.specs.ProgramText.{parse};
 ghost use Rattle.source_map.specs.Sources.{sources_in};
 ghost use Rattle.annotator.specs.Least.{IsLeast};
-ghost use Rattle.log_entries.specs.Findings.{rule_of, region_of, finding_message, path_message, related_of, finding_entry, more_message, more_entries, AreMarksLogged};
+ghost use Rattle.log_entries.specs.Findings.{rule_of, finding_message, path_message, related_of, finding_entry, more_findings, AreMarksLogged};
 
+use crate::more::add_more;
+use crate::region::region_of;
 use diagnostic_text::diagnostics::{MOST_SHOWN, map_of, write_path, write_text_to_write};
 use diagnostic_text::list::task_name;
 use diagnostic_text::place::{instruction_stretch, note_index, note_words, stretch_by};
@@ -14,11 +15,11 @@ use diagnostic_text::sentence::{number_in, write_help, write_sentence};
 use finding_paths::shown::{ShownFinding, ShownFindings, shown_findings};
 use mark_checker::finding::{Finding, Rule};
 use mask_certificate::certificate::Cert;
-use sarif_log::entry::{Columns, Entry, Level, LoggedFile, Region, Related};
+use message_words::words::Words;
+use sarif_log::entry::{Entry, Level, LoggedFile, Related};
 use sarif_log::rules::LogRule;
-use sarif_log::words::Words;
 use source_map::laws::map_fits;
-use source_map::position::{SourceMap, Stretch};
+use source_map::position::SourceMap;
 use std::alloc::{AllocError, Global};
 use task_descriptor::program::Program;
 
@@ -39,20 +40,6 @@ fn rule_of(rule: Rule) -> LogRule
         Rule::FallsOff => LogRule::FallsOff,
         Rule::IndirectGoesOn => LogRule::IndirectGoesOn,
         Rule::TargetNotEntry => LogRule::TargetNotEntry,
-    }
-}
-
-/// A stretch as a region.
-fn region_of(stretch: Stretch) -> Region
-    ensures { result ≡ region_of stretch }
-{
-    let first = stretch.position.column;
-    Region {
-        line: stretch.position.line as usize,
-        columns: Some(Columns {
-            first,
-            end: first.saturating_add(stretch.width),
-        }),
     }
 }
 
@@ -129,44 +116,6 @@ fn finding_entry(
     })
 }
 
-/// Adds how many more findings there are.
-fn write_more(text: &mut String, more: usize) -> Result<(), AllocError>
-    ensures { OnOk result (string_bytes text.new ≡ string_bytes text.old ++ more_message more) }
-{
-    if more == 1 {
-        return write!(text, "1 more finding");
-    }
-    write!(text, "{more} more findings")
-}
-
-/// How many more findings there are.
-fn more_message(alloc: Global, more: usize) -> Result<Words, AllocError>
-    ensures { IfOk result (λ words. words ≡ more_message more) }
-{
-    let mut text = String::new(alloc);
-    write_more(&mut text, more)?;
-    Ok(Words::new(text))
-}
-
-/// Adds how many findings are not shown, if there are any.
-fn add_more(alloc: Global, entries: &mut Vec<Entry>, more: usize) -> Result<(), AllocError>
-    ensures { OnOk result (entries.new.items ≡ entries.old.items ++ more_entries more) }
-{
-    if more == 0 {
-        return Ok(());
-    }
-    let message = more_message(alloc, more)?;
-    entries.push(Entry {
-        rule: LogRule::More,
-        level: Level::Note,
-        file: LoggedFile::Program,
-        region: None,
-        message,
-        related: None,
-    })?;
-    Ok(())
-}
-
 /// The entries of the findings of a program whose text has this map: of each that is shown, and how many more
 /// there are.
 fn finding_entries(
@@ -176,13 +125,19 @@ fn finding_entries(
     findings: &ShownFindings,
 ) -> Result<Vec<Entry>, AllocError>
     ensures { IfOk result (λ entries. entries.items
-        ≡ each (finding_entry program.now (sources_in map.now)) findings.now.list.items ++ more_entries findings.now.more) }
+        ≡ each (finding_entry program.now (sources_in map.now)) findings.now.list.items ++ more_findings findings.now.more) }
 {
     let mut entries = Vec::new(alloc);
     for shown in &findings.list {
         entries.push(finding_entry(alloc, program, map, shown)?)?;
     }
-    add_more(alloc, &mut entries, findings.more)?;
+    add_more(
+        alloc,
+        &mut entries,
+        findings.more,
+        "1 more finding",
+        " more findings",
+    )?;
     Ok(entries)
 }
 
