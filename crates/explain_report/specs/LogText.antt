@@ -1,6 +1,6 @@
--- The log of `explain --format sarif`: what is wrong with a program text, or with the marks of its program, and
--- with a certificate that is given beside it (own choice).
-use Rattle.std.specs.Prelude.{◌≡◌, ℕ, Bool, List, [], ◌∷◌, ◌++◌, Option, Some, None, Result, Ok, Err, unwrap_or}
+-- The log of `explain --format sarif`: what is wrong with a program text, or with the marks of its program, which
+-- of them cost speed, and what is wrong with a certificate that is given beside it (own choice).
+use Rattle.std.specs.Prelude.{◌≡◌, ℕ, Bool, true, false, ◌&&◌, List, [], ◌∷◌, ◌++◌, Option, Some, None, Result, Ok, Err, unwrap_or}
 use Rattle.task_descriptor.specs.Listing.{Listing}
 use Rattle.annotated_asm.specs.declared.fault.AsmFault.{AsmFault}
 use Rattle.annotated_asm.specs.ProgramText.{parse}
@@ -11,7 +11,8 @@ use Rattle.annotator.specs.Least.{IsLeast}
 use Rattle.sarif_log.specs.declared.entry.Entry.{Entry}
 use Rattle.sarif_log.specs.Log.{log_text}
 use Rattle.log_entries.specs.Findings.{AreMarksLogged}
-use Rattle.log_entries.specs.Refusals.{refused_entry}
+use Rattle.log_entries.specs.Warnings.{AreWarningsLogged}
+use Rattle.log_entries.specs.Refusals.{refused_entries}
 use Rattle.log_entries.specs.Certificates.{refused_certificate, fitting_entries}
 use Rattle.report_texts.specs.OutputTexts.{Report}
 
@@ -36,20 +37,34 @@ abbrev pub IsCertificateLogged : (name : List ℕ) → (file : Option (List ℕ)
 IsCertificateLogged name None p certificate entries = entries ≡ []
 IsCertificateLogged name (Some file) p certificate entries = IsReadLogged name file p (cert_parse certificate (names_of p)) entries
 
--- what is said of a program: of its marks, and then of the certificate
-pub record IsProgramLogged (name : List ℕ) (file : Option (List ℕ)) (text certificate : List ℕ) (p : Listing) (report : Report) : Type 0 where
+-- there is no entry
+abbrev pub is_without : List Entry → Bool
+is_without [] = true
+is_without (entry ∷ entries) = false
+
+-- what is said of marks that are right but cost speed, where that is asked for
+abbrev pub AreCostlyLogged : (asked : Bool) → (text : List ℕ) → Listing → List Entry → Type 0
+AreCostlyLogged false text p entries = entries ≡ []
+AreCostlyLogged true text p entries = AreWarningsLogged text p entries
+
+-- What is said of a program: of its marks, and then of the certificate. Of marks that cost speed something is
+-- said only where none is wrong, and that leaves the status as it is.
+pub record IsProgramLogged (name : List ℕ) (file : Option (List ℕ)) (warnings : Bool) (text certificate : List ℕ) (p : Listing) (report : Report) : Type 0 where
   pub marks : List Entry
   pub explained : AreMarksLogged text marks
+  pub costly : List Entry
+  pub warned : AreCostlyLogged (warnings && is_without marks) text p costly
   pub beside : List Entry
   pub certified : IsCertificateLogged name file p certificate beside
-  pub bytes : report.bytes ≡ log_text name (unwrap_or file []) (marks ++ beside)
+  pub bytes : report.bytes ≡ log_text name (unwrap_or file []) (marks ++ (costly ++ beside))
   pub status : report.status ≡ entries_status (marks ++ beside)
 
-abbrev pub IsLogRead : (name : List ℕ) → (file : Option (List ℕ)) → (text certificate : List ℕ) → Result Listing AsmFault → Report → Type 0
-IsLogRead name file text certificate (Ok p) report = IsProgramLogged name file text certificate p report
-IsLogRead name file text certificate (Err fault) report =
-    report ≡ record { bytes = log_text name (unwrap_or file []) (refused_entry name text fault ∷ []); status = 1 }
+abbrev pub IsLogRead : (name : List ℕ) → (file : Option (List ℕ)) → (warnings : Bool) → (text certificate : List ℕ) → Result Listing AsmFault → Report → Type 0
+IsLogRead name file warnings text certificate (Ok p) report = IsProgramLogged name file warnings text certificate p report
+IsLogRead name file warnings text certificate (Err fault) report =
+    report ≡ record { bytes = log_text name (unwrap_or file []) (refused_entries text fault); status = 1 }
 
--- the log of a program text, whose file has this name, and of a certificate, if a file is named
-abbrev pub IsLogReport : (name : List ℕ) → (file : Option (List ℕ)) → (text certificate : List ℕ) → Report → Type 0
-IsLogReport name file text certificate report = IsLogRead name file text certificate (parse text) report
+-- the log of a program text, whose file has this name, with warnings or without, and of a certificate, if a file
+-- is named
+abbrev pub IsLogReport : (name : List ℕ) → (file : Option (List ℕ)) → (warnings : Bool) → (text certificate : List ℕ) → Report → Type 0
+IsLogReport name file warnings text certificate report = IsLogRead name file warnings text certificate (parse text) report

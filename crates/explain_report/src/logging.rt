@@ -1,5 +1,5 @@
 //! The job `explain`, where it writes a log.
-ghost use Rattle.std.specs.Prelude.{◌≡◌, [], ◌∷◌, ◌++◌, Ok, IfOk, unwrap_or};
+ghost use Rattle.std.specs.Prelude.{◌≡◌, ◌&&◌, [], ◌∷◌, ◌++◌, Ok, IfOk, unwrap_or};
 ghost use Rattle.std.specs.Option.{option_map};
 ghost use Rattle.std.specs.String.{string_bytes};
 ghost use Rattle.annotated_asm.specs.ProgramText.{parse};
@@ -7,9 +7,9 @@ ghost use Rattle.mask_certificate.specs.CertificateReading.{cert_parse, names_of
 ghost use Rattle.mark_checker.specs.Rules.{all_rules};
 ghost use Rattle.annotator.specs.Least.{IsLeast};
 ghost use Rattle.sarif_log.specs.Log.{log_text};
-ghost use Rattle.log_entries.specs.Refusals.{refused_entry};
+ghost use Rattle.log_entries.specs.Refusals.{refused_entries};
 ghost use Rattle.log_entries.specs.Certificates.{fitting_entries, refused_certificate};
-ghost use Rattle.explain_report.specs.LogText.{IsCertificateLogged, IsFittingLogged, IsLogReport, IsProgramLogged, IsReadLogged, entries_status};
+ghost use Rattle.explain_report.specs.LogText.{AreCostlyLogged, IsCertificateLogged, IsFittingLogged, IsLogReport, IsProgramLogged, IsReadLogged, entries_status, is_without};
 
 use annotated_asm::assembler::assemble;
 use annotated_asm::fault::AsmFault;
@@ -17,7 +17,8 @@ use annotator::certify::certify;
 use jobs::job::Texts;
 use log_entries::certificate::{fitting_entries, refused_certificate};
 use log_entries::finding::mark_entries;
-use log_entries::refused::refused_entry;
+use log_entries::refused::refused_entries;
+use log_entries::warning::warning_entries;
 use mark_checker::check::verdict;
 use mask_certificate::certificate::Cert;
 use mask_certificate::fault::CertFault;
@@ -29,8 +30,8 @@ use std::alloc::{AllocError, Global};
 use task_descriptor::program::Program;
 use text_pieces::text::Text;
 
-/// The log that `explain` writes of a program text, whose file has this name, and of the text of a certificate,
-/// if a file of one is named.
+/// The log that `explain` writes of a program text, whose file has this name, with warnings or without, and of
+/// the text of a certificate, if a file of one is named.
 ///
 /// # Errors
 ///
@@ -39,14 +40,23 @@ pub fn explain_log(
     alloc: Global,
     name: &str,
     file: &Option<String>,
+    warnings: bool,
     texts: &Texts,
 ) -> Result<Report, AllocError>
-    ensures { IfOk result (λ report. IsLogReport name.now (option_map string_bytes file.now)
+    ensures { IfOk result (λ report. IsLogReport name.now (option_map string_bytes file.now) warnings
         texts.now.program.items texts.now.certificate report) }
 {
     let text = texts.program.as_slice();
     match assemble(alloc, text) {
-        Ok(program) => log_program(alloc, name, file, text, &texts.certificate, &program),
+        Ok(program) => log_program(
+            alloc,
+            name,
+            file,
+            warnings,
+            text,
+            &texts.certificate,
+            &program,
+        ),
         Err(AsmFault::OutOfMemory) => Err(AllocError),
         Err(fault) => log_refused(alloc, name, file, text, fault),
     }
@@ -71,13 +81,11 @@ fn log_refused(
     fault: AsmFault,
 ) -> Result<Report, AllocError>
     ensures { IfOk result (λ report. report ≡ record {
-      bytes = log_text name.now (unwrap_or (option_map string_bytes file.now) []) (refused_entry name.now text.now fault ∷ []);
+      bytes = log_text name.now (unwrap_or (option_map string_bytes file.now) []) (refused_entries text.now fault);
       status = 1;
     }) }
 {
-    let entry = refused_entry(alloc, name, text, fault)?;
-    let mut entries = Vec::new(alloc);
-    entries.push(entry)?;
+    let entries = refused_entries(alloc, text, fault)?;
     let text = log_text(alloc, name, certificate_name(file), &entries)?;
     Ok(Report::new(text, 1))
 }
@@ -87,19 +95,41 @@ fn log_program(
     alloc: Global,
     name: &str,
     file: &Option<String>,
+    warnings: bool,
     text: &[u8],
     certificate: &Text,
     program: &Program,
 ) -> Result<Report, AllocError>
     requires { parse text.now ≡ Ok program.now }
-    ensures { IfOk result (λ report. IsProgramLogged name.now (option_map string_bytes file.now)
+    ensures { IfOk result (λ report. IsProgramLogged name.now (option_map string_bytes file.now) warnings
         text.now certificate.now program.now report) }
 {
     let least = certify(alloc, program)?;
     let marks = mark_entries(alloc, text, program, &least)?;
+    let asked = is_asked(warnings, &marks);
+    let costly = log_costly(alloc, text, program, &least, asked)?;
     let beside = log_certificate(alloc, name, file, program, &least, certificate)?;
-    let report = report_of(alloc, name, certificate_name(file), marks, beside)?;
+    let report = report_of(alloc, name, certificate_name(file), marks, costly, beside)?;
     Ok(report)
+}
+
+// What is said of marks that cost speed, where that is asked for.
+fn log_costly(
+    alloc: Global,
+    text: &[u8],
+    program: &Program,
+    least: &Cert,
+    asked: bool,
+) -> Result<Vec<Entry>, AllocError>
+    requires spelled { parse text.now ≡ Ok program.now }
+    requires least { IsLeast program.now least.now }
+    ensures { IfOk result (λ entries. AreCostlyLogged asked text.now program.now entries.items) }
+{
+    if asked {
+        warning_entries(alloc, text, program, least)
+    } else {
+        Ok(Vec::new(alloc))
+    }
 }
 
 // The report of these entries.
@@ -108,23 +138,25 @@ fn report_of(
     name: &str,
     file: &str,
     marks: Vec<Entry>,
+    costly: Vec<Entry>,
     beside: Vec<Entry>,
 ) -> Result<Report, AllocError>
-    ensures bytes { IfOk result (λ report. report.bytes ≡ log_text name.now file.now (marks.items ++ beside.items)) }
+    ensures bytes { IfOk result (λ report. report.bytes
+        ≡ log_text name.now file.now (marks.items ++ (costly.items ++ beside.items))) }
     ensures status { IfOk result (λ report. report.status ≡ entries_status (marks.items ++ beside.items)) }
 {
-    let entries = joined(marks, beside)?;
+    let status = status_of(&marks, &beside);
+    let entries = joined(marks, joined(costly, beside)?)?;
     let text = log_text(alloc, name, file, &entries)?;
-    let status = status_of(&entries);
     Ok(Report::new(text, status))
 }
 
 // The entries of both lists.
-fn joined(mut marks: Vec<Entry>, mut beside: Vec<Entry>) -> Result<Vec<Entry>, AllocError>
-    ensures { IfOk result (λ entries. entries.items ≡ marks.items ++ beside.items) }
+fn joined(mut front: Vec<Entry>, mut behind: Vec<Entry>) -> Result<Vec<Entry>, AllocError>
+    ensures { IfOk result (λ entries. entries.items ≡ front.items ++ behind.items) }
 {
-    marks.append(&mut beside)?;
-    Ok(marks)
+    front.append(&mut behind)?;
+    Ok(front)
 }
 
 // What is said of a certificate, if a file of one is named.
@@ -217,8 +249,35 @@ fn compare(
     fitting_entries(alloc, name, file, found, wanted.findings.as_slice())
 }
 
+// Whether there is no entry.
+fn is_without(entries: &[Entry]) -> bool
+    ensures { result ≡ is_without entries.now }
+{
+    match entries {
+        [] => true,
+        _ => false,
+    }
+}
+
+// Whether warnings are to be told: they are asked for, and nothing is said of the marks.
+fn is_asked(warnings: bool, marks: &[Entry]) -> bool
+    ensures { result ≡ (warnings && is_without marks.now) }
+{
+    warnings && is_without(marks)
+}
+
+// The status of what is said of the marks and of the certificate: 0 where it is nothing.
+fn status_of(marks: &[Entry], beside: &[Entry]) -> u8
+    ensures { result ≡ entries_status (marks.now ++ beside.now) }
+{
+    match marks {
+        [] => status_alone(beside),
+        [_, ..] => 1,
+    }
+}
+
 // The status of these entries: 0 where there is none.
-fn status_of(entries: &[Entry]) -> u8
+fn status_alone(entries: &[Entry]) -> u8
     ensures { result ≡ entries_status entries.now }
 {
     match entries {
