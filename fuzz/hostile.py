@@ -221,7 +221,8 @@ def wanted(words, texts):
     if name == "check":
         return check_text(*given)
     if name == "explain":
-        return wanted_log(files, given) if options.get("format") == "sarif" else wanted_explanation(files, given, "no-warnings" in options)
+        wanted = wanted_explanation(files, given, "no-warnings" in options)
+        return wanted_log(files, given, wanted) if options.get("format") == "sarif" else wanted
     if name == "curve":
         return wanted_curve(options, given)
     if name == "replay":
@@ -261,47 +262,34 @@ def picture_of(rows):
     return curve_picture.picture([(units, *row) for units, row in enumerate(rows, 1)])
 
 
-def wanted_log(files, given):
-    """A log whose results, laid out as the text form, are what `explain` says, with the rule and the place of each."""
-    name, text = files[0], given[0].decode("latin-1")
+def wanted_log(files, given, wanted):
+    """A log whose results, laid out as the text form, are what `explain` says."""
+    text = given[0].decode("latin-1")
     try:
-        program, fault = assemble(given[0]), None
+        assemble(given[0])
+        fault = None
     except Fault as first:
-        program, fault = None, first
+        fault = first
 
     def fits(out, status):
         try:
             results = sarif.read_log(out.encode("latin-1"))
-            return is_refusal(results, fault, text, name, status) if fault else are_findings(results, program, text, files, given, status)
-        except (ValueError, KeyError, TypeError):
+            return all(is_of_certificate(it, files) for it in results) and wanted(sarif.as_text(results, text, fault), status)
+        except (ValueError, KeyError, TypeError, AttributeError):
             return False
 
     return fits
 
 
-def is_refusal(results, fault, text, name, status):
-    """Whether the results are one, which tells the refusal of a text at its line."""
-    number, word = fault.text().split()[2:4]
-    (uri, line, *columns), told = sarif.place_of(results[0]["locations"][0]), results[0]["message"]["text"]
-    rule = f"refused-{number}-{word}"
-    return (status, len(results), results[0]["ruleId"], uri, line, columns) == (1, 1, rule, name, fault.line or None, [None, None]) and explain.refused_so(fault, text, name, told)
-
-
-def are_findings(results, program, text, files, given, status):
-    """Whether the results are the findings of a program, and behind them what is wrong with its certificate."""
-    wrong = explain.remark(program, files[0], files[1], given[1]) if len(files) > 1 else ""
-    if wrong:
-        *results, last = results
-        kind = re.match(r"[^\n]*\[(\d+) (\w+)", wrong)
-        rule = f"certificate-{kind[1]}-{kind[2]}" if kind else "certificate-unfit"
-        line = re.match(rf"{re.escape(files[1])}:(\d+): ", wrong)
-        place = (files[1], int(line[1]) if line else None, None, None)
-        if (last["ruleId"], last["message"]["text"], sarif.place_of(last["locations"][0])) != (rule, wrong, place):
-            return False
-    findings = verdict(program, certify(program))
-    said = "".join(line + "\n" for result in results for line in sarif.laid_out(result, text))
-    rules = [f"rule{rule}" for _, _, rule, _ in findings[:sarif.MOST_SHOWN]] + ["more"] * (len(findings) > sarif.MOST_SHOWN)
-    return status == bool(findings or wrong) and [it["ruleId"] for it in results] == rules and not explain.differs(program, text, files[0], said)
+def is_of_certificate(result, files):
+    """Whether a result is none of a certificate, or has the rule and the place that its message tells."""
+    if not result["ruleId"].startswith("certificate-"):
+        return True
+    message = result["message"]["text"]
+    kind = re.match(r"[^\n]*\[(\d+) (\w+)", message)
+    line = re.match(rf"{re.escape(files[1])}:(\d+): ", message)
+    place = (files[1], int(line[1]) if line else None, None, None)
+    return (result["ruleId"], sarif.place_of(result["locations"][0])) == (f"certificate-{kind[1]}-{kind[2]}" if kind else "certificate-unfit", place)
 
 
 def wanted_explanation(files, given, no_warnings=False):

@@ -1,10 +1,11 @@
 #!/usr/bin/env python3
 """Compares the log of `explain --format sarif` with the text form and with the model.
 
-Takes the random programs with planted wrong marks of explain.py. Of each it checks that the log is JSON with
-the fields that SARIF 2.1.0 requires, that its results are the findings of the model in their order, each with
-the rule, the place and the words that the text form has, and that a refused text is told at its line with all
-that the text form says. `--file LOG` checks the fields of one log alone. PROGRAM is the built `multiscalar`.
+Takes the random programs of explain.py and costly_marks.py, with wrong marks or with marks that cost speed, and
+texts that are refused. Of each it checks that the log is JSON with the fields that SARIF 2.1.0 requires, that its
+results are the findings or the warnings of the model in their order, each with its rule, place and words, and that
+all results, laid out as the text form, are the text form, byte for byte. `--file LOG` checks the fields of one log
+alone. PROGRAM is the built `multiscalar`.
 """
 import argparse
 import collections
@@ -19,6 +20,7 @@ import time
 import urllib.parse
 
 import accepted as generator
+import costly_marks
 import explain
 from accepted import accepted
 from model import Fault, assemble, certify, print_program, verdict
@@ -104,57 +106,70 @@ def place_of(location):
     return (physical["artifactLocation"]["uri"], region.get("startLine"), region.get("startColumn"), region.get("endColumn"))
 
 
-def told(result):
-    """What a result says, as the lines of the text form without what they show of the program."""
-    (uri, line, column, _), lines = place_of(result["locations"][0]), []
-    at = f"{urllib.parse.unquote(uri)}:{line}:{column}: "
-    error, todo = result["message"]["text"].split("\nhelp: ")
-    number = result["ruleId"].removeprefix("rule")
-    lines.append(f"{at}error: {error} [rule {number}]")
-    for related in result.get("relatedLocations", []):
-        file, note_line, note_column, _ = place_of(related)
-        lines.append(f"{urllib.parse.unquote(file)}:{note_line}:{note_column}: note: {related['message']['text']}")
-    lines.append(f"{at}help: {todo}")
-    return lines
+def tag(result, line, fault):
+    """What the text form has in brackets behind the sentence of a result."""
+    kind, *words = re.match(r"(rule)(\d+)$|(refused)-(.*)$|(warning)", result["ruleId"]).groups()
+    if kind:
+        return f" [rule {words[0]}]"
+    if not words[1]:
+        return ""
+    words = words[2].split("-")
+    if words[1] == "Build":
+        return f" [{' '.join(words + fault.text().split()[6:])}]"
+    return f" [{' '.join(words)}{f' line {line}' if line else ''}]"
 
 
-def laid_out(result, text):
-    """The lines of the text form that stand for a result, those that show the program among them."""
+def laid_out(result, text, fault=None):
+    """The lines of the text form that stand for a result; the text has this fault, if it is refused."""
+    name, line, begin, end = place_of(result["locations"][0])
+    name, message = urllib.parse.unquote(name), result["message"]["text"]
     if result["ruleId"] == "more":
-        uri, *_ = place_of(result["locations"][0])
-        return [f"{urllib.parse.unquote(uri)}: note: {result['message']['text']}"]
-    shown = [place_of(it)[1:] for it in (result["locations"] + result.get("relatedLocations", []))]
-    *lines, todo = told(result)
-    rows = [explain.excerpt(text, line, begin, end - begin) for line, begin, end in shown]
-    return [row for line, below in zip(lines, rows) for row in (line, *below)] + [todo]
+        return [f"{name}: note: {message}"]
+    if result["ruleId"].startswith("certificate-"):
+        return message.removesuffix("\n").split("\n")
+    sentence, todo = message.split("\nhelp: ")
+    at = f"{name}:{line}:{begin}: " if line else f"{name}: "
+    lines = [f"{at}{result['level']}: {sentence}{tag(result, line, fault)}"]
+    lines += explain.excerpt(text, line, begin, end - begin) if line else []
+    for related in result.get("relatedLocations", []):
+        _, line, begin, end = place_of(related)
+        lines += [f"{name}:{line}:{begin}: note: {related['message']['text']}", *explain.excerpt(text, line, begin, end - begin)]
+    return [*lines, f"{at}help: {todo}"]
 
 
-def spoken(said):
-    """The lines of the text form without those that show the program."""
-    return [line for line in said.split("\n")[:-1] if not re.match(r" *\d* \| ", line)]
+def as_text(results, text, fault=None):
+    """The results of a log in the text form, which shows bytes that are not ASCII as question marks."""
+    shown = "".join(c if c < "\x80" else "?" for c in text)
+    return "".join(line + "\n" for result in results for line in laid_out(result, shown, fault))
 
 
-def differs(program, text, name, results, said):
-    """What is wrong with the results; None where nothing is."""
+WARNINGS = {"never": "NeverProduced", "last": "NotForwarded", "sent": "SentBefore", "unreached": "Unreached"}
+
+
+def expected(program, text, warns):
+    """The rule, the level, the place and the words of each result that a program should have."""
     findings = verdict(program, certify(program))
-    shown, left = findings[:MOST_SHOWN], len(findings) - MOST_SHOWN
+    wanted = [(f"rule{it[2]}", "error", explain.meant(program, text, it), explain.sentence(program, it)) for it in findings]
+    for it in costly_marks.warnings(program) if warns and not findings else []:
+        wanted.append((f"warning-{WARNINGS[it[0]]}", "warning", costly_marks.meant(text, it), costly_marks.sentence(program, it)))
+    return wanted
+
+
+def differs(wanted, name, results):
+    """What is wrong with the results of a program; None where nothing is."""
+    shown, left = wanted[:MOST_SHOWN], len(wanted) - MOST_SHOWN
     if len(results) != len(shown) + (1 if left > 0 else 0):
-        return f"{len(results)} results for {len(findings)} findings"
-    for finding, result in zip(shown, results):
-        line, column, width = explain.meant(program, text, finding)
-        if result["ruleId"] != f"rule{finding[2]}" or result["level"] != "error":
-            return f"the rule of {finding}"
+        return f"{len(results)} results for {len(wanted)} findings or warnings"
+    for (rule, level, (line, column, width), words), result in zip(shown, results):
+        if (result["ruleId"], result["level"]) != (rule, level):
+            return f"the rule of {rule} in line {line}"
         if place_of(result["locations"][0]) != (urllib.parse.quote(name), line, column, column + width):
-            return f"the place of {finding}"
-        if result["message"]["text"] != "\nhelp: ".join(explain.sentence(program, finding)):
-            return f"the message of {finding}"
-    lines = [line for result in results[:len(shown)] for line in told(result)]
-    if left > 0:
-        last = results[-1]
-        if (last["ruleId"], last["level"]) != ("more", "note"):
-            return "the result for those that are left out"
-        lines.append(f"{name}: note: {last['message']['text']}")
-    return None if lines == spoken(said) else "the words of the text form"
+            return f"the place of {rule} in line {line}"
+        if result["message"]["text"] != "\nhelp: ".join(words):
+            return f"the message of {rule} in line {line}"
+    if left > 0 and (results[-1]["ruleId"], results[-1]["level"]) != ("more", "note"):
+        return "the result for those that are left out"
+    return None
 
 
 class Bench:
@@ -166,40 +181,28 @@ class Bench:
     def explain(self, name, text, *words):
         with open(os.path.join(self.folder, name), "w", encoding="latin-1", newline="") as file:
             file.write(text)
-        run = subprocess.run([self.program, "explain", "--no-warnings", *words, name], cwd=self.folder, capture_output=True)
+        run = subprocess.run([self.program, "explain", *words, name], cwd=self.folder, capture_output=True)
         return run.stdout, run.returncode, run.stderr
 
     def wrong(self, text):
         name = random.choice(["p.s", "a b.s", "50%.s", "x+y@z.s", "plain-name_1.s"])
-        said, status, complaint = self.explain(name, text)
-        log, log_status, log_complaint = self.explain(name, text, "--format", "sarif")
+        words = random.choice([[], [], ["--no-warnings"]])
+        said, status, complaint = self.explain(name, text, *words)
+        log, log_status, log_complaint = self.explain(name, text, *words, "--format", "sarif")
         if (log_status, log_complaint) != (status, complaint):
             return f"status {log_status}, in the text form {status}"
         try:
             results = read_log(log)
         except (ValueError, KeyError, TypeError) as why:
             return f"the form of the log: {why}"
-        said = said.decode("latin-1")
-        try:
-            program = assemble(text.encode("latin-1"))
-        except Fault as fault:
-            self.counts["refused texts"] += 1
-            return self.refused(fault, name, results, said)
-        self.counts["programs"] += 1
         self.counts["results"] += len(results)
-        return differs(program, text, name, results, said)
-
-    def refused(self, fault, name, results, said):
-        if len(results) != 1:
-            return f"{len(results)} results of a refused text"
-        number, word = fault.text().split()[2:4]
-        place = (urllib.parse.quote(name), fault.line or None, None, None)
-        result = results[0]
-        if (result["ruleId"], result["level"]) != (f"refused-{number}-{word}", "error"):
-            return "the rule of a refused text"
-        if place_of(result["locations"][0]) != place or result["message"]["text"] != said:
-            return "what is said of a refused text"
-        return None
+        try:
+            program, fault = assemble(text.encode("latin-1")), None
+        except Fault as first:
+            program, fault = None, first
+        self.counts["refused texts" if fault else "programs"] += 1
+        what = None if fault else differs(expected(program, text, not words), name, results)
+        return what or (None if as_text(results, text, fault) == said.decode("latin-1") else "what the text form says")
 
 
 def broken(text):
@@ -226,12 +229,14 @@ def main():
         options.error("PROGRAM or --file LOG")
     random.seed(given.seed)
     explain.R.seed(given.seed)
+    costly_marks.R.seed(given.seed)
     generator.R.seed(given.seed)
     bench, end = Bench(given.program), time.time() + given.seconds
     while time.time() < end:
-        text = explain.laid_out(explain.plant(print_program(accepted()[0])))
-        if random.random() < .3:
-            text = broken(text)
+        plant = random.choice([explain.plant, costly_marks.loosened])
+        text = explain.laid_out(plant(print_program(accepted()[0])))
+        if random.random() < .4:
+            text = random.choice([broken, explain.plant_fault])(text)
         what = bench.wrong(text)
         if what:
             print(f"seed {given.seed}: {what}\n{text}")

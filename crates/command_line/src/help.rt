@@ -87,8 +87,7 @@ For a text that is not a program it writes the first fault and those of further 
 Where the annotations are right, it warns of those that cost speed, and of code that no task reaches:
   FILE:LINE:COLUMN: warning: ..
   FILE:LINE:COLUMN: help: ..
-With `--format sarif` it writes the same, without the warnings, as a log in SARIF 2.1.0, which editors and
-code hosts read.
+With `--format sarif` it writes the same as a log in SARIF 2.1.0, which editors and code hosts read.
 With CERT it says, too, why that text is no certificate, or that it is none of the program as it stands,
 and how to make it anew.
 

@@ -31,10 +31,10 @@ print_read (Err fault) = program_refused fault
 abbrev pub print_text : List ℕ → Report
 print_text text = print_read (parse text)
 
--- what `explain` writes in a format; the log has no warnings
+-- what `explain` writes in a format
 abbrev pub IsExplainedIn : Format → (name : List ℕ) → (file : Option (List ℕ)) → (warnings : Bool) → (text certificate : List ℕ) → Report → Type 0
 IsExplainedIn Text name file warnings text certificate report = IsExplainReport name file warnings text certificate report
-IsExplainedIn Sarif name file warnings text certificate report = IsLogReport name file text certificate report
+IsExplainedIn Sarif name file warnings text certificate report = IsLogReport name file warnings text certificate report
 
 -- what a job may write of its texts; how many threads there are does not matter. With the least certificate
 -- it is what the job writes with the text of `annotate --emit keep` in its place

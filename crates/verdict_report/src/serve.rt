@@ -102,7 +102,7 @@ fn report_of<R: Threads + Wait + Sync>(
     }
 }
 
-// What `explain` writes in this format. The log has no warnings.
+// What `explain` writes in this format.
 fn explain_in(
     alloc: Global,
     format: Format,
@@ -116,7 +116,7 @@ fn explain_in(
 {
     match format {
         Format::Text => explain(alloc, name, file, warnings, texts),
-        Format::Sarif => explain_log(alloc, name, file, texts),
+        Format::Sarif => explain_log(alloc, name, file, warnings, texts),
     }
 }
 
