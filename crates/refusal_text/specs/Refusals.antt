@@ -5,7 +5,6 @@ use Rattle.std.specs.List.{flat_map}
 use Rattle.std.specs.Fmt.{decimal}
 use Rattle.annotated_asm.specs.declared.fault.AsmFault.{AsmFault}
 use Rattle.annotated_asm.specs.FaultText.{asm_fault_text}
-use Rattle.source_map.specs.declared.position.Position.{Position}
 use Rattle.source_map.specs.declared.position.Stretch.{Stretch}
 use Rattle.source_excerpt.specs.Excerpt.{position_text, excerpt_text}
 use Rattle.refusal_text.specs.declared.diagnosis.Diagnosis.{Diagnosis}

@@ -1,5 +1,5 @@
 -- As many tokens as were counted fit, and what fits of the rest comes to them.
-use Rattle.std.proofs.Common.{◌≡◌, ◌+◌, ◌≤◌, drop}
+use Rattle.std.proofs.Common.{◌≡◌, ◌+◌, drop}
 use Rattle.line_faults.specs.Forms.{form_of, fitting}
 use Rattle.line_faults.specs.declared.form.Inside.TheVariants.{Before}
 use Rattle.line_faults.proofs.form.fitting.Given as goal
