@@ -65,11 +65,7 @@ pub fn write_sentence(
 /// # Errors
 ///
 /// `AllocError` where memory was refused.
-pub fn write_help(
-    text: &mut String,
-    program: &Program,
-    mark: &CostlyMark,
-) -> Result<(), AllocError>
+pub fn write_help(text: &mut String, program: &Program, mark: &CostlyMark) -> Result<(), AllocError>
     ensures { OnOk result (string_bytes text.new ≡ string_bytes text.old ++ help_text program.now mark.now) }
 {
     match mark {
