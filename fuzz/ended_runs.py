@@ -47,10 +47,11 @@ def large(folder):
     yield ["run", *of("long300000.s", "long.cert2"), "--units", "1"]
     for emit in ("script", "svg", "trace"):
         yield ["run", *of("steady.s", "steady.cert2"), "--schedule", "steps", "--budget", "300000", "--emit", emit]
-    yield ["curve", *of("steady.s", "steady.cert2"), "--budget", "50000"]
+    yield ["run", *of("steady.s", "steady.cert2"), "--schedule", "steps", "--budget", "50000", "--emit", "json"]
+    yield from (["curve", *of("steady.s", "steady.cert2"), "--budget", "50000", "--emit", emit] for emit in ("table", "svg"))
     yield ["annotate", *of("maximal.s"), "--emit", "marks"]
     yield ["explain", *of("late_fault.s"), "--format", "sarif"]
-    yield ["replay", *of("steady.s", "steady.cert2", "steady4.events"), "--emit", "svg"]
+    yield from (["replay", *of("steady.s", "steady.cert2", "steady4.events"), "--emit", emit] for emit in ("svg", "json"))
     yield ["explain", *of("maximal.s", "maximal.cert2")]
     yield ["check", "--least", *of("maximal.s")]
 

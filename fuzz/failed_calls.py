@@ -120,17 +120,18 @@ def ways_of(folder, program, certificate):
     yield ["annotate", "--emit", "marks", program]
     yield ["curve", "--units", "3", program, certificate]
     yield ["curve", "--units", "2", "--least", program]
+    yield ["curve", "--units", "3", "--emit", "svg", program, certificate]
     yield ["explain", program, str(TOP / "examples" / "pair" / "certificate.cert2")]
     yield ["explain", program, str(TOP / "examples" / "README.md")]
     yield ["check", "--least", program]
     yield ["run", "--least", program]
     yield ["run", "--units", "1", "--emit", "svg", program, certificate]
-    yield ["run", "--units", "1", "--emit", "trace", program, certificate]
-    for emit in ("report", "script", "summary", "svg", "trace"):
+    yield from (["run", "--units", "1", "--emit", emit, program, certificate] for emit in ("trace", "json"))
+    for emit in ("report", "script", "summary", "svg", "trace", "json"):
         yield ["run", "--schedule", "steps", "--emit", emit, program, certificate]
     yield ["run", "--schedule", "steps", "--least", "--units", "16", "--predict", "1,0", "--emit", "summary", program]
     for script in sorted(folder.glob("s*.events")):
-        yield from (["replay", "--emit", emit, program, certificate, str(script)] for emit in ("summary", "svg", "trace"))
+        yield from (["replay", "--emit", emit, program, certificate, str(script)] for emit in ("summary", "svg", "trace", "json"))
         yield ["replay", "--least", program, str(script)]
 
 

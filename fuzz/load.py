@@ -15,7 +15,7 @@ compared with `seq`: the words, how it ends, after how many instructions. Where
 means are refused it may also write nothing, name want of memory and end with
 status 2. One run in eight is recorded, and the replay of its script must end with
 the same lines; some write a picture, which must be whole, a table, which must have the retired tasks
-and instructions, or a trace, which must be that of its events. One in three makes the least certificate itself. Beside each, `check` with 2 to 16 workers must write what one
+and instructions, or a trace, also as lines of JSON, which must be that of its events. One in three makes the least certificate itself. Beside each, `check` with 2 to 16 workers must write what one
 worker writes. Needs python3 and cc. It is no part of the tests.
 """
 import argparse
@@ -268,11 +268,11 @@ def replayed(program, kind, script, folder, source, certificate, wanted):
     return None if closing == wanted and not told else f"its replay ends with {closing[-60:]!r}"
 
 
-def retraced(program, kind, trace, folder, source, certificate):
+def retraced(program, kind, emit, trace, folder, source, certificate):
     """What is wrong with a trace, which must be the one of the replay of its own events."""
     events = folder / "traced.events"
-    events.write_bytes(b"".join(line.split(b" ", 1)[1].removesuffix(b": ok") + b"\n" for line in trace.splitlines() if line.endswith(b": ok")))
-    again = call([program, "replay", kind[0], kind[1], "--emit", "trace", source, certificate, str(events)])
+    events.write_bytes(refused_growths.events_of(trace))
+    again = call([program, "replay", kind[0], kind[1], "--emit", emit, source, certificate, str(events)])
     return None if again[1] == trace and not again[2] else f"a trace that is not that of its events: {trace[-60:]!r}"
 
 
@@ -331,7 +331,7 @@ class Load:
         units = draw.randrange(1, 17)
         workers = draw.choice([1, 2, units, draw.randrange(1, 17)])
         kind = ["--units", str(units), "--workers", str(workers), "--predict", draw.choice(PREDICTIONS)]
-        emit = draw.choices(("report", "script", "summary", "svg", "trace"), (12, 2, 1, 1, 1))[0]
+        emit = draw.choices(("report", "script", "summary", "svg", "trace", "json"), (12, 2, 1, 1, 1, 1))[0]
         files = [given, draw.choice((made, made, "--least"))]
         env, begin, may_refuse = limited(how, draw, min(units, workers))
         words = [self.program, "run", *kind, "--emit", emit, *files]
@@ -343,8 +343,8 @@ class Load:
             fault = f"status {status}, {told[:80]!r}, {len(out)} bytes out"
         elif emit == "script":
             fault = replayed(self.program, kind, out, self.folder, given, made, wanted)
-        elif emit == "trace":
-            fault = retraced(self.program, kind, out, self.folder, given, made)
+        elif emit in refused_growths.TRACES:
+            fault = retraced(self.program, kind, emit, out, self.folder, given, made)
         elif emit == "svg":
             fault = None if refused_growths.is_picture(out) is True else f"no picture: {out[-60:]!r}"
         elif emit == "summary":

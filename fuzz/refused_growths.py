@@ -21,9 +21,9 @@ second quarter of them, so that several processes, or several nights, share them
 
 `run` makes threads, and no two runs need ask for memory in the same order: so each
 number is refused three times. Of `run --emit script` no bytes are known
-beforehand: what it prints is replayed, and the replay must end as `run` does. Nor are those of a picture or a
-table of a run by several workers known: it must be whole, and the table must have the retired tasks and their
-instructions. Of a run by one worker, and of one in steps, all bytes are known.
+beforehand: what it prints is replayed, and the replay must end as `run` does. Nor are those of a picture, a
+table or a trace of a run by several workers known: a picture must be whole, a table must have the retired tasks and their
+instructions, and a trace, also as lines of JSON, must be that of its events. Of a run by one worker, and of one in steps, all bytes are known.
 
 Needs python3, cc and a program that is linked with the C library of the system at
 run time; it is no part of the tests.
@@ -42,9 +42,12 @@ import xml.etree.ElementTree as tree
 
 import faults
 from faults import EVERY, GROW, TOP, Row, fault
+from model import traced
 
 ENOMEM = 12
 OTHER_TRACE = b"another trace than that of its events"
+# The values of --emit that tell each event.
+TRACES = ("trace", "json")
 EXAMPLES = TOP / "examples"
 # A certificate that is long enough to be fetched, read and checked by several threads.
 SHARED = TOP / "crates" / "test_shared_check" / "data"
@@ -88,21 +91,22 @@ def run_cases(folder, program, certificate):
     for units, workers in ((1, 1), (4, 4), (16, 3)):
         words = ["run", program, certificate, "--units", str(units), "--workers", str(workers)]
         yield [*words, *budget]
-        for emit in ("summary", "svg", "trace", "script"):
+        for emit in ("summary", "svg", *TRACES, "script"):
             if emit == "script" or units < 16:
                 # each event of a trace takes memory
-                yield [*words, *(["--budget", "200"] if budget and emit == "trace" else budget), "--emit", emit]
+                yield [*words, *(["--budget", "200"] if budget and emit in TRACES else budget), "--emit", emit]
     yield ["run", program, "--least", *budget]
     for units in (1, 4, 16):
         words = ["run", program, certificate, "--schedule", "steps", "--units", str(units), *budget]
         yield words
-        yield from ([*words, "--emit", emit] for emit in ("summary", "svg", "trace", "script") if units == 4)
+        yield from ([*words, "--emit", emit] for emit in ("summary", "svg", *TRACES, "script") if units == 4)
     yield ["run", program, "--least", "--schedule", "steps", "--predict", "1,0", *budget, "--emit", "summary"]
     yield ["curve", program, certificate, "--units", "3", *budget]
     yield ["curve", program, "--least", "--units", "2", *budget]
+    yield ["curve", program, certificate, "--units", "3", *budget, "--emit", "svg"]
     if (folder / "script.events").exists():
         script = str(folder / "script.events")
-        yield from (["replay", program, certificate, script, "--units", "2", "--emit", emit] for emit in ("summary", "svg", "trace"))
+        yield from (["replay", program, certificate, script, "--units", "2", "--emit", emit] for emit in ("summary", "svg", *TRACES))
         yield ["replay", program, "--least", script, "--units", "2"]
 
 
@@ -153,12 +157,13 @@ def limit_cases(folder):
     yield ["replay", *of("steady.s", "steady.cert2", "steady4.events")]
     yield ["run", *of("steady.s", "steady.cert2"), "--units", "2", "--budget", "100000"]
     yield ["run", *of("steady.s", "steady.cert2"), "--units", "2", "--budget", "100000", "--emit", "script"]
-    for emit in ("report", "summary", "svg", "trace"):
+    for emit in ("report", "summary", "svg", *TRACES):
         yield ["run", *of("steady.s", "steady.cert2"), "--schedule", "steps", "--budget", "100000", "--emit", emit]
     yield ["curve", *of("steady.s", "steady.cert2"), "--budget", "10000"]
+    yield ["curve", *of("steady.s", "steady.cert2"), "--budget", "10000", "--emit", "svg"]
     yield ["annotate", *of("maximal.s"), "--emit", "marks"]
     yield ["explain", *of("late_fault.s"), "--format", "sarif"]
-    for emit in ("summary", "svg", "trace"):
+    for emit in ("summary", "svg", *TRACES):
         yield ["replay", *of("steady.s", "steady.cert2", "steady4.events"), "--emit", emit]
     yield ["explain", *of("maximal.s", "maximal.cert2")]
     yield ["check", "--least", *of("maximal.s"), "--workers", "4"]
@@ -171,6 +176,16 @@ def is_picture(out):
         return tree.fromstring(out).tag == "{http://www.w3.org/2000/svg}svg"
     except tree.ParseError:
         return out[-60:]
+
+
+def events_of(trace):
+    """The events of a trace, as a script; of what is no trace of allowed events, none."""
+    if not trace.startswith(b"{"):
+        return b"".join(line.split(b" ", 1)[1].removesuffix(b": ok") + b"\n" for line in trace.splitlines() if line.endswith(b": ok"))
+    try:
+        return traced(trace.decode("latin-1")).encode("latin-1")
+    except (ValueError, KeyError, TypeError):
+        return b""
 
 
 def retired(table):
@@ -201,7 +216,7 @@ class Case:
             return ended.status, self.replayed(ended)
         if "1" in self.words:
             return ended.status, ended.out
-        if self.emit == "trace":
+        if self.emit in TRACES:
             return ended.status, self.retraced(ended)
         return ended.status, is_picture(ended.out) if self.emit == "svg" else retired(ended.out) if ended.status != 3 else ended.out[:80]
 
@@ -225,9 +240,9 @@ class Case:
     def retraced(self, ended):
         """True of a trace that the replay of its own events writes."""
         events = self.bench.folder / "traced.events"
-        events.write_bytes(b"".join(line.split(b" ", 1)[1].removesuffix(b": ok") + b"\n" for line in ended.out.splitlines() if line.endswith(b": ok")))
+        events.write_bytes(events_of(ended.out))
         units = self.words[self.words.index("--units") + 1]
-        again = self.bench.plain(["replay", *self.words[1:3], str(events), "--units", units, "--emit", "trace"])
+        again = self.bench.plain(["replay", *self.words[1:3], str(events), "--units", units, "--emit", self.emit])
         return again.out == ended.out or OTHER_TRACE
 
     def judge(self, row, ended, what):

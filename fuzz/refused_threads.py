@@ -84,9 +84,15 @@ def run_cases(examples):
             yield ["run", *files, "--units", str(units), "--workers", str(workers)], workers
         yield ["run", files[0], "--least", "--units", "4"], 4
         # of a run by one worker each picture and table is the same
-        yield from ((["run", *files, "--units", "1", "--emit", emit], 1) for emit in ("summary", "svg", "trace"))
-        # a run in steps makes no thread, so none can be refused
-        yield ["run", *files, "--schedule", "steps"], 0
+        yield from ((["run", *files, "--units", "1", "--emit", emit], 1) for emit in ("summary", "svg", "trace", "json"))
+        # a run in steps makes no thread, so none can be refused; nor does `curve`, whose runs are such
+        yield from ((["run", *files, "--schedule", "steps", "--emit", emit], 0) for emit in ("report", "json"))
+        yield from ((["curve", *files, "--units", "3", "--emit", emit], 0) for emit in ("table", "svg"))
+
+
+def makes_none(words):
+    """Whether a job makes no thread."""
+    return "steps" in words or words[0] == "curve"
 
 
 def check_cases(files):
@@ -116,10 +122,10 @@ def runs(program, examples, folder, times, end=float("inf")):
     for words, needed in [*check_cases(shared), *run_cases(examples), *check_cases(large_files(folder))]:
         usual = run(program, words, shim, 0, False, counted)
         threads = int(counted.read_text())
-        if threads == 0 and "steps" not in words:
+        if threads == 0 and not makes_none(words):
             continue  # the checker does not accept the marks
-        if threads and "steps" in words:
-            yield words[0], words, 0, False, (0, b"", b"a run in steps that makes threads"), False, threads
+        if threads and makes_none(words):
+            yield words[0], words, 0, False, (0, b"", b"steps that make threads"), False, threads
         for number in range(1, threads + 2):
             for onwards in (False, True):
                 for _ in range(times if words[0] == "run" else 1):

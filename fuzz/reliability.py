@@ -52,7 +52,7 @@ sys.path.insert(0, str(HERE))
 
 # Scripts with a model of their own beside that of fuzz.py, and what each looks at.
 BESIDE = {"explain.py": "findings and refused texts, explained", "costly_marks.py": "warnings", "sarif.py": "logs of `explain`",
-          "marks.py": "marks in the text", "curve.py": "tables of `curve`"}
+          "marks.py": "marks in the text", "curve.py": "tables of `curve`", "curve_picture.py": "pictures of `curve`"}
 
 
 def beside_models(program, minutes, seed):
@@ -65,7 +65,7 @@ def beside_its_model(program, minutes, seed, name):
     """The row of a script: its last line says how many programs, texts and tables it tried; where there is a difference, it fails."""
     done = subprocess.run([sys.executable, str(HERE / name), program, "--seconds", str(60 * minutes), "--seed", str(seed)], capture_output=True, text=True)
     last = done.stdout.splitlines()[-1] if done.stdout else ""
-    tried = sum(int(count) for count in re.findall(r"(\d+) (?:programs|refused texts|tables)", last))
+    tried = sum(int(count) for count in re.findall(r"(\d+) (?:programs|refused texts|tables|pictures)", last))
     differences = [f"{name} --seed {seed}: {(done.stdout + done.stderr)[-300:]!r}"] if done.returncode or not tried else []
     return f"{BESIDE[name]}, beside the model", tried, {"as the model": tried}, differences
 

@@ -118,9 +118,10 @@ int main(int count, char **words) {
 # The kinds of jobs that a script has to try: a name, and words of the command line that only such a job has.
 RUNS = [("run by threads", "run cert"), ("run, script", "run script"), ("run, table", "run summary"), ("run, picture", "run svg"),
         ("run in steps", "run steps"), ("run in steps, script", "run steps script"), ("run in steps, table", "run steps summary"), ("run in steps, picture", "run steps svg"),
-        ("run, trace", "run trace"), ("run in steps, trace", "run steps trace"), ("run --least", "run --least")]
-MORE = [("curve", "curve cert"), ("curve --least", "curve --least"), ("explain as a log", "explain sarif"), ("explain --no-warnings", "explain --no-warnings"),
-        ("annotate, marks", "annotate marks"), ("replay, trace", "replay trace")]
+        ("run, trace", "run trace"), ("run in steps, trace", "run steps trace"), ("run, JSON", "run json"), ("run in steps, JSON", "run steps json"),
+        ("run --least", "run --least")]
+MORE = [("curve", "curve cert"), ("curve --least", "curve --least"), ("curve, picture", "curve svg"), ("explain as a log", "explain sarif"), ("explain --no-warnings", "explain --no-warnings"),
+        ("annotate, marks", "annotate marks"), ("replay, trace", "replay trace"), ("replay, JSON", "replay json")]
 JOBS = [("seq", "seq"), ("print", "print"), ("annotate", "annotate"), ("explain", "explain"), ("explain with a certificate", "explain cert"),
         ("check", "check cert"), ("check --least", "check --least"), ("check by threads", "check 4"), ("replay", "replay cert"),
         ("replay, table", "replay summary"), ("replay, picture", "replay svg"), ("replay --least", "replay --least"), *MORE, *RUNS]
@@ -194,7 +195,7 @@ def calls(planted):
 
 def signals(planted):
     """ended_runs.py: a program that heeds no signal."""
-    for name, needed in (("seq", "seq"), ("run in steps", "run steps"), ("explain with a certificate", "explain cert")):
+    for name, needed in (("seq", "seq"), ("run in steps", "run steps"), ("run in steps, JSON", "run steps json"), ("curve, picture", "curve svg"), ("explain with a certificate", "explain cert")):
         with faults.Bench(planted.plant("deaf", needed)) as bench:
             bench.program, every = planted.plant("none", "no such word"), None
             every = [case for case in failed_calls.cases(bench) if has(case.words, needed)]
@@ -213,7 +214,7 @@ def hostile_bytes(planted):
                "check --least": (12, 14), "replay": (4,), "replay, table": (10,), "replay, picture": (10,), "replay --least": (12,), "run by threads": (5,),
                "run, script": (5,), "run, table": (11,), "run, picture": (11,), "run in steps": (9,), "run in steps, script": (9, 14),
                "run in steps, table": (9, 14), "run in steps, picture": (9, 14), "run --least": (12,), "run, trace": (19,), "run in steps, trace": (19, 21),
-               "replay, trace": (20, 23), "curve": (16,), "curve --least": (16, 21), "explain as a log": (17,), "explain --no-warnings": (22,), "annotate, marks": (18,)}
+               "replay, trace": (20, 23), "run, JSON": (19,), "run in steps, JSON": (19, 21), "replay, JSON": (20,), "curve, picture": (16,), "curve": (16,), "curve --least": (16, 21), "explain as a log": (17,), "explain --no-warnings": (22,), "annotate, marks": (18,)}
     for name, needed in JOBS:
         if name not in by_name:
             continue
@@ -252,7 +253,7 @@ def threads(planted):
     for name, needed in (("run by threads", "--workers"), ("run in steps", "steps")):
         _, differences, _ = schedules.perform(planted.plant("seldom", f"run {needed}"), 3, 60, 0, "count")
         yield f"schedules.py: {name}", "sometimes another digit", bool(differences)
-    for how, needed in (("all cores", "report"), ("calls that sleep", "script"), ("threads that stop at random moments", "summary"), ("all cores", "svg"), ("small stacks", "--least")):
+    for how, needed in (("all cores", "report"), ("calls that sleep", "script"), ("threads that stop at random moments", "summary"), ("all cores", "svg"), ("two cores", "json"), ("small stacks", "--least")):
         rows = load.run(planted.plant("digit" if needed != "svg" else "wrong", f"run {needed} given"), 2, 1, kinds=[how])
         yield f"load.py: {how}, {needed}", "another digit", any(row[3] for row in rows)
     with tempfile.TemporaryDirectory() as folder:
@@ -268,7 +269,7 @@ def threads(planted):
 def beside_the_model(planted):
     """fuzz.py, explain.py, picture.py and the others that are beside the model: another digit."""
     for name, needed in (("run in steps", "run steps"), ("run, trace", "run trace"), ("replay", "replay"), ("check --least", "check --least"), ("curve", "curve"),
-                         ("annotate, marks", "annotate marks")):
+                         ("annotate, marks", "annotate marks"), ("run, JSON", "run json"), ("replay, JSON", "replay json")):
         with tempfile.TemporaryDirectory() as folder:
             done = subprocess.run([sys.executable, str(HERE / "fuzz.py"), planted.plant("digit", needed), "--seconds", "20", "--seed", "1", "--max", "1",
                                    "--subs", needed.split()[0], "--out", f"{folder}/findings"], capture_output=True)
@@ -277,7 +278,7 @@ def beside_the_model(planted):
         runner = planted.plant("digit", needed)
         done = subprocess.run([sys.executable, str(HERE / "explain.py"), runner, "--seconds", "20", "--seed", "1"], capture_output=True)
         yield f"explain.py: {name}", "another digit", done.returncode == 1
-    for name, needed in (("curve.py", "curve"), ("costly_marks.py", "explain"), ("marks.py", "annotate marks"), ("sarif.py", "explain sarif")):
+    for name, needed in (("curve.py", "curve"), ("curve_picture.py", "curve svg"), ("costly_marks.py", "explain"), ("marks.py", "annotate marks"), ("sarif.py", "explain sarif")):
         runner = planted.plant("digit", needed)
         done = subprocess.run([sys.executable, str(HERE / name), runner, "--seconds", "20", "--seed", "1"], capture_output=True)
         yield f"{name}: {needed.split()[0]}", "another digit", done.returncode == 1
