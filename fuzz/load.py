@@ -372,8 +372,8 @@ def no_memory(files):
     return [b"multiscalar: 1 OutOfMemory\n", b"multiscalar: 4 OutOfMemory\n", *(f"multiscalar: file {path}\n".encode() for path in files)]
 
 
-def run(program, minutes, seed, only="", kinds=None):
-    """Rows for the table: (part, cases, answers seen, differences)."""
+def run(program, minutes, seed, only="", kinds=None, until_first=False):
+    """Rows for the table: (part, cases, answers seen, differences); with `until_first`, only until there is a difference."""
     draw = random.Random(seed)
     accepted.R.seed(seed)
     in_turn = [refused_in_turn(program, minutes / 6)] if not kinds and only in "each thread refused in turn" else []
@@ -382,8 +382,9 @@ def run(program, minutes, seed, only="", kinds=None):
     others = []
     with tempfile.TemporaryDirectory() as name:
         load = Load(program, pathlib.Path(name), draw, kinds)
+        is_over = lambda: time.monotonic() > end or until_first and any(row[2] for row in load.rows.values())
         for title, source, certificate in texts(load.folder, draw, TOP):
-            if time.monotonic() > end or not kinds:
+            if is_over() or not kinds:
                 break
             given, made = load.place(source, certificate)
             wanted, why = usual(load.program, given, made)
@@ -392,10 +393,10 @@ def run(program, minutes, seed, only="", kinds=None):
             if wanted is None:
                 continue
             for how in kinds * 3:
-                if time.monotonic() < end:
+                if not is_over():
                     load.run(how, f"{title} (seed {seed})", given, made, wanted)
             for how in kinds:
-                if time.monotonic() < end:
+                if not is_over():
                     load.check(how)
     rows = [(f"`{job}` {KINDS[how]}", count, dict(answers), differences) for (job, how), (count, answers, differences) in load.rows.items()]
     return in_turn + rows + ([("one unit beside `seq`", len(others), {}, others)] if others else [])

@@ -30,7 +30,8 @@ EXAMPLES = TOP / "examples"
 NAME = "calls_of_libraries"
 BELOW = ("mips_plain task_descriptor annotated_asm source_map refusal_text canonical_text canonical_round_trip task_graph "
          "mask_certificate mark_checker annotator finding_paths certificate_remarks diagnostic_text machine_events unit_core sequencer "
-         "parallel_check threaded_runner synchronous_runner event_script text_pieces shared_fetch jobs command_line verdict_report")
+         "parallel_check threaded_runner synchronous_runner event_script text_pieces shared_fetch jobs command_line verdict_report "
+         "task_lives run_summary run_picture event_trace event_json speed_curve curve_picture marks_in_text costly_marks warning_text sarif_log log_entries")
 
 SOURCE = r"""
 #define _GNU_SOURCE
@@ -108,11 +109,13 @@ halt
 """
 # Calls on a program alone, on its certificate too, and those that make threads.
 ON_PROGRAM = ["Memory::new", "Program::plain", "Plain::new", "Plain::step", "Plain::run", "assemble", "print",
-              "print_and_assemble", "members", "propose", "certify", "is_sound", "source_map", "shown_findings", "explain"]
+              "print_and_assemble", "members", "propose", "certify", "is_sound", "source_map", "shown_findings", "explain", "with_marks_of", "costly_marks", "warnings",
+              "mark_entries", "log_text"]
 ON_BOTH = ["fitting", "certificate read", "certificate write", "check_task", "verdict", "Accepted::new", "fetch", "Text::append", "Text::pieces"]
 IN_THREADS = ["read_shared", "verdict_shared", "accepts_shared", "fetch_shared", "run_threads", "run_workers", "serve"]
 # Calls on an accepted program whose run ends.
-ON_ACCEPTED = ["Machine::new", "finish", "Burst::run", "apply_burst", "run_threads", "run_steps"]
+ON_ACCEPTED = ["Machine::new", "finish", "Burst::run", "apply_burst", "run_threads", "run_steps", "lives_of_runs", "summary", "picture", "trace", "lines of JSON",
+               "row_of", "curve, table", "curve, picture"]
 REFUSED = {"refused: unchanged", "refused: changed", "another fault"}
 
 Case = collections.namedtuple("Case", "call name program certificate script units workers words")
@@ -166,10 +169,10 @@ def served(folder, script="script.events"):
              "check P C", "check P C --workers 4", "check P --least"]
     if folder.name != "five-findings":
         lines += ["run P C --units 1", "run P C --units 4", "run P --least --units 1 --emit summary", "run P C --units 1 --emit svg"]
-        lines += [f"run P C --schedule steps --predict 1,0 --emit {emit}" for emit in ("report", "script", "summary", "svg", "trace")]
-        lines += ["run P C --units 1 --emit trace", "curve P C --units 3", "curve P --least --units 2"]
+        lines += [f"run P C --schedule steps --predict 1,0 --emit {emit}" for emit in ("report", "script", "summary", "svg", "trace", "json")]
+        lines += ["run P C --units 1 --emit trace", "run P C --units 1 --emit json", "curve P C --units 3", "curve P --least --units 2", "curve P C --units 3 --emit svg"]
     if (folder / script).exists():
-        lines += ["replay P C S --units 2", "replay P C S --units 2 --emit summary", "replay P C S --units 2 --emit svg", "replay P C S --units 2 --emit trace", "replay P --least S"]
+        lines += ["replay P C S --units 2", "replay P --least S", *(f"replay P C S --units 2 --emit {emit}" for emit in ("summary", "svg", "trace", "json"))]
     for line in lines:
         for call in ("serve", "job_of"):
             yield Case(call, f"{folder.name}, {line}", folder / "program.s", folder / "certificate.cert2",

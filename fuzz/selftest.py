@@ -1,13 +1,14 @@
 #!/usr/bin/env python3
 """Plants faults, and looks whether the scripts of this folder find them.
 
-    selftest.py PROGRAM [--fuzzer FILE] [--calls FILE] [--only WORD]
+    selftest.py PROGRAM [--fuzzer FILE] [--calls FILE] [--only WORD] [--patience N]
 
 A script that finds nothing may look for nothing. So each script is given a program that has a fault in one kind of job:
 a runner, which is linked statically so that the libraries of faults.py leave it alone, starts PROGRAM and spoils what
 it answers. It does so only where the words of the command line have those that a plant names, such as `run steps svg`:
 so it is seen, too, that the script tries that job. For each script and job the table says what was planted and whether
-it was found. `--fuzzer` is that of entry/build.sh, `--calls` the program that refused_calls.py keeps. The script ends with
+it was found. `--fuzzer` is that of entry/build.sh, `--calls` the program that refused_calls.py keeps. A script
+looks for a fault for some seconds, or for `--patience` times as many, as a busy machine needs. The script ends with
 status 1 if a fault was not found. Needs python3 and cc, and root for one part; it is no part of the tests.
 """
 import argparse
@@ -35,6 +36,14 @@ import refused_threads
 import schedules
 
 HERE = pathlib.Path(__file__).resolve().parent
+# How many times the usual seconds a script has.
+patience = 1.0
+
+
+def soon(seconds):
+    """The end of so many seconds, or of more where the machine is busy."""
+    return time.monotonic() + patience * seconds
+
 
 # PROGRAM, KIND and WORDS: the program, what is planted, and the words that the command line must have.
 RUNNER = r"""
@@ -180,14 +189,14 @@ def calls(planted):
             # what is right is known by other runs of the same program, which must answer as ever
             needed = "4" if "about as long" in name else "null" if name == "empty inputs" else ""
             planted.plant("wrong", needed, only_faults=placed and not needed or name in ("a read finds the end too early", "a file is cut while it is read", "a file grows while it is read"))
-            part = failed_calls.Part(name, bad, time.monotonic() + (20 if placed else 4))
+            part = failed_calls.Part(name, bad, soon(20 if placed else 4))
             runs(part, every[:] if not placed else [case for case in every if case.right.counts[faults.SIZE]], draw)
             planted.plant("none", "no such word")
             yield name, "another answer", bool(part.row.differences)
         for name, needed in JOBS:
             chosen = [case for case in every if has(case.words, needed)][:2]
             planted.plant("wrong", needed)
-            part = failed_calls.Part(name, bad, time.monotonic() + 4)
+            part = failed_calls.Part(name, bad, soon(4))
             failed_calls.failing_read(part, chosen, draw)
             planted.plant("none", "no such word")
             yield f"a read fails, {name}", "another answer", bool(part.row.differences)
@@ -202,7 +211,7 @@ def signals(planted):
             row, planted_cases = faults.Row(name), failed_calls.cases
             ended_runs.cases = lambda _: every
             planted.plant("deaf", needed)
-            ended_runs.in_a_call(row, bench, random.Random(1), time.monotonic() + 3)
+            ended_runs.in_a_call(row, bench, random.Random(1), soon(3))
             ended_runs.cases = planted_cases
             yield name, "deaf to signals", bool(row.differences)
 
@@ -221,9 +230,9 @@ def hostile_bytes(planted):
         chosen = [case for case in cases if case[0] % 128 % hostile.JOBS in by_name[name]][:150]
         needed = needed.replace(" cert", " c" if "explain" not in needed else "")
         runner = planted.plant("digit", needed)
-        _, _, differences, _ = hostile.compare(runner, time.monotonic() + 20, chosen)
+        _, _, differences, _ = hostile.compare(runner, soon(20), chosen)
         yield name, "another digit", bool(differences)
-    *_, differences = hostile.timed(planted.plant("slow", "print"), 0.5, 1, "a long comment")
+    *_, differences = hostile.timed(planted.plant("slow", "print"), 0.5 * patience, 1, "a long comment")
     yield "inputs that are worst for time", "a time that grows with the square", bool(differences)
 
 
@@ -251,15 +260,15 @@ def memory(planted):
 def threads(planted):
     """schedules.py, load.py and refused_threads.py: one run in eight with another digit, and another status for want of a thread."""
     for name, needed in (("run by threads", "--workers"), ("run in steps", "steps")):
-        _, differences, _ = schedules.perform(planted.plant("seldom", f"run {needed}"), 3, 60, 0, "count")
+        _, differences, _ = schedules.perform(planted.plant("seldom", f"run {needed}"), 3, 60 * patience, 0, "count")
         yield f"schedules.py: {name}", "sometimes another digit", bool(differences)
     for how, needed in (("all cores", "report"), ("calls that sleep", "script"), ("threads that stop at random moments", "summary"), ("all cores", "svg"), ("two cores", "json"), ("small stacks", "--least")):
-        rows = load.run(planted.plant("digit" if needed != "svg" else "wrong", f"run {needed} given"), 2, 1, kinds=[how])
+        rows = load.run(planted.plant("digit" if needed != "svg" else "wrong", f"run {needed} given"), 4 * patience, 1, kinds=[how], until_first=True)
         yield f"load.py: {how}, {needed}", "another digit", any(row[3] for row in rows)
     with tempfile.TemporaryDirectory() as folder:
         for name, needed in (("run", "run count"), ("run --least", "run --least")):
             found, runner = False, planted.plant("status", needed)
-            for *_, is_right, _ in refused_threads.runs(runner, faults.TOP / "examples", pathlib.Path(folder), 1, time.monotonic() + 120):
+            for *_, is_right, _ in refused_threads.runs(runner, faults.TOP / "examples", pathlib.Path(folder), 1, soon(120)):
                 if not is_right:
                     found = True
                     break
@@ -271,16 +280,16 @@ def beside_the_model(planted):
     for name, needed in (("run in steps", "run steps"), ("run, trace", "run trace"), ("replay", "replay"), ("check --least", "check --least"), ("curve", "curve"),
                          ("annotate, marks", "annotate marks"), ("run, JSON", "run json"), ("replay, JSON", "replay json")):
         with tempfile.TemporaryDirectory() as folder:
-            done = subprocess.run([sys.executable, str(HERE / "fuzz.py"), planted.plant("digit", needed), "--seconds", "20", "--seed", "1", "--max", "1",
+            done = subprocess.run([sys.executable, str(HERE / "fuzz.py"), planted.plant("digit", needed), "--seconds", str(20 * patience), "--seed", "1", "--max", "1",
                                    "--subs", needed.split()[0], "--out", f"{folder}/findings"], capture_output=True)
         yield f"fuzz.py: {name}", "another digit", done.returncode == 1
     for name, needed in (("explain", "explain"), ("explain with a certificate", "explain c")):
         runner = planted.plant("digit", needed)
-        done = subprocess.run([sys.executable, str(HERE / "explain.py"), runner, "--seconds", "20", "--seed", "1"], capture_output=True)
+        done = subprocess.run([sys.executable, str(HERE / "explain.py"), runner, "--seconds", str(20 * patience), "--seed", "1"], capture_output=True)
         yield f"explain.py: {name}", "another digit", done.returncode == 1
     for name, needed in (("curve.py", "curve"), ("curve_picture.py", "curve svg"), ("costly_marks.py", "explain"), ("marks.py", "annotate marks"), ("sarif.py", "explain sarif")):
         runner = planted.plant("digit", needed)
-        done = subprocess.run([sys.executable, str(HERE / name), runner, "--seconds", "20", "--seed", "1"], capture_output=True)
+        done = subprocess.run([sys.executable, str(HERE / name), runner, "--seconds", str(20 * patience), "--seed", "1"], capture_output=True)
         yield f"{name}: {needed.split()[0]}", "another digit", done.returncode == 1
     done = subprocess.run([sys.executable, str(HERE / "picture.py"), "--program", planted.plant("none", "no such word"), str(faults.TOP / "examples" / "count")], capture_output=True)
     yield "picture.py: the pictures as they are", "nothing", done.returncode == 0
@@ -291,13 +300,13 @@ def beside_the_model(planted):
 
 def calls_of_libraries(planted, program):
     """refused_calls.py: an answer that is another after a refusal."""
-    for call in ("assemble", "explain", "run_steps", "certificate refused", "fitting", "serve"):
+    for call in ("assemble", "explain", "run_steps", "certificate refused", "fitting", "lines of JSON", "picture", "warnings", "log_text", "serve"):
         os.environ["PROGRAM"] = str(program)
-        rows = refused_calls.run(planted.plant("none", "no such word"), 0.1, only=call)
+        rows = refused_calls.run(planted.plant("none", "no such word"), 0.1 * patience, only=call)
         good = sum(row.runs for row in rows) > 0 and not any(row.differences for row in rows)
         rows = []
         with contextlib.suppress(Exception):
-            rows = refused_calls.run(planted.plant("seldom", call.split()[0]), 0.5, only=call)
+            rows = refused_calls.run(planted.plant("seldom", call.split()[0]), 0.3 * patience, only=call)
         yield call, "sometimes another digit", good and any(row.differences for row in rows)
 
 
@@ -332,7 +341,10 @@ def main():
     parser.add_argument("--fuzzer", type=os.path.abspath)
     parser.add_argument("--calls", type=os.path.abspath)
     parser.add_argument("--only", default="", help="only the parts whose name has this")
+    parser.add_argument("--patience", type=float, default=1.0, help="how many times the usual seconds a script has")
     given = parser.parse_args()
+    global patience
+    patience = given.patience
     missed = tried = 0
     with tempfile.TemporaryDirectory(prefix="multiscalar-planted-") as name:
         planted = Planted(given.program, pathlib.Path(name))
