@@ -3,7 +3,7 @@
 
     races.py MODULE [--minutes M] [--seed N]
 
-MODULE is the LLVM module of the program, which entry/capture.py makes. entry/races.sh builds the program from it under
+MODULE is the LLVM module of the program, which entry/capture.py makes, or the folder that entry/races.sh made of it. That script builds the program from it under
 the thread sanitizer, and a control whose atomic accesses are all relaxed. `run` and `check` of the first are run as in
 load.py, on one, two and all cores: a report of the sanitizer is a difference. In each run of the control it must find a race;
 else it would say nothing that it finds none. Needs Debian's clang and the clang of the toolchain; it is no part of
@@ -39,12 +39,15 @@ def control(program, folder):
 def run(program, minutes, seed, module=None):
     """Rows for the table: those of load.py under the sanitizer, and the control. `program` is not looked at."""
     with tempfile.TemporaryDirectory() as name:
-        folder = pathlib.Path(name)
-        built = subprocess.run([str(HERE / "entry" / "races.sh"), module, name], env=dict(os.environ, CONTROL="1"), capture_output=True, text=True)
-        if built.returncode:
-            return [("thread sanitizer", 0, {}, [f"not built: {built.stderr[-300:]}"])]
-        rows = [(f"thread sanitizer, {part}", *rest) for part, *rest in load.run(str(folder / "multiscalar_tsan"), minutes, seed, kinds=["all cores", "two cores", "one core"])]
-        return rows + [control(str(folder / "multiscalar_control"), folder)]
+        folder = made = pathlib.Path(name)
+        if os.path.isdir(module):
+            made = pathlib.Path(module)
+        else:
+            built = subprocess.run([str(HERE / "entry" / "races.sh"), module, name], env=dict(os.environ, CONTROL="1"), capture_output=True, text=True)
+            if built.returncode:
+                return [("thread sanitizer", 0, {}, [f"not built: {built.stderr[-300:]}"])]
+        rows = [(f"thread sanitizer, {part}", *rest) for part, *rest in load.run(str(made / "multiscalar_tsan"), minutes, seed, kinds=["all cores", "two cores", "one core"])]
+        return rows + [control(str(made / "multiscalar_control"), folder)]
 
 
 def main():
