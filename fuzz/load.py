@@ -362,9 +362,14 @@ class Load:
 
 
 def is_table_of(out, wanted):
-    """Whether the last row of a table has as many retired tasks and instructions as a run's closing lines."""
-    row, retired = out.splitlines()[-1].split(), wanted.splitlines()[-2].split()
-    return row[-1] == b"(all)" and (row[1], row[5]) == (retired[1], retired[3])
+    """Whether the rows of a table add up, and its last has as many retired tasks and instructions as a run's closing lines."""
+    try:
+        *tasks, every = [[int(number) for number in row.split()[:7]] for row in out.splitlines()[1:]]
+    except ValueError:
+        return False
+    retired = wanted.splitlines()[-2].split()
+    adds_up = all(row[0] == sum(row[1:5]) for row in tasks) and every == [sum(column) for column in zip(*tasks)]
+    return out.endswith(b"  (all)\n") and adds_up and every[1:6:4] == [int(retired[1]), int(retired[3])]
 
 
 def no_memory(files):
