@@ -289,7 +289,7 @@ def refused_in_turn(program, minutes):
             else:
                 answers["wrong"] += 1
                 differences.append(f"{' '.join(words)}: thread {number}{' and on' if onwards else ''} refused: status {answer[0]}, {answer[2][:60]!r}")
-    most = " and ".join(f"{count} of `{job}`" for job, count in sorted(made.items()))
+    most = " and ".join(f"{count} of `{job}`" for job, count in sorted(made.items()) if count)
     return f"each thread refused in turn (up to {most})", tried, dict(answers), differences
 
 
