@@ -92,7 +92,7 @@ def names():
 
 
 def programs(folder):
-    """Program texts of 4,194,304 bytes, and what refuses them."""
+    """Program texts of 4,194,304 bytes, what refuses them, and the place that `explain` tells (docs/FORMATS.md)."""
     labels, room = [], PROGRAM_LIMIT
     for name in names():
         room -= len(name) + 1
@@ -101,19 +101,18 @@ def programs(folder):
         labels.append(name)
     half = PROGRAM_LIMIT // 2
     texts = {
-        "one label many times": (b"a:" * half, b"8 Duplicate line 1"),
-        "many labels": ((":".join(labels) + ":").encode(), b"10 Build 2 NoTask"),
-        "many targets": (b".task A create=- targets=" + b"A," * (half - 20) + b"A\nA: halt\n", b"10 Build 1 TooMany"),
-        "many words": (b".data\n.word " + b"0," * (half - 20) + b"0\n", b"10 Build 1 TooMany"),
-        "many instructions": (b"nop\n" * (PROGRAM_LIMIT // 4), b"10 Build 1 TooMany"),
+        "one label many times": (b"a:" * half, b"8 Duplicate line 1", b":1:3: "),
+        "many labels": ((":".join(labels) + ":").encode(), b"10 Build 2 NoTask", b": "),
+        "many targets": (b".task A create=- targets=" + b"A," * (half - 20) + b"A\nA: halt\n", b"10 Build 1 TooMany", b":1:7: "),
+        "many words": (b".data\n.word " + b"0," * (half - 20) + b"0\n", b"10 Build 1 TooMany", b":2:1: "),
+        "many instructions": (b"nop\n" * (PROGRAM_LIMIT // 4), b"10 Build 1 TooMany", b":4097:1: "),
     }
-    for name, (text, refusal) in texts.items():
+    for name, (text, refusal, place) in texts.items():
         path = folder / f"{name}.s"
         path.write_bytes(text)
         for subcommand in ("seq", "print", "annotate"):
             yield name, [subcommand, path], 1, b"program refused: " + refusal + b"\n", BOUNDS[subcommand]
-        line = b":1: " if b" line " in refusal else b": "
-        yield name, ["explain", path], 1, bytes(path) + line + b"error: ", BOUNDS["explain"]
+        yield name, ["explain", path], 1, bytes(path) + place + b"error: ", BOUNDS["explain"]
         yield name, ["explain", "--format", "sarif", path], 1, b'{"$schema"', BOUNDS["explain"]
     yield from accepted_labels(folder, labels)
 
@@ -135,7 +134,7 @@ def certificates(folder):
     program, path = COUNT / "program.s", folder / "limit.cert2"
     kinds = [["check", program, path, "--workers", "1"], ["check", program, path, "--workers", "4"],
              ["run", program, path], ["run", program, path, "--schedule", "steps", "--emit", "svg"],
-             ["curve", program, path], ["replay", program, path, COUNT / "script.events"], ["explain", program, path]]
+             ["curve", program, path], ["replay", program, path, COUNT / "script.events"], ["explain", "--no-warnings", program, path]]
 
     def refused(words, told, line=""):
         return f"{path}:{line} error: ".encode() if words[0] == "explain" else f"certificate refused: {told}\n".encode()
