@@ -14,20 +14,13 @@ use Rattle.clap.specs.declared.error.kind.ErrorKind.{ErrorKind}
 use Rattle.clap.specs.declared.error.kind.ErrorKind.TheVariants as kind
 use Rattle.command_line.specs.declared.words.UsageFault.{UsageFault}
 use Rattle.command_line.specs.declared.words.UsageFault.TheVariants as usage
-use Rattle.verdict_report.specs.declared.fault.ServeFault.{ServeFault}
-use Rattle.verdict_report.specs.declared.fault.ServeFault.TheVariants as serve
+use Rattle.verdict_report.specs.FaultText.{serve_fault_text}
 
 -- `clap` has something to show, and no mistake to explain
 abbrev pub is_shown : ErrorKind → Bool
 is_shown kind.DisplayHelp = true
 is_shown kind.DisplayVersion = true
 is_shown _ = false
-
--- what a job that was not done is called
-abbrev pub serve_name : ServeFault → List ℕ
-serve_name serve.OutOfMemory = codes "1 OutOfMemory"
-serve_name serve.Write = codes "2 Write"
-serve_name serve.Foreign = codes "3 Foreign"
 
 -- why a file gives no text; the limit is that of a certificate or a script
 abbrev pub reason_words : Reason → List ℕ
@@ -47,7 +40,7 @@ name_of OutOfMemory = codes "4 OutOfMemory"
 name_of InputTwice = codes "5 InputTwice: only one file can be - (standard input)"
 name_of (File path) = codes "file " ++ string_bytes path
 name_of (Explained unread) = codes "file " ++ (string_bytes unread.path ++ (codes ": " ++ reason_words unread.reason))
-name_of (Serve fault) = serve_name fault
+name_of (Serve fault) = serve_fault_text fault
 name_of _ = []
 
 -- what is said: a text as it stands, or one line

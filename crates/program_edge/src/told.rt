@@ -1,13 +1,12 @@
 //! What the program says of a fault, and its status.
 ghost use Rattle.std.specs.Prelude.{◌≡◌, OnOk};
 ghost use Rattle.std.specs.Io.KnownBytes.{Appends};
-ghost use Rattle.program_edge.specs.Telling.{IsTold, reason_words, said_of, serve_name};
+ghost use Rattle.program_edge.specs.Telling.{IsTold, reason_words, said_of};
 
 use crate::fault::Fault;
 use crate::unread::Reason;
 use std::io;
 use std::io::Write;
-use verdict_report::fault::ServeFault;
 
 /// How the program ends.
 #[derive(Clone, Copy, Debug, PartialEq, Eq)]
@@ -59,10 +58,7 @@ fn say<W: Write>(fault: &Fault, writer: &mut W) -> io::Result<()>
             let reason = reason_name(unread.reason);
             writeln!(writer, "multiscalar: file {path}: {reason}")
         }
-        Fault::Serve(fault) => {
-            let name = name_of(*fault);
-            writeln!(writer, "multiscalar: {name}")
-        }
+        Fault::Serve(fault) => writeln!(writer, "multiscalar: {fault}"),
     }
 }
 
@@ -77,16 +73,5 @@ fn reason_name(reason: Reason) -> &'static str
         Reason::TooLong => "longer than 134217728 bytes",
         Reason::OutOfMemory => "out of memory",
         Reason::Other => "cannot be read",
-    }
-}
-
-// The number and the name of a fault of `serve`.
-fn name_of(fault: ServeFault) -> &'static str
-    ensures { result.now ≡ serve_name fault }
-{
-    match fault {
-        ServeFault::OutOfMemory => "1 OutOfMemory",
-        ServeFault::Write => "2 Write",
-        ServeFault::Foreign => "3 Foreign",
     }
 }

@@ -1,3 +1,4 @@
+pub mod FaultText
 pub mod MachineText
 pub mod ReplayText
 pub mod RunText

@@ -6,7 +6,7 @@ use Rattle.program_edge.specs.Telling.{reason_words}
 use Rattle.program_edge.proofs.told.say.Goals as goal
 
 pub returns-in-Serve : goal.returns-in-Serve
-returns-in-Serve g c = rw (c.in-Serve.is, ← c.name_of-name.ensures) (search rules)
+returns-in-Serve g c = rw c.in-Serve.is (search rules)
 
 pub returns-in-Explained : goal.returns-in-Explained
 returns-in-Explained g c =
