@@ -7,4 +7,3 @@ mod layout;
 pub mod log;
 mod place;
 pub mod rules;
-mod writer;
