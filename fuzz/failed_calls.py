@@ -21,7 +21,7 @@ import threading
 import time
 
 import faults
-from faults import EVERY, OPEN, PLACE, READ, SIZE, TELL, TOP, WRITE, Row, fault
+from faults import EVERY, OPEN, PREAD, READ, SIZE, TELL, TOP, WRITE, Row, fault
 
 EXPECTED = {
     "reads of 1, 7 or 4,096 bytes": "the answer of whole reads",
@@ -50,17 +50,17 @@ EXPECTED = {
     "a file of another user, as nobody": "status 2, nothing on standard output, `multiscalar: file PATH`, for `explain` with the reason",
     "files at the limit, and one byte above": "program: judged, and `1 TooLong`; other files: judged, and status 2 with the file named",
     "words that are not UTF-8": "status 2, nothing on standard output, `multiscalar: 1 Words`",
-    "reads by places: short": "of 1, 7, 100 or 4,096 bytes: the answer of one worker",
-    "reads by places: failed or interrupted": "one, all from one on, or one in some: the answer of one worker, since one thread then reads the file from its beginning",
-    "reads by places: one fails, then a read": "status 2, nothing on standard output, `multiscalar: file PATH` of that file, for `explain` with the reason",
-    "reads by places: the end too early": "in a part: the answer of one worker, as before; behind the parts: the answer for the bytes that were read",
-    "reads by places: the file is cut": "the answer for the bytes that were read: those that are left, where a part was short; else all parts and what was read behind them",
-    "reads by places: the file grows": "the answer for the longer file",
-    "reads by places: files about as long as those that threads fetch": "the answer of one worker, from 262,142 to 262,146 bytes",
+    "positioned reads: short": "of 1, 7, 100 or 4,096 bytes: the answer of one worker",
+    "positioned reads: failed or interrupted": "one, all from one on, or one in some: the answer of one worker, since one thread then reads the file from its beginning",
+    "positioned reads: one fails, then a read": "status 2, nothing on standard output, `multiscalar: file PATH` of that file, for `explain` with the reason",
+    "positioned reads: the end too early": "in a part: the answer of one worker, as before; behind the parts: the answer for the bytes that were read",
+    "positioned reads: the file is cut": "the answer for the bytes that were read: those that are left, where a part was short; else all parts and what was read behind them",
+    "positioned reads: the file grows": "the answer for the longer file",
+    "positioned reads: files about as long as those that threads fetch": "the answer of one worker, from 262,142 to 262,146 bytes",
     "the size of a file is refused": "the answer as ever, also where the file is said to be a pipe",
     "a wrong size of a file": "the answer as ever, for sizes that are too small, too large, and none that a file can have",
 }
-MANY_RUNS = ["reads by places: failed or interrupted", "reads by places: the end too early", "reads by places: the file is cut", "reads by places: the file grows",
+MANY_RUNS = ["positioned reads: failed or interrupted", "positioned reads: the end too early", "positioned reads: the file is cut", "positioned reads: the file grows",
              "a read fails", "a read finds the end too early", "a file is cut while it is read", "a file grows while it is read", "a write fails"]
 READ_ERRORS = [errno.EIO, errno.EAGAIN, errno.EISDIR, errno.EBADF, errno.ENOMEM, errno.ESTALE, errno.EINVAL, errno.EPERM]
 OPEN_ERRORS = [errno.EACCES, errno.ENOENT, errno.EMFILE, errno.ENFILE, errno.ENOMEM, errno.ELOOP, errno.EIO, errno.EPERM, errno.ENXIO]
@@ -540,36 +540,36 @@ def shared_cases(bench):
     return [SharedCase(bench, workers, None) for workers in (2, 3, 4, 16)] + [SharedCase(bench, 4, broken)]
 
 
-def placed(part, case, wanted, *faults_of):
-    """A run of which reads by places are known to have been made."""
+def with_preads(part, case, wanted, *faults_of):
+    """A run of which positioned reads are known to have been made."""
     ended = part.bench.run(case.words, *faults_of)
-    if ended.counts and not ended.counts[PLACE]:
-        part.row.differences.append(f"no reads by places: {' '.join(case.words)}")
+    if ended.counts and not ended.counts[PREAD]:
+        part.row.differences.append(f"no positioned reads: {' '.join(case.words)}")
     part.expect(case.words, "".join(faults_of), ended, wanted)
 
 
-def short_places(part, every, draw):
+def short_preads(part, every, draw):
     for case, size in part.each([(case, size) for case in shared_cases(part.bench) for size in (1, 7, 100, 4096, EVERY)], draw):
-        placed(part, case, case.right[:3], fault(PLACE, 1, EVERY, "s", size))
+        with_preads(part, case, case.right[:3], fault(PREAD, 1, EVERY, "s", size))
 
 
-def place_faults(draw, n, error):
-    """A read by places fails alone, with all after it, or one in some does."""
-    return fault(PLACE, n, n, "e", error), fault(PLACE, n, EVERY, "e", error), fault(PLACE, 1, EVERY, "e", error, 2 + n, draw.randrange(9999))
+def pread_faults(draw, n, error):
+    """A positioned read fails alone, with all after it, or one in some does."""
+    return fault(PREAD, n, n, "e", error), fault(PREAD, n, EVERY, "e", error), fault(PREAD, 1, EVERY, "e", error, 2 + n, draw.randrange(9999))
 
 
-def failing_place(part, every, draw):
+def failing_pread(part, every, draw):
     jobs = [(case, which) for case in shared_cases(part.bench) for n in range(1, 40) for error in [INTERRUPTED, *READ_ERRORS]
-            for which in place_faults(draw, n, error)]
+            for which in pread_faults(draw, n, error)]
     for case, which in part.each(jobs, draw):
-        placed(part, case, case.right[:3], fault(PLACE, 1, EVERY, "s", draw.choice((4096, EVERY))), which)
+        with_preads(part, case, case.right[:3], fault(PREAD, 1, EVERY, "s", draw.choice((4096, EVERY))), which)
 
 
-def failing_place_and_read(part, every, draw):
+def failing_pread_and_read(part, every, draw):
     jobs = [(case, n, error) for case in shared_cases(part.bench) for n in range(1, 12) for error in READ_ERRORS]
     for case, n, error in part.each(jobs, draw):
         first = case.right.read_of.index(2) + draw.randrange(1, 20)
-        placed(part, case, named(case.words, case.files[1], 0), fault(PLACE, n, n, "e", draw.choice([INTERRUPTED, *READ_ERRORS])), fault(READ, first, EVERY, "e", error))
+        with_preads(part, case, named(case.words, case.files[1], 0), fault(PREAD, n, n, "e", draw.choice([INTERRUPTED, *READ_ERRORS])), fault(READ, first, EVERY, "e", error))
 
 
 def told_sizes(case):
@@ -577,34 +577,34 @@ def told_sizes(case):
     return len(case.text), 300000, 262144
 
 
-def early_place(part, every, draw):
+def early_pread(part, every, draw):
     jobs = [(case, n, size) for case in shared_cases(part.bench) for n in range(1, 90) for size in told_sizes(case)]
     for case, n, size in part.each(jobs, draw):
-        which = fault(PLACE, 1, EVERY, "s", 4096), fault(PLACE, n, n, "z"), fault(SIZE, 1, EVERY, "l", size)
+        which = fault(PREAD, 1, EVERY, "s", 4096), fault(PREAD, n, n, "z"), fault(SIZE, 1, EVERY, "l", size)
         ended = part.bench.run(case.words, *which)
-        place = ended.places[n - 1][0] if ended.places and n <= len(ended.places) else 0
-        wanted = prefix_answer(case, 1, place) if place >= case.behind(size) else case.right[:3]
-        part.expect(case.words, f"at {place} {''.join(which)}", ended, wanted)
+        offset = ended.preads[n - 1][0] if ended.preads and n <= len(ended.preads) else 0
+        wanted = prefix_answer(case, 1, offset) if offset >= case.behind(size) else case.right[:3]
+        part.expect(case.words, f"at {offset} {''.join(which)}", ended, wanted)
 
 
 def left_of_cut(case, ended, size, value):
     """How many bytes were read of a file that was said to be of one size and was cut to another."""
     if 2 in ended.read_of:
         return value
-    return case.behind(size) + sum(got for place, got in ended.places if place >= case.behind(size))
+    return case.behind(size) + sum(got for offset, got in ended.preads if offset >= case.behind(size))
 
 
-def changed_places(how, more):
-    """A copy of the certificate is cut, or made longer, before a read by places."""
+def changed_before_pread(how, more):
+    """A copy of the certificate is cut, or made longer, before a positioned read."""
     def runs(part, every, draw):
         copy = part.bench.folder / "changing"
         jobs = [(case, n, size) for case in shared_cases(part.bench) for n in range(1, 90) for size in told_sizes(case)]
         for case, n, size in part.each(jobs, draw):
             copy.write_bytes(case.text)
             value = draw.randint(draw.choice((0, case.behind(size) - 9)), len(case.text)) if how == "t" else draw.choice((1, 500))
-            which = fault(PLACE, 1, EVERY, "s", 4096), fault(PLACE, n, n, how, value), fault(SIZE, 1, EVERY, "l", size)
+            which = fault(PREAD, 1, EVERY, "s", 4096), fault(PREAD, n, n, how, value), fault(SIZE, 1, EVERY, "l", size)
             ended = part.bench.run(case.with_file(1, copy), *which, TARGET=str(copy), MORE=more)
-            if not ended.places or n > len(ended.places):
+            if not ended.preads or n > len(ended.preads):
                 wanted = case.right[:3]
             elif how == "t":
                 wanted = prefix_answer(case, 1, left_of_cut(case, ended, size, value))
@@ -622,8 +622,8 @@ def least_shared(part, every, draw):
         path.write_bytes(case.text[:size])
         words = case.with_file(1, path)
         ended = part.bench.run(words)
-        if ended.counts and bool(ended.counts[PLACE]) != (size >= 262144):
-            part.row.differences.append(f"{ended.counts[PLACE]} reads by places of {size} bytes: {' '.join(words)}")
+        if ended.counts and bool(ended.counts[PREAD]) != (size >= 262144):
+            part.row.differences.append(f"{ended.counts[PREAD]} positioned reads of {size} bytes: {' '.join(words)}")
         part.expect(words, f"{size} bytes", ended, part.bench.run([*words[:2], "1", *words[3:]])[:3])
 
 
@@ -648,7 +648,7 @@ def wrong_size(part, every, draw):
 RUNS = [short_reads, interrupted_read, interrupted_reads(1000), interrupted_reads(1001), failing_read, early_end,
         changed_while_read("t", ""), changed_while_read("a", "# more\n"), failing_open, interrupted_open, short_writes, interrupted_write,
         failing_write, failing_telling, bad_outputs, bad_streams, pipes, standard_input, failing_input, endless, empty, unreadable, forbidden, limits, not_text,
-        short_places, failing_place, failing_place_and_read, early_place, changed_places("t", ""), changed_places("a", "# more\n"), least_shared,
+        short_preads, failing_pread, failing_pread_and_read, early_pread, changed_before_pread("t", ""), changed_before_pread("a", "# more\n"), least_shared,
         no_size, wrong_size]
 
 

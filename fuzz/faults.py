@@ -12,9 +12,9 @@ import tempfile
 
 TOP = pathlib.Path(__file__).resolve().parent.parent
 
-# The kinds of calls: memory, files that are opened, reads, writes to standard output and to standard error, reads
-# from a place of a file (pread), and what a file is and how long (statx).
-GROW, OPEN, READ, WRITE, TELL, PLACE, SIZE = range(7)
+# The kinds of calls: memory, files that are opened, reads, writes to standard output and to standard error, positioned
+# reads (pread), and what a file is and how long (statx).
+GROW, OPEN, READ, WRITE, TELL, PREAD, SIZE = range(7)
 EVERY = 10 ** 12
 
 SOURCE = r"""
@@ -30,14 +30,14 @@ SOURCE = r"""
 #include <sys/stat.h>
 #include <sys/syscall.h>
 #include <unistd.h>
-enum { GROW, OPEN, READ, WRITE, TELL, PLACE, SIZE, KINDS };
+enum { GROW, OPEN, READ, WRITE, TELL, PREAD, SIZE, KINDS };
 // Calls of a kind from one number to another, and of these one in some, by a seed: what becomes of them.
 struct fault { int kind; unsigned long from, to, one_in, seed; char how; long value; };
 static struct fault faults[8];
 static int count, ready;
 static unsigned long calls[KINDS], for_writing;
 static unsigned char opened[1024], read_of[1 << 16];
-static struct { long place, got; } placed[1 << 13];
+static struct { long offset, got; } preads[1 << 13];
 
 // Has the stack grow at once, so that a limit on the address space meets the heap alone.
 static void grow_stack(size_t size) {
@@ -129,11 +129,11 @@ ssize_t write(int fd, const void *p, size_t n) {
     long result;
     return fails(kind, call, &result) ? result : syscall(SYS_write, fd, p, room(kind, call, n));
 }
-ssize_t pread(int fd, void *p, size_t n, off_t place) {
-    unsigned long call = number(PLACE);
+ssize_t pread(int fd, void *p, size_t n, off_t offset) {
+    unsigned long call = number(PREAD);
     long result;
-    if (!fails(PLACE, call, &result)) result = syscall(SYS_pread64, fd, p, room(PLACE, call, n), place);
-    if (call < sizeof placed / sizeof *placed) { placed[call].place = place; placed[call].got = result; }
+    if (!fails(PREAD, call, &result)) result = syscall(SYS_pread64, fd, p, room(PREAD, call, n), offset);
+    if (call < sizeof preads / sizeof *preads) { preads[call].offset = offset; preads[call].got = result; }
     return result;
 }
 int statx(int fd, const char *restrict path, int flags, unsigned mask, struct statx *restrict into) {
@@ -149,15 +149,15 @@ int statx(int fd, const char *restrict path, int flags, unsigned mask, struct st
 static void finish(void) {
     const char *path = getenv("COUNTS");
     if (!path) return;
-    static char text[4 * sizeof read_of + 40 * (sizeof placed / sizeof *placed)];
+    static char text[4 * sizeof read_of + 40 * (sizeof preads / sizeof *preads)];
     int size = 0;
     for (int kind = 0; kind < KINDS; kind++) size += snprintf(text + size, sizeof text - size, "%lu ", calls[kind]);
     size += snprintf(text + size, sizeof text - size, "%lu\n", for_writing);
     for (unsigned long i = 1; i <= calls[READ] && i < sizeof read_of; i++)
         size += snprintf(text + size, sizeof text - size, "%d ", read_of[i]);
     text[size++] = '\n';
-    for (unsigned long i = 1; i <= calls[PLACE] && i < sizeof placed / sizeof *placed; i++)
-        size += snprintf(text + size, sizeof text - size, "%ld,%ld ", placed[i].place, placed[i].got);
+    for (unsigned long i = 1; i <= calls[PREAD] && i < sizeof preads / sizeof *preads; i++)
+        size += snprintf(text + size, sizeof text - size, "%ld,%ld ", preads[i].offset, preads[i].got);
     long file = syscall(SYS_openat, AT_FDCWD, path, O_WRONLY | O_CREAT | O_TRUNC, 0666);
     if (syscall(SYS_write, file, text, size) < 0) { }
 }
@@ -169,9 +169,9 @@ void _exit(int status) {
 """
 
 # How a run ended. `counts` has the number of calls of each kind and, last, of opens for writing, `read_of` the
-# number of the file, from 1, that each read was of (0 is standard input), and `places` where each read from a place began and what it
+# number of the file, from 1, that each read was of (0 is standard input), and `preads` where each positioned read began and what it
 # answered; they are None where the process ended by a signal.
-Ended = collections.namedtuple("Ended", "status out told counts read_of places", defaults=[None])
+Ended = collections.namedtuple("Ended", "status out told counts read_of preads", defaults=[None])
 
 
 def fault(kind, first, last, how, value=0, one_in=0, seed=0):
@@ -218,8 +218,8 @@ class Bench:
         if not self.counts.exists():
             return None, None, None
         first, second, third = (self.counts.read_text() + "\n\n").split("\n")[:3]
-        places = [tuple(map(int, it.split(","))) for it in third.split()]
-        return [int(n) for n in first.split()], [int(n) for n in second.split()], places
+        preads = [tuple(map(int, it.split(","))) for it in third.split()]
+        return [int(n) for n in first.split()], [int(n) for n in second.split()], preads
 
     def plain(self, words, **more):
         """A run without the library."""

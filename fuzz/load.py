@@ -317,7 +317,7 @@ class Load:
             row[2].append(f"{what}: {fault}")
 
     def check(self, how):
-        """`check` with several workers of a certificate that they share out and fetch by places."""
+        """`check` with several workers of a certificate that they share out and fetch by positioned reads."""
         workers = self.draw.randrange(2, 17)
         env, begin, _ = limited(how, self.draw, workers)
         given = call([self.program, "check", "--workers", str(workers), *self.large], env, begin, self.shim if env else None)

@@ -185,12 +185,12 @@ def calls(planted):
     with faults.Bench(planted.plant("none", "no such word")) as good, faults.Bench(planted.runner) as bad:
         every = [case for case in failed_calls.cases(good) if any(f"/{name}/" in " ".join(case.words) for name in ("count", "five-findings"))]
         for name, runs in zip(failed_calls.EXPECTED, failed_calls.RUNS):
-            placed = name.startswith("reads by places") or "size of a file" in name
+            shared = name.startswith("positioned reads") or "size of a file" in name
             # what is right is known by other runs of the same program, which must answer as ever
             needed = "4" if "about as long" in name else "null" if name == "empty inputs" else ""
-            planted.plant("wrong", needed, only_faults=placed and not needed or name in ("a read finds the end too early", "a file is cut while it is read", "a file grows while it is read"))
-            part = failed_calls.Part(name, bad, soon(20 if placed else 4))
-            runs(part, every[:] if not placed else [case for case in every if case.right.counts[faults.SIZE]], draw)
+            planted.plant("wrong", needed, only_faults=shared and not needed or name in ("a read finds the end too early", "a file is cut while it is read", "a file grows while it is read"))
+            part = failed_calls.Part(name, bad, soon(20 if shared else 4))
+            runs(part, every[:] if not shared else [case for case in every if case.right.counts[faults.SIZE]], draw)
             planted.plant("none", "no such word")
             yield name, "another answer", bool(part.row.differences)
         for name, needed in JOBS:

@@ -82,7 +82,7 @@ pub enum Prediction {
     First,
     /// The last target.
     Last,
-    /// These places among the targets, over and over.
+    /// The targets at these positions, over and over.
     List(Answers),
 }
 

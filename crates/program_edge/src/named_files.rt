@@ -3,7 +3,7 @@ ghost use Rattle.std.specs.Prelude.{List, ℕ, None};
 ghost use Rattle.program_edge.specs.FileTexts.{Known, Unknown, OpensAs};
 
 use crate::asked::STANDARD_INPUT;
-use shared_fetch::placed::PlacedFile;
+use shared_fetch::positioned::PositionedFile;
 use std::fs::OpenFile;
 use std::io::{ErrorKind, Input, Read};
 use std::marker::Sync;
@@ -14,7 +14,7 @@ use std::{fs, io};
 /// The files that a program can open by their names.
 pub trait NamedFiles {
     /// An open file.
-    type File: PlacedFile + Drop;
+    type File: PositionedFile + Drop;
 
     // What is known of the file of a name.
     ghost known: { Self → List ℕ → Known };
@@ -26,7 +26,7 @@ pub trait NamedFiles {
     /// What the system tells; `NotFound` only where there is no file of this name.
     fn open(&self, name: &str) -> io::Result<Self::File>
         ensures opened { OpensAs Self.File.remaining (known self.now name.now) result }
-        ensures places { OpensAs Self.File.bytes (known self.now name.now) result };
+        ensures positioned { OpensAs Self.File.bytes (known self.now name.now) result };
 }
 
 /// The files of the system, of which nothing is known; `-` is standard input.
@@ -47,7 +47,7 @@ impl<'a, R> SystemFiles<'a, R> {
 pub enum SystemFile<F, I> {
     /// A file that was opened by its path.
     Path(F),
-    /// Standard input. It has no size and no places, so one thread reads it from its beginning.
+    /// Standard input. It has no size and no positioned reads, so one thread reads it from its beginning.
     Input(I),
 }
 
@@ -60,7 +60,7 @@ impl<F: Read, I: Read> Read for SystemFile<F, I> {
     }
 }
 
-impl<F: Read + FileExt + OpenFile + Sync, I: Read + Sync> PlacedFile for SystemFile<F, I> {
+impl<F: Read + FileExt + OpenFile + Sync, I: Read + Sync> PositionedFile for SystemFile<F, I> {
     ghost bytes = { λ _. None };
 
     fn size_hint(&self) -> Option<u64> {
@@ -75,9 +75,9 @@ impl<F: Read + FileExt + OpenFile + Sync, I: Read + Sync> PlacedFile for SystemF
         }
     }
 
-    fn read_at(&self, buffer: &mut [u8], place: u64) -> io::Result<usize> {
+    fn read_at(&self, buffer: &mut [u8], offset: u64) -> io::Result<usize> {
         match self {
-            SystemFile::Path(file) => file.read_at(buffer, place),
+            SystemFile::Path(file) => file.read_at(buffer, offset),
             SystemFile::Input(_) => Err(io::Error::from(ErrorKind::NotSeekable)),
         }
     }

@@ -88,7 +88,7 @@ goes_on old mid new k h below same head =
       beyond = λ more. retired_last (state mid) e (count_h (state mid)) (count_h (state new)) (count_h (state old) + k) mid.history new.history head.2.history after below more;
     }
 
--- each event takes a place of the history's room
+-- each event takes its part of the history's room
 
 pub takes_room : (mid new : MachineView) → HeadApplied mid new → length new.history ≤ most_events → most_events - length new.history < most_events - length mid.history
 takes_room mid new head room =

@@ -5,8 +5,8 @@ use processor_steps::processor::MOST_EVENTS;
 use std::alloc::{AllocError, Global};
 use std::marker::Model;
 
-/// The events so far. There are at least 1,000,000 places for runs, and each run has an event, so an event
-/// that fits takes no memory.
+/// The events so far. There is room for at least 1,000,000 runs, and each run has an event, so an event that
+/// fits takes no memory.
 #[derive(Debug, Drop)]
 pub(crate) struct History {
     runs: Vec<EventRun>,

@@ -14,7 +14,7 @@ pub trait Predict: Send + Drop {
         requires { 0 < length targets.now };
 }
 
-/// The place of the first target.
+/// The position of the first target.
 const FIRST_TARGET: u32 = 0;
 
 /// Chooses the first target.

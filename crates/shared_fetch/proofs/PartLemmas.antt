@@ -13,8 +13,8 @@ read_on from n count bytes front back first second =
     ∙ sym (take-add n count (drop from bytes))
 
 -- the same where the last `count` bytes are the first of a buffer
-pub read_more : (from n place count more : ℕ) (bytes all buffer new : List ℕ) → all ≡ take n (drop from bytes) → take count buffer ≡ take count (drop place bytes) → place ≡ from + n → new ≡ all ++ take count buffer → n + count ≡ more → new ≡ take more (drop from bytes)
-read_more from n place count more bytes all buffer new first second there is sum =
+pub read_more : (from n offset count more : ℕ) (bytes all buffer new : List ℕ) → all ≡ take n (drop from bytes) → take count buffer ≡ take count (drop offset bytes) → offset ≡ from + n → new ≡ all ++ take count buffer → n + count ≡ more → new ≡ take more (drop from bytes)
+read_more from n offset count more bytes all buffer new first second there is sum =
     is ∙ (read_on from n count bytes all (take count buffer) first (second ∙ ap (λ (k : ℕ). take count (drop k bytes)) there)
     ∙ ap (λ (k : ℕ). take k (drop from bytes)) sum)
 

@@ -2,6 +2,6 @@
 #![tactic(auto)]
 
 pub mod parts;
-pub mod placed;
+pub mod positioned;
 pub mod serial;
 pub mod shared;

@@ -1,8 +1,8 @@
 //! The parts of a file, and the text from them.
 ghost use Rattle.std.specs.Prelude.{◌≡◌, ◌≤◌, ◌+◌, ◌*◌, ℕ, List, Some, IfSome, length, take, drop, vec_len};
-ghost use Rattle.shared_fetch.specs.Places.{AreParts, AreFull};
+ghost use Rattle.shared_fetch.specs.PositionedReads.{AreParts, AreFull};
 
-use crate::placed::PlacedFile;
+use crate::positioned::PositionedFile;
 use std::alloc::Global;
 use text_pieces::text::Text;
 
@@ -13,10 +13,10 @@ const CHUNK: usize = 16_384;
 // added to it, and should fit without moving it.
 const LINE: usize = 4_096;
 
-/// The bytes of a file from a place on: `most` of them, or those up to its end. `None` where a read fails
+/// The bytes of a file from an offset on: `most` of them, or those up to its end. `None` where a read fails
 /// or is interrupted, and where memory was refused. `room` is how
 /// many bytes of memory are asked for at once.
-pub fn fetch_from<F: PlacedFile>(
+pub fn fetch_from<F: PositionedFile>(
     alloc: Global,
     file: &F,
     from: u64,
@@ -43,7 +43,7 @@ pub fn fetch_from<F: PlacedFile>(
 
 /// The part of this number, of parts of so many bytes each. `None` where the file ends within it, and as
 /// `fetch_from`.
-pub fn fetch_part<F: PlacedFile>(
+pub fn fetch_part<F: PositionedFile>(
     alloc: Global,
     file: &F,
     number: usize,

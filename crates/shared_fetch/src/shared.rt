@@ -2,7 +2,7 @@
 ghost use Rattle.std.specs.Prelude.{◌≡◌, ◌≤◌, ◌+◌, ◌*◌, ℕ, List, Some, IfOk, IfSome, length, take};
 
 use crate::parts::{fetch_from, fetch_part, put_together};
-use crate::placed::PlacedFile;
+use crate::positioned::PositionedFile;
 use crate::serial::{FetchFault, fetch};
 use std::alloc::Global;
 use std::marker::Sync;
@@ -27,7 +27,7 @@ const MOST_WORKERS: u32 = 16;
 /// # Errors
 ///
 /// `Read` if a read fails or more than 1,000 are interrupted; `OutOfMemory` if memory was refused.
-pub fn fetch_shared<F: PlacedFile, R: Threads + Sync>(
+pub fn fetch_shared<F: PositionedFile, R: Threads + Sync>(
     rt: &R,
     alloc: Global,
     file: &mut F,
@@ -46,7 +46,7 @@ pub fn fetch_shared<F: PlacedFile, R: Threads + Sync>(
 }
 
 // The text from its parts; `None` where the file is not shared out, or a part is not there.
-fn fetch_parts<F: PlacedFile, R: Threads + Sync>(
+fn fetch_parts<F: PositionedFile, R: Threads + Sync>(
     rt: &R,
     alloc: Global,
     file: &F,
@@ -72,7 +72,7 @@ fn fetch_parts<F: PlacedFile, R: Threads + Sync>(
 }
 
 // The text of parts of so many bytes each, which as many workers fetch.
-fn fetch_full_parts<F: PlacedFile, R: Threads + Sync>(
+fn fetch_full_parts<F: PositionedFile, R: Threads + Sync>(
     rt: &R,
     alloc: Global,
     file: &F,

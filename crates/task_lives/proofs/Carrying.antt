@@ -10,7 +10,7 @@ use Rattle.task_lives.specs.declared.life.Ending.TheVariants.{Retired, Unfinishe
 use Rattle.task_lives.specs.declared.life.Life.{Life}
 use Rattle.task_lives.specs.declared.following.AtWork.{AtWork}
 use Rattle.task_lives.specs.Lives.{position_after, ending_by, executed_at, Course, after_one, course}
-use Rattle.task_lives.specs.AtWork.{HavePlaces, closed, all_closed, with_more, more_executed}
+use Rattle.task_lives.specs.AtWork.{AreWithin, closed, all_closed, with_more, more_executed}
 use Rattle.task_lives.specs.Following.{AreBehind, completed, carried_on}
 
 -- one course
@@ -48,17 +48,17 @@ life_ends ev k e es life is = ap (completed ev life) (course_ends k e es is) ∙
 pub length-carried_on : (ev k : ℕ) (ws : List AtWork) (es : List Event) (lives : List Life) → length (carried_on ev k ws es lives) ≡ length lives
 length-carried_on ev k [] es lives = refl
 length-carried_on ev k (w ∷ ws) es lives =
-    length-set (carried_on ev (suc k) ws es lives) w.place (completed ev w.life (course k es)) ∙ length-carried_on ev (suc k) ws es lives
+    length-set (carried_on ev (suc k) ws es lives) w.index (completed ev w.life (course k es)) ∙ length-carried_on ev (suc k) ws es lives
 
--- a life that is written at a place before those of the tasks at work
-pub carried_on_set : (ev k : ℕ) (ws : List AtWork) (es : List Event) (lives : List Life) (place : ℕ) (life : Life) → AreBehind place ws → slice_set (carried_on ev k ws es lives) place life ≡ carried_on ev k ws es (slice_set lives place life)
-carried_on_set ev k [] es lives place life behind = refl
-carried_on_set ev k (w ∷ ws) es lives place life behind =
-    let here : place < w.place = behind.0 in
-    let apart : w.place ≢ place = λ e. absurd (omega arith) in
+-- a life that is written at an index before those of the tasks at work
+pub carried_on_set : (ev k : ℕ) (ws : List AtWork) (es : List Event) (lives : List Life) (index : ℕ) (life : Life) → AreBehind index ws → slice_set (carried_on ev k ws es lives) index life ≡ carried_on ev k ws es (slice_set lives index life)
+carried_on_set ev k [] es lives index life behind = refl
+carried_on_set ev k (w ∷ ws) es lives index life behind =
+    let here : index < w.index = behind.0 in
+    let apart : w.index ≢ index = λ e. absurd (omega arith) in
     let mine = completed ev w.life (course k es) in
-    set_comm (carried_on ev (suc k) ws es lives) w.place place mine life apart
-    ∙ ap (λ (ls : List Life). slice_set ls w.place mine) (carried_on_set ev (suc k) ws es lives place life behind.1)
+    set_comm (carried_on ev (suc k) ws es lives) w.index index mine life apart
+    ∙ ap (λ (ls : List Life). slice_set ls w.index mine) (carried_on_set ev (suc k) ws es lives index life behind.1)
 
 -- an event over which each unit stays and executes nothing
 pub carried_past : (e : Event) → ((i : ℕ) → position_after i e ≡ Some i) → ((i : ℕ) → executed_at i e ≡ 0) → (ev k : ℕ) (ws : List AtWork) (es : List Event) (lives : List Life) → carried_on ev k ws (e ∷ es) lives ≡ carried_on (suc ev) k ws es lives
@@ -66,7 +66,7 @@ carried_past e stays none ev k [] es lives = refl
 carried_past e stays none ev k (w ∷ ws) es lives =
     let rest = carried_past e stays none ev (suc k) ws es lives in
     let here = life_on ev k k e es w.life (stays k) (none k) in
-    λ i. slice_set (rest i) w.place (here i)
+    λ i. slice_set (rest i) w.index (here i)
 
 -- Retire: the units behind the head come nearer to it
 carried_nearer : (ev k : ℕ) (ws : List AtWork) (es : List Event) (lives : List Life) → carried_on ev (suc k) ws (Retire ∷ es) lives ≡ carried_on (suc ev) k ws es lives
@@ -74,13 +74,13 @@ carried_nearer ev k [] es lives = refl
 carried_nearer ev k (w ∷ ws) es lives =
     let rest = carried_nearer ev (suc k) ws es lives in
     let here = life_on ev (suc k) k Retire es w.life refl refl in
-    λ i. slice_set (rest i) w.place (here i)
+    λ i. slice_set (rest i) w.index (here i)
 
-pub carried_retire : (ev : ℕ) (w : AtWork) (ws : List AtWork) (es : List Event) (lives : List Life) → AreBehind w.place ws → carried_on ev 0 (w ∷ ws) (Retire ∷ es) lives ≡ carried_on (suc ev) 0 ws es (slice_set lives w.place (closed ev Retired w.life))
+pub carried_retire : (ev : ℕ) (w : AtWork) (ws : List AtWork) (es : List Event) (lives : List Life) → AreBehind w.index ws → carried_on ev 0 (w ∷ ws) (Retire ∷ es) lives ≡ carried_on (suc ev) 0 ws es (slice_set lives w.index (closed ev Retired w.life))
 carried_retire ev w ws es lives behind =
     let rest = carried_nearer ev 0 ws es lives in
     let here = life_ends ev 0 Retire es w.life refl in
-    (λ i. slice_set (rest i) w.place (here i)) ∙ carried_on_set (suc ev) 0 ws es lives w.place (closed ev Retired w.life) behind
+    (λ i. slice_set (rest i) w.index (here i)) ∙ carried_on_set (suc ev) 0 ws es lives w.index (closed ev Retired w.life) behind
 
 -- Squash and Drop: the units from a position on go
 module _ (e : Event) (limit : ℕ) (stays : (i : ℕ) → i < limit → position_after i e ≡ Some i) (goes : (i : ℕ) → limit ≤ i → position_after i e ≡ None) (none : (i : ℕ) → executed_at i e ≡ 0) where
@@ -89,7 +89,7 @@ module _ (e : Event) (limit : ℕ) (stays : (i : ℕ) → i < limit → position
   all_go ev k behind (w ∷ ws) es lives =
       let rest = all_go ev (suc k) (omega arith) ws es lives in
       let here = life_ends ev k e es w.life (goes k behind) in
-      λ i. slice_set (rest i) w.place (here i)
+      λ i. slice_set (rest i) w.index (here i)
 
   cut_from : (m ev k : ℕ) → limit ≡ k + m → (ws : List AtWork) (es : List Event) (lives : List Life) → carried_on ev k ws (e ∷ es) lives ≡ carried_on (suc ev) k (take m ws) es (all_closed ev (ending_by e) (drop m ws) lives)
   cut_from zero ev k is ws es lives = all_go ev k (omega arith) ws es lives
@@ -97,7 +97,7 @@ module _ (e : Event) (limit : ℕ) (stays : (i : ℕ) → i < limit → position
   cut_from (suc m) ev k is (w ∷ ws) es lives =
       let rest = cut_from m ev (suc k) (omega arith) ws es lives in
       let here = life_on ev k k e es w.life (stays k (omega arith)) (none k) in
-      λ i. slice_set (rest i) w.place (here i)
+      λ i. slice_set (rest i) w.index (here i)
 
   pub carried_cut : (ev : ℕ) (ws : List AtWork) (es : List Event) (lives : List Life) → carried_on ev 0 ws (e ∷ es) lives ≡ carried_on (suc ev) 0 (take limit ws) es (all_closed ev (ending_by e) (drop limit ws) lives)
   carried_cut ev ws es lives = cut_from limit ev 0 (omega arith) ws es lives
@@ -109,25 +109,25 @@ carried_end ev k (w ∷ ws) lives =
     let rest = carried_end ev (suc k) ws lives in
     let ends : ev + 0 - 1 ≡ ev - 1 = omega arith in
     let executes : w.life.executed + 0 ≡ w.life.executed = omega arith in
-    λ i. slice_set (rest i) w.place (record (w.life) { last = ends i; executed = executes i; ending = Unfinished })
+    λ i. slice_set (rest i) w.index (record (w.life) { last = ends i; executed = executes i; ending = Unfinished })
 
 -- Assign: a task at work behind the tail, whose life is the last so far
-pub carried_push : (ev k : ℕ) (ws : List AtWork) (es : List Event) (lives : List Life) (w : AtWork) (life : Life) → w.place ≡ length lives → HavePlaces (length lives) ws → carried_on ev k (ws ++ w ∷ []) es (lives ++ life ∷ []) ≡ carried_on ev k ws es lives ++ completed ev w.life (course (k + length ws) es) ∷ []
+pub carried_push : (ev k : ℕ) (ws : List AtWork) (es : List Event) (lives : List Life) (w : AtWork) (life : Life) → w.index ≡ length lives → AreWithin (length lives) ws → carried_on ev k (ws ++ w ∷ []) es (lives ++ life ∷ []) ≡ carried_on ev k ws es lives ++ completed ev w.life (course (k + length ws) es) ∷ []
 carried_push ev k [] es lives w life is before =
     let mine = completed ev w.life (course k es) in
     let here : k ≡ k + 0 = omega arith in
-    set_at lives life [] mine w.place (sym is) ∙ ap (λ (j : ℕ). lives ++ completed ev w.life (course j es) ∷ []) here
+    set_at lives life [] mine w.index (sym is) ∙ ap (λ (j : ℕ). lives ++ completed ev w.life (course j es) ∷ []) here
 carried_push ev k (v ∷ ws) es lives w life is before =
     let mine = completed ev v.life (course k es) in
     let last : ℕ → List Life = λ j. completed ev w.life (course j es) ∷ [] in
     let rest = carried_on ev (suc k) ws es lives in
     let long : length rest ≡ length lives = length-carried_on ev (suc k) ws es lives in
-    let place : v.place < length lives = before.0 in
-    let within : v.place < length rest = omega arith in
+    let index : v.index < length lives = before.0 in
+    let within : v.index < length rest = omega arith in
     let here : suc k + length ws ≡ k + suc (length ws) = omega arith in
-    ap (λ (ls : List Life). slice_set ls v.place mine) (carried_push ev (suc k) ws es lives w life is before.1)
-    ∙ set-append_left rest (last (suc k + length ws)) v.place mine within
-    ∙ ap (λ (j : ℕ). slice_set rest v.place mine ++ last j) here
+    ap (λ (ls : List Life). slice_set ls v.index mine) (carried_push ev (suc k) ws es lives w life is before.1)
+    ∙ set-append_left rest (last (suc k + length ws)) v.index mine within
+    ∙ ap (λ (j : ℕ). slice_set rest v.index mine ++ last j) here
 
 -- Exec: so many instructions of the unit at a position
 
@@ -165,16 +165,16 @@ carried_execs ev k j n (w ∷ ws) es lives =
     let executes : w.life.executed + (m + c.executed) ≡ w.life.executed + m + c.executed = omega arith in
     let here : completed ev w.life (course k (replicate n (Exec j) ++ es)) ≡ completed (ev + n) (with_more m w).life c =
     ap (completed ev w.life) (course_execs k j n es) ∙ (λ i. record (w.life) { last = ends i; executed = executes i; ending = c.ending }) in
-    λ i. slice_set (rest i) w.place (here i)
+    λ i. slice_set (rest i) w.index (here i)
 
 -- from the tail on
 
 pub length-all_closed : (last : ℕ) (ending : Ending) (ws : List AtWork) (lives : List Life) → length (all_closed last ending ws lives) ≡ length lives
 length-all_closed last ending [] lives = refl
 length-all_closed last ending (w ∷ ws) lives =
-    length-set (all_closed last ending ws lives) w.place (closed last ending w.life) ∙ length-all_closed last ending ws lives
+    length-set (all_closed last ending ws lives) w.index (closed last ending w.life) ∙ length-all_closed last ending ws lives
 
-pub all_closed_push : (last : ℕ) (ending : Ending) (ws : List AtWork) (w : AtWork) (lives : List Life) → all_closed last ending (ws ++ w ∷ []) lives ≡ all_closed last ending ws (slice_set lives w.place (closed last ending w.life))
+pub all_closed_push : (last : ℕ) (ending : Ending) (ws : List AtWork) (w : AtWork) (lives : List Life) → all_closed last ending (ws ++ w ∷ []) lives ≡ all_closed last ending ws (slice_set lives w.index (closed last ending w.life))
 all_closed_push last ending [] w lives = refl
 all_closed_push last ending (v ∷ ws) w lives =
-    ap (λ (ls : List Life). slice_set ls v.place (closed last ending v.life)) (all_closed_push last ending ws w lives)
+    ap (λ (ls : List Life). slice_set ls v.index (closed last ending v.life)) (all_closed_push last ending ws w lives)

@@ -8,9 +8,9 @@ use Rattle.task_lives.specs.declared.life.Ending.TheVariants.{Retired, Squashed,
 use Rattle.task_lives.specs.declared.life.Life.{Life}
 use Rattle.task_lives.specs.declared.following.AtWork.{AtWork}
 use Rattle.task_lives.specs.AtWork.{all_closed, more_executed}
-use Rattle.task_lives.specs.Following.{FollowingView, IsFollowing, ArePlaced, Follows}
+use Rattle.task_lives.specs.Following.{FollowingView, IsFollowing, AreInOrder, Follows}
 use Rattle.task_lives.proofs.Carrying.{length-all_closed}
-use Rattle.task_lives.proofs.Placed.{have_places}
+use Rattle.task_lives.proofs.InOrder.{are_within}
 use Rattle.task_lives.proofs.Followed.{life_at, follows_execs, follows_squash, follows_drop, follows_retire, follows_retire_none, follows_assign}
 use Rattle.task_lives.proofs.Kept.{kept_front, kept_behind, kept_execs, kept_life, kept_assign}
 
@@ -60,20 +60,20 @@ cut_kept f kept ending queue lives q l h =
 abbrev pub passed_on : FollowingView → List AtWork → List Life → FollowingView
 passed_on f queue lives = record f { lives = lives; queue = queue; retired = f.retired + 1; events = f.events + 1 }
 
-head_retired : (ls : List Life) (ws : List AtWork) (units retired events : ℕ) → ArePlaced (length ls) events ws
+head_retired : (ls : List Life) (ws : List AtWork) (units retired events : ℕ) → AreInOrder (length ls) events ws
     → Follows (record { lives = ls; queue = ws; units = units; retired = retired; events = events }) (Retire ∷ [])
     (record { lives = all_closed events Retired (take 1 ws) ls; queue = drop 1 ws; units = units; retired = retired + 1; events = events + 1 })
-head_retired ls [] units retired events placed =
+head_retired ls [] units retired events in_order =
     follows_retire_none (record { lives = ls; queue = []; units = units; retired = retired; events = events }) refl
-head_retired ls (w ∷ ws) units retired events placed =
-    follows_retire (record { lives = ls; queue = w ∷ ws; units = units; retired = retired; events = events }) w ws refl placed.2
+head_retired ls (w ∷ ws) units retired events in_order =
+    follows_retire (record { lives = ls; queue = w ∷ ws; units = units; retired = retired; events = events }) w ws refl in_order.2
 
 pub retired : (old f : FollowingView) (queue : List AtWork) (lives : List Life) → f ≡ old → IsFollowing f → queue ≡ drop 1 f.queue → lives ≡ all_closed f.events Retired (take 1 f.queue) f.lives
     → Follows old (Retire ∷ []) (passed_on f queue lives)
 retired old f queue lives is h q l =
     from_view old f (passed_on f queue lives) (Retire ∷ []) is
     (subst (λ (ws : List AtWork). Follows f (Retire ∷ []) (passed_on f ws lives)) (sym q)
-    (subst (λ (ls : List Life). Follows f (Retire ∷ []) (passed_on f (drop 1 f.queue) ls)) (sym l) (head_retired f.lives f.queue f.units f.retired f.events h.placed)))
+    (subst (λ (ls : List Life). Follows f (Retire ∷ []) (passed_on f (drop 1 f.queue) ls)) (sym l) (head_retired f.lives f.queue f.units f.retired f.events h.in_order)))
 
 pub retired_kept : (f : FollowingView) (queue : List AtWork) (lives : List Life) → queue ≡ drop 1 f.queue → lives ≡ all_closed f.events Retired (take 1 f.queue) f.lives → IsFollowing f → IsFollowing (passed_on f queue lives)
 retired_kept f queue lives q l h =
@@ -86,9 +86,9 @@ abbrev pub with_task : FollowingView → List AtWork → List Life → Following
 with_task f queue lives = record f { lives = lives; queue = queue; events = f.events + 1 }
 
 abbrev pub new_task : FollowingView → (task : ℕ) → AtWork
-new_task f task = record { place = length f.lives; life = life_at f task Unfinished }
+new_task f task = record { index = length f.lives; life = life_at f task Unfinished }
 
--- the same, with the place and the number of units at work as they were counted
+-- the same, with the index and the number of units at work as they were counted
 abbrev pub life_with : FollowingView → (task count : ℕ) → Life
 life_with f task count = record {
   task = task;
@@ -99,26 +99,26 @@ life_with f task count = record {
   ending = Unfinished;
 }
 
-abbrev pub task_with : FollowingView → (task place count : ℕ) → AtWork
-task_with f task place count = record { place = place; life = life_with f task count }
+abbrev pub task_with : FollowingView → (task index count : ℕ) → AtWork
+task_with f task index count = record { index = index; life = life_with f task count }
 
-counted_task : (f : FollowingView) (task place count : ℕ) (queue : List AtWork) → place ≡ length f.lives → count ≡ length f.queue → queue ≡ f.queue ++ task_with f task place count ∷ [] → queue ≡ f.queue ++ new_task f task ∷ []
-counted_task f task place count queue here many q = q ∙ (λ i. f.queue ++ task_with f task (here i) (many i) ∷ [])
+counted_task : (f : FollowingView) (task index count : ℕ) (queue : List AtWork) → index ≡ length f.lives → count ≡ length f.queue → queue ≡ f.queue ++ task_with f task index count ∷ [] → queue ≡ f.queue ++ new_task f task ∷ []
+counted_task f task index count queue here many q = q ∙ (λ i. f.queue ++ task_with f task (here i) (many i) ∷ [])
 
 counted_life : (f : FollowingView) (task count : ℕ) (lives : List Life) → count ≡ length f.queue → lives ≡ f.lives ++ life_with f task count ∷ [] → lives ≡ f.lives ++ life_at f task Unfinished ∷ []
 counted_life f task count lives many l = l ∙ (λ i. f.lives ++ life_with f task (many i) ∷ [])
 
-pub assigned : (old f : FollowingView) (task place count : ℕ) (queue : List AtWork) (lives : List Life) → f ≡ old → IsFollowing f → place ≡ length f.lives → count ≡ length f.queue → queue ≡ f.queue ++ task_with f task place count ∷ [] → lives ≡ f.lives ++ life_with f task count ∷ []
+pub assigned : (old f : FollowingView) (task index count : ℕ) (queue : List AtWork) (lives : List Life) → f ≡ old → IsFollowing f → index ≡ length f.lives → count ≡ length f.queue → queue ≡ f.queue ++ task_with f task index count ∷ [] → lives ≡ f.lives ++ life_with f task count ∷ []
     → Follows old (Assign task ∷ []) (with_task f queue lives)
-assigned old f task place count queue lives is h here many q l =
+assigned old f task index count queue lives is h here many q l =
     from_view old f (with_task f queue lives) (Assign task ∷ []) is
-    (subst (λ (ws : List AtWork). Follows f (Assign task ∷ []) (with_task f ws lives)) (sym (counted_task f task place count queue here many q))
+    (subst (λ (ws : List AtWork). Follows f (Assign task ∷ []) (with_task f ws lives)) (sym (counted_task f task index count queue here many q))
     (subst (λ (ls : List Life). Follows f (Assign task ∷ []) (with_task f (f.queue ++ new_task f task ∷ []) ls)) (sym (counted_life f task count lives many l))
-    (follows_assign f task Unfinished (new_task f task) refl refl (have_places (length f.lives) f.events f.queue h.placed))))
+    (follows_assign f task Unfinished (new_task f task) refl refl (are_within (length f.lives) f.events f.queue h.in_order))))
 
-pub assigned_kept : (f : FollowingView) (task place count : ℕ) (queue : List AtWork) (lives : List Life) → place ≡ length f.lives → count ≡ length f.queue → queue ≡ f.queue ++ task_with f task place count ∷ [] → lives ≡ f.lives ++ life_with f task count ∷ [] → IsFollowing f → IsFollowing (with_task f queue lives)
-assigned_kept f task place count queue lives here many q l h =
-    subst (λ (ws : List AtWork). IsFollowing (with_task f ws lives)) (sym (counted_task f task place count queue here many q))
+pub assigned_kept : (f : FollowingView) (task index count : ℕ) (queue : List AtWork) (lives : List Life) → index ≡ length f.lives → count ≡ length f.queue → queue ≡ f.queue ++ task_with f task index count ∷ [] → lives ≡ f.lives ++ life_with f task count ∷ [] → IsFollowing f → IsFollowing (with_task f queue lives)
+assigned_kept f task index count queue lives here many q l h =
+    subst (λ (ws : List AtWork). IsFollowing (with_task f ws lives)) (sym (counted_task f task index count queue here many q))
     (subst (λ (ls : List Life). IsFollowing (with_task f (f.queue ++ new_task f task ∷ []) ls)) (sym (counted_life f task count lives many l)) (kept_assign f h (life_at f task Unfinished) (new_task f task) refl refl))
 
 -- where the queue found no memory, the life stands alone

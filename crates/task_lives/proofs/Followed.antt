@@ -13,10 +13,10 @@ use Rattle.task_lives.specs.declared.life.Ending.TheVariants.{Retired, Squashed,
 use Rattle.task_lives.specs.declared.life.Life.{Life}
 use Rattle.task_lives.specs.declared.following.AtWork.{AtWork}
 use Rattle.task_lives.specs.Lives.{Course, course, life_of, begun, lives_from}
-use Rattle.task_lives.specs.AtWork.{HavePlaces, closed, all_closed, more_executed}
+use Rattle.task_lives.specs.AtWork.{AreWithin, closed, all_closed, more_executed}
 use Rattle.task_lives.specs.Following.{FollowingView, AreBehind, completed, carried_on, all_lives, Follows}
 use Rattle.task_lives.proofs.Carrying.{carried_past, carried_retire, carried_cut, carried_push, carried_execs}
-use Rattle.task_lives.proofs.Placed.{length-more_executed}
+use Rattle.task_lives.proofs.InOrder.{length-more_executed}
 
 -- no event, and events one behind the other
 
@@ -106,11 +106,11 @@ module _ (f : FollowingView) where
 
 -- Retire, where there is a head, and where there is none
 
-pub follows_retire : (f : FollowingView) (w : AtWork) (ws : List AtWork) → f.queue ≡ w ∷ ws → AreBehind w.place ws
-    → Follows f (Retire ∷ []) (record f { lives = slice_set f.lives w.place (closed f.events Retired w.life); queue = ws; retired = f.retired + 1; events = f.events + 1 })
+pub follows_retire : (f : FollowingView) (w : AtWork) (ws : List AtWork) → f.queue ≡ w ∷ ws → AreBehind w.index ws
+    → Follows f (Retire ∷ []) (record f { lives = slice_set f.lives w.index (closed f.events Retired w.life); queue = ws; retired = f.retired + 1; events = f.events + 1 })
 follows_retire f w ws is behind =
     let long : length ws ≡ length f.queue - 1 = (let same = ap length is in omega arith) in
-    follows_event f Retire (slice_set f.lives w.place (closed f.events Retired w.life)) ws (f.retired + 1)
+    follows_event f Retire (slice_set f.lives w.index (closed f.events Retired w.life)) ws (f.retired + 1)
     (λ es.
     ap (λ (q : List AtWork). carried_on f.events 0 q (Retire ∷ es) f.lives) is
     ∙ carried_retire f.events w ws es f.lives behind)
@@ -144,9 +144,9 @@ goes_on f task ending c =
     let executes : c.executed ≡ 0 + c.executed = omega arith in
     λ i. record (life_at f task ending) { last = ends i; executed = executes i; ending = c.ending }
 
-pub follows_assign : (f : FollowingView) (task : ℕ) (ending : Ending) (w : AtWork) → w.place ≡ length f.lives → w.life ≡ life_at f task ending → HavePlaces (length f.lives) f.queue
+pub follows_assign : (f : FollowingView) (task : ℕ) (ending : Ending) (w : AtWork) → w.index ≡ length f.lives → w.life ≡ life_at f task ending → AreWithin (length f.lives) f.queue
     → Follows f (Assign task ∷ []) (record f { lives = f.lives ++ life_at f task ending ∷ []; queue = f.queue ++ w ∷ []; events = f.events + 1 })
-follows_assign f task ending w place is before =
+follows_assign f task ending w index is before =
     let a : ℕ = length f.queue in
     let long : length (f.queue ++ w ∷ []) ≡ suc a = (let same = length-append f.queue (w ∷ []) in omega arith) in
     record {
@@ -157,7 +157,7 @@ follows_assign f task ending w place is before =
           goes_on f task ending (course a es)
           ∙ ap (λ (life : Life). completed (suc f.events) life (course a es)) (sym is)
           ∙ ap (λ (n : ℕ). completed (suc f.events) w.life (course n es)) (let same : a ≡ 0 + a = omega arith in same) in
-          let push = carried_push (suc f.events) 0 f.queue es f.lives w (life_at f task ending) place before in
+          let push = carried_push (suc f.events) 0 f.queue es f.lives w (life_at f task ending) index before in
           (λ i. past i ++ (mine i ∷ rest))
           ∙ sym (append_assoc (carried_on (suc f.events) 0 f.queue es f.lives) (completed (suc f.events) w.life (course (0 + a) es) ∷ []) rest)
           ∙ ap (λ (ls : List Life). ls ++ rest) (sym push)

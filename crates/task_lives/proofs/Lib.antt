@@ -1,5 +1,5 @@
 pub mod Carrying
-pub mod Placed
+pub mod InOrder
 pub mod Followed
 pub mod Ledgers
 pub mod Totals

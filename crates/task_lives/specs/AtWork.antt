@@ -4,10 +4,10 @@ use Rattle.task_lives.specs.declared.life.Ending.{Ending}
 use Rattle.task_lives.specs.declared.life.Life.{Life}
 use Rattle.task_lives.specs.declared.following.AtWork.{AtWork}
 
--- each has one of so many places
-abbrev pub HavePlaces : (places : ℕ) → List AtWork → Type 0
-HavePlaces places [] = Unit {0}
-HavePlaces places (w ∷ ws) = (w.place < places) × HavePlaces places ws
+-- each has one of so many lives
+abbrev pub AreWithin : (lives : ℕ) → List AtWork → Type 0
+AreWithin lives [] = Unit {0}
+AreWithin lives (w ∷ ws) = (w.index < lives) × AreWithin lives ws
 
 -- each can execute so many instructions more, as far as its type goes
 abbrev pub HaveRoom : (count : ℕ) → List AtWork → Type 0
@@ -21,7 +21,7 @@ closed last ending life = record life { last = last; ending = ending }
 -- the lives, where those of some tasks ended in an event
 abbrev pub all_closed : (last : ℕ) → Ending → List AtWork → List Life → List Life
 all_closed last ending [] lives = lives
-all_closed last ending (w ∷ ws) lives = slice_set (all_closed last ending ws lives) w.place (closed last ending w.life)
+all_closed last ending (w ∷ ws) lives = slice_set (all_closed last ending ws lives) w.index (closed last ending w.life)
 
 -- a task that executed so many instructions more
 abbrev pub with_more : (count : ℕ) → AtWork → AtWork

@@ -16,21 +16,21 @@ pub record FollowingView : Type 0 where
   pub retired : ℕ
   pub events : ℕ
 
--- each has a place behind some place
-abbrev pub AreBehind : (place : ℕ) → List AtWork → Type 0
-AreBehind place [] = Unit {0}
-AreBehind place (w ∷ ws) = (place < w.place) × AreBehind place ws
+-- each has a life behind that of some index
+abbrev pub AreBehind : (index : ℕ) → List AtWork → Type 0
+AreBehind index [] = Unit {0}
+AreBehind index (w ∷ ws) = (index < w.index) × AreBehind index ws
 
--- each has one of so many places, before those of the tasks behind it, and executed at most as many
+-- each has one of so many lives, before those of the tasks behind it, and executed at most as many
 -- instructions as there were events
-abbrev pub ArePlaced : (places events : ℕ) → List AtWork → Type 0
-ArePlaced places events [] = Unit {0}
-ArePlaced places events (w ∷ ws) =
-    (w.place < places) × (w.life.executed ≤ events) × AreBehind w.place ws × ArePlaced places events ws
+abbrev pub AreInOrder : (lives events : ℕ) → List AtWork → Type 0
+AreInOrder lives events [] = Unit {0}
+AreInOrder lives events (w ∷ ws) =
+    (w.index < lives) × (w.life.executed ≤ events) × AreBehind w.index ws × AreInOrder lives events ws
 
 pub record IsFollowing (f : FollowingView) : Type 0 where
   pub some_unit : 0 < f.units
-  pub placed : ArePlaced (length f.lives) f.events f.queue
+  pub in_order : AreInOrder (length f.lives) f.events f.queue
   pub few : f.retired + length f.queue ≤ f.events
 
 -- a life so far, which then goes on by a course
@@ -45,7 +45,7 @@ completed events life c = record life {
 abbrev pub carried_on : (events k : ℕ) → List AtWork → List Event → List Life → List Life
 carried_on events k [] es lives = lives
 carried_on events k (w ∷ ws) es lives =
-    slice_set (carried_on events (suc k) ws es lives) w.place (completed events w.life (course k es))
+    slice_set (carried_on events (suc k) ws es lives) w.index (completed events w.life (course k es))
 
 -- all lives, those that begin later among them
 abbrev pub all_lives : FollowingView → List Event → List Life

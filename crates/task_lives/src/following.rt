@@ -2,21 +2,21 @@
 
 ghost use Rattle.std.specs.Prelude.{◌≡◌, ◌+◌, ◌^◌, ◌<◌, ◌≤◌, [], ◌∷◌, ◌++◌, length, take, drop, slice_set, IfSome, IfNone};
 ghost use Rattle.task_lives.specs.declared.life.Ending.TheVariants.{Retired};
-ghost use Rattle.task_lives.specs.AtWork.{HavePlaces, HaveRoom, closed, all_closed, with_more, more_executed};
+ghost use Rattle.task_lives.specs.AtWork.{AreWithin, HaveRoom, closed, all_closed, with_more, more_executed};
 
 use crate::life::{Ending, Life};
 use machine_events::event::{Event, EventRun};
 use std::alloc::{AllocError, Global};
 use std::marker::Model;
 
-/// A task at work: its place among the lives, and its life so far.
+/// A task at work: its index among the lives, and its life so far.
 #[derive(Clone, Copy, Debug)]
 pub(crate) struct AtWork {
-    pub(crate) place: usize,
+    pub(crate) index: usize,
     pub(crate) life: Life,
 }
 
-/// What is known of the lives after the events so far. The life of a task at work has its place among
+/// What is known of the lives after the events so far. The life of a task at work has its index among
 /// the lives, and is written there when it ends.
 #[derive(Debug, Drop)]
 pub(crate) struct Following {
@@ -109,9 +109,9 @@ impl Following {
             executed: 0,
             ending: Ending::Unfinished,
         };
-        let place = self.lives.len();
+        let index = self.lives.len();
         self.lives.push(life)?;
-        self.queue.push(AtWork { place, life })?;
+        self.queue.push(AtWork { index, life })?;
         self.events += 1;
         Ok(())
     }
@@ -196,10 +196,10 @@ impl Following {
 
 /// Ends the life of a task in an event.
 fn close(lives: &mut Vec<Life>, at_work: AtWork, last: u32, ending: Ending)
-    requires { at_work.place < length lives.old.items }
-    ensures { lives.new.items ≡ slice_set lives.old.items at_work.place (closed last ending at_work.life) }
+    requires { at_work.index < length lives.old.items }
+    ensures { lives.new.items ≡ slice_set lives.old.items at_work.index (closed last ending at_work.life) }
 {
-    lives[at_work.place] = Life {
+    lives[at_work.index] = Life {
         last,
         ending,
         ..at_work.life
@@ -208,7 +208,7 @@ fn close(lives: &mut Vec<Life>, at_work: AtWork, last: u32, ending: Ending)
 
 /// Ends the life of the task at the head, where there is one: it retired.
 fn close_head(queue: &mut Vec<AtWork>, lives: &mut Vec<Life>, last: u32)
-    requires { HavePlaces (length lives.old.items) queue.old.items }
+    requires { AreWithin (length lives.old.items) queue.old.items }
     ensures queue { queue.new.items ≡ drop 1 queue.old.items }
     ensures lives { lives.new.items ≡ all_closed last Retired (take 1 queue.old.items) lives.old.items }
 {
@@ -239,7 +239,7 @@ fn close_behind(
     last: u32,
     ending: Ending,
 )
-    requires { HavePlaces (length lives.old.items) queue.old.items }
+    requires { AreWithin (length lives.old.items) queue.old.items }
     ensures queue { queue.new.items ≡ take kept queue.old.items }
     ensures lives { lives.new.items ≡ all_closed last ending (drop kept queue.old.items) lives.old.items }
 {

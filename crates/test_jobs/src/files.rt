@@ -4,7 +4,7 @@ ghost use Rattle.std.specs.Prelude.{◌≡◌, ◌≤◌, length, take};
 
 use crate::answers::{Bench, texts_of};
 use jobs::job::Job;
-use shared_fetch::placed::PlacedFile;
+use shared_fetch::positioned::PositionedFile;
 use shared_fetch::serial::{FetchFault, fetch};
 use shared_fetch::shared::fetch_shared;
 use std::alloc::Global;
@@ -99,12 +99,12 @@ fn expect_fetched(rt: &impl Abort, alloc: Global, most: u64, expected: &[u8]) {
     assert!(rt; fetched.as_slice() == expected, "at most {most}");
 }
 
-// A file that is held in memory. It may say another size than it has, and reading it by places fails from
-// a place on.
+// A file that is held in memory. It may say another size than it has, and its positioned reads fail
+// from an offset on.
 #[derive(Drop)]
 struct Held {
     bytes: Vec<u8>,
-    place: usize,
+    offset: usize,
     told: Option<u64>,
     fails_from: u64,
     is_worn: bool,
@@ -115,13 +115,13 @@ impl Read for Held {
         if self.is_worn {
             return Err(io::Error::from(ErrorKind::Other));
         }
-        let count = copy_from(&self.bytes, self.place, buf);
-        self.place = self.place.saturating_add(count);
+        let count = copy_from(&self.bytes, self.offset, buf);
+        self.offset = self.offset.saturating_add(count);
         Ok(count)
     }
 }
 
-impl PlacedFile for Held {
+impl PositionedFile for Held {
     ghost use Rattle.std.specs.Prelude.{None};
 
     ghost bytes = { λ _. None };
@@ -130,19 +130,19 @@ impl PlacedFile for Held {
         self.told
     }
 
-    fn read_at(&self, buffer: &mut [u8], place: u64) -> io::Result<usize> {
-        if place >= self.fails_from {
+    fn read_at(&self, buffer: &mut [u8], offset: u64) -> io::Result<usize> {
+        if offset >= self.fails_from {
             return Err(io::Error::from(ErrorKind::Interrupted));
         }
-        Ok(copy_from(&self.bytes, place as usize, buffer))
+        Ok(copy_from(&self.bytes, offset as usize, buffer))
     }
 }
 
-// Copies what stands from a place on, as far as there is room; how many bytes that was.
-fn copy_from(bytes: &[u8], place: usize, buffer: &mut [u8]) -> usize
+// Copies what stands from an offset on, as far as there is room; how many bytes that was.
+fn copy_from(bytes: &[u8], offset: usize, buffer: &mut [u8]) -> usize
     ensures { (result ≤ length buffer.new) × (result ≡ length (take result buffer.new)) }
 {
-    let from = place.min(bytes.len());
+    let from = offset.min(bytes.len());
     let count = buffer.len().min(bytes.len() - from);
     buffer[..count].copy_from_slice(&bytes[from..from + count]);
     count
@@ -154,30 +154,30 @@ const LONG: usize = 300_000;
 // A file of as many bytes, in which lines of 70 bytes differ from those beside them.
 fn long_file(rt: &impl Abort, alloc: Global) -> Held {
     let mut bytes = Vec::new(alloc);
-    for place in 0..LONG {
-        let byte = if place % 70 == 69 {
+    for offset in 0..LONG {
+        let byte = if offset % 70 == 69 {
             10
         } else {
-            (place / 70 % 251) as u8
+            (offset / 70 % 251) as u8
         };
         assert!(rt; bytes.push(byte).is_ok());
     }
     Held {
         bytes,
-        place: 0,
+        offset: 0,
         told: Some(LONG as u64),
         fails_from: u64::MAX,
         is_worn: false,
     }
 }
 
-// Asserts that a file of this size, of which reading by places fails from a place on, is fetched the same by
-// each number of workers.
+// Asserts that a file of this size, whose positioned reads fail from an offset on, is fetched the same by each
+// number of workers.
 fn expect_shared<R: Bench>(rt: &R, alloc: Global, file: &mut Held, fails_from: u64, most: u64) {
     assert!(rt; most <= 134_217_728);
     file.fails_from = fails_from;
     for &workers in &[0, 1, 4, 17] {
-        file.place = 0;
+        file.offset = 0;
         let text = fetch_shared(rt, alloc, file, most, workers).ok();
         let text = text.expect(rt, "room for a text");
         let wanted = file.bytes.len().min(most as usize + 1);

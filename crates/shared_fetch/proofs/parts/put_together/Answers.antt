@@ -13,10 +13,10 @@ loop-found-preserved c =
     let one : length (before ++ c.in-Some.found ∷ []) ≡ length before + 1 = length-append before (c.in-Some.found ∷ []) in
     record {
       bytes = λ bytes parts.
-          let place = λ (i : ℕ) (part : Option (Vec ℕ Global)). IfSome part (λ p. p.items ≡ take c.args.size (drop (c.args.size * i) bytes)) in
+          let stands = λ (i : ℕ) (part : Option (Vec ℕ Global)). IfSome part (λ p. p.items ≡ take c.args.size (drop (c.args.size * i) bytes)) in
           one_part_more c.args.size (length before) _ bytes c.loop-found.text c.in_ok-found.field-0.items c.append.new.self
-          (c.loop-found.invariant.bytes bytes (each_front place before c.in-Some.found parts))
-          (subst (place (length before)) c.in_ok-found.was (each_last place before c.in-Some.found parts)) is one;
+          (c.loop-found.invariant.bytes bytes (each_front stands before c.in-Some.found parts))
+          (subst (stands (length before)) c.in_ok-found.was (each_last stands before c.in-Some.found parts)) is one;
       long = λ parts.
           let full = λ (i : ℕ) (part : Option (Vec ℕ Global)). IfSome part (λ p. length p.items ≡ c.args.size) in
           let front = c.loop-found.invariant.long (each_front full before c.in-Some.found parts) in

@@ -1,6 +1,6 @@
 -- The text is as long as the parts so far, and where they are those of a file it begins as the file does.
 use Rattle.std.proofs.Common.{◌≡◌, ◌*◌, ℕ, List, length, take}
-use Rattle.shared_fetch.specs.Places.{AreParts, AreFull}
+use Rattle.shared_fetch.specs.PositionedReads.{AreParts, AreFull}
 use Rattle.shared_fetch.proofs.parts.put_together.Given as goal
 
 abbrev pub invariant-loop-found : goal.invariant-loop-found

@@ -2,7 +2,7 @@
 use Rattle.std.proofs.Common.{◌≡◌, ◌+◌, ◌<◌, ◌≤◌, ◌∙◌, length, ap, arith}
 use Rattle.std.specs.Prelude.{slice_set}
 use Rattle.task_lives.specs.declared.following.AtWork.{AtWork}
-use Rattle.task_lives.proofs.Placed.{room_at, none_behind, more_executed_at}
+use Rattle.task_lives.proofs.InOrder.{room_at, none_behind, more_executed_at}
 use Rattle.task_lives.proofs.following.add_executed.Goals as goal
 
 pub with-requires : goal.with-requires

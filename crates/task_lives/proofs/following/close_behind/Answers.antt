@@ -2,7 +2,7 @@
 use Rattle.std.proofs.Common.{◌≡◌, ◌∷◌, [], ◌++◌, ◌∙◌, List, length, length-append, subst, sym, ap, arith}
 use Rattle.task_lives.specs.declared.life.Life.{Life}
 use Rattle.task_lives.specs.declared.following.AtWork.{AtWork}
-use Rattle.task_lives.proofs.Closing.{IsClosing, places_split, one_closed, none_closed, front_left, rest_closed}
+use Rattle.task_lives.proofs.Closing.{IsClosing, within_split, one_closed, none_closed, front_left, rest_closed}
 use Rattle.task_lives.proofs.following.close_behind.Goals as goal
 
 pub loop-tail-init : goal.loop-tail-init
@@ -13,7 +13,7 @@ close-requires c =
     let now = c.pop_behind.new.queue.items in
     let lives = c.loop-tail.lives.items in
     let h = subst (λ (ws : List AtWork). IsClosing c.args.last c.args.ending c.args.kept c.args.queue.now.items ws c.args.lives.now.items lives) c.in-Some.ensures.some.0 c.loop-tail.invariant in
-    (places_split (length lives) now c.in-Some.tail h.places).1
+    (within_split (length lives) now c.in-Some.tail h.indices).1
 
 pub loop-tail-preserved : goal.loop-tail-preserved
 loop-tail-preserved c =

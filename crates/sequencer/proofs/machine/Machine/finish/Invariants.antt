@@ -1,4 +1,4 @@
--- The machine has gone from its start by head events; each takes a place of the history's room.
+-- The machine has gone from its start by head events; each takes its part of the history's room.
 use Rattle.std.proofs.Common.{◌-◌, length}
 use Rattle.machine_model.specs.Answer.{most_events}
 use Rattle.sequencer.proofs.HeadRuns.{OnTheWay}

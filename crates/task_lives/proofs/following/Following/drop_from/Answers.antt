@@ -1,12 +1,12 @@
 -- The tasks from the position on go.
 use Rattle.task_lives.specs.declared.life.Ending.TheVariants.{Dropped}
 use Rattle.task_lives.specs.Following.{FollowingView}
-use Rattle.task_lives.proofs.Placed.{have_places}
+use Rattle.task_lives.proofs.InOrder.{are_within}
 use Rattle.task_lives.proofs.EachEvent.{dropped, cut_kept}
 use Rattle.task_lives.proofs.following.Following.drop_from.Goals as goal
 
 pub close_behind-requires : goal.close_behind-requires
-close_behind-requires c = have_places _ c.self.inside.events c.self.inside.queue.items c.self.invariant.placed
+close_behind-requires c = are_within _ c.self.inside.events c.self.inside.queue.items c.self.invariant.in_order
 
 pub invariant_of-self : goal.invariant_of-self
 invariant_of-self c =

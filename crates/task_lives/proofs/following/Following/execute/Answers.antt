@@ -1,7 +1,7 @@
 -- The instructions are counted at the position, and the state is the one after them.
 use Rattle.std.proofs.Common.{◌+◌, ◌^◌, ◌<◌, ap, arith}
 use Rattle.task_lives.specs.Following.{FollowingView}
-use Rattle.task_lives.proofs.Placed.{have_room}
+use Rattle.task_lives.proofs.InOrder.{have_room}
 use Rattle.task_lives.proofs.EachEvent.{executed, executed_kept}
 use Rattle.task_lives.proofs.following.Following.execute.Goals as goal
 
@@ -11,7 +11,7 @@ add_executed-requires c =
     let f : FollowingView = record { lives = i.lives.items; queue = i.queue.items; units = i.units; retired = i.retired; events = i.events } in
     let same = ap (λ (g : FollowingView). g.events) c.self.view_is in
     let few : f.events + c.args.count < 2 ^ 32 = omega arith in
-    have_room _ f.events c.args.count f.queue few c.self.invariant.placed
+    have_room _ f.events c.args.count f.queue few c.self.invariant.in_order
 
 pub invariant_of-self : goal.invariant_of-self
 invariant_of-self c =

@@ -3,12 +3,12 @@ use Rattle.std.proofs.Common.{◌∙◌, ℕ, [], ap, sym, append-nil}
 use Rattle.task_lives.specs.declared.life.Ending.TheVariants.{Unfinished}
 use Rattle.task_lives.specs.AtWork.{all_closed}
 use Rattle.task_lives.specs.Following.{FollowingView, all_lives}
-use Rattle.task_lives.proofs.Placed.{have_places}
+use Rattle.task_lives.proofs.InOrder.{are_within}
 use Rattle.task_lives.proofs.Carrying.{carried_end}
 use Rattle.task_lives.proofs.following.Following.finish.Goals as goal
 
 pub close_behind-requires : goal.close_behind-requires
-close_behind-requires c = have_places _ c.self.inside.events c.self.inside.queue.items c.self.invariant.placed
+close_behind-requires c = are_within _ c.self.inside.events c.self.inside.queue.items c.self.invariant.in_order
 
 pub returns : goal.returns
 returns c =

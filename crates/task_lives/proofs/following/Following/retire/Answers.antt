@@ -1,11 +1,11 @@
 -- The task at the head goes, if there is one.
 use Rattle.task_lives.specs.Following.{FollowingView}
-use Rattle.task_lives.proofs.Placed.{have_places}
+use Rattle.task_lives.proofs.InOrder.{are_within}
 use Rattle.task_lives.proofs.EachEvent.{retired, retired_kept}
 use Rattle.task_lives.proofs.following.Following.retire.Goals as goal
 
 pub close_head-requires : goal.close_head-requires
-close_head-requires c = have_places _ c.self.inside.events c.self.inside.queue.items c.self.invariant.placed
+close_head-requires c = are_within _ c.self.inside.events c.self.inside.queue.items c.self.invariant.in_order
 
 pub invariant_of-self : goal.invariant_of-self
 invariant_of-self c =

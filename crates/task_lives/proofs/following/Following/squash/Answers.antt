@@ -2,12 +2,12 @@
 use Rattle.std.proofs.Common.{◌+◌}
 use Rattle.task_lives.specs.declared.life.Ending.TheVariants.{Squashed}
 use Rattle.task_lives.specs.Following.{FollowingView}
-use Rattle.task_lives.proofs.Placed.{have_places}
+use Rattle.task_lives.proofs.InOrder.{are_within}
 use Rattle.task_lives.proofs.EachEvent.{squashed, cut_kept}
 use Rattle.task_lives.proofs.following.Following.squash.Goals as goal
 
 pub close_behind-requires : goal.close_behind-requires
-close_behind-requires c = have_places _ c.self.inside.events c.self.inside.queue.items c.self.invariant.placed
+close_behind-requires c = are_within _ c.self.inside.events c.self.inside.queue.items c.self.invariant.in_order
 
 pub invariant_of-self : goal.invariant_of-self
 invariant_of-self c =

@@ -1,16 +1,16 @@
--- What is kept of the tasks at work: their places, and how many instructions they executed.
+-- What is kept of the tasks at work: the order of their lives, and how many instructions they executed.
 use Rattle.std.proofs.Common.{◌≡◌, ◌≢◌, ℕ, zero, suc, ◌+◌, ◌^◌, ◌<◌, ◌≤◌, Bool, true, false, cond, List, [], ◌∷◌, ◌++◌, length, take, get_or, set, eq-eqb, refl, sym, ap, ◌∙◌, subst, arith}
 use Rattle.std.specs.Prelude.{nat_eq}
 use Rattle.std.proofs.lemmas.Bool.{ne_eqb}
 use Rattle.task_lives.specs.declared.following.AtWork.{AtWork}
-use Rattle.task_lives.specs.AtWork.{HavePlaces, HaveRoom, with_more, more_executed}
-use Rattle.task_lives.specs.Following.{AreBehind, ArePlaced}
+use Rattle.task_lives.specs.AtWork.{AreWithin, HaveRoom, with_more, more_executed}
+use Rattle.task_lives.specs.Following.{AreBehind, AreInOrder}
 
-pub have_places : (n ev : ℕ) (ws : List AtWork) → ArePlaced n ev ws → HavePlaces n ws
-have_places n ev [] h = tt
-have_places n ev (w ∷ ws) h = (h.0, have_places n ev ws h.3)
+pub are_within : (n ev : ℕ) (ws : List AtWork) → AreInOrder n ev ws → AreWithin n ws
+are_within n ev [] h = tt
+are_within n ev (w ∷ ws) h = (h.0, are_within n ev ws h.3)
 
-pub have_room : (n ev count : ℕ) (ws : List AtWork) → ev + count < 2 ^ 32 → ArePlaced n ev ws → HaveRoom count ws
+pub have_room : (n ev count : ℕ) (ws : List AtWork) → ev + count < 2 ^ 32 → AreInOrder n ev ws → HaveRoom count ws
 have_room n ev count [] few h = tt
 have_room n ev count (w ∷ ws) few h =
     let executed : w.life.executed ≤ ev = h.1 in
@@ -22,43 +22,43 @@ room_at count [] i w within is h = absurd (omega arith)
 room_at count (v ∷ ws) zero w within is h = subst (λ (x : AtWork). x.life.executed + count < 2 ^ 32) (sym is) h.0
 room_at count (v ∷ ws) (suc i) w within is h = room_at count ws i w (omega arith) is h.1
 
--- more places, and more events
-pub placed_on : (n m ev later : ℕ) (ws : List AtWork) → n ≤ m → ev ≤ later → ArePlaced n ev ws → ArePlaced m later ws
-placed_on n m ev later [] more on h = tt
-placed_on n m ev later (w ∷ ws) more on h =
-    let place : w.place < n = h.0 in
+-- more lives, and more events
+pub in_order_on : (n m ev later : ℕ) (ws : List AtWork) → n ≤ m → ev ≤ later → AreInOrder n ev ws → AreInOrder m later ws
+in_order_on n m ev later [] more on h = tt
+in_order_on n m ev later (w ∷ ws) more on h =
+    let index : w.index < n = h.0 in
     let executed : w.life.executed ≤ ev = h.1 in
-    let here : w.place < m = omega arith in
+    let here : w.index < m = omega arith in
     let few : w.life.executed ≤ later = omega arith in
-    (here, few, h.2, placed_on n m ev later ws more on h.3)
+    (here, few, h.2, in_order_on n m ev later ws more on h.3)
 
 -- the front of the queue
 
-behind_front : (place k : ℕ) (ws : List AtWork) → AreBehind place ws → AreBehind place (take k ws)
-behind_front place zero ws h = tt
-behind_front place (suc k) [] h = tt
-behind_front place (suc k) (w ∷ ws) h = (h.0, behind_front place k ws h.1)
+behind_front : (index k : ℕ) (ws : List AtWork) → AreBehind index ws → AreBehind index (take k ws)
+behind_front index zero ws h = tt
+behind_front index (suc k) [] h = tt
+behind_front index (suc k) (w ∷ ws) h = (h.0, behind_front index k ws h.1)
 
-pub placed_front : (n ev k : ℕ) (ws : List AtWork) → ArePlaced n ev ws → ArePlaced n ev (take k ws)
-placed_front n ev zero ws h = tt
-placed_front n ev (suc k) [] h = tt
-placed_front n ev (suc k) (w ∷ ws) h = (h.0, h.1, behind_front w.place k ws h.2, placed_front n ev k ws h.3)
+pub in_order_front : (n ev k : ℕ) (ws : List AtWork) → AreInOrder n ev ws → AreInOrder n ev (take k ws)
+in_order_front n ev zero ws h = tt
+in_order_front n ev (suc k) [] h = tt
+in_order_front n ev (suc k) (w ∷ ws) h = (h.0, h.1, behind_front w.index k ws h.2, in_order_front n ev k ws h.3)
 
--- one more behind the tail, with the next place
+-- one more behind the tail, with the next life
 
-behind_push : (place : ℕ) (ws : List AtWork) (w : AtWork) → place < w.place → AreBehind place ws → AreBehind place (ws ++ w ∷ [])
-behind_push place [] w last h = (last, tt)
-behind_push place (v ∷ ws) w last h = (h.0, behind_push place ws w last h.1)
+behind_push : (index : ℕ) (ws : List AtWork) (w : AtWork) → index < w.index → AreBehind index ws → AreBehind index (ws ++ w ∷ [])
+behind_push index [] w last h = (last, tt)
+behind_push index (v ∷ ws) w last h = (h.0, behind_push index ws w last h.1)
 
-pub placed_push : (n ev : ℕ) (ws : List AtWork) (w : AtWork) → w.place ≡ n → w.life.executed ≤ ev → ArePlaced n ev ws → ArePlaced (suc n) ev (ws ++ w ∷ [])
-placed_push n ev [] w is few h =
-    let here : w.place < suc n = omega arith in
+pub in_order_push : (n ev : ℕ) (ws : List AtWork) (w : AtWork) → w.index ≡ n → w.life.executed ≤ ev → AreInOrder n ev ws → AreInOrder (suc n) ev (ws ++ w ∷ [])
+in_order_push n ev [] w is few h =
+    let here : w.index < suc n = omega arith in
     (here, few, tt, tt)
-placed_push n ev (v ∷ ws) w is few h =
-    let place : v.place < n = h.0 in
-    let here : v.place < suc n = omega arith in
-    let before : v.place < w.place = omega arith in
-    (here, h.1, behind_push v.place ws w before h.2, placed_push n ev ws w is few h.3)
+in_order_push n ev (v ∷ ws) w is few h =
+    let index : v.index < n = h.0 in
+    let here : v.index < suc n = omega arith in
+    let before : v.index < w.index = omega arith in
+    (here, h.1, behind_push v.index ws w before h.2, in_order_push n ev ws w is few h.3)
 
 -- instructions of one of them
 
@@ -66,21 +66,21 @@ pub length-more_executed : (k j count : ℕ) (ws : List AtWork) → length (more
 length-more_executed k j count [] = refl
 length-more_executed k j count (w ∷ ws) = ap suc (length-more_executed (suc k) j count ws)
 
-behind_more : (place k j count : ℕ) (ws : List AtWork) → AreBehind place ws → AreBehind place (more_executed k j count ws)
-behind_more place k j count [] h = tt
-behind_more place k j count (w ∷ ws) h = (h.0, behind_more place (suc k) j count ws h.1)
+behind_more : (index k j count : ℕ) (ws : List AtWork) → AreBehind index ws → AreBehind index (more_executed k j count ws)
+behind_more index k j count [] h = tt
+behind_more index k j count (w ∷ ws) h = (h.0, behind_more index (suc k) j count ws h.1)
 
 at_most : (b : Bool) (count : ℕ) → cond b count 0 ≤ count
 at_most true count = omega arith
 at_most false count = omega arith
 
-pub placed_more : (n ev k j count : ℕ) (ws : List AtWork) → ArePlaced n ev ws → ArePlaced n (ev + count) (more_executed k j count ws)
-placed_more n ev k j count [] h = tt
-placed_more n ev k j count (w ∷ ws) h =
+pub in_order_more : (n ev k j count : ℕ) (ws : List AtWork) → AreInOrder n ev ws → AreInOrder n (ev + count) (more_executed k j count ws)
+in_order_more n ev k j count [] h = tt
+in_order_more n ev k j count (w ∷ ws) h =
     let executed : w.life.executed ≤ ev = h.1 in
     let most = at_most (nat_eq j k) count in
     let few : w.life.executed + cond (nat_eq j k) count 0 ≤ ev + count = omega arith in
-    (h.0, few, behind_more w.place (suc k) j count ws h.2, placed_more n ev (suc k) j count ws h.3)
+    (h.0, few, behind_more w.index (suc k) j count ws h.2, in_order_more n ev (suc k) j count ws h.3)
 
 with_none : (w : AtWork) → w ≡ with_more 0 w
 with_none w =
