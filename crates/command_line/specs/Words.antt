@@ -17,15 +17,15 @@ use Rattle.jobs.specs.declared.job.CurveEmit.TheVariants as curve
 use Rattle.jobs.specs.declared.job.Schedule.{Schedule}
 use Rattle.jobs.specs.declared.job.Schedule.TheVariants.{Threads, Steps}
 use Rattle.jobs.specs.declared.job.Prediction.{Prediction}
-use Rattle.jobs.specs.declared.job.Prediction.TheVariants.{First, Last, List as Answers}
+use Rattle.jobs.specs.declared.job.Prediction.TheVariants.{First, Last, List as Listed}
 
 -- a number 0..=15, written with one or two decimal digits
-abbrev pub answer_of : List ℕ → Option ℕ
-answer_of (d ∷ []) = if is_ascii_digit d then Some (d - 48) else None
-answer_of (d ∷ e ∷ []) =
+abbrev pub listed_number : List ℕ → Option ℕ
+listed_number (d ∷ []) = if is_ascii_digit d then Some (d - 48) else None
+listed_number (d ∷ e ∷ []) =
     let number = 10 * (d - 48) + (e - 48) in
     if is_ascii_digit d && (is_ascii_digit e && nat_le number 15) then Some number else None
-answer_of _ = None
+listed_number _ = None
 
 -- the values, where each is there
 abbrev pub all_there : List (Option ℕ) → Option (List ℕ)
@@ -34,17 +34,17 @@ all_there (None ∷ more) = None
 all_there (Some x ∷ more) = option_map (λ xs. x ∷ xs) (all_there more)
 
 -- 1 to 64 such numbers with commas between them
-abbrev pub answers_of : List ℕ → Option (List ℕ)
-answers_of text =
+abbrev pub listed_numbers : List ℕ → Option (List ℕ)
+listed_numbers text =
     let pieces = slice_split (λ b. b == 44) text in
-    if nat_le (length pieces) 64 then all_there (map answer_of pieces) else None
+    if nat_le (length pieces) 64 then all_there (map listed_number pieces) else None
 
 -- the value of `--predict`: `first`, `last` or such numbers
 abbrev pub prediction_of : List ℕ → Option Prediction
 prediction_of text =
     if bytes_eq text (codes "first") then Some First
     else (if bytes_eq text (codes "last") then Some Last
-    else option_map (λ answers. Answers answers) (answers_of text))
+    else option_map (λ numbers. Listed numbers) (listed_numbers text))
 
 -- the value of `--schedule`
 abbrev pub schedule_of : List ℕ → Option Schedule

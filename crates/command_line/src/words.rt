@@ -4,7 +4,7 @@ ghost use Rattle.std.specs.String.{string_bytes};
 ghost use Rattle.std.specs.List.{slice_split};
 ghost use Rattle.clap.specs.Words.{first_of};
 ghost use Rattle.command_line.specs.Asked.{AskFor, IsFaultOf, IsFrom, IsMisfit, IsNoFormat, IsNoJob, IsNoSchedule, IsOfKind, IsSource, Reads, is_given, curve_emit_in, emit_in, format_in, number_at, predict_in, replay_emit_in, run_emit_in, schedule_in, values_in};
-ghost use Rattle.command_line.specs.Words.{answer_of, answers_of, all_there, curve_emit_of, emit_of, format_of, prediction_of, replay_emit_of, run_emit_of, schedule_of};
+ghost use Rattle.command_line.specs.Words.{listed_number, listed_numbers, all_there, curve_emit_of, emit_of, format_of, prediction_of, replay_emit_of, run_emit_of, schedule_of};
 ghost use Rattle.jobs.specs.Files.{HasFilesOf, is_in_file};
 ghost use Rattle.command_line.specs.declared.words.UsageFault.TheVariants.{OutOfMemory, Predict, Emit as EmitFault};
 
@@ -16,7 +16,7 @@ use jobs::job::{
     CertificateSource, CurveEmit, Emit, Format, Job, Paths, Prediction, ReplayEmit, RunEmit,
     Schedule,
 };
-use jobs::ranges::{Answers, Budget, MOST_ANSWER, MOST_ANSWERS, Units, Workers};
+use jobs::ranges::{Budget, GREATEST_PREDICTION, MOST_PREDICTIONS, PredictionList, Units, Workers};
 use std::alloc::{AllocError, Global};
 use thiserror::Error;
 
@@ -453,15 +453,15 @@ fn read_predict(alloc: Global, values: &ArgMatches<'_>) -> Result<Option<Predict
 }
 
 // One number of a list of predictions.
-fn read_answer(piece: &str) -> Option<u32>
-    ensures value { result ≡ answer_of piece.now }
+fn read_list_number(piece: &str) -> Option<u32>
+    ensures value { result ≡ listed_number piece.now }
     ensures range { IfSome result (λ number. number ≤ 15) }
 {
     match piece.as_bytes() {
         [only] if only.is_ascii_digit() => Some(u32::from(*only - b'0')),
         [ten, one] if ten.is_ascii_digit() && one.is_ascii_digit() => {
             let number = 10 * u32::from(*ten - b'0') + u32::from(*one - b'0');
-            (number <= MOST_ANSWER).then_some(number)
+            (number <= GREATEST_PREDICTION).then_some(number)
         }
         _ => None,
     }
@@ -469,14 +469,14 @@ fn read_answer(piece: &str) -> Option<u32>
 
 // All numbers of a list of predictions; `None` where a piece is none.
 fn read_pieces(alloc: Global, pieces: &[&str]) -> Result<Option<Vec<u32>>, AllocError>
-    ensures value { IfOk result (λ r. let numbers = all_there (map (λ p. answer_of p.now) pieces.now) in
+    ensures value { IfOk result (λ r. let numbers = all_there (map (λ p. listed_number p.now) pieces.now) in
         MatchOption r (numbers ≡ None) (λ v. numbers ≡ Some v.items)) }
     ensures range { IfOk result (λ r. IfSome r (λ v. All (λ n. n ≤ 15) v.items)) }
     ensures number { IfOk result (λ r. IfSome r (λ v. vec_len v ≡ length pieces.now)) }
 {
     let mut numbers = Vec::new(alloc);
     for piece in pieces {
-        match read_answer(piece) {
+        match read_list_number(piece) {
             Some(number) => numbers.push(number)?,
             None => return Ok(None),
         }
@@ -492,15 +492,15 @@ fn pieces_of(alloc: Global, text: &str) -> Result<Vec<&str>, AllocError>
 }
 
 // A list of predictions.
-fn read_answers(alloc: Global, text: &str) -> Result<Option<Answers>, AllocError>
-    ensures { IfOk result (λ r. r ≡ answers_of text.now) }
+fn read_list(alloc: Global, text: &str) -> Result<Option<PredictionList>, AllocError>
+    ensures { IfOk result (λ r. r ≡ listed_numbers text.now) }
 {
     let pieces = pieces_of(alloc, text)?;
-    if pieces.len() > MOST_ANSWERS {
+    if pieces.len() > MOST_PREDICTIONS {
         return Ok(None);
     }
     match read_pieces(alloc, pieces.as_slice())? {
-        Some(numbers) => Ok(Answers::new(numbers)),
+        Some(numbers) => Ok(PredictionList::new(numbers)),
         None => Ok(None),
     }
 }
@@ -512,7 +512,7 @@ fn read_prediction(alloc: Global, text: &str) -> Result<Option<Prediction>, Allo
     match text {
         "first" => Ok(Some(Prediction::First)),
         "last" => Ok(Some(Prediction::Last)),
-        numbers => Ok(read_answers(alloc, numbers)?.map(Prediction::List)),
+        numbers => Ok(read_list(alloc, numbers)?.map(Prediction::List)),
     }
 }
 

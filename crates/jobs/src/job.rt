@@ -1,6 +1,6 @@
 //! What the program is to do, and with which files.
 
-use crate::ranges::{Answers, Budget, Units, Workers};
+use crate::ranges::{Budget, PredictionList, Units, Workers};
 use text_pieces::text::Text;
 
 /// Where a job takes the certificate of its program from.
@@ -83,7 +83,7 @@ pub enum Prediction {
     /// The last target.
     Last,
     /// The targets at these positions, over and over.
-    List(Answers),
+    List(PredictionList),
 }
 
 /// How the units of a run take turns.

@@ -10,10 +10,10 @@ pub const MOST_BUDGET: u32 = 1_000_000;
 pub const MOST_UNITS: u32 = 16;
 
 /// The most numbers in a list of predictions.
-pub const MOST_ANSWERS: usize = 64;
+pub const MOST_PREDICTIONS: usize = 64;
 
 /// The greatest number in a list of predictions: the last of 16 targets.
-pub const MOST_ANSWER: u32 = 15;
+pub const GREATEST_PREDICTION: u32 = 15;
 
 /// How far a run goes at most, 1..=1,000,000: instructions for `seq`, events for `run` and `curve` (own choice).
 #[derive(Clone, Copy, Debug, PartialEq, Eq)]
@@ -139,35 +139,36 @@ impl Workers {
     }
 }
 
-/// What `--predict` answers one after another: 1 to 64 numbers, each 0..=15 (own choice).
+/// The list of `--predict`: the positions of targets, one after another: 1 to 64 numbers, each 0..=15 (own
+/// choice).
 #[derive(Debug, Drop)]
-pub struct Answers {
+pub struct PredictionList {
     numbers: Vec<u32>,
 }
 
-impl Model for Answers {
+impl Model for PredictionList {
     ghost use Rattle.std.specs.Prelude.{ℕ, List, length, All, ◌≤◌};
 
     ghost Value = { List ℕ };
 
-    ghost view = { λ a. a.numbers.items };
+    ghost view = { λ l. l.numbers.items };
 
-    ghost invariant = { λ a. (1 ≤ length a.numbers.items) × (length a.numbers.items ≤ 64) × All (λ n. n ≤ 15) a.numbers.items };
+    ghost invariant = { λ l. (1 ≤ length l.numbers.items) × (length l.numbers.items ≤ 64) × All (λ n. n ≤ 15) l.numbers.items };
 }
 
-impl Answers {
+impl PredictionList {
     ghost use Rattle.std.specs.Prelude.{List, length, All};
 
     /// These numbers; `None` where there are none or more than 64, or one is above 15.
-    pub fn new(numbers: Vec<u32>) -> Option<Answers>
+    pub fn new(numbers: Vec<u32>) -> Option<PredictionList>
         ensures some { IsSome result ↔ ((1 ≤ length numbers.items) × (length numbers.items ≤ 64)
             × All (λ n. n ≤ 15) numbers.items) }
-        ensures value { IfSome result (λ answers. answers ≡ numbers.items) }
+        ensures value { IfSome result (λ list. list ≡ numbers.items) }
     {
-        if (1..=MOST_ANSWERS).contains(&numbers.len())
-            && numbers.iter().all(|&n| n <= MOST_ANSWER)
+        if (1..=MOST_PREDICTIONS).contains(&numbers.len())
+            && numbers.iter().all(|&n| n <= GREATEST_PREDICTION)
         {
-            Some(Answers { numbers })
+            Some(PredictionList { numbers })
         } else {
             None
         }
@@ -184,7 +185,7 @@ impl Answers {
     pub fn into_vec(self) -> Vec<u32>
         ensures value { result.items ≡ self }
     {
-        let Answers { numbers } = self;
+        let PredictionList { numbers } = self;
         numbers
     }
 }

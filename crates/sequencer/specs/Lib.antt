@@ -1,4 +1,4 @@
-pub mod Scripts
+pub mod ListedTargets
 pub mod Seen
 pub mod Histories
 pub mod Rings

@@ -46,53 +46,53 @@ impl Predict for Last {
     }
 }
 
-/// Answers the numbers of a list, over and over; 0 where the list is empty.
+/// Chooses the targets at the positions in a list, over and over; the first where the list is empty.
 #[derive(Debug, Drop)]
-pub struct Script {
-    answers: Vec<u32>,
+pub struct Listed {
+    numbers: Vec<u32>,
     at: usize,
 }
 
-impl Model for Script {
+impl Model for Listed {
     ghost use Rattle.std.specs.Prelude.{◌<◌, ◌⊎◌, ◌≡◌, vec_len};
-    ghost use Rattle.sequencer.specs.Scripts.{Answers};
+    ghost use Rattle.sequencer.specs.ListedTargets.{ListedView};
 
-    ghost Value = { Answers };
+    ghost Value = { ListedView };
 
-    ghost view = { λ s. record { list = s.answers.items; at = s.at } };
+    ghost view = { λ l. record { list = l.numbers.items; at = l.at } };
 
-    ghost invariant = { λ s. (s.at < vec_len s.answers) ⊎ (s.at ≡ 0) };
+    ghost invariant = { λ l. (l.at < vec_len l.numbers) ⊎ (l.at ≡ 0) };
 }
 
-impl Script {
+impl Listed {
     ghost use Rattle.std.specs.Prelude.{◌≡◌};
 
-    /// A script that begins with the first number of the list.
-    pub fn new(answers: Vec<u32>) -> Script
-        ensures list { result.list ≡ answers.items }
+    /// A predictor that begins with the first number of the list.
+    pub fn new(numbers: Vec<u32>) -> Listed
+        ensures list { result.list ≡ numbers.items }
         ensures at { result.at ≡ 0 }
     {
-        Script { answers, at: 0 }
+        Listed { numbers, at: 0 }
     }
 }
 
-impl Predict for Script {
+impl Predict for Listed {
     ghost use Rattle.std.specs.Prelude.{◌≡◌, slice_index};
-    ghost use Rattle.sequencer.specs.Scripts.{Answers, answered};
+    ghost use Rattle.sequencer.specs.ListedTargets.{ListedView, answered};
 
     fn choose(&mut self, _targets: &[Place]) -> u32
         ensures number { result ≡ slice_index self.old.list self.old.at }
         ensures after { self.new ≡ answered self.old }
     {
-        match self.answers.get(self.at) {
-            Some(answer) => {
-                let answer = *answer;
-                self.at = if self.at + 1 < self.answers.len() {
+        match self.numbers.get(self.at) {
+            Some(number) => {
+                let number = *number;
+                self.at = if self.at + 1 < self.numbers.len() {
                     self.at + 1
                 } else {
                     0
                 };
-                answer
+                number
             }
             None => 0,
         }

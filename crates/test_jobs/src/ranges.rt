@@ -1,6 +1,6 @@
 //! The numbers that a job takes, each in its range.
 
-use jobs::ranges::{Answers, Budget, Units, Workers};
+use jobs::ranges::{Budget, PredictionList, Units, Workers};
 
 #[test]
 fn holds_a_budget(rt: HostRuntime) {
@@ -21,9 +21,9 @@ fn holds_units_and_workers(rt: HostRuntime) {
 }
 
 #[test]
-fn holds_answers(rt: HostRuntime) {
+fn holds_a_prediction_list(rt: HostRuntime) {
     let numbers = [0, 15, 3].to_vec(rt.alloc()).expect(&rt, "memory");
-    let answers = Answers::new(numbers).expect(&rt, "three answers");
-    assert_eq!(rt; answers.as_slice(), [0, 15, 3].as_slice());
-    assert_eq!(rt; answers.into_vec().as_slice(), [0, 15, 3].as_slice());
+    let list = PredictionList::new(numbers).expect(&rt, "three numbers");
+    assert_eq!(rt; list.as_slice(), [0, 15, 3].as_slice());
+    assert_eq!(rt; list.into_vec().as_slice(), [0, 15, 3].as_slice());
 }

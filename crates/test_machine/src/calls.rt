@@ -3,7 +3,7 @@
 use crate::given::accepted;
 use mips_plain::number::Place;
 use sequencer::machine::{Machine, MachineFault};
-use sequencer::predict::{First, Last, Predict, Script};
+use sequencer::predict::{First, Last, Listed, Predict};
 use std::process::Abort;
 use test_programs::certificates::COUNT_CERTIFICATE;
 use test_programs::programs::{COUNT, COUNT_FORWARDED};
@@ -60,8 +60,8 @@ fn expect_chosen<P: Predict>(rt: &impl Abort, predictor: P, expected: &[u32]) {
 fn predictors_choose(rt: HostRuntime) {
     expect_chosen(&rt, First, &[0, 0]);
     expect_chosen(&rt, Last, &[2, 2]);
-    let answers = [1, 0].to_vec(rt.alloc()).ok();
-    let answers = answers.expect(&rt, "room for answers");
-    expect_chosen(&rt, Script::new(answers), &[1, 0, 1, 0]);
-    expect_chosen(&rt, Script::new(Vec::new(rt.alloc())), &[0, 0]);
+    let numbers = [1, 0].to_vec(rt.alloc()).ok();
+    let numbers = numbers.expect(&rt, "room for numbers");
+    expect_chosen(&rt, Listed::new(numbers), &[1, 0, 1, 0]);
+    expect_chosen(&rt, Listed::new(Vec::new(rt.alloc())), &[0, 0]);
 }

@@ -4,7 +4,7 @@ use annotated_asm::assembler::assemble;
 use machine_events::event::{Event, Standing};
 use mark_checker::accept::Accepted;
 use mask_certificate::reading::read;
-use sequencer::predict::Script;
+use sequencer::predict::Listed;
 use std::alloc::Global;
 use std::process::Abort;
 use synchronous_runner::predictor::Predictor;
@@ -36,9 +36,9 @@ impl Follows<'_> {
         match self {
             Follows::First => Predictor::First,
             Follows::Last => Predictor::Last,
-            Follows::Listed(answers) => {
-                let answers = answers.to_vec(alloc).ok();
-                Predictor::Script(Script::new(answers.expect(rt, "room for answers")))
+            Follows::Listed(numbers) => {
+                let numbers = numbers.to_vec(alloc).ok();
+                Predictor::Listed(Listed::new(numbers.expect(rt, "room for numbers")))
             }
         }
     }

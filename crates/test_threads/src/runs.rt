@@ -4,7 +4,7 @@ use crate::given::{Bench, accepted};
 use machine_events::event::Standing;
 use mark_checker::accept::Accepted;
 use mips_plain::number::Place;
-use sequencer::predict::{First, Last, Predict, Script};
+use sequencer::predict::{First, Last, Listed, Predict};
 use std::alloc::Global;
 use std::process::Abort;
 use test_programs::certificates::{
@@ -75,9 +75,9 @@ impl Row<'_> {
     fn runs_on(&self, rt: &impl Bench, alloc: Global, accepted: &Accepted, units: u32) {
         self.runs(rt, alloc, accepted, units, First);
         self.runs(rt, alloc, accepted, units, Last);
-        let answers = [1, 0].to_vec(alloc).ok();
-        let script = Script::new(answers.expect(rt, "room for answers"));
-        self.runs(rt, alloc, accepted, units, script);
+        let numbers = [1, 0].to_vec(alloc).ok();
+        let listed = Listed::new(numbers.expect(rt, "room for numbers"));
+        self.runs(rt, alloc, accepted, units, listed);
     }
 
     fn runs<P: Predict>(

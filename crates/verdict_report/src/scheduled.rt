@@ -8,7 +8,7 @@ use crate::fault::ServeFault;
 use crate::ran::{Extent, Ran};
 use jobs::job::{Prediction, Schedule};
 use mark_checker::accept::Accepted;
-use sequencer::predict::{First, Last, Predict, Script};
+use sequencer::predict::{First, Last, Listed, Predict};
 use std::alloc::{AllocError, Global};
 use std::sync::Wait;
 use std::thread::Threads;
@@ -60,9 +60,9 @@ fn run_by_threads<'a, R: Threads + Wait + Sync>(
     match predict {
         Prediction::First => run_with(rt, alloc, extent, accepted, First),
         Prediction::Last => run_with(rt, alloc, extent, accepted, Last),
-        Prediction::List(answers) => {
-            let answers = answers.as_slice().to_vec(alloc)?;
-            run_with(rt, alloc, extent, accepted, Script::new(answers))
+        Prediction::List(list) => {
+            let numbers = list.as_slice().to_vec(alloc)?;
+            run_with(rt, alloc, extent, accepted, Listed::new(numbers))
         }
     }
 }
@@ -153,9 +153,9 @@ pub(crate) fn predictor_of(alloc: Global, predict: &Prediction) -> Result<Predic
     match predict {
         Prediction::First => Ok(Predictor::First),
         Prediction::Last => Ok(Predictor::Last),
-        Prediction::List(answers) => {
-            let answers = answers.as_slice().to_vec(alloc)?;
-            Ok(Predictor::Script(Script::new(answers)))
+        Prediction::List(list) => {
+            let numbers = list.as_slice().to_vec(alloc)?;
+            Ok(Predictor::Listed(Listed::new(numbers)))
         }
     }
 }
