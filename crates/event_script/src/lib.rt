@@ -3,6 +3,7 @@
 
 pub mod fault;
 mod fault_text;
+pub mod laws;
 pub mod reading;
 mod task_names;
 #[cfg(test)]

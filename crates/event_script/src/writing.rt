@@ -1,25 +1,16 @@
 //! Writing the text of an event script.
 
-ghost use Rattle.std.specs.Prelude.{◌≡◌, ◌++◌, ◌<◌, List, length, replicate, slice_get, Ok, IfOk, OnOk};
+ghost use Rattle.std.specs.Prelude.{◌≡◌, ◌++◌, ◌<◌, replicate, slice_get, Ok, IfOk, OnOk};
 ghost use Rattle.std.specs.List.{All, concat};
 ghost use Rattle.std.specs.String.{string_bytes};
-ghost use Rattle.machine_events.specs.declared.event.Event.{Event};
 ghost use Rattle.machine_events.specs.Runs.{events_of};
 ghost use Rattle.event_script.specs.EventScript.{script_of};
 ghost use Rattle.event_script.specs.ScriptText.{IsTold, NamesRegister, event_text, line_text, name_at, script_text};
 
+use crate::laws::written_is_read;
 use machine_events::event::{Event, EventRun};
 use std::alloc::{AllocError, Global};
 use task_descriptor::program::Program;
-
-/// What is written is read again: the script of events that it can tell is read as these events. The
-/// call does nothing but look at the program: its contract is the law.
-pub fn written_is_read(program: &Program)
-    ensures { (events : List Event) → All (λ e. IsTold program.now e × NamesRegister e) events
-        → script_of program.now (script_text program.now events) ≡ Ok events }
-{
-    let _ = program.tasks();
-}
 
 /// The name of the task of this number; empty where there is no such task.
 pub fn task_name(program: &Program, task: u32) -> &str

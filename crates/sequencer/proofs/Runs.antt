@@ -119,7 +119,7 @@ pub log_within : (us : List Active) (k : ℕ) (u : Active) → slice_get us k �
 log_within us k u e =
     let cut = by_set us k u (record u { log = [] }) e in omega arith
 
--- a queue has at most one unit for each place
+-- a queue has at most as many units as there are
 
 fits : (p : Listing) (units : ℕ) (s s' : State) (e : Event) → Next p units s e s' → (length s'.queue ≡ active_after (length s.queue) e) → length s.queue ≤ units → length s'.queue ≤ units
 fits p units s s' (Assign t) next same h = (let free : length s.queue < units = next.does.is_free in omega arith)

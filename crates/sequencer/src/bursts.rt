@@ -30,7 +30,7 @@ impl<'a> Machine<'a> {
             × ((u : Active) × IsAtWork self.now unit u × (active_of lease.unit ≡ with_log u []))) }
         ensures none { IfNone result ((u : Active) → IsAtWork self.now unit u → ⊥) }
     {
-        self.is_known();
+        self.law_replay();
         let Some(position) = self.position(unit) else {
             return None;
         };
@@ -107,7 +107,7 @@ impl<'a> Machine<'a> {
         ensures kept { SameRing self.old self.new }
     {
         bursts_are_events();
-        self.is_known();
+        self.law_replay();
         if !self.is_running() {
             return Err((burst, Refused::Ended));
         }
@@ -138,7 +138,7 @@ impl<'a> Machine<'a> {
             × ((u : Active) × (slice_get (state self.now).queue k ≡ Some u) × HasMore (active_of burst.now.before) u)) }
         ensures none { IfNone result (IsFresh self.now burst.now → ⊥) }
     {
-        self.is_known();
+        self.law_replay();
         let before = burst.before();
         let Some(position) = self.processor.position_with(before.serial()) else {
             return None;

@@ -4,7 +4,7 @@
 
 mod bursts;
 mod history;
-mod known;
+mod laws;
 pub mod machine;
 pub mod predict;
 mod ready;

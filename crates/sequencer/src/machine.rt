@@ -1,7 +1,7 @@
 //! The machine: units on a ring over one accepted program, changed by events alone.
 
 use crate::history::History;
-use crate::known::known;
+use crate::laws::accepted_replays;
 use accepted_laws::laws::{accepted_headline, accepted_never_stuck};
 use machine_events::event::{Commit, Event, EventRun, Refused, Standing};
 use mark_checker::accept::Accepted;
@@ -117,7 +117,7 @@ impl<'a> Machine<'a> {
         ensures err { OnErr result (self.new ≡ self.old) }
         ensures kept { SameRing self.old self.new }
     {
-        self.is_known();
+        self.law_replay();
         if !self.processor.world().is_running() {
             return Err(Refused::Ended);
         }
@@ -133,7 +133,7 @@ impl<'a> Machine<'a> {
     pub fn enabled(&self, event: Event) -> bool
         ensures { IsTrue result ↔ (answer_to self.now event ≡ Ok tt) }
     {
-        self.is_known();
+        self.law_replay();
         self.is_running() && self.length() < MOST_EVENTS && self.allows(event)
     }
 
@@ -147,7 +147,7 @@ impl<'a> Machine<'a> {
         ensures running { IsSome result ↔ ((state self.now).outcome ≡ standing.Running) }
         ensures allowed { IfSome result (λ e. (s : State) × Next self.now.accepted.program (units_of self.now) (state self.now) e s) }
     {
-        self.is_ready();
+        self.law_head_ready();
         if self.is_running() {
             self.event_at_head()
         } else {
@@ -194,12 +194,12 @@ impl<'a> Machine<'a> {
         ensures refused { IfErr result (λ why. IsHeadRefused self.old why) }
         ensures err { OnErr result (self.new ≡ self.old) }
     {
-        self.is_known();
+        self.law_replay();
         let Some(event) = self.head_event() else {
             return Ok(false);
         };
         self.apply(event)?;
-        self.is_known();
+        self.law_replay();
         Ok(true)
     }
 
@@ -212,7 +212,7 @@ impl<'a> Machine<'a> {
         ensures room { length self.now.history ≤ most_events }
         ensures in_range { All (EventFits (length self.now.accepted.program.tasks) (units_of self.now)) self.now.history }
     {
-        self.is_known();
+        self.law_replay();
         self.history.runs()
     }
 
@@ -239,8 +239,8 @@ impl<'a> Machine<'a> {
         self.processor.places() == units && is_same(self.accepted, accepted)
     }
 
-    /// What the laws say of this machine; the call does nothing.
-    pub(crate) fn is_known(&self)
+    /// What follows from the machine being the replay of its history; the call does nothing.
+    pub(crate) fn law_replay(&self)
         ensures placed { ArePlaced self.now.accepted (state self.now).queue }
         ensures assigned { (state self.now).assigns ≤ length self.now.history }
         ensures executed { executed_by (state self.now) ≤ length self.now.history }
@@ -255,14 +255,14 @@ impl<'a> Machine<'a> {
         ensures applied { (e : Event) (done : Unit {0}) (p : ProcessorView) → Steps self.now.accepted.program self.now.processor (length self.now.history) e (Ok done) p
             → IsMachine (record self.now { processor = p; history = self.now.history ++ e ∷ [] }) }
     {
-        known(self.accepted);
+        accepted_replays(self.accepted);
         // What a machine keeps is known where one of its fields is read.
         let _ = &self.processor;
     }
 
     /// Where the run goes on there is a head event, and the machine step allows it; the call does
     /// nothing.
-    fn is_ready(&self)
+    fn law_head_ready(&self)
         ensures { (state self.now).outcome ≡ standing.Running
             → (e : Event) × (head_event_of self.now.accepted.program (state self.now) ≡ Some e) × Next self.now.accepted.program (units_of self.now) (state self.now) e (after self.now.accepted.program (state self.now) e) }
     {
@@ -292,8 +292,9 @@ impl<'a> Machine<'a> {
         self.processor.event_at_head(self.accepted.program())
     }
 
-    /// The headline, of this machine: what retired is the plain machine's run, and how it ended.
-    fn claims(&self)
+    /// The headline, of this machine: what retired is the plain machine's run, and how it ended; the call does
+    /// nothing.
+    fn law_headline(&self)
         ensures claims { Claims self.now.accepted.program (state self.now) }
         ensures replay { Replays self.now.accepted.program (units_of self.now) self.now.history (state self.now) }
     {
@@ -306,7 +307,7 @@ impl<'a> Machine<'a> {
         ensures value { result.now ≡ (state self.now).commits }
         ensures headline { Claims self.now.accepted.program (state self.now) }
     {
-        self.claims();
+        self.law_headline();
         self.processor.commits()
     }
 
@@ -316,7 +317,7 @@ impl<'a> Machine<'a> {
         ensures value { result.now.reads ≡ (state self.now).reads }
         ensures headline { Claims self.now.accepted.program (state self.now) }
     {
-        self.claims();
+        self.law_headline();
         self.processor.reads()
     }
 
@@ -325,7 +326,7 @@ impl<'a> Machine<'a> {
         ensures value { result.now ≡ (state self.now).output }
         ensures headline { Claims self.now.accepted.program (state self.now) }
     {
-        self.claims();
+        self.law_headline();
         self.processor.world().output()
     }
 
@@ -336,7 +337,7 @@ impl<'a> Machine<'a> {
         ensures fixed { byte_of result.now.fixed ≡ byte_of self.now.accepted.program.fixed }
         ensures headline { Claims self.now.accepted.program (state self.now) }
     {
-        self.claims();
+        self.law_headline();
         self.processor.world().memory()
     }
 
@@ -346,8 +347,8 @@ impl<'a> Machine<'a> {
         ensures head { result.1 ≡ count_h (state self.now) }
         ensures headline { Claims self.now.accepted.program (state self.now) }
     {
-        self.claims();
-        self.is_known();
+        self.law_headline();
+        self.law_replay();
         let retired = self.processor.reads().len() as u64;
         match self.processor.unit(0) {
             Some(head) => (retired, retired + head.reads().len() as u64),
@@ -361,7 +362,7 @@ impl<'a> Machine<'a> {
         ensures value { result ≡ (state self.now).outcome }
         ensures ends { EndsLike self.now.accepted.program (state self.now) result }
     {
-        self.claims();
+        self.law_headline();
         self.processor.world().outcome()
     }
 
@@ -371,7 +372,7 @@ impl<'a> Machine<'a> {
         ensures value { result ≡ option_and_then (λ u. value_of u register) (slice_get (state self.now).queue position) }
         ensures headline { Claims self.now.accepted.program (state self.now) }
     {
-        self.claims();
+        self.law_headline();
         match self.processor.unit(position) {
             Some(unit) => unit.value(register),
             None => None,

@@ -42,7 +42,7 @@ impl<'a> Machine<'a> {
         ensures alone { IsTrue result ↔ ((u : Active) × (slice_get (state self.now).queue position ≡ Some u) × (exec_refusal self.now.accepted.program false u ≡ None)) }
         ensures allowed { IsTrue result → refusal self.now.accepted.program (units_of self.now) (state self.now) (Exec position) ≡ None }
     {
-        self.is_known();
+        self.law_replay();
         self.processor.can_run_ahead(self.accepted, position)
     }
 
@@ -66,10 +66,10 @@ impl<'a> Machine<'a> {
 
     /// An event is answered Ok, want of memory aside, where the run goes on, the history has room and
     /// nothing refuses the event, so wherever the machine step allows it; the call does nothing.
-    pub fn answers(&self)
+    pub fn law_answers(&self)
         ensures unrefused { (e : Event) → (state self.now).outcome ≡ standing.Running → refusal self.now.accepted.program (units_of self.now) (state self.now) e ≡ None → length self.now.history < most_events → answer_to self.now e ≡ Ok tt }
         ensures allowed { (e : Event) (s : State) → Next self.now.accepted.program (units_of self.now) (state self.now) e s → length self.now.history < most_events → answer_to self.now e ≡ Ok tt }
     {
-        self.is_known();
+        self.law_replay();
     }
 }

@@ -38,7 +38,7 @@ pub(crate) fn turn_of_head(machine: &mut Machine<'_>, budget: u32) -> Result<(),
     if !goes_on(machine, budget) {
         return Ok(());
     }
-    machine.answers();
+    machine.law_answers();
     let event = machine.head_event();
     apply(machine, event)
 }
@@ -94,7 +94,7 @@ fn event_at_work(machine: &Machine<'_>, position: u32) -> Option<Event>
     ensures event { result ≡ first_allowed machine.now.accepted.program (units_of machine.now) (state machine.now) (tries position) }
     ensures allowed { IfSome result (λ e. answer_to machine.now e ≡ Ok tt) }
 {
-    machine.answers();
+    machine.law_answers();
     if machine.enabled(Event::Squash(position)) {
         return Some(Event::Squash(position));
     }
@@ -123,7 +123,7 @@ fn task_for_free(machine: &Machine<'_>, predictor: &mut Predictor) -> Option<Eve
     ensures event { with_event machine.now.accepted.program (course machine.now predictor.new) result ≡ with_task machine.now.accepted.program (course machine.now predictor.old) }
     ensures allowed { IfSome result (λ e. answer_to machine.now e ≡ Ok tt) }
 {
-    machine.answers();
+    machine.law_answers();
     let targets = machine.choices();
     if targets.is_empty() {
         return machine.choice(0);

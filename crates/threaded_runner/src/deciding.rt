@@ -8,7 +8,7 @@ ghost use Rattle.sequencer.specs.Seen.{state};
 ghost use Rattle.sequencer.specs.Rings.{unit_for};
 ghost use Rattle.threaded_runner.specs.Turns.{IsTurn, IsOwn, CanGoOn, Pauses};
 
-use crate::known::{head_is_first, is_allowed};
+use crate::machine_laws::{law_head_unit, law_own_event};
 use crate::turn::Turn;
 use machine_events::event::{Event, Spot, Standing};
 use processor_steps::processor::MOST_EVENTS;
@@ -28,7 +28,7 @@ pub fn turn(machine: &Machine<'_>, unit: u32) -> Turn
     ensures goes_on { CanGoOn machine.now unit → length machine.now.history < most_events → result ≡ Turn.Wait → ⊥ }
     ensures pauses { result ≡ Turn.Burst → (unit_for machine.now (Exec 0) ≡ unit) ⊎ (Pauses machine.now → ⊥) }
 {
-    head_is_first(machine);
+    law_head_unit(machine);
     if machine.head_unit() == unit {
         return turn_at_head(machine, unit);
     }
@@ -48,8 +48,8 @@ pub(crate) fn turn_at_head(machine: &Machine<'_>, unit: u32) -> Turn
     ensures own { IsTurn machine.now unit result }
     ensures goes_on { CanGoOn machine.now unit → length machine.now.history < most_events → result ≡ Turn.Wait → ⊥ }
 {
-    is_allowed(machine);
-    head_is_first(machine);
+    law_own_event(machine);
+    law_head_unit(machine);
     if machine.length() >= MOST_EVENTS {
         return Turn::Wait;
     }
@@ -70,7 +70,7 @@ fn turn_of_head(machine: &Machine<'_>, unit: u32, event: Event) -> Turn
     ensures own { IsTurn machine.now unit result }
     ensures goes_on { result ≡ Turn.Wait → ⊥ }
 {
-    is_allowed(machine);
+    law_own_event(machine);
     if matches!(&event, Event::Exec(_)) && machine.can_run_ahead(0) {
         Turn::Burst
     } else {
@@ -86,7 +86,7 @@ fn turn_ahead(machine: &Machine<'_>, unit: u32, position: u32) -> Turn
     ensures own { IsTurn machine.now unit result }
     ensures pauses { result ≡ Turn.Burst → Pauses machine.now → ⊥ }
 {
-    is_allowed(machine);
+    law_own_event(machine);
     if let Some(register) = machine.register_to_take(position) {
         return Turn::Apply(Event::Transfer(position, register));
     }
@@ -108,7 +108,7 @@ fn turn_at_exit(machine: &Machine<'_>, unit: u32, position: u32) -> Turn
     ensures own { IsTurn machine.now unit result }
     ensures no_burst { result ≡ Turn.Burst → ⊥ }
 {
-    is_allowed(machine);
+    law_own_event(machine);
     if machine.enabled(Event::Squash(position)) {
         return Turn::Apply(Event::Squash(position));
     }
@@ -125,7 +125,7 @@ fn turn_of_free(machine: &Machine<'_>, unit: u32) -> Turn
     ensures own { IsTurn machine.now unit result }
     ensures no_burst { result ≡ Turn.Burst → ⊥ }
 {
-    is_allowed(machine);
+    law_own_event(machine);
     match machine.next_unit() {
         Some(next) if next == unit => {}
         _ => return Turn::Wait,

@@ -3,7 +3,7 @@
 
 use crate::called::Called;
 use crate::counts::{add, zeros};
-use crate::known::{head_is_first, known};
+use crate::machine_laws::{law_head_unit, law_replay};
 use crate::naming::Naming;
 use crate::report::{How, Report, RunFault};
 use crate::share::Share;
@@ -111,9 +111,9 @@ impl<'a, P: Predict, J: Naming> Desk<'a, P, J> {
         ensures kept { SameRing self.old.machine self.new.machine }
         ensures workers { length self.new.counts ≡ length self.old.counts }
     {
-        known(&self.machine);
+        law_replay(&self.machine);
         self.machine.apply(event)?;
-        known(&self.machine);
+        law_replay(&self.machine);
         add(&mut self.counts, unit, 1);
         Ok(())
     }
@@ -126,7 +126,7 @@ impl<'a, P: Predict, J: Naming> Desk<'a, P, J> {
         ensures kept { SameRing self.old.machine self.new.machine }
         ensures workers { length self.new.counts ≡ length self.old.counts }
     {
-        known(&self.machine);
+        law_replay(&self.machine);
         let unit = self.machine.head_unit();
         let steps = exec_head(&mut self.machine, most);
         add(&mut self.counts, unit, steps);
@@ -161,13 +161,13 @@ impl<'a, P: Predict, J: Naming> Desk<'a, P, J> {
         ensures err { OnErr result (self.new ≡ self.old) }
         ensures workers { length self.new.counts ≡ length self.old.counts }
     {
-        known(&self.machine);
+        law_replay(&self.machine);
         let Some(unit) = self.machine.unit_with(burst.before().serial()) else {
             return Ok(0);
         };
         let events = hand_in(&mut self.machine, burst)?;
         if events > 0 {
-            known(&self.machine);
+            law_replay(&self.machine);
             add(&mut self.counts, unit, events);
         }
         Ok(events)
@@ -179,7 +179,7 @@ impl<'a, P: Predict, J: Naming> Desk<'a, P, J> {
         ensures grows { IsTrue result → (length self.new.machine.history ≡ length self.old.machine.history + 1) × (length self.new.machine.history ≤ most_events) }
         ensures workers { length self.new.counts ≡ length self.old.counts }
     {
-        head_is_first(&self.machine);
+        law_head_unit(&self.machine);
         let unit = self.machine.head_unit();
         let Some(event) = self.machine.head_event() else {
             return false;
@@ -187,7 +187,7 @@ impl<'a, P: Predict, J: Naming> Desk<'a, P, J> {
         if self.apply(unit, event).is_err() {
             return false;
         }
-        known(&self.machine);
+        law_replay(&self.machine);
         true
     }
 
@@ -230,7 +230,7 @@ impl<'a, P: Predict, J: Naming> Desk<'a, P, J> {
         if is_stopped {
             return Err(RunFault::OutOfMemory);
         }
-        known(&machine);
+        law_replay(&machine);
         let how = match machine.outcome() {
             Standing::Running => How::OutOfBudget,
             _ => How::Ended,

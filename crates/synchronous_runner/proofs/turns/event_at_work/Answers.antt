@@ -18,7 +18,7 @@ pub returns-then-enabled-2-clause-event : goal.returns-then-enabled-2-clause-eve
 returns-then-enabled-2-clause-event c =
     let m = c.args.machine.now in
     sym (finds_exec m.accepted.program (units_of m) (state m) c.args.position
-    (λ none. true≢false (sym (c.enabled.ensures.1 (c.answers.ensures.unrefused (Squash c.args.position) c.requires.running none c.requires.room)) ∙ c.if-enabled.false))
+    (λ none. true≢false (sym (c.enabled.ensures.1 (c.law_answers.ensures.unrefused (Squash c.args.position) c.requires.running none c.requires.room)) ∙ c.if-enabled.false))
     (allowed_by m.accepted.program (units_of m) (state m) (length m.history) (Exec c.args.position) (c.enabled-2.ensures.0 c.if-enabled-2.true)))
 
 pub returns-in-Some-clause-event : goal.returns-in-Some-clause-event
@@ -26,8 +26,8 @@ returns-in-Some-clause-event c =
     let m = c.args.machine.now in
     let p = m.accepted.program in
     sym (finds_register p (units_of m) (state m) c.args.position (Some c.in-Some.register) (find (λ r. is_none (refusal p (units_of m) (state m) (Drain c.args.position r))) registers)
-    (λ none. true≢false (sym (c.enabled.ensures.1 (c.answers.ensures.unrefused (Squash c.args.position) c.requires.running none c.requires.room)) ∙ c.if-enabled.false))
-    (λ none. true≢false (sym (c.enabled-2.ensures.1 (c.answers.ensures.unrefused (Exec c.args.position) c.requires.running none c.requires.room)) ∙ c.if-enabled-2.false))
+    (λ none. true≢false (sym (c.enabled.ensures.1 (c.law_answers.ensures.unrefused (Squash c.args.position) c.requires.running none c.requires.room)) ∙ c.if-enabled.false))
+    (λ none. true≢false (sym (c.enabled-2.ensures.1 (c.law_answers.ensures.unrefused (Exec c.args.position) c.requires.running none c.requires.room)) ∙ c.if-enabled-2.false))
     (least_found (λ r. refusal p (units_of m) (state m) (Transfer c.args.position r)) (Some c.in-Some.register) c.in-Some.ensures (omega (arith, c.get.ensures.value, c.get.ensures.range)))
     refl)
 
@@ -36,8 +36,8 @@ returns-in-Some-register_to_send-clause-event c =
     let m = c.args.machine.now in
     let p = m.accepted.program in
     sym (finds_register p (units_of m) (state m) c.args.position None (Some c.in-Some-register_to_send.register)
-    (λ none. true≢false (sym (c.enabled.ensures.1 (c.answers.ensures.unrefused (Squash c.args.position) c.requires.running none c.requires.room)) ∙ c.if-enabled.false))
-    (λ none. true≢false (sym (c.enabled-2.ensures.1 (c.answers.ensures.unrefused (Exec c.args.position) c.requires.running none c.requires.room)) ∙ c.if-enabled-2.false))
+    (λ none. true≢false (sym (c.enabled.ensures.1 (c.law_answers.ensures.unrefused (Squash c.args.position) c.requires.running none c.requires.room)) ∙ c.if-enabled.false))
+    (λ none. true≢false (sym (c.enabled-2.ensures.1 (c.law_answers.ensures.unrefused (Exec c.args.position) c.requires.running none c.requires.room)) ∙ c.if-enabled-2.false))
     (least_found (λ r. refusal p (units_of m) (state m) (Transfer c.args.position r)) None c.in_default.ensures tt)
     (least_found (λ r. refusal p (units_of m) (state m) (Drain c.args.position r)) (Some c.in-Some-register_to_send.register) c.in-Some-register_to_send.ensures (omega (arith, c.get-in-Some-register_to_send.ensures.value, c.get-in-Some-register_to_send.ensures.range))))
 
@@ -46,7 +46,7 @@ returns-in-None-clause-event c =
     let m = c.args.machine.now in
     let p = m.accepted.program in
     sym (finds_register p (units_of m) (state m) c.args.position None None
-    (λ none. true≢false (sym (c.enabled.ensures.1 (c.answers.ensures.unrefused (Squash c.args.position) c.requires.running none c.requires.room)) ∙ c.if-enabled.false))
-    (λ none. true≢false (sym (c.enabled-2.ensures.1 (c.answers.ensures.unrefused (Exec c.args.position) c.requires.running none c.requires.room)) ∙ c.if-enabled-2.false))
+    (λ none. true≢false (sym (c.enabled.ensures.1 (c.law_answers.ensures.unrefused (Squash c.args.position) c.requires.running none c.requires.room)) ∙ c.if-enabled.false))
+    (λ none. true≢false (sym (c.enabled-2.ensures.1 (c.law_answers.ensures.unrefused (Exec c.args.position) c.requires.running none c.requires.room)) ∙ c.if-enabled-2.false))
     (least_found (λ r. refusal p (units_of m) (state m) (Transfer c.args.position r)) None c.in_default.ensures tt)
     (least_found (λ r. refusal p (units_of m) (state m) (Drain c.args.position r)) None c.in-None.ensures tt))

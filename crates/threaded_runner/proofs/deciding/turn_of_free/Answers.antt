@@ -27,7 +27,7 @@ returns-in-Some-choice-clause-own c =
     let may = c.in-Some-choice.ensures.follows in
     let next = next_is (nat_lt (length (state m).queue) (units_of m)) (unit_for m (Assign may.0)) c.in-Some.next (c.in-Some.ensures may.0) in
     let free : length (state m).queue < units_of m = ltb-true (length (state m).queue) (units_of m) next.0 in
-    c.is_allowed.ensures.unrefused c.in-Some-choice.event c.args.unit c.requires.running
+    c.law_own_event.ensures.unrefused c.in-Some-choice.event c.args.unit c.requires.running
     (subst (λ (e : Event). refusal m.accepted.program (units_of m) (state m) e ≡ None) (sym may.1) (assign_allowed m.accepted.program (units_of m) (state m) may.0 free may.2))
     c.requires.room
     (ap (λ (e : Event). unit_for m e) may.1 ∙ next.1 ∙ c.if-next-unit.true)

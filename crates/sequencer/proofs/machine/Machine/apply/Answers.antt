@@ -5,14 +5,14 @@ use Rattle.sequencer.specs.Seen.{MachineView, IsMachine, state}
 use Rattle.sequencer.proofs.machine.Machine.apply.Goals as goal
 
 pub step-requires-clause-placed : goal.step-requires-clause-placed
-step-requires-clause-placed c = subst (λ (m : MachineView). ArePlaced m.accepted (state m).queue) (sym c.self.view_is) c.is_known.ensures.placed
+step-requires-clause-placed c = subst (λ (m : MachineView). ArePlaced m.accepted (state m).queue) (sym c.self.view_is) c.law_replay.ensures.placed
 
 pub invariant_of-self-2 : goal.invariant_of-self-2
 invariant_of-self-2 c =
     let i = c.self.inside in
     let a = i.accepted.now in
     let m : MachineView = record { accepted = a; processor = i.processor; history = i.history } in
-    let law = subst (λ (x : MachineView). (e : Event) (done : Unit {0}) (p : ProcessorView) → Steps x.accepted.program x.processor (length x.history) e (Ok done) p → IsMachine (record x { processor = p; history = x.history ++ e ∷ [] })) (sym c.self.view_is) c.is_known.ensures.applied in
+    let law = subst (λ (x : MachineView). (e : Event) (done : Unit {0}) (p : ProcessorView) → Steps x.accepted.program x.processor (length x.history) e (Ok done) p → IsMachine (record x { processor = p; history = x.history ++ e ∷ [] })) (sym c.self.view_is) c.law_replay.ensures.applied in
     let steps : Steps a.program i.processor (length i.history) c.args.event (Ok tt) c.step.new.self =
     subst (λ (n : ℕ). Steps a.program i.processor n c.args.event (Ok tt) c.step.new.self) (c.length-count.ensures ∙ ap (λ (x : MachineView). length x.history) (sym c.self.view_is)) c.in_ok-step.ensures in
     subst (λ (h : List Event). IsMachine (record { accepted = a; processor = c.step.new.self; history = h })) (sym c.push.ensures)

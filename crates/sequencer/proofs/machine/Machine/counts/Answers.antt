@@ -18,4 +18,4 @@ overflow_add-result c =
     let own : c.len.result ≡ length u.log = c.len.ensures ∙ ap (λ (x : List Read). length x) c.reads-in-Some.ensures in
     let retired : c.len-retired.result ≡ length s.reads =
     c.len-retired.ensures ∙ ap (λ (x : List Read). length x) c.reads.ensures ∙ ap (λ (v : MachineView). length (state v).reads) c.self.view_is in
-    omega (arith, c.claims.ensures.claims.number, c.is_known.ensures.executed, c.is_known.ensures.room)
+    omega (arith, c.law_headline.ensures.claims.number, c.law_replay.ensures.executed, c.law_replay.ensures.room)

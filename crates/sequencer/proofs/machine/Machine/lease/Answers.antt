@@ -27,4 +27,4 @@ returns-in-Stopped-clause-none c = λ u work.
     let here : slice_get (state c.args.self.now).queue k ≡ Some found =
     ap (λ (m : MachineView). slice_get (state m).queue k) (sym c.self.view_is) ∙ sym c.in-Some-unit.ensures in
     let stopped : found.place ≡ Stopped c.in-Stopped.field-0 = sym c.spot.ensures ∙ c.in-Stopped.is in
-    not_stopped c.args.self.now c.args.unit k c.in-Stopped.field-0 u found c.is_known.ensures.fits c.in-Some.ensures.position.0 c.in-Some.ensures.position.1 here stopped work
+    not_stopped c.args.self.now c.args.unit k c.in-Stopped.field-0 u found c.law_replay.ensures.fits c.in-Some.ensures.position.0 c.in-Some.ensures.position.1 here stopped work

@@ -17,7 +17,7 @@ returns-in_default-clause-none c = λ f.
     let serial : c.serial.result ≡ b.before.serial = c.serial.ensures ∙ ap (λ (u : UnitView). u.serial) c.before-before.ensures in
     let found : c.position_with.result ≡ position_with (state m).queue b.before.serial =
     c.position_with.ensures ∙ (λ j. position_with (state (c.self.view_is j)).queue (serial j)) in
-    never_none m b f c.is_known.ensures.distinct (sym found ∙ c.in_default.is)
+    never_none m b f c.law_replay.ensures.distinct (sym found ∙ c.in_default.is)
 
 pub returns-in_default-unit-clause-none : goal.returns-in_default-unit-clause-none
 returns-in_default-unit-clause-none c = λ f.
@@ -27,7 +27,7 @@ returns-in_default-unit-clause-none c = λ f.
     let serial : c.serial.result ≡ b.before.serial = c.serial.ensures ∙ ap (λ (u : UnitView). u.serial) c.before-before.ensures in
     let found : c.position_with.result ≡ position_with (state m).queue b.before.serial =
     c.position_with.ensures ∙ (λ j. position_with (state (c.self.view_is j)).queue (serial j)) in
-    let here = at_fresh m b f c.is_known.ensures.distinct k (sym found ∙ c.in-Some.is) in
+    let here = at_fresh m b f c.law_replay.ensures.distinct k (sym found ∙ c.in-Some.is) in
     let gone : slice_get (state m).queue k ≡ None =
     ap (λ (x : MachineView). slice_get (state x).queue k) (sym c.self.view_is)
     ∙ sym c.in_default-unit.ensures in
@@ -42,7 +42,7 @@ returns-then-not-has_more-clause-none c = λ f.
     let serial : c.serial.result ≡ b.before.serial = c.serial.ensures ∙ ap (λ (u : UnitView). u.serial) c.before-before.ensures in
     let found : c.position_with.result ≡ position_with (state m).queue b.before.serial =
     c.position_with.ensures ∙ (λ j. position_with (state (c.self.view_is j)).queue (serial j)) in
-    let here = at_fresh m b f c.is_known.ensures.distinct k (sym found ∙ c.in-Some.is) in
+    let here = at_fresh m b f c.law_replay.ensures.distinct k (sym found ∙ c.in-Some.is) in
     let u = active_of c.in-Some-unit.unit.now in
     let there : slice_get (state m).queue k ≡ Some u =
     ap (λ (x : MachineView). slice_get (state x).queue k) (sym c.self.view_is) ∙ sym c.in-Some-unit.ensures in

@@ -22,7 +22,7 @@ returns-in-Ok-clause-taken c = λ some.
     let found : Found m b k = subst (λ (x : MachineView). Found x b k) (sym c.self.view_is) (there.0, own, there.1, there.2) in
     let fresh = fresh_at m b k found in
     let runs : (state m).outcome ≡ Running = ap (λ (x : MachineView). (state x).outcome) c.self.view_is ∙ c.is_running.ensures.0 c.if-not-is_running.false in
-    let distinct = subst (λ (x : MachineView). AreDistinct (state x).queue) (sym c.self.view_is) c.is_known.ensures.distinct in
+    let distinct = subst (λ (x : MachineView). AreDistinct (state x).queue) (sym c.self.view_is) c.law_replay.ensures.distinct in
     let same : c.steps-steps.result ≡ b.steps = c.steps-steps.ensures.value in
     let history : c.push_many.new.self ≡ m.history ++ replicate b.steps (Exec k) = c.push_many.ensures ∙ ap (λ (n : ℕ). m.history ++ replicate n (Exec k)) same in
     let long : length m.history ≡ c.len.result = sym c.len.ensures in
@@ -40,4 +40,4 @@ invariant_of-self c =
     let kept = subst (λ (x : MachineView). Keeps x.processor p') c.self.view_is c.take_burst.ensures.kept in
     let same : (let x : MachineView = record { accepted = c.self.inside.accepted.now; processor = c.self.inside.processor; history = c.self.inside.history } in x) ≡ m = c.self.view_is in
     subst (λ (x : MachineView). IsMachine (record x { processor = p'; history = h' })) (sym same)
-    (is_machine m c.args.burst p' h' (subst (λ (x : MachineView). Takes m c.args.burst (record x { processor = p'; history = h' })) same taken) kept c.is_known.ensures.goes_on)
+    (is_machine m c.args.burst p' h' (subst (λ (x : MachineView). Takes m c.args.burst (record x { processor = p'; history = h' })) same taken) kept c.law_replay.ensures.goes_on)

@@ -1,4 +1,4 @@
-//! What is known of every machine over an accepted program, from the theorems about the model.
+//! Laws of every machine over an accepted program, from the theorems about the model.
 
 ghost use Rattle.std.specs.Prelude.{◌≡◌, ℕ, ◌+◌, ◌<◌, ◌≤◌, List, [], ◌∷◌, ◌++◌, None, length};
 ghost use Rattle.std.specs.List.{All};
@@ -19,7 +19,7 @@ use machine_model::laws::{
 use mark_checker::accept::Accepted;
 
 /// Each clause is a law of the replays of an accepted program; the call does nothing.
-pub(crate) fn known(accepted: &Accepted)
+pub(crate) fn accepted_replays(accepted: &Accepted)
     ensures placed { (units : ℕ) (events : List Event) (s : State) → Replays accepted.now.program units events s → ArePlaced accepted.now s.queue }
     ensures is_after { (units : ℕ) (s s' : State) (e : Event) → Next accepted.now.program units s e s' → s' ≡ after accepted.now.program s e }
     ensures allowed { (units : ℕ) (s s' : State) (e : Event) → Next accepted.now.program units s e s' → refusal accepted.now.program units s e ≡ None }

@@ -6,7 +6,7 @@ use Rattle.machine_model.specs.Answer.{refusal}
 use Rattle.sequencer.proofs.Runs.{replays_more, replay_executes, replay_assigns, queue_fits, events_fit}
 use Rattle.sequencer.proofs.Serials.{serials_distinct}
 use Rattle.sequencer.proofs.Verdicts.{none_refused}
-use Rattle.sequencer.proofs.known.known.Goals as goal
+use Rattle.sequencer.proofs.laws.accepted_replays.Goals as goal
 
 pub returns-clause-placed : goal.returns-clause-placed
 returns-clause-placed c = λ units events s replay k u at.

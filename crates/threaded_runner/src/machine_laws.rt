@@ -1,4 +1,4 @@
-//! What is known of every machine; each call does nothing.
+//! Laws of every machine: each call does nothing.
 
 ghost use Rattle.std.specs.Prelude.{◌≡◌, ℕ, ◌<◌, ◌≤◌, length, Some, None};
 ghost use Rattle.machine_model.specs.Machine.{State};
@@ -19,7 +19,7 @@ use sequencer::machine::Machine;
 
 /// The machine is the replay of its history, which has room for itself and says how many tasks have
 /// retired and how many units are at work.
-pub(crate) fn known(machine: &Machine<'_>)
+pub(crate) fn law_replay(machine: &Machine<'_>)
     ensures replay { Replays machine.now.accepted.program (units_of machine.now) machine.now.history (state machine.now) }
     ensures room { length machine.now.history ≤ most_events }
     ensures retired { retired_by machine.now.history ≡ length (state machine.now).commits }
@@ -31,15 +31,15 @@ pub(crate) fn known(machine: &Machine<'_>)
 
 /// An event is a unit's own where the machine step allows it, or where nothing refuses it, and the history
 /// has room.
-pub(crate) fn is_allowed(machine: &Machine<'_>)
+pub(crate) fn law_own_event(machine: &Machine<'_>)
     ensures unrefused { (e : Event) (unit : ℕ) → (state machine.now).outcome ≡ standing.Running → refusal machine.now.accepted.program (units_of machine.now) (state machine.now) e ≡ None → length machine.now.history < most_events → unit_for machine.now e ≡ unit → IsOwn machine.now unit e }
     ensures allowed { (e : Event) (unit : ℕ) (s : State) → Next machine.now.accepted.program (units_of machine.now) (state machine.now) e s → length machine.now.history < most_events → unit_for machine.now e ≡ unit → IsOwn machine.now unit e }
 {
-    machine.answers();
+    machine.law_answers();
 }
 
 /// The head event belongs to the unit at position 0.
-pub(crate) fn head_is_first(machine: &Machine<'_>)
+pub(crate) fn law_head_unit(machine: &Machine<'_>)
     ensures { (e : Event) → head_event machine.now.accepted.program (state machine.now) ≡ Some e → unit_for machine.now e ≡ unit_for machine.now (Exec 0) }
 {
     let _ = machine.length();

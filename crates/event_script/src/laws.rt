@@ -1,0 +1,18 @@
+//! Laws: each function does nothing, and its contract is a theorem about the definitions alone.
+
+ghost use Rattle.std.specs.Prelude.{◌≡◌, List, Ok};
+ghost use Rattle.std.specs.List.{All};
+ghost use Rattle.machine_events.specs.declared.event.Event.{Event};
+ghost use Rattle.event_script.specs.EventScript.{script_of};
+ghost use Rattle.event_script.specs.ScriptText.{IsTold, NamesRegister, script_text};
+
+use task_descriptor::program::Program;
+
+/// What is written is read again: the script of events that it can tell is read as these events. The
+/// call does nothing but look at the program: its contract is the law.
+pub fn written_is_read(program: &Program)
+    ensures { (events : List Event) → All (λ e. IsTold program.now e × NamesRegister e) events
+        → script_of program.now (script_text program.now events) ≡ Ok events }
+{
+    let _ = program.tasks();
+}
