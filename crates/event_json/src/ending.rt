@@ -4,7 +4,7 @@ ghost use Rattle.std.specs.Prelude.{◌≡◌, ◌++◌, [], ◌∷◌, ◌*◌,
 ghost use Rattle.json.specs.Tree.{json_tokens};
 ghost use Rattle.mips_plain.specs.Words.{byte_of};
 ghost use Rattle.mips_plain.specs.MemoryMap.{number_at};
-ghost use Rattle.sequencer.specs.Seen.{state};
+ghost use Rattle.sequencer.specs.Machines.{state};
 ghost use Rattle.event_trace.specs.Ending.{head_value};
 ghost use Rattle.event_json.specs.Fields.{address_field, fields_tokens, object_of, register_field, word_field};
 ghost use Rattle.event_json.specs.EndJson.{end_json, memory_field, memory_json, register_json, registers_field, registers_json, word_json};

@@ -3,7 +3,7 @@
 ghost use Rattle.std.specs.Prelude.{◌≡◌, [], ◌∷◌, ◌++◌, ◌<◌, ◌≤◌, IfOk, OnOk};
 ghost use Rattle.std.specs.String.{string_bytes};
 ghost use Rattle.json.specs.Print.{print};
-ghost use Rattle.sequencer.specs.Seen.{state};
+ghost use Rattle.sequencer.specs.Machines.{state};
 ghost use Rattle.event_trace.specs.Entries.{places_of};
 ghost use Rattle.event_json.specs.Fields.{line_of};
 ghost use Rattle.event_json.specs.EndJson.{end_json};

@@ -11,7 +11,7 @@ use Rattle.machine_events.specs.declared.event.Event.{Event}
 use Rattle.machine_events.specs.declared.event.Refused.{Refused}
 use Rattle.machine_events.specs.declared.event.Refused.TheVariants as refused
 use Rattle.mark_checker.specs.Places.{Checked}
-use Rattle.sequencer.specs.Seen.{MachineView, Applies, IsAnswered, SameRing, answer_to, state, units_of}
+use Rattle.sequencer.specs.Machines.{MachineView, Applies, IsAnswered, SameRing, answer_to, state, units_of}
 use Rattle.event_trace.specs.declared.change.Change.{Change}
 use Rattle.event_trace.specs.Changes.{changes_of}
 use Rattle.event_trace.specs.declared.told.Told.{Told}

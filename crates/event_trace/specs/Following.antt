@@ -2,7 +2,7 @@
 -- event.
 use Rattle.std.specs.Prelude.{◌≡◌, length}
 use Rattle.machine_events.specs.declared.event.Event.{Event}
-use Rattle.sequencer.specs.Seen.{MachineView, SameRing, answer_to, state, units_of}
+use Rattle.sequencer.specs.Machines.{MachineView, SameRing, answer_to, state, units_of}
 use Rattle.event_trace.specs.Entries.{count_behind, state_behind}
 
 -- both run one program on as many units, and the same events left the same state

@@ -2,7 +2,7 @@
 
 ghost use Rattle.std.specs.Prelude.{◌≡◌, ◌++◌, drop, length, slice_get, unwrap_or, IfOk, OnOk, ◌+◌};
 ghost use Rattle.machine_model.specs.Answer.{exit_of};
-ghost use Rattle.sequencer.specs.Seen.{state};
+ghost use Rattle.sequencer.specs.Machines.{state};
 ghost use Rattle.event_trace.specs.Changes.{arrived, began, changes_of, drained, executed, lost, retired};
 
 use crate::change::{Change, add};

@@ -4,7 +4,7 @@ ghost use Rattle.std.specs.Prelude.{◌≡◌, ◌++◌, [], ◌∷◌, ◌+◌,
 ghost use Rattle.std.specs.String.{string_bytes};
 ghost use Rattle.mips_plain.specs.Words.{byte_of};
 ghost use Rattle.mips_plain.specs.MemoryMap.{number_at};
-ghost use Rattle.sequencer.specs.Seen.{state};
+ghost use Rattle.sequencer.specs.Machines.{state};
 ghost use Rattle.event_trace.specs.Ending.{end_text, head_value, memory_text, registers_text, value_line, word_line};
 ghost use Rattle.event_trace.specs.TraceText.{ending_text};
 

@@ -6,7 +6,7 @@ ghost use Rattle.mips_plain.specs.InstructionTable.{store_size};
 ghost use Rattle.mips_plain.specs.MemoryMap.{effective};
 ghost use Rattle.machine_model.specs.Answer.{index_of_place, instruction_at, operand};
 ghost use Rattle.unit_core.specs.Units.{active_of};
-ghost use Rattle.sequencer.specs.Seen.{state};
+ghost use Rattle.sequencer.specs.Machines.{state};
 ghost use Rattle.event_trace.specs.Changes.{effects, execution, outside, stands_at};
 
 use crate::change::{Change, add};

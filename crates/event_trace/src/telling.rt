@@ -47,7 +47,7 @@ pub trait Telling {
 ghost use Rattle.std.specs.Prelude.{◌≡◌, ◌++◌, ◌<◌, ◌≤◌, length, IfOk, OnOk};
 ghost use Rattle.std.specs.String.{string_bytes};
 ghost use Rattle.machine_model.specs.Machine.{opening};
-ghost use Rattle.sequencer.specs.Seen.{answer_to, state, units_of};
+ghost use Rattle.sequencer.specs.Machines.{answer_to, state, units_of};
 ghost use Rattle.event_trace.specs.Entries.{entries_from, entry_of, told_of};
 ghost use Rattle.event_trace.specs.Following.{GoesOn};
 

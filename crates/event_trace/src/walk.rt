@@ -21,7 +21,7 @@ pub struct Walk<'a> {
 
 impl<'a> Model for Walk<'a> {
     ghost use Rattle.std.specs.Prelude.{◌≡◌};
-    ghost use Rattle.sequencer.specs.Seen.{MachineView};
+    ghost use Rattle.sequencer.specs.Machines.{MachineView};
     ghost use Rattle.event_trace.specs.Following.{IsAbreast};
 
     ghost Value = { MachineView };
@@ -33,7 +33,7 @@ impl<'a> Model for Walk<'a> {
 
 ghost use Rattle.std.specs.Prelude.{◌≡◌, ◌<◌, ◌≤◌, [], length, Ok, IfOk, OnOk};
 ghost use Rattle.machine_model.specs.Machine.{opening};
-ghost use Rattle.sequencer.specs.Seen.{Applies, SameRing, answer_to, state, units_of};
+ghost use Rattle.sequencer.specs.Machines.{Applies, SameRing, answer_to, state, units_of};
 ghost use Rattle.event_trace.specs.Entries.{Tells};
 ghost use Rattle.event_trace.specs.Following.{GoesOn, IsAbreast};
 

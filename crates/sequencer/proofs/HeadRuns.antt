@@ -11,7 +11,7 @@ use Rattle.machine_events.specs.declared.event.Event.{Event}
 use Rattle.machine_events.specs.declared.event.Refused.{Refused}
 use Rattle.machine_events.specs.declared.event.Event.TheVariants.{Assign, Exec, Transfer, Drain, Squash, Retire, Fault, Drop}
 use Rattle.sequencer.specs.Finish.{RunsByHead, IsHeadRefused}
-use Rattle.sequencer.specs.Seen.{MachineView, Applies, SameRing, state, units_of}
+use Rattle.sequencer.specs.Machines.{MachineView, Applies, SameRing, state, units_of}
 
 -- one more head event
 

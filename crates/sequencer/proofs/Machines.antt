@@ -13,7 +13,7 @@ use Rattle.machine_events.specs.declared.event.Refused.TheVariants as refused
 use Rattle.machine_events.specs.declared.event.Standing.{Standing}
 use Rattle.machine_events.specs.declared.event.Standing.TheVariants.{Running, Halted, Trapped, Unlisted}
 use Rattle.processor_steps.specs.Processors.{ProcessorView, Keeps, Steps, state_of}
-use Rattle.sequencer.specs.Seen.{MachineView, IsMachine, state, units_of, IsAnswered}
+use Rattle.sequencer.specs.Machines.{MachineView, IsMachine, state, units_of, IsAnswered}
 use Rattle.sequencer.proofs.Verdicts.{refused_where_running}
 
 -- room that the test found

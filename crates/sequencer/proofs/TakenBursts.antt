@@ -15,7 +15,7 @@ use Rattle.unit_core.specs.Units.{active_of}
 use Rattle.unit_core.specs.Bursts.{BurstView, IsMade, IsOf, HasMore, carried_on}
 use Rattle.processor_steps.specs.Processors.{ProcessorView, Keeps, state_of, position_with}
 use Rattle.processor_steps.proofs.Positions.{first_with}
-use Rattle.sequencer.specs.Seen.{MachineView, IsMachine, state, units_of}
+use Rattle.sequencer.specs.Machines.{MachineView, IsMachine, state, units_of}
 use Rattle.sequencer.specs.Rings.{AreDistinct}
 use Rattle.sequencer.specs.Bursts.{IsFresh, Takes}
 

@@ -11,7 +11,7 @@ use Rattle.machine_events.specs.declared.event.Standing.TheVariants.{Running}
 use Rattle.unit_core.specs.Units.{active_of}
 use Rattle.unit_core.specs.Bursts.{BurstView, IsOf, HasMore}
 use Rattle.processor_steps.specs.Processors.{position_with}
-use Rattle.sequencer.specs.Seen.{MachineView, state, units_of}
+use Rattle.sequencer.specs.Machines.{MachineView, state, units_of}
 
 -- the unit of the ring with this number is at work as this active task, and has not stopped; the head
 -- has the number of retired tasks, modulo the number of units, and those behind it follow round the ring

@@ -10,7 +10,7 @@ use Rattle.machine_events.specs.declared.event.Event.{Event}
 use Rattle.machine_events.specs.declared.event.Refused.{Refused}
 use Rattle.machine_events.specs.declared.event.Refused.TheVariants.{Full, OutOfMemory}
 use Rattle.processor_steps.specs.Processors.{takes_memory}
-use Rattle.sequencer.specs.Seen.{MachineView, state}
+use Rattle.sequencer.specs.Machines.{MachineView, state}
 
 -- each event is the head event where h is below a goal, and leaves the next state by the machine step
 abbrev pub RunsByHead : Listing → (units goal : ℕ) → State → List Event → State → Type 0

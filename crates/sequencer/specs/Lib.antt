@@ -1,5 +1,5 @@
 pub mod ListedTargets
-pub mod Seen
+pub mod Machines
 pub mod Histories
 pub mod Rings
 pub mod Choices

@@ -4,7 +4,7 @@ use Rattle.machine_model.specs.Machine.{Active}
 use Rattle.machine_model.specs.HeadEvent.{position_of, unit_of}
 use Rattle.machine_events.specs.declared.event.Event.{Event}
 use Rattle.machine_events.specs.declared.event.Event.TheVariants.{Assign}
-use Rattle.sequencer.specs.Seen.{MachineView, state, units_of}
+use Rattle.sequencer.specs.Machines.{MachineView, state, units_of}
 
 abbrev pub unit_for : MachineView → Event → ℕ
 unit_for m e = unit_of (units_of m) (length (state m).commits) (length (state m).queue) e

@@ -17,7 +17,7 @@ impl<'a> Machine<'a> {
     ghost use Rattle.unit_core.specs.Units.{active_of};
     ghost use Rattle.unit_core.specs.Bursts.{HasMore, IsOf};
     ghost use Rattle.processor_steps.specs.Processors.{position_with};
-    ghost use Rattle.sequencer.specs.Seen.{state, units_of, SameRing};
+    ghost use Rattle.sequencer.specs.Machines.{state, units_of, SameRing};
     ghost use Rattle.sequencer.specs.Rings.{unit_for};
     ghost use Rattle.sequencer.specs.Bursts.{IsAtWork, IsFresh, IsRefusedBurst, Takes};
 

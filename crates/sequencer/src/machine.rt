@@ -38,7 +38,7 @@ pub struct Machine<'a> {
 }
 
 impl<'a> Model for Machine<'a> {
-    ghost use Rattle.sequencer.specs.Seen.{MachineView, IsMachine};
+    ghost use Rattle.sequencer.specs.Machines.{MachineView, IsMachine};
 
     ghost Value = { MachineView };
 
@@ -64,7 +64,7 @@ impl<'a> Machine<'a> {
     ghost use Rattle.machine_model.specs.Claims.{Claims, EndsLike, count_c, count_h};
     ghost use Rattle.mips_plain.specs.Words.{byte_of};
     ghost use Rattle.processor_steps.specs.Processors.{ProcessorView, Keeps, Steps, ArePlaced, executed_by, state_of};
-    ghost use Rattle.sequencer.specs.Seen.{IsMachine, state, units_of, answer_to, IsAnswered, Applies, SameRing};
+    ghost use Rattle.sequencer.specs.Machines.{IsMachine, state, units_of, answer_to, IsAnswered, Applies, SameRing};
     ghost use Rattle.sequencer.specs.Choices.{choices_of, choice_of, MayFollow};
     ghost use Rattle.sequencer.specs.Finish.{RunsByHead, IsHeadRefused};
     ghost use Rattle.sequencer.specs.Rings.{unit_for, AreDistinct, EventFits};

@@ -15,7 +15,7 @@ impl<'a> Machine<'a> {
     ghost use Rattle.machine_events.specs.declared.event.Event.TheVariants.{Exec, Transfer, Drain};
     ghost use Rattle.machine_events.specs.declared.event.Standing.TheVariants as standing;
     ghost use Rattle.processor_steps.specs.LeastRegisters.{IsLeast};
-    ghost use Rattle.sequencer.specs.Seen.{state, units_of, answer_to};
+    ghost use Rattle.sequencer.specs.Machines.{state, units_of, answer_to};
     ghost use Rattle.sequencer.specs.Rings.{unit_for};
 
     /// The number of the unit at position 0: the head, or on an empty queue the unit that the next

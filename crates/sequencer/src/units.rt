@@ -7,7 +7,7 @@ impl<'a> Machine<'a> {
     ghost use Rattle.std.specs.Prelude.{◌≡◌, ◌≤◌, length, slice_get};
     ghost use Rattle.std.specs.Option.{option_copied, option_map};
     ghost use Rattle.unit_core.specs.Units.{active_of};
-    ghost use Rattle.sequencer.specs.Seen.{state};
+    ghost use Rattle.sequencer.specs.Machines.{state};
 
     /// How many units are at work.
     pub fn active(&self) -> u32

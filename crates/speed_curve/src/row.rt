@@ -1,7 +1,7 @@
 //! What a run in steps came to.
 
 ghost use Rattle.std.specs.Prelude.{◌≡◌, ◌≤◌, IfOk};
-ghost use Rattle.sequencer.specs.Seen.{state, units_of};
+ghost use Rattle.sequencer.specs.Machines.{state, units_of};
 ghost use Rattle.synchronous_runner.specs.Steps.{beginning, after_steps, Takes};
 ghost use Rattle.speed_curve.specs.Curve.{IsRowOf};
 

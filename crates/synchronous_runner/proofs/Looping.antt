@@ -3,7 +3,7 @@ use Rattle.std.proofs.Common.{◌≡◌, ℕ, suc, ◌+◌, ◌<◌, ◌≤◌, 
 use Rattle.std.proofs.lemmas.Bool.{cases_Bool, cases_lt}
 use Rattle.mark_checker.specs.Places.{Checked}
 use Rattle.task_descriptor.specs.Listing.{Listing}
-use Rattle.sequencer.specs.Seen.{MachineView, SameRing, units_of}
+use Rattle.sequencer.specs.Machines.{MachineView, SameRing, units_of}
 use Rattle.synchronous_runner.specs.declared.predictor.Predictor.{Predictor}
 use Rattle.synchronous_runner.specs.Steps.{Course, turn, turns, step, after_steps, Takes}
 use Rattle.synchronous_runner.specs.Courses.{course}

@@ -26,7 +26,7 @@ use Rattle.machine_events.specs.declared.event.Spot.{Spot}
 use Rattle.machine_events.specs.declared.event.Spot.TheVariants.{Stopped}
 use Rattle.machine_events.specs.declared.event.Standing.TheVariants as standing
 use Rattle.mark_checker.specs.Places.{Checked}
-use Rattle.sequencer.specs.Seen.{MachineView, SameRing, state, units_of}
+use Rattle.sequencer.specs.Machines.{MachineView, SameRing, state, units_of}
 use Rattle.processor_steps.proofs.Queues.{last_is}
 use Rattle.synchronous_runner.specs.declared.predictor.Predictor.{Predictor}
 use Rattle.synchronous_runner.specs.Steps.{Course, beginning, with_event, turn_of, turn, turns, after_steps, Takes}

@@ -1,5 +1,5 @@
 -- Which run on its way a machine with a predictor stands for.
-use Rattle.sequencer.specs.Seen.{MachineView, state}
+use Rattle.sequencer.specs.Machines.{MachineView, state}
 use Rattle.synchronous_runner.specs.declared.predictor.Predictor.{Predictor}
 use Rattle.synchronous_runner.specs.Steps.{Course}
 

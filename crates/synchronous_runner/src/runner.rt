@@ -5,7 +5,7 @@ ghost use Rattle.machine_model.specs.Answer.{most_events};
 ghost use Rattle.machine_model.specs.Replay.{Replays};
 ghost use Rattle.machine_events.specs.declared.event.Refused.TheVariants as refused;
 ghost use Rattle.machine_events.specs.declared.event.Standing.TheVariants as standing;
-ghost use Rattle.sequencer.specs.Seen.{state, units_of, SameRing};
+ghost use Rattle.sequencer.specs.Machines.{state, units_of, SameRing};
 ghost use Rattle.synchronous_runner.specs.Steps.{beginning, goes_on as goes_on_by, step as step_of, after_steps, Takes};
 ghost use Rattle.synchronous_runner.specs.Lockstep.{AreSteps};
 ghost use Rattle.synchronous_runner.specs.Courses.{course};

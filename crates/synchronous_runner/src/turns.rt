@@ -4,7 +4,7 @@ ghost use Rattle.std.specs.Prelude.{◌≡◌, ◌+◌, ◌<◌, ◌≤◌, true
 ghost use Rattle.machine_model.specs.Answer.{most_events};
 ghost use Rattle.machine_events.specs.declared.event.Refused.TheVariants as refused;
 ghost use Rattle.machine_events.specs.declared.event.Standing.TheVariants as standing;
-ghost use Rattle.sequencer.specs.Seen.{state, units_of, answer_to, SameRing};
+ghost use Rattle.sequencer.specs.Machines.{state, units_of, answer_to, SameRing};
 ghost use Rattle.synchronous_runner.specs.declared.predictor.Predictor.{Predictor};
 ghost use Rattle.synchronous_runner.specs.Steps.{goes_on as goes_on_by, tries, first_allowed, with_event, with_task, turn_of, turn};
 ghost use Rattle.synchronous_runner.specs.Courses.{course};

@@ -1,7 +1,7 @@
 -- What the lock holds, as contracts see it (own); the predictor is left out.
 use Rattle.std.specs.Prelude.{◌≡◌, ℕ, ◌<◌, List, Bool, length}
 use Rattle.mark_checker.specs.Places.{Checked}
-use Rattle.sequencer.specs.Seen.{MachineView, units_of}
+use Rattle.sequencer.specs.Machines.{MachineView, units_of}
 use Rattle.threaded_runner.specs.Counts.{IsCounted}
 
 -- the machine, the number of events of each worker, and whether the run must stop for want of memory

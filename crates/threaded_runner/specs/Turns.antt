@@ -7,7 +7,7 @@ use Rattle.machine_model.specs.HeadEvent.{head_event}
 use Rattle.machine_events.specs.declared.event.Event.{Event}
 use Rattle.machine_events.specs.declared.event.Event.TheVariants.{Assign, Exec}
 use Rattle.machine_model.specs.Claims.{count_h}
-use Rattle.sequencer.specs.Seen.{MachineView, state, units_of, answer_to}
+use Rattle.sequencer.specs.Machines.{MachineView, state, units_of, answer_to}
 use Rattle.sequencer.specs.Rings.{unit_for}
 use Rattle.sequencer.specs.Choices.{choices_of}
 use Rattle.sequencer.specs.Histories.{executed_in}

@@ -4,7 +4,7 @@ ghost use Rattle.std.specs.Prelude.{◌≡◌, ◌<◌, ◌⊎◌, ◌↔◌, Is
 ghost use Rattle.machine_model.specs.Answer.{most_events};
 ghost use Rattle.machine_events.specs.declared.event.Event.TheVariants.{Exec};
 ghost use Rattle.machine_events.specs.declared.event.Standing.TheVariants as standing;
-ghost use Rattle.sequencer.specs.Seen.{state};
+ghost use Rattle.sequencer.specs.Machines.{state};
 ghost use Rattle.sequencer.specs.Rings.{unit_for};
 ghost use Rattle.threaded_runner.specs.Turns.{IsTurn, IsOwn, CanGoOn, Pauses};
 

@@ -38,7 +38,7 @@ impl<'a, P: Predict, J: Naming> Model for Desk<'a, P, J> {
 
 impl<'a, P: Predict, J: Naming> Desk<'a, P, J> {
     ghost use Rattle.std.specs.Prelude.{◌≡◌, ◌+◌, ◌<◌, ◌≤◌, ◌⊎◌, ◌↔◌, [], ◌++◌, replicate, IfOk, IfErr, OnOk, OnErr, IsTrue, length, true};
-    ghost use Rattle.sequencer.specs.Seen.{state, units_of, SameRing, Applies};
+    ghost use Rattle.sequencer.specs.Machines.{state, units_of, SameRing, Applies};
     ghost use Rattle.sequencer.specs.Rings.{unit_for};
     ghost use Rattle.machine_model.specs.Answer.{most_events};
     ghost use Rattle.machine_model.specs.Replay.{Replays};
@@ -296,7 +296,7 @@ impl<'a, P: Predict, J: Naming> Desk<'a, P, J> {
 
 ghost use Rattle.std.specs.Prelude.{◌≡◌, ◌<◌, ◌≤◌, ◌++◌, replicate, IfOk, OnErr};
 ghost use Rattle.machine_events.specs.declared.event.Event.TheVariants.{Exec};
-ghost use Rattle.sequencer.specs.Seen.{SameRing};
+ghost use Rattle.sequencer.specs.Machines.{SameRing};
 ghost use Rattle.sequencer.specs.Bursts.{Takes};
 
 /// The head executes instructions, at most so many; answers how many. It ends before that where one is

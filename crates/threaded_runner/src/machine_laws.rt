@@ -9,7 +9,7 @@ ghost use Rattle.machine_model.specs.Step.{Next};
 ghost use Rattle.machine_events.specs.declared.event.Event.{Event};
 ghost use Rattle.machine_events.specs.declared.event.Event.TheVariants.{Exec};
 ghost use Rattle.machine_events.specs.declared.event.Standing.TheVariants as standing;
-ghost use Rattle.sequencer.specs.Seen.{state, units_of};
+ghost use Rattle.sequencer.specs.Machines.{state, units_of};
 ghost use Rattle.sequencer.specs.Rings.{unit_for};
 ghost use Rattle.threaded_runner.specs.Counts.{retired_by, active_by};
 ghost use Rattle.threaded_runner.specs.Turns.{IsOwn};

@@ -3,7 +3,7 @@
 ghost use Rattle.std.specs.Prelude.{◌≡◌, ◌≢◌, ◌<◌, ◌≤◌, ◌⊎◌, ◌↔◌, length, IfOk, IfErr};
 ghost use Rattle.machine_events.specs.declared.event.Standing.TheVariants as standing;
 ghost use Rattle.machine_model.specs.Replay.{Replays};
-ghost use Rattle.sequencer.specs.Seen.{state, units_of};
+ghost use Rattle.sequencer.specs.Machines.{state, units_of};
 ghost use Rattle.threaded_runner.specs.Counts.{IsCounted};
 
 use crate::bell::Bell;

@@ -1,5 +1,5 @@
 -- A run as the runners report it. No public contract cites it.
-use Rattle.sequencer.specs.Seen.{state}
+use Rattle.sequencer.specs.Machines.{state}
 use Rattle.threaded_runner.specs.declared.report.How.{How}
 use Rattle.threaded_runner.specs.declared.report.How.TheVariants.{Ended, OutOfBudget}
 use Rattle.synchronous_runner.specs.declared.report.How.{How as StepsHow}

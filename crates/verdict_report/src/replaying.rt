@@ -2,7 +2,7 @@
 ghost use Rattle.std.specs.Prelude.{◌≡◌, ◌++◌, List, [], ◌∷◌, Result, IfOk};
 ghost use Rattle.machine_model.specs.Answer.{play, play_event};
 ghost use Rattle.machine_events.specs.declared.event.Refused.{Refused};
-ghost use Rattle.sequencer.specs.Seen.{SameRing, state, units_of};
+ghost use Rattle.sequencer.specs.Machines.{SameRing, state, units_of};
 ghost use Rattle.report_texts.specs.CertificateTexts.{OfCertificate};
 ghost use Rattle.verdict_report.specs.MachineText.{machine_text};
 ghost use Rattle.verdict_report.specs.Playing.{played_so_far};

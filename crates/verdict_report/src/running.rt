@@ -1,7 +1,7 @@
 //! The job `run`.
 ghost use Rattle.std.specs.Prelude.{◌≡◌, ◌≢◌, ◌≤◌, ◌++◌, Err, Ok, IfOk};
 ghost use Rattle.std.specs.String.{string_bytes};
-ghost use Rattle.sequencer.specs.Seen.{state, units_of};
+ghost use Rattle.sequencer.specs.Machines.{state, units_of};
 ghost use Rattle.verdict_report.specs.RunText.{IsRunReport, IsRunText, IsWrittenOf, ending_status, ending_text, steps_text};
 ghost use Rattle.report_texts.specs.CertificateTexts.{OfCertificate};
 ghost use Rattle.verdict_report.specs.Runs.{run_of};

@@ -1,6 +1,6 @@
 //! A run of an accepted program, by threads or in steps.
 ghost use Rattle.std.specs.Prelude.{◌≡◌, ◌≢◌, ◌≤◌, Err, IfOk, None};
-ghost use Rattle.sequencer.specs.Seen.{units_of};
+ghost use Rattle.sequencer.specs.Machines.{units_of};
 ghost use Rattle.verdict_report.specs.RunText.{IsRunOf, IsScheduled, predictor_of};
 ghost use Rattle.verdict_report.specs.Runs.{run_of, ended_as};
 

@@ -5,7 +5,7 @@ use Rattle.std.specs.List.{range_with_len}
 use Rattle.json.specs.Json.{Json}
 use Rattle.json.specs.Token.{Token}
 use Rattle.json.specs.Tree.{json_tokens}
-use Rattle.sequencer.specs.Seen.{state}
+use Rattle.sequencer.specs.Machines.{state}
 use Rattle.event_trace.specs.Changes.{register_count}
 use Rattle.event_trace.specs.Ending.{head_value}
 use Rattle.event_trace.proofs.Parts.{range_more, for_each_register}

@@ -3,7 +3,7 @@ use Rattle.std.proofs.Common.{◌≡◌, ◌++◌}
 use Rattle.std.specs.Prelude.{flat_map}
 use Rattle.std.specs.List.{range_with_len}
 use Rattle.json.specs.Tree.{json_tokens}
-use Rattle.sequencer.specs.Seen.{state}
+use Rattle.sequencer.specs.Machines.{state}
 use Rattle.event_trace.specs.Ending.{head_value}
 use Rattle.event_json.specs.EndJson.{register_json}
 use Rattle.event_json.proofs.ending.write_each_register.Given as goal

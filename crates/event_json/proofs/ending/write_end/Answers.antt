@@ -3,7 +3,7 @@ use Rattle.std.proofs.Common.{ℕ, List, ◌∷◌, [], ◌++◌, ◌∙◌, ap}
 use Rattle.std.specs.Prelude.{codes}
 use Rattle.mips_plain.specs.Words.{byte_of}
 use Rattle.machine_events.specs.declared.event.Standing.{Standing}
-use Rattle.sequencer.specs.Seen.{state}
+use Rattle.sequencer.specs.Machines.{state}
 use Rattle.event_json.specs.Fields.{fields_tokens, standing_fields}
 use Rattle.event_json.specs.EndJson.{memory_field, registers_field}
 use Rattle.event_json.proofs.Tokens.{fields_behind, object_written}

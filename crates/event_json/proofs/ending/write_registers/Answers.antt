@@ -1,6 +1,6 @@
 -- A list with its values.
 use Rattle.std.specs.Prelude.{codes}
-use Rattle.sequencer.specs.Seen.{state}
+use Rattle.sequencer.specs.Machines.{state}
 use Rattle.event_json.specs.EndJson.{registers_json}
 use Rattle.event_json.proofs.Tokens.{list_written}
 use Rattle.event_json.proofs.ending.write_registers.Goals as goal

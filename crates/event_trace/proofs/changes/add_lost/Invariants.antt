@@ -1,6 +1,6 @@
 -- What is told and what is left give what there was to tell.
 use Rattle.std.proofs.Common.{◌≡◌, ◌++◌, drop}
-use Rattle.sequencer.specs.Seen.{state}
+use Rattle.sequencer.specs.Machines.{state}
 use Rattle.event_trace.specs.Changes.{lost}
 use Rattle.event_trace.proofs.changes.add_lost.Given as goal
 

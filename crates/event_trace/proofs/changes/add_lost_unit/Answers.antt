@@ -1,7 +1,7 @@
 -- Behind the last unit there is none, and else there is one more.
 use Rattle.std.proofs.Common.{◌≡◌, slice_get, None, arith}
 use Rattle.unit_core.specs.Units.{active_of}
-use Rattle.sequencer.specs.Seen.{state}
+use Rattle.sequencer.specs.Machines.{state}
 use Rattle.event_trace.proofs.LostUnits.{lost_past, lost_more}
 use Rattle.event_trace.proofs.changes.add_lost_unit.Goals as goal
 

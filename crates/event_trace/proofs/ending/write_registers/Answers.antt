@@ -1,7 +1,7 @@
 -- One register more.
 use Rattle.std.proofs.Common.{ℕ, List, ◌++◌, ◌∙◌, ap, arith}
 use Rattle.std.specs.String.{string_bytes}
-use Rattle.sequencer.specs.Seen.{state}
+use Rattle.sequencer.specs.Machines.{state}
 use Rattle.event_trace.specs.Ending.{head_value, value_line}
 use Rattle.event_trace.proofs.Parts.{range_more, for_each_register}
 use Rattle.event_trace.proofs.ending.write_registers.Goals as goal

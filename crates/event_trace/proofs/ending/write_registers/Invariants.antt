@@ -3,7 +3,7 @@ use Rattle.std.proofs.Common.{◌≡◌, ◌++◌}
 use Rattle.std.specs.Prelude.{flat_map}
 use Rattle.std.specs.List.{range_with_len}
 use Rattle.std.specs.String.{string_bytes}
-use Rattle.sequencer.specs.Seen.{state}
+use Rattle.sequencer.specs.Machines.{state}
 use Rattle.event_trace.specs.Ending.{head_value, value_line}
 use Rattle.event_trace.proofs.ending.write_registers.Given as goal
 

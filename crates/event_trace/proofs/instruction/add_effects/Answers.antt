@@ -6,7 +6,7 @@ use Rattle.mips_plain.specs.Instruction.{dests, reg_a, reg_b}
 use Rattle.machine_events.specs.declared.event.Spot.{Spot}
 use Rattle.machine_model.specs.Answer.{operand}
 use Rattle.unit_core.specs.Units.{active_of}
-use Rattle.sequencer.specs.Seen.{state}
+use Rattle.sequencer.specs.Machines.{state}
 use Rattle.event_trace.specs.declared.change.Change.{Change}
 use Rattle.event_trace.specs.declared.change.Change.TheVariants.{Wrote, Sent}
 use Rattle.event_trace.specs.Changes.{for_registers, newly_sent, outside, stands_at}

@@ -3,7 +3,7 @@ use Rattle.std.proofs.Common.{ℕ, List, ◌++◌, length, ◌∙◌, ap}
 use Rattle.mark_checker.specs.Places.{Checked}
 use Rattle.machine_model.specs.Machine.{State}
 use Rattle.machine_events.specs.declared.event.Event.{Event}
-use Rattle.sequencer.specs.Seen.{state, units_of}
+use Rattle.sequencer.specs.Machines.{state, units_of}
 use Rattle.event_trace.specs.Entries.{entries_from, entry_of}
 use Rattle.event_trace.proofs.telling.entries.Goals as goal
 

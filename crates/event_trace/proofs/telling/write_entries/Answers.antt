@@ -2,7 +2,7 @@
 use Rattle.std.proofs.Common.{◌+◌, ◌++◌, length, ◌∙◌, ap, arith}
 use Rattle.std.specs.String.{string_bytes}
 use Rattle.mark_checker.specs.Places.{Checked}
-use Rattle.sequencer.specs.Seen.{answer_to, state, units_of}
+use Rattle.sequencer.specs.Machines.{answer_to, state, units_of}
 use Rattle.event_trace.specs.Entries.{entries_from, entry_of}
 use Rattle.event_trace.proofs.Steps.{entries_on}
 use Rattle.event_trace.proofs.telling.write_entries.Goals as goal

@@ -1,7 +1,7 @@
 -- What is told and what is left give what there was to tell.
 use Rattle.std.proofs.Common.{◌≡◌, ◌+◌, ◌++◌, drop, length}
 use Rattle.std.specs.String.{string_bytes}
-use Rattle.sequencer.specs.Seen.{SameRing, state, units_of}
+use Rattle.sequencer.specs.Machines.{SameRing, state, units_of}
 use Rattle.event_trace.specs.Entries.{entries_from, entry_of}
 use Rattle.event_trace.proofs.telling.write_entries.Given as goal
 

@@ -1,6 +1,6 @@
 -- What is told of the event is what its answer says.
 use Rattle.std.specs.String.{string_bytes}
-use Rattle.sequencer.specs.Seen.{answer_to, state}
+use Rattle.sequencer.specs.Machines.{answer_to, state}
 use Rattle.event_trace.proofs.Steps.{entry_written}
 use Rattle.event_trace.proofs.telling.write_entry.Goals as goal
 

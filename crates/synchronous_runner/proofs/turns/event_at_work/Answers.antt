@@ -3,7 +3,7 @@ use Rattle.std.specs.Prelude.{is_none}
 use Rattle.std.specs.List.{find}
 use Rattle.machine_model.specs.Answer.{refusal}
 use Rattle.machine_events.specs.declared.event.Event.TheVariants.{Exec, Squash, Transfer, Drain}
-use Rattle.sequencer.specs.Seen.{state, units_of}
+use Rattle.sequencer.specs.Machines.{state, units_of}
 use Rattle.synchronous_runner.specs.Steps.{registers}
 use Rattle.synchronous_runner.proofs.Tries.{allowed_by, least_found, finds_squash, finds_exec, finds_register}
 use Rattle.synchronous_runner.proofs.turns.event_at_work.Goals as goal

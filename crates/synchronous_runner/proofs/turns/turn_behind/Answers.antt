@@ -1,5 +1,5 @@
 use Rattle.std.proofs.Common.{◌≡◌, true, length, sym, ◌∙◌}
-use Rattle.sequencer.specs.Seen.{state, units_of}
+use Rattle.sequencer.specs.Machines.{state, units_of}
 use Rattle.synchronous_runner.specs.Steps.{goes_on}
 use Rattle.synchronous_runner.specs.Courses.{course}
 use Rattle.synchronous_runner.proofs.Going.{on_ok, on_turn}

@@ -1,5 +1,5 @@
 use Rattle.std.proofs.Common.{length}
-use Rattle.sequencer.specs.Seen.{state}
+use Rattle.sequencer.specs.Machines.{state}
 use Rattle.synchronous_runner.specs.declared.predictor.Predictor.TheVariants.{First}
 use Rattle.synchronous_runner.proofs.Going.{on_ok, one_more, runs_on}
 use Rattle.synchronous_runner.proofs.turns.turn_of_head.Goals as goal

@@ -3,7 +3,7 @@ use Rattle.std.specs.Prelude.{nat_lt}
 use Rattle.machine_model.specs.Answer.{refusal}
 use Rattle.machine_events.specs.declared.event.Event.{Event}
 use Rattle.machine_events.specs.declared.event.Event.TheVariants.{Assign}
-use Rattle.sequencer.specs.Seen.{state, units_of}
+use Rattle.sequencer.specs.Machines.{state, units_of}
 use Rattle.sequencer.specs.Rings.{unit_for}
 use Rattle.threaded_runner.proofs.Assigning.{assign_allowed, next_is}
 use Rattle.threaded_runner.proofs.deciding.turn_of_free.Goals as goal

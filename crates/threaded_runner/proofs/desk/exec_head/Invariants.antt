@@ -1,6 +1,6 @@
 use Rattle.std.specs.Prelude.{◌≡◌, ◌≤◌, ◌++◌, replicate}
 use Rattle.machine_events.specs.declared.event.Event.TheVariants.{Exec}
-use Rattle.sequencer.specs.Seen.{SameRing}
+use Rattle.sequencer.specs.Machines.{SameRing}
 use Rattle.threaded_runner.proofs.desk.exec_head.Given as goal
 
 -- the history has so many steps more

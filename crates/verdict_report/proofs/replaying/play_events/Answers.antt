@@ -3,7 +3,7 @@ use Rattle.std.proofs.Common.{◌≡◌, ◌+◌, ◌<◌, ◌++◌, ◌∷◌, 
 use Rattle.machine_events.specs.declared.event.Event.{Event}
 use Rattle.machine_events.specs.declared.event.Refused.{Refused}
 use Rattle.machine_model.specs.Answer.{play, play_event}
-use Rattle.sequencer.specs.Seen.{units_of}
+use Rattle.sequencer.specs.Machines.{units_of}
 use Rattle.verdict_report.specs.Playing.{played_so_far}
 use Rattle.verdict_report.specs.ReplayText.{allowed}
 use Rattle.verdict_report.proofs.Plays.{play_more, steps_on, allowed_so_far}

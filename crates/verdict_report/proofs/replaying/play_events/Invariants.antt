@@ -1,7 +1,7 @@
 -- The machine is what the events so far leave, with their answers, and its history is what was allowed.
 use Rattle.std.proofs.Common.{◌≡◌, take, length}
 use Rattle.machine_model.specs.Answer.{play}
-use Rattle.sequencer.specs.Seen.{SameRing, units_of}
+use Rattle.sequencer.specs.Machines.{SameRing, units_of}
 use Rattle.verdict_report.specs.Playing.{played_so_far}
 use Rattle.verdict_report.specs.ReplayText.{allowed}
 use Rattle.verdict_report.proofs.replaying.play_events.Given as goal

@@ -1,6 +1,6 @@
 use Rattle.std.proofs.Common.{sym, subst}
 use Rattle.processor_steps.specs.Processors.{ArePlaced}
-use Rattle.sequencer.specs.Seen.{MachineView, state}
+use Rattle.sequencer.specs.Machines.{MachineView, state}
 use Rattle.sequencer.proofs.machine.Machine.allows.Goals as goal
 
 pub is_allowed-requires : goal.is_allowed-requires

@@ -1,7 +1,7 @@
 use Rattle.std.proofs.Common.{ℕ, List, length, ◌++◌, ◌∷◌, [], Ok, sym, ap, ◌∙◌, subst}
 use Rattle.machine_events.specs.declared.event.Event.{Event}
 use Rattle.processor_steps.specs.Processors.{ProcessorView, Steps, ArePlaced}
-use Rattle.sequencer.specs.Seen.{MachineView, IsMachine, state}
+use Rattle.sequencer.specs.Machines.{MachineView, IsMachine, state}
 use Rattle.sequencer.proofs.machine.Machine.apply.Goals as goal
 
 pub step-requires-clause-placed : goal.step-requires-clause-placed

@@ -1,6 +1,6 @@
 use Rattle.std.proofs.Common.{ap, subst}
 use Rattle.task_graph.specs.Soundness.{Sound}
-use Rattle.sequencer.specs.Seen.{MachineView, state}
+use Rattle.sequencer.specs.Machines.{MachineView, state}
 use Rattle.sequencer.proofs.FollowingTasks.{some_follows, none_follows, nothing_to_choose}
 use Rattle.sequencer.proofs.machine.Machine.choice.Goals as goal
 

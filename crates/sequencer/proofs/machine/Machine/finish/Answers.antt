@@ -1,7 +1,7 @@
 use Rattle.std.proofs.Common.{◌+◌, ◌<◌, ◌≤◌, arith, inr}
 use Rattle.std.proofs.lemmas.Result.{err_from_is_err_and}
 use Rattle.machine_model.specs.Claims.{count_h}
-use Rattle.sequencer.specs.Seen.{state}
+use Rattle.sequencer.specs.Machines.{state}
 use Rattle.sequencer.proofs.HeadRuns.{begins_here, stays, goes_on, stops, takes_room}
 use Rattle.sequencer.proofs.machine.Machine.finish.Goals as goal
 

@@ -2,7 +2,7 @@ use Rattle.std.proofs.Common.{length}
 use Rattle.std.specs.Prelude.{nat_lt}
 use Rattle.std.proofs.lemmas.Bool.{lt-ltb}
 use Rattle.machine_model.specs.Answer.{refusal, most_events}
-use Rattle.sequencer.specs.Seen.{state, units_of}
+use Rattle.sequencer.specs.Machines.{state, units_of}
 use Rattle.sequencer.proofs.ReadyUnits.{answered_ok}
 use Rattle.sequencer.proofs.machine.Machine.law_answers.Goals as goal
 

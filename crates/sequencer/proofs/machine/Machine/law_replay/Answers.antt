@@ -7,7 +7,7 @@ use Rattle.machine_model.specs.Answer.{refusal, most_events}
 use Rattle.machine_model.specs.Claims.{count_h}
 use Rattle.machine_model.specs.HeadEvent.{growth}
 use Rattle.processor_steps.specs.Processors.{ProcessorView, Keeps, Steps, ArePlaced, state_of}
-use Rattle.sequencer.specs.Seen.{MachineView, IsMachine, state, units_of}
+use Rattle.sequencer.specs.Machines.{MachineView, IsMachine, state, units_of}
 use Rattle.std.specs.List.{All}
 use Rattle.sequencer.specs.Rings.{AreDistinct, EventFits}
 use Rattle.sequencer.proofs.Machines.{applied, goes_on}

@@ -2,7 +2,7 @@ use Rattle.std.proofs.Common.{◌≡◌, Some, sym, ap, ◌∙◌}
 use Rattle.std.specs.Prelude.{slice_get}
 use Rattle.machine_events.specs.declared.event.Spot.TheVariants.{Stopped}
 use Rattle.unit_core.specs.Units.{UnitView, active_of}
-use Rattle.sequencer.specs.Seen.{MachineView, state}
+use Rattle.sequencer.specs.Machines.{MachineView, state}
 use Rattle.sequencer.proofs.LentUnits.{not_stopped}
 use Rattle.sequencer.proofs.machine.Machine.lease.Goals as goal
 

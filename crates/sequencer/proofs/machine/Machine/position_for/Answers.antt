@@ -6,7 +6,7 @@ use Rattle.machine_model.specs.Machine.{Active}
 use Rattle.unit_core.specs.Units.{UnitView, active_of}
 use Rattle.unit_core.specs.Bursts.{HasMore}
 use Rattle.processor_steps.specs.Processors.{position_with}
-use Rattle.sequencer.specs.Seen.{MachineView, state}
+use Rattle.sequencer.specs.Machines.{MachineView, state}
 use Rattle.sequencer.proofs.TakenBursts.{never_none, at_fresh}
 use Rattle.sequencer.proofs.machine.Machine.position_for.Goals as goal
 

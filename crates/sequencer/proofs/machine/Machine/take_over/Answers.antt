@@ -5,7 +5,7 @@ use Rattle.machine_events.specs.declared.event.Event.TheVariants.{Exec}
 use Rattle.machine_events.specs.declared.event.Standing.TheVariants.{Running}
 use Rattle.unit_core.specs.Bursts.{BurstView}
 use Rattle.processor_steps.specs.Processors.{Keeps}
-use Rattle.sequencer.specs.Seen.{MachineView, IsMachine, state}
+use Rattle.sequencer.specs.Machines.{MachineView, IsMachine, state}
 use Rattle.sequencer.specs.Rings.{AreDistinct}
 use Rattle.sequencer.specs.Bursts.{Takes}
 use Rattle.sequencer.proofs.TakenBursts.{Found, fresh_at, takes, is_machine}

@@ -5,7 +5,7 @@ use Rattle.std.specs.Option.{option_map}
 use Rattle.machine_events.specs.declared.event.Event.TheVariants.{Exec}
 use Rattle.unit_core.specs.Units.{UnitView}
 use Rattle.processor_steps.specs.Processors.{position_with}
-use Rattle.sequencer.specs.Seen.{state}
+use Rattle.sequencer.specs.Machines.{state}
 use Rattle.sequencer.specs.Rings.{unit_for}
 use Rattle.threaded_runner.proofs.Locked.{execs_own, more, as_many}
 use Rattle.threaded_runner.proofs.desk.Desk.check_in.Goals as goal
