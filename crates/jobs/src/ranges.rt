@@ -3,10 +3,11 @@ ghost use Rattle.std.specs.Prelude.{ℕ, ◌≡◌, ◌≤◌, ◌↔◌, IsSome
 
 use std::marker::Model;
 
-/// The most instructions of `seq`, and the most events of a run of `run` and `curve`.
+/// The most instructions of `seq`, and the most events of a run of `run` and `curve`; the latter are those of
+/// `sequencer::machine::MOST_BUDGET`.
 pub const MOST_BUDGET: u32 = 1_000_000;
 
-/// The most units, and the most workers.
+/// The most units, as `sequencer::machine::MOST_UNITS`, and the most workers.
 pub const MOST_UNITS: u32 = 16;
 
 /// The most numbers in a list of predictions.

@@ -16,7 +16,7 @@ use std::marker::Sync;
 use std::thread::Threads;
 use text_pieces::text::Text;
 
-/// The most bytes of a program text.
+/// The most bytes of a program text, as `annotated_asm::assembler::MOST_TEXT`.
 pub const MOST_PROGRAM: u64 = 4_194_304;
 
 /// The most bytes of any other file.

@@ -13,8 +13,11 @@ use std::marker::Model;
 use thiserror::Error;
 use unit_core::read_log::ReadLog;
 
-/// The most units of a machine.
+/// The most units of a machine. `jobs`, which stands on no machine, has it too.
 pub const MOST_UNITS: u32 = 16;
+
+/// The most events that a run may ask for. `jobs` has it too.
+pub const MOST_BUDGET: u32 = 1_000_000;
 
 /// Why a machine isn't made.
 #[derive(Clone, Copy, Debug, PartialEq, Eq, Error)]

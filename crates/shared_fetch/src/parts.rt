@@ -3,11 +3,9 @@ ghost use Rattle.std.specs.Prelude.{◌≡◌, ◌≤◌, ◌+◌, ◌*◌, ℕ,
 ghost use Rattle.shared_fetch.specs.PositionedReads.{AreParts, AreFull};
 
 use crate::positioned::PositionedFile;
+use crate::serial::CHUNK;
 use std::alloc::Global;
 use text_pieces::text::Text;
-
-// How many bytes are read at a time.
-const CHUNK: usize = 16_384;
 
 // How many bytes of memory a part gets beyond its own: if it ends inside a line, the rest of that line is
 // added to it, and should fit without moving it.

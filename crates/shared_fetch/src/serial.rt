@@ -18,7 +18,7 @@ pub enum FetchFault {
 }
 
 // How many bytes are read at a time.
-const CHUNK: usize = 16_384;
+pub(crate) const CHUNK: usize = 16_384;
 
 // How often a reader may be interrupted.
 const MOST_INTERRUPTIONS: u32 = 1000;

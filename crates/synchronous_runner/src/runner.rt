@@ -16,11 +16,8 @@ use crate::turns::{goes_on, turn_behind, turn_of_head};
 use machine_events::event::{Refused, Standing};
 use machine_model::laws::{next_is_after, replays_join};
 use mark_checker::accept::Accepted;
-use sequencer::machine::{MOST_UNITS, Machine};
+use sequencer::machine::{MOST_BUDGET, MOST_UNITS, Machine};
 use std::alloc::Global;
-
-/// The most events of a run.
-const MOST_BUDGET: u32 = 1_000_000;
 
 /// Runs the accepted program on a machine of so many units, 1 to 16, in steps, until the run has ended or
 /// the history has `budget` events, 1 to 1,000,000. In a step each unit does at most one event, which the

@@ -15,16 +15,13 @@ use crate::report::{How, Report, RunFault};
 use crate::share::Share;
 use crate::worker::{ring_all, serve};
 use mark_checker::accept::Accepted;
-use sequencer::machine::{MOST_UNITS, Machine};
+use sequencer::machine::{MOST_BUDGET, MOST_UNITS, Machine};
 use sequencer::predict::Predict;
 use std::alloc::{AllocError, Global};
 use std::marker::Brand;
 use std::sync::{Mutex, Wait};
 use std::thread;
 use std::thread::Threads;
-
-/// The most events of a run.
-const MOST_BUDGET: u32 = 1_000_000;
 
 /// Runs the accepted program on a machine of so many units, 1 to 16, with one thread for each unit, until
 /// the run has ended or the history has `budget` events, 1 to 1,000,000; a burst that is handed in late may
