@@ -2,7 +2,7 @@
 use Rattle.std.proofs.Common.{◌≡◌, ℕ, ◌-◌, List, ◌++◌, ap, ◌∙◌, append_assoc}
 use Rattle.speed_curve.specs.declared.row.Row.{Row}
 use Rattle.speed_curve.specs.TableText.{end_text, rate, share}
-use Rattle.curve_picture.specs.Places.{bar_of, column_of, height_of}
+use Rattle.curve_picture.specs.Scales.{bar_of, column_of, height_of}
 use Rattle.curve_picture.specs.CurvePicture.{bar_text, column_text, column_with, mark_text, opening_text, rate_label, share_label, units_label, value_text}
 
 join : (base a p q : List ℕ) → a ≡ base ++ p → a ++ q ≡ base ++ (p ++ q)

@@ -5,7 +5,7 @@ use Rattle.machine_events.specs.declared.event.Standing.{Standing}
 use Rattle.machine_events.specs.declared.event.Standing.TheVariants.{Halted}
 use Rattle.speed_curve.specs.declared.row.Row.{Row}
 use Rattle.speed_curve.specs.TableText.{end_text, rate, share}
-use Rattle.curve_picture.specs.Places.{bar_of, column_of, height_of, number_text, top_of}
+use Rattle.curve_picture.specs.Scales.{bar_of, column_of, height_of, number_text, top_of}
 use Rattle.curve_picture.specs.declared.sheet.TheConstants.{SHEET}
 
 -- a number of the upper scale

@@ -8,12 +8,12 @@ pub(crate) struct Hundredths(pub(crate) u64);
 
 impl fmt::Display for Hundredths {
     ghost use Rattle.std.specs.Prelude.{Some};
-    ghost use Rattle.curve_picture.specs.Places.{number_text};
+    ghost use Rattle.curve_picture.specs.Scales.{number_text};
 
     ghost output = { λ number. Some (number_text number.0) };
 
     /// With two decimals.
-    #[tactic(auto, unfolding(crate::specs::Places::number_text))]
+    #[tactic(auto, unfolding(crate::specs::Scales::number_text))]
     fn fmt<W: fmt::Write>(&self, f: &mut fmt::Formatter<W>) -> fmt::Result {
         let whole = self.0 / 100;
         let tenths = self.0 / 10 % 10;

@@ -1,7 +1,7 @@
 //! Where things stand in the picture. All lengths are in pixels, from the left and from above.
 
 ghost use Rattle.std.specs.Prelude.{◌≡◌, ◌<◌, ◌≤◌, ◌^◌};
-ghost use Rattle.curve_picture.specs.Places.{above as above_of, bar_of, column_of, height_of, top_of};
+ghost use Rattle.curve_picture.specs.Scales.{above as above_of, bar_of, column_of, height_of, top_of};
 
 use speed_curve::row::Row;
 use speed_curve::table::rate;

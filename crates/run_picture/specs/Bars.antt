@@ -7,18 +7,18 @@ use Rattle.run_picture.specs.declared.shape.Style.TheVariants.{Bar, TaskName}
 use Rattle.run_picture.specs.declared.shape.Form.TheVariants.{Rectangle}
 use Rattle.run_picture.specs.declared.shape.Words.TheVariants.{Task}
 use Rattle.run_picture.specs.declared.shape.Hover.TheVariants.{OfLife}
-use Rattle.run_picture.specs.Places.{place_of, top_of, fitting_of}
+use Rattle.run_picture.specs.Scales.{left_edge_of, top_of, fitting_of}
 use Rattle.run_picture.specs.Shapes.{label}
 
 -- from where the first event of a life begins to where its last one ends
 abbrev pub width_of : (events : ℕ) → Life → ℕ
-width_of events life = place_of events (life.last + 1) - place_of events life.first
+width_of events life = left_edge_of events (life.last + 1) - left_edge_of events life.first
 
 -- the bar of a life, in its unit's lane
 abbrev pub bar_of : (events : ℕ) → Life → Shape
 bar_of events life = record {
   style = Bar life.ending;
-  form = Rectangle (place_of events life.first) (top_of life.unit) (width_of events life) 4000;
+  form = Rectangle (left_edge_of events life.first) (top_of life.unit) (width_of events life) 4000;
   hover = OfLife life;
 }
 
@@ -43,7 +43,7 @@ letters_in name width =
 -- the name on a bar, where so many letters of it have room
 abbrev pub name_label : (events letters : ℕ) → Life → List Shape
 name_label events letters life =
-    if nat_lt 0 letters then label TaskName (place_of events life.first + 600) (top_of life.unit + 1800) (Task life.task letters) ∷ [] else []
+    if nat_lt 0 letters then label TaskName (left_edge_of events life.first + 600) (top_of life.unit + 1800) (Task life.task letters) ∷ [] else []
 
 abbrev pub name_on : List Descriptor → (events : ℕ) → Life → List Shape
 name_on tasks events life = name_label events (letters_in (name_of tasks life.task) (width_of events life)) life

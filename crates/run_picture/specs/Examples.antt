@@ -9,7 +9,7 @@ use Rattle.task_lives.specs.declared.life.Life.{Life}
 use Rattle.run_picture.specs.declared.shape.Style.TheVariants.{Bar, Instruction}
 use Rattle.run_picture.specs.declared.shape.Form.TheVariants.{Rectangle, Line}
 use Rattle.run_picture.specs.declared.shape.Hover.TheVariants.{Nothing, OfLife}
-use Rattle.run_picture.specs.Places.{pixels_text, place_of, top_of, step_of, fitting_of}
+use Rattle.run_picture.specs.Scales.{pixels_text, left_edge_of, top_of, step_of, fitting_of}
 use Rattle.run_picture.specs.Bars.{bar_of, letters_in}
 use Rattle.run_picture.specs.Marks.{marks_of}
 use Rattle.run_picture.specs.Stretches.{overlap, counted, share_of}

@@ -7,7 +7,7 @@ use Rattle.run_picture.specs.declared.shape.Shape.{Shape}
 use Rattle.run_picture.specs.declared.shape.Style.TheVariants.{Heading, Quiet, Ground, UnitName, Grid, Axis, AxisNumber, Caption}
 use Rattle.run_picture.specs.declared.shape.Words.{Words}
 use Rattle.run_picture.specs.declared.shape.Words.TheVariants.{Title, Sums, OfUnit, EventNumber, Events}
-use Rattle.run_picture.specs.Places.{bottom_of, middle_of, step_of}
+use Rattle.run_picture.specs.Scales.{bottom_of, middle_of, step_of}
 use Rattle.run_picture.specs.Shapes.{rectangle, line, label}
 
 abbrev pub titles_of : (units events : ℕ) → Tally → List Shape

@@ -1,4 +1,4 @@
-pub mod Places
+pub mod Scales
 pub mod Shapes
 pub mod Frame
 pub mod Bars

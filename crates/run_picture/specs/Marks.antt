@@ -12,7 +12,7 @@ use Rattle.run_picture.specs.declared.shape.Form.TheVariants.{Line, Wedge}
 use Rattle.run_picture.specs.declared.shape.Words.TheVariants.{Register}
 use Rattle.run_picture.specs.declared.shape.Hover.{Hover}
 use Rattle.run_picture.specs.declared.shape.Hover.TheVariants.{OfTransfer, OfSquash}
-use Rattle.run_picture.specs.Places.{middle_of, top_of, room_of}
+use Rattle.run_picture.specs.Scales.{middle_of, top_of, room_of}
 use Rattle.run_picture.specs.Shapes.{line, label}
 
 -- one style where events have room, and a finer one where they have less than 3.5 pixels

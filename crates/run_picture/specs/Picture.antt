@@ -10,7 +10,7 @@ use Rattle.run_summary.specs.Tallies.{tally_of}
 use Rattle.run_picture.specs.declared.shape.Shape.{Shape}
 use Rattle.run_picture.specs.declared.shape.Words.TheVariants.{Ring, Stretch}
 use Rattle.run_picture.specs.declared.sheet.TheConstants.{SHEET, MARKS_LEGEND, STRETCHES_LEGEND}
-use Rattle.run_picture.specs.Places.{bottom_of}
+use Rattle.run_picture.specs.Scales.{bottom_of}
 use Rattle.run_picture.specs.Frame.{titles_of, lanes_of, axis_of, note_of}
 use Rattle.run_picture.specs.Bars.{bars_of, names_of}
 use Rattle.run_picture.specs.Marks.{marks_of}

@@ -12,7 +12,7 @@ use Rattle.run_picture.specs.declared.shape.Form.{Form}
 use Rattle.run_picture.specs.declared.shape.Form.TheVariants.{Rectangle, Line, Wedge, Label}
 use Rattle.run_picture.specs.declared.shape.Hover.{Hover}
 use Rattle.run_picture.specs.declared.shape.Hover.TheVariants.{Nothing, OfLife, OfTransfer, OfSquash}
-use Rattle.run_picture.specs.Places.{pixels_text}
+use Rattle.run_picture.specs.Scales.{pixels_text}
 use Rattle.run_picture.specs.Bars.{name_of}
 use Rattle.run_picture.specs.WordsText.{words_text}
 

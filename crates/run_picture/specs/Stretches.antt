@@ -7,7 +7,7 @@ use Rattle.task_lives.specs.declared.life.Ending.TheVariants.{Retired, Squashed,
 use Rattle.task_lives.specs.declared.life.Life.{Life}
 use Rattle.run_picture.specs.declared.shape.Shape.{Shape}
 use Rattle.run_picture.specs.declared.shape.Style.TheVariants.{Share}
-use Rattle.run_picture.specs.Places.{place_of, top_of}
+use Rattle.run_picture.specs.Scales.{left_edge_of, top_of}
 use Rattle.run_picture.specs.Shapes.{rectangle}
 
 -- how many events a stretch has; the last ones may be shorter, or empty
@@ -59,9 +59,9 @@ abbrev pub rectangle_of : (events part below here : ℕ) → Shape
 rectangle_of events part below here =
     let s = stretch_at part in
     rectangle (Share (ending_of (part % 4)))
-    (place_of events (s * length_of events))
+    (left_edge_of events (s * length_of events))
     (top_of (unit_at part) + 4000 - height_of events s (below + here))
-    (place_of events (end_of events s) - place_of events (s * length_of events))
+    (left_edge_of events (end_of events s) - left_edge_of events (s * length_of events))
     (height_of events s (below + here) - height_of events s below)
 
 -- the rectangle of a part, if there is something in it

@@ -3,7 +3,7 @@
 ghost use Rattle.std.specs.Prelude.{◌≡◌, ◌++◌, OnOk};
 ghost use Rattle.run_picture.specs.Bars.{bar_of as bar_of_life, bars_of, letters_in as letters_in_width, name_label, name_of as name_of_task, name_on, names_of, width_of};
 
-use crate::scale::{BAR_HEIGHT, fitting, place, top};
+use crate::scale::{BAR_HEIGHT, fitting, left_edge, top};
 use crate::shape::{Form, Hover, Shape, Style, Words};
 use std::alloc::AllocError;
 use task_descriptor::descriptor::Descriptor;
@@ -27,7 +27,7 @@ pub(crate) fn push_bars(
 fn bar_of(events: u32, life: Life) -> Shape
     ensures { result ≡ bar_of_life events life }
 {
-    let left = place(events, u64::from(life.first));
+    let left = left_edge(events, u64::from(life.first));
     Shape {
         style: Style::Bar(life.ending),
         form: Form::Rectangle(left, top(life.unit), width(events, life), BAR_HEIGHT),
@@ -39,8 +39,8 @@ fn bar_of(events: u32, life: Life) -> Shape
 fn width(events: u32, life: Life) -> u64
     ensures { result ≡ width_of events life }
 {
-    let left = place(events, u64::from(life.first));
-    let right = place(events, u64::from(life.last) + 1);
+    let left = left_edge(events, u64::from(life.first));
+    let right = left_edge(events, u64::from(life.last) + 1);
     right.saturating_sub(left)
 }
 
@@ -85,7 +85,7 @@ fn push_letters(
     if letters == 0 {
         return Ok(());
     }
-    let left = place(events, u64::from(life.first)) + 600;
+    let left = left_edge(events, u64::from(life.first)) + 600;
     let words = Words::Task(life.task, letters);
     let form = Form::Label(left, top(life.unit) + 1_800, words);
     shapes.push(Shape::plain(Style::TaskName, form))?;

@@ -1,7 +1,7 @@
 //! Where things stand in the picture. All lengths are in hundredths of a pixel, from the left and from above.
 
 ghost use Rattle.std.specs.Prelude.{◌≡◌, ◌≤◌, ◌^◌, ◌+◌, ◌*◌, length};
-ghost use Rattle.run_picture.specs.Places.{bottom_of, middle_of, place_of, room_of, top_of, step_of, step_among, fitting_of, letter_width as letter_width_of};
+ghost use Rattle.run_picture.specs.Scales.{bottom_of, middle_of, left_edge_of, room_of, top_of, step_of, step_among, fitting_of, letter_width as letter_width_of};
 
 /// Where the axis of events begins.
 pub(crate) const AXIS_LEFT: u64 = 8_800;
@@ -23,9 +23,9 @@ pub(crate) const BAR_INSET: u64 = 1_400;
 
 /// Where an event begins on the axis of so many events, from the left; with the number of events, where the
 /// axis ends. Each event has the same room.
-pub(crate) fn place(events: u32, event: u64) -> u64
+pub(crate) fn left_edge(events: u32, event: u64) -> u64
     requires { event ≤ 2 ^ 32 }
-    ensures value { result ≡ place_of events event }
+    ensures value { result ≡ left_edge_of events event }
     ensures bound { result ≤ 8800 + event * 116000 }
 {
     AXIS_LEFT + event * AXIS_WIDTH / u64::from(events.max(1))
@@ -97,8 +97,8 @@ pub(crate) fn middle(events: u32, event: u32) -> u64
     ensures value { result ≡ middle_of events event }
     ensures bound { result ≤ 8800 + (event + 1) * 116000 }
 {
-    let begin = place(events, u64::from(event));
-    let end = place(events, u64::from(event) + 1);
+    let begin = left_edge(events, u64::from(event));
+    let end = left_edge(events, u64::from(event) + 1);
     (begin + end) / 2
 }
 

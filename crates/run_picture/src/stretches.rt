@@ -8,7 +8,7 @@ ghost use Rattle.task_lives.specs.Sums.{AreFew};
 ghost use Rattle.run_picture.specs.Stretches.{column_part, ending_of as ending_of_part, end_of, height_of, length_of, overlap as overlap_of, part_of as part_of_ending, rectangle_of, share_of, stretches_of};
 ghost use Rattle.run_picture.specs.Adding.{AddsLife, with_overlap, HaveRoom};
 
-use crate::scale::{BAR_HEIGHT, place, top};
+use crate::scale::{BAR_HEIGHT, left_edge, top};
 use crate::shape::{Form, Shape, Style};
 use std::alloc::{AllocError, Global};
 use task_lives::life::{Ending, Life};
@@ -170,8 +170,8 @@ fn rectangle(events: u32, part: usize, below: u64, here: u64) -> Shape
 {
     let stretch = (part / 4 % 290) as u64;
     let begin = stretch * u64::from(stretch_length(events));
-    let left = place(events, begin);
-    let right = place(events, end(events, stretch));
+    let left = left_edge(events, begin);
+    let right = left_edge(events, end(events, stretch));
     let low = height(events, stretch, below);
     let high = height(events, stretch, below + here);
     let bottom = top((part / 1_160) as u32) + BAR_HEIGHT;

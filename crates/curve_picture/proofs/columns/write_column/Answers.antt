@@ -1,7 +1,7 @@
 -- One part behind the other, each with its numbers.
 use Rattle.std.proofs.Common.{◌≡◌, ◌∙◌, ap, ℕ, List, OnOk, subst}
 use Rattle.std.specs.String.{string_bytes}
-use Rattle.curve_picture.specs.Places.{bar_of, height_of}
+use Rattle.curve_picture.specs.Scales.{bar_of, height_of}
 use Rattle.curve_picture.proofs.Parts.{column_written}
 use Rattle.curve_picture.proofs.columns.write_column.Goals as goal
 

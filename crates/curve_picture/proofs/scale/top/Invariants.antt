@@ -2,7 +2,7 @@
 use Rattle.std.proofs.Common.{◌≡◌, ◌<◌, ◌^◌, drop, max}
 use Rattle.std.specs.List.{fold}
 use Rattle.speed_curve.specs.TableText.{rate}
-use Rattle.curve_picture.specs.Places.{above, top_of}
+use Rattle.curve_picture.specs.Scales.{above, top_of}
 use Rattle.curve_picture.proofs.scale.top.Given as goal
 
 abbrev pub invariant-loop-row : goal.invariant-loop-row

@@ -1,6 +1,6 @@
 -- The letters so far, and those that fit behind them.
 use Rattle.std.proofs.Common.{◌≡◌, ◌+◌, drop}
-use Rattle.run_picture.specs.Places.{fitting_of}
+use Rattle.run_picture.specs.Scales.{fitting_of}
 use Rattle.run_picture.proofs.scale.fitting.Given as goal
 
 abbrev pub invariant-loop-count : goal.invariant-loop-count

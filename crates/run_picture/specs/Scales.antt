@@ -4,8 +4,8 @@ use Rattle.std.specs.Prelude.{ℕ, suc, ◌+◌, ◌-◌, ◌*◌, ◌/◌, ◌%
 
 -- where an event begins on the axis of so many events: 88 pixels from the left, and each has its share of
 -- 1,160 pixels
-abbrev pub place_of : (events event : ℕ) → ℕ
-place_of events event = 8800 + event * 116000 / max events 1
+abbrev pub left_edge_of : (events event : ℕ) → ℕ
+left_edge_of events event = 8800 + event * 116000 / max events 1
 
 -- where the bars of a unit begin: a lane has 68 pixels, the first begins at 152, and a bar 14 below that
 abbrev pub top_of : (unit : ℕ) → ℕ
@@ -13,7 +13,7 @@ top_of unit = 15200 + unit * 6800 + 1400
 
 -- the middle of an event's room, and how much room each has
 abbrev pub middle_of : (events event : ℕ) → ℕ
-middle_of events event = (place_of events event + place_of events (event + 1)) / 2
+middle_of events event = (left_edge_of events event + left_edge_of events (event + 1)) / 2
 
 abbrev pub room_of : (events : ℕ) → ℕ
 room_of events = 116000 / max events 1
