@@ -26,8 +26,9 @@ use source_map::reading::source_map;
 use std::alloc::{AllocError, Global};
 use task_descriptor::program::Program;
 
-/// The most findings that `explain` shows of a text; of any more it says how many they are (own choice). A
-/// text of 100 KB can have 138 million findings, and each is shown with a path of up to 4,096 steps.
+/// The most findings, and the most warnings, that `explain` shows of a text; of any more it says how many they
+/// are (own choice). A text of 100 KB can have 138 million findings, and each is shown with a path of up to
+/// 4,096 steps.
 pub const MOST_SHOWN: usize = 1_000;
 
 /// Adds what is wrong.

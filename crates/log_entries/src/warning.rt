@@ -10,7 +10,7 @@ use crate::more::add_more;
 use crate::region::region_of;
 use costly_marks::mark::CostlyMark;
 use costly_marks::search::costly_marks;
-use diagnostic_text::diagnostics::map_of;
+use diagnostic_text::diagnostics::{MOST_SHOWN, map_of};
 use mask_certificate::certificate::Cert;
 use message_words::words::Words;
 use sarif_log::entry::{Entry, Level, LoggedFile};
@@ -20,7 +20,7 @@ use source_map::position::SourceMap;
 use std::alloc::{AllocError, Global};
 use task_descriptor::program::Program;
 use warning_text::sentence::{stretch_of, write_help, write_sentence};
-use warning_text::warnings::{MOST_SHOWN, first_of};
+use warning_text::warnings::first_of;
 
 /// The rule of the log that stands for a kind of mark.
 fn warning_rule(mark: &CostlyMark) -> LogRule

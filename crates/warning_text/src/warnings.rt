@@ -12,16 +12,13 @@ ghost use Rattle.warning_text.specs.WarningText.{sentence_text, help_text, warni
 use crate::sentence::{stretch_of, write_help, write_sentence};
 use costly_marks::mark::CostlyMark;
 use costly_marks::search::costly_marks;
-use diagnostic_text::diagnostics::map_of;
+use diagnostic_text::diagnostics::{MOST_SHOWN, map_of};
 use mask_certificate::certificate::Cert;
 use source_excerpt::excerpt::{lines_of, write_excerpt, write_position};
 use source_map::laws::map_fits;
 use source_map::position::{Position, SourceMap};
 use std::alloc::{AllocError, Global};
 use task_descriptor::program::Program;
-
-/// The most warnings that are shown of a text; of any more it is said how many they are (own choice).
-pub const MOST_SHOWN: usize = 1_000;
 
 /// Adds the line of a warning.
 fn write_line(
