@@ -23,17 +23,17 @@ use Rattle.diagnostic_text.specs.Sentences.{number_in, sentence_text, help_text}
 use Rattle.diagnostic_text.specs.Lists.{task_name, create_text, targets_text}
 use Rattle.source_excerpt.specs.Excerpt.{position_text, excerpt_text}
 
--- a place; where the map has none, the text's first byte
-abbrev pub place_in : Option Position → Position
-place_in None = record { line = 1; column = 1 }
-place_in (Some at) = at
+-- a position; where the map has none, the text's first byte
+abbrev pub position_in : Option Position → Position
+position_in None = record { line = 1; column = 1 }
+position_in (Some at) = at
 
 abbrev pub first_byte : Stretch
-first_byte = record { position = place_in None; width = 1 }
+first_byte = record { position = position_in None; width = 1 }
 
 -- an instruction, whole
 abbrev pub instruction_stretch : Sources → (index : ℕ) → Stretch
-instruction_stretch s index = record { position = place_in (slice_get s.code index); width = unwrap_or (slice_get s.widths index) 1 }
+instruction_stretch s index = record { position = position_in (slice_get s.code index); width = unwrap_or (slice_get s.widths index) 1 }
 
 -- the lists of a `.task`
 abbrev pub create_in : Option TaskLists → Stretch
@@ -48,13 +48,13 @@ targets_in (Some lists) = lists.targets
 abbrev pub wrong_target : Listing → (targets : List ℕ) → Option ℕ
 wrong_target p targets = position (λ j. not (is_entry p j)) targets
 
--- its place
+-- where it stands
 abbrev pub target_at : List Stretch → Option ℕ → Option Stretch
-target_at places None = None
-target_at places (Some number) = slice_get places number
+target_at stretches None = None
+target_at stretches (Some number) = slice_get stretches number
 
 abbrev pub wrong_target_of : Listing → Option Descriptor → Option (List Stretch) → Option Stretch
-wrong_target_of p (Some d) (Some places) = target_at places (wrong_target p d.targets)
+wrong_target_of p (Some d) (Some stretches) = target_at stretches (wrong_target p d.targets)
 wrong_target_of p _ _ = None
 
 abbrev pub target_stretch : Listing → Sources → (task : ℕ) → Stretch
@@ -64,7 +64,7 @@ target_stretch p s task =
 -- What a finding is about: the create mask that lacks a register, the target where no task begins, else the
 -- instruction. (A task without a mask, which a least certificate never has, is told at its `.task`.)
 abbrev pub stretch_by : Rule → Listing → Sources → (task index : ℕ) → Stretch
-stretch_by EntryWithoutMask p s task index = record { position = place_in (slice_get s.tasks task); width = 1 }
+stretch_by EntryWithoutMask p s task index = record { position = position_in (slice_get s.tasks task); width = 1 }
 stretch_by ExceedsCreate p s task index = create_in (slice_get s.lists task)
 stretch_by TargetNotEntry p s task index = target_stretch p s task
 stretch_by _ p s task index = instruction_stretch s index
@@ -88,7 +88,7 @@ todo_text file at p f =
 
 -- a path, by the lines of its instructions
 abbrev pub line_of : Sources → (index : ℕ) → ℕ
-line_of s index = (place_in (slice_get s.code index)).line
+line_of s index = (position_in (slice_get s.code index)).line
 
 abbrev pub path_text : Sources → List ℕ → List ℕ
 path_text s [] = []
@@ -113,7 +113,7 @@ note_words _ = codes "reached from here"
 
 abbrev pub note_text : (file : List ℕ) → Sources → Rule → List ℕ → List ℕ
 note_text file s rule path =
-    position_text file (place_in (slice_get s.code (note_index rule path)))
+    position_text file (position_in (slice_get s.code (note_index rule path)))
     ++ (codes "note: " ++ (note_words rule ++ (codes ", on the path " ++ (path_text s path ++ 10 ∷ []))))
 
 abbrev pub path_note : (file : List ℕ) → (rows : List (List ℕ)) → Sources → Rule → Option (Vec ℕ Global) → List ℕ

@@ -13,7 +13,9 @@ ghost use Rattle.diagnostic_text.specs.Sentences.{number_in as register_number};
 ghost use Rattle.diagnostic_text.specs.Diagnostics.{error_text, text_to_write, todo_text, line_of, path_text, note_text, path_note, finding_text, more_text, findings_text, IsExplained};
 
 use crate::list::{task_name, write_create, write_targets};
-use crate::place::{instruction_stretch, line_of, note_index, note_words, place_of, stretch_by};
+use crate::position::{
+    instruction_stretch, line_of, note_index, note_words, position_of, stretch_by,
+};
 use crate::sentence::{number_in, write_help, write_sentence};
 use annotated_asm::fault::AsmFault;
 use finding_paths::shown::{ShownFinding, ShownFindings, shown_findings};
@@ -134,7 +136,7 @@ fn write_on_path(text: &mut String, map: &SourceMap, path: &[u32]) -> Result<(),
     writeln!(text, "")
 }
 
-/// Adds a note at a place: what is said of it, and the path.
+/// Adds a note at a position: what is said of it, and the path.
 fn write_note_at(
     text: &mut String,
     file: &str,
@@ -161,7 +163,7 @@ fn write_note(
 ) -> Result<(), AllocError>
     ensures { OnOk result (string_bytes text.new ≡ string_bytes text.old ++ note_text file.now (sources_in map.now) rule path.now) }
 {
-    let at = place_of(map, note_index(rule, path));
+    let at = position_of(map, note_index(rule, path));
     write_note_at(text, file, map, at, note_words(rule), path)
 }
 

@@ -4,5 +4,5 @@
 
 pub mod diagnostics;
 pub mod list;
-pub mod place;
+pub mod position;
 pub mod sentence;

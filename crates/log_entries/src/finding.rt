@@ -10,7 +10,7 @@ use crate::more::add_more;
 use crate::region::region_of;
 use diagnostic_text::diagnostics::{MOST_SHOWN, map_of, write_path, write_text_to_write};
 use diagnostic_text::list::task_name;
-use diagnostic_text::place::{instruction_stretch, note_index, note_words, stretch_by};
+use diagnostic_text::position::{instruction_stretch, note_index, note_words, stretch_by};
 use diagnostic_text::sentence::{number_in, write_help, write_sentence};
 use finding_paths::shown::{ShownFinding, ShownFindings, shown_findings};
 use mark_checker::finding::{Finding, Rule};

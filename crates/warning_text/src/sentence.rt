@@ -7,7 +7,7 @@ ghost use Rattle.warning_text.specs.WarningText.{stretch_of, sentence_text, help
 
 use costly_marks::mark::CostlyMark;
 use diagnostic_text::list::task_name;
-use diagnostic_text::place::{create_stretch, instruction_stretch};
+use diagnostic_text::position::{create_stretch, instruction_stretch};
 use source_map::position::{SourceMap, Stretch};
 use std::alloc::AllocError;
 use task_descriptor::program::Program;

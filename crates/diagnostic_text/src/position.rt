@@ -4,35 +4,35 @@ ghost use Rattle.std.specs.Prelude.{◌≡◌, ◌-◌, length, slice_get};
 ghost use Rattle.std.specs.Option.{option_copied};
 ghost use Rattle.source_map.specs.Sources.{sources_in};
 ghost use Rattle.task_graph.specs.Soundness.{is_entry};
-ghost use Rattle.diagnostic_text.specs.Diagnostics.{place_in, first_byte, instruction_stretch, create_in, targets_in, wrong_target, wrong_target_of, target_stretch, stretch_by, line_of, index_in, note_index, note_words};
+ghost use Rattle.diagnostic_text.specs.Diagnostics.{position_in, first_byte, instruction_stretch, create_in, targets_in, wrong_target, wrong_target_of, target_stretch, stretch_by, line_of, index_in, note_index, note_words};
 
 use mark_checker::finding::{Finding, Rule};
 use mips_plain::number::Place;
 use source_map::position::{Position, SourceMap, Stretch};
 use task_descriptor::program::Program;
 
-/// A place; where there is none, the text's first byte.
-fn place_in(place: Option<&Position>) -> Position
-    ensures { result ≡ place_in (option_copied place.entry) }
+/// A position; where there is none, the text's first byte.
+fn position_in(position: Option<&Position>) -> Position
+    ensures { result ≡ position_in (option_copied position.entry) }
 {
-    match place {
-        Some(place) => *place,
+    match position {
+        Some(position) => *position,
         None => Position { line: 1, column: 1 },
     }
 }
 
 /// Where the instruction of an index stands.
-pub(crate) fn place_of(map: &SourceMap, index: u32) -> Position
-    ensures { result ≡ place_in (slice_get (sources_in map.now).code index) }
+pub(crate) fn position_of(map: &SourceMap, index: u32) -> Position
+    ensures { result ≡ position_in (slice_get (sources_in map.now).code index) }
 {
-    place_in(map.code.get(index as usize))
+    position_in(map.code.get(index as usize))
 }
 
 /// The line of an instruction.
 pub(crate) fn line_of(map: &SourceMap, index: u32) -> u32
     ensures { result ≡ line_of (sources_in map.now) index }
 {
-    place_of(map, index).line
+    position_of(map, index).line
 }
 
 /// The instruction of an index, whole; the text's first byte where the map has no such instruction.
@@ -40,7 +40,7 @@ pub fn instruction_stretch(map: &SourceMap, index: u32) -> Stretch
     ensures { result ≡ instruction_stretch (sources_in map.now) index }
 {
     Stretch {
-        position: place_of(map, index),
+        position: position_of(map, index),
         width: map.widths.get(index as usize).copied().unwrap_or(1),
     }
 }
@@ -94,14 +94,14 @@ fn wrong_target(program: &Program, targets: &[Place]) -> Option<usize>
         .position(|target| !is_entry(program, *target))
 }
 
-/// The place of the first target of a task that is not where a task begins.
+/// Where the first target of a task stands that is not where a task begins.
 fn wrong_target_of(program: &Program, map: &SourceMap, task: u32) -> Option<Stretch>
     ensures { result ≡ wrong_target_of program.now (slice_get program.now.tasks task) (slice_get (sources_in map.now).targets task) }
 {
     let descriptor = program.tasks().get(task as usize)?;
-    let places = map.targets.get(task as usize)?;
+    let stretches = map.targets.get(task as usize)?;
     match wrong_target(program, descriptor.targets.as_slice()) {
-        Some(number) => places.get(number).copied(),
+        Some(number) => stretches.get(number).copied(),
         None => None,
     }
 }
@@ -119,7 +119,7 @@ pub fn stretch_by(program: &Program, map: &SourceMap, finding: &Finding) -> Stre
 {
     match finding.rule {
         Rule::EntryWithoutMask => Stretch {
-            position: place_in(map.tasks.get(finding.task as usize)),
+            position: position_in(map.tasks.get(finding.task as usize)),
             width: 1,
         },
         Rule::ExceedsCreate => create_stretch(map, finding.task),
