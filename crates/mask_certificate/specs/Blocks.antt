@@ -1,12 +1,12 @@
--- A block of a certificate's text: the entries from a place on, read before it is known whose list they are.
+-- A block of a certificate's text: the entries from an offset on, read before it is known whose list they are.
 use Rattle.std.specs.Prelude.{◌≡◌, ℕ, ◌+◌, ◌-◌, ◌^◌, ◌<◌, ◌≤◌, Bool, true, List, length, drop, is_none}
 use Rattle.std.specs.List.{All}
 use Rattle.mask_certificate.specs.declared.fault.Spelling.{Spelling}
 use Rattle.mask_certificate.specs.Lists.{fault_in, first_fault}
 use Rattle.mask_certificate.specs.CertificateReading.{lines_in, entries_in}
 
--- where a block begins
-pub record Place : Type 0 where
+-- where a block begins, in which text, and how the text is spelled
+pub record BlockView : Type 0 where
   pub spelling : Spelling
   pub text : List ℕ
   pub start : ℕ
@@ -16,7 +16,7 @@ abbrev pub IsEnd : (text end : List ℕ) → Type 0
 IsEnd text end = (length end ≤ length text) × (end ≡ drop (length text - length end) text)
 
 -- blocks of this text
-abbrev pub AreOf : List ℕ → List Place → Type 0
+abbrev pub AreOf : List ℕ → List BlockView → Type 0
 AreOf text blocks = All (λ block. block.text ≡ text) blocks
 
 -- This tells whether the list of a task is right: nothing is wrong in it, whichever task it is, and its
@@ -30,8 +30,8 @@ pub record TellsOfAll (lists : List (List (ℕ × ℕ))) (right : Bool) : Type 0
   pub rising : right ≡ is_none (first_fault 0 lists)
   pub masks : right ≡ true → All (All (λ entry. entry.1 < 2 ^ 34)) lists
 
--- These are the entries of the lines from the place start on, in front of the first that is none, and
--- behind the last of them stands the place end; it is told whether they are right.
+-- These are the entries of the lines from the offset start on, in front of the first that is none, and
+-- behind the last of them stands the offset end; it is told whether they are right.
 pub record IsBlock (spelling : Spelling) (text : List ℕ) (start : ℕ) (entries : List (ℕ × ℕ)) (end : ℕ) (right : Bool) : Type 0 where
   pub begins : start ≤ length text
   pub ends : end ≤ length text

@@ -2,7 +2,7 @@
 -- word of this file.
 use Rattle.std.specs.Prelude.{◌≡◌, ℕ, List, [], ◌∷◌, ◌++◌, length}
 use Rattle.text_pieces.specs.Pieces.{joined, AreCut}
-use Rattle.mask_certificate.specs.Blocks.{Place, IsEnd, AreOf}
+use Rattle.mask_certificate.specs.Blocks.{BlockView, IsEnd, AreOf}
 
 -- the end of a part, and the parts behind it
 pub record Left : Type 0 where
@@ -16,7 +16,7 @@ left_of left = left.rest ++ joined left.behind
 -- How far a text in parts is read: text is the part that is being read, with blocks of it; rest is what is
 -- left of that part, and behind are the parts behind it. Nothing is left of a part only if no part is
 -- behind it.
-pub record IsLeft (text : List ℕ) (blocks : List Place) (rest : List ℕ) (behind : List (List ℕ)) : Type 0 where
+pub record IsLeft (text : List ℕ) (blocks : List BlockView) (rest : List ℕ) (behind : List (List ℕ)) : Type 0 where
   pub end : IsEnd text rest
   pub blocks_of : AreOf text blocks
   pub cut : AreCut (text ∷ behind)

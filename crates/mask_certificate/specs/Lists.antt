@@ -18,15 +18,15 @@ abbrev pub mask_at : List (ℕ × ℕ) → ℕ → Option ℕ
 mask_at [] index = None
 mask_at (entry ∷ entries) index = if entry.0 == index then Some entry.1 else mask_at entries index
 
--- What is wrong at the first place of a list where something is: the index there is below the least
+-- What is wrong at the first position of a list where something is: the index there is below the least
 -- that it may be, which is one more than the index before it, or it is no index of an instruction.
--- `place` is the place of the first of these entries.
+-- `position` is that of the first of these entries.
 abbrev pub fault_in : ℕ → ℕ → ℕ → List (ℕ × ℕ) → Option ListFault
-fault_in task place least [] = None
-fault_in task place least (entry ∷ entries) =
-    if nat_lt entry.0 least then Some (NotRising task place)
-    else (if nat_le 4096 entry.0 then Some (OutOfCode task place)
-    else fault_in task (place + 1) (entry.0 + 1) entries)
+fault_in task position least [] = None
+fault_in task position least (entry ∷ entries) =
+    if nat_lt entry.0 least then Some (NotRising task position)
+    else (if nat_le 4096 entry.0 then Some (OutOfCode task position)
+    else fault_in task (position + 1) (entry.0 + 1) entries)
 
 -- what is wrong in the first list where something is; `task` is the task of the first of these lists
 abbrev pub first_fault : ℕ → List (List (ℕ × ℕ)) → Option ListFault

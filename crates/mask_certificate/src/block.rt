@@ -7,10 +7,10 @@ use mips_plain::number::RegSet;
 use std::alloc::{AllocError, Global};
 use std::marker::Model;
 
-/// The entries of the lines from a place of a text on, in front of the first line that is none: what
+/// The entries of the lines from an offset of a text on, in front of the first line that is none: what
 /// reading needs of one task's list, and what it can find out before it knows whose list it is: whether
 /// the list rises, too, so that who takes the block over need not look at each entry again. A contract
-/// sees a block as its spelling, text and place; they determine the rest.
+/// sees a block as its spelling, text and offset; they determine the rest.
 #[derive(Drop)]
 pub struct Block<'a> {
     spelling: Spelling,
@@ -22,9 +22,9 @@ pub struct Block<'a> {
 }
 
 impl<'a> Model for Block<'a> {
-    ghost use Rattle.mask_certificate.specs.Blocks.{Place, IsBlock};
+    ghost use Rattle.mask_certificate.specs.Blocks.{BlockView, IsBlock};
 
-    ghost Value = { Place };
+    ghost Value = { BlockView };
 
     ghost view = { λ b. record { spelling = b.spelling; text = b.text.now; start = b.start } };
 
@@ -36,7 +36,7 @@ impl<'a> Block<'a> {
     ghost use Rattle.mask_certificate.specs.CertificateReading.{lines_in, entries_in};
     ghost use Rattle.mask_certificate.specs.Blocks.{IsEnd, TellsOf};
 
-    /// Reads the block from a place of a text on.
+    /// Reads the block from an offset of a text on.
     ///
     /// # Errors
     ///
@@ -69,14 +69,14 @@ impl<'a> Block<'a> {
         self.spelling
     }
 
-    /// The place at which it begins.
+    /// The offset at which it begins.
     pub fn start(&self) -> usize
         ensures { result ≡ self.now.start }
     {
         self.start
     }
 
-    /// The place behind its last entry: where the first line begins that is none, or the text's end.
+    /// The offset behind its last entry: where the first line begins that is none, or the text's end.
     pub fn end(&self) -> usize
         ensures within { result ≤ length self.now.text }
         ensures lines { lines_in self.now.spelling (drop result self.now.text)

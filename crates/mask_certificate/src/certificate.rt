@@ -7,14 +7,14 @@ use thiserror::Error;
 /// How many indices of instructions there are: those of an entry lie below.
 pub const CODE_INDICES: u32 = 4096;
 
-/// What keeps lists from being a certificate: the first place where something is wrong.
+/// What keeps lists from being a certificate: the first position where something is wrong.
 #[derive(Clone, Copy, Debug, PartialEq, Eq, Error)]
 pub enum ListFault {
-    /// In the list of this task (from 0), the entry at this place (from 0) has an index that is not
+    /// In the list of this task (from 0), the entry at this position (from 0) has an index that is not
     /// above the index before it.
     #[error("list {0}, entry {1}: its index is not above the one before it")]
     NotRising(u32, usize),
-    /// In the list of this task, the entry at this place has an index of 4,096 or more.
+    /// In the list of this task, the entry at this position has an index of 4,096 or more.
     #[error("list {0}, entry {1}: its index is 4096 or more")]
     OutOfCode(u32, usize),
 }
@@ -44,8 +44,8 @@ impl Cert {
     ghost use Rattle.mask_certificate.specs.Lists.{entries_of, first_fault, list_of, mask_at, Rises, IsCertificate};
     ghost use Rattle.mask_certificate.specs.Blocks.{TellsOfAll};
 
-    /// The certificate of these lists, the list at place t being that of task t. Lists that are none
-    /// come back with what is wrong at the first place where something is: `NotRising` before
+    /// The certificate of these lists, the list at position t being that of task t. Lists that are none
+    /// come back with what is wrong at the first position where something is: `NotRising` before
     /// `OutOfCode` where both are. Empty lists rise. There are fewer than 2^32 lists, since tasks are
     /// counted by a `u32`.
     pub fn build(

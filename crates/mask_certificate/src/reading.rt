@@ -30,7 +30,7 @@ const FIRST_LINE: usize = 7;
 /// How many digits an index has at most.
 const MOST_INDEX_DIGITS: usize = 5;
 
-/// The index in front of the first space, and that space's place; `None` where there is no space, or no
+/// The index in front of the first space, and that space's offset; `None` where there is no space, or no
 /// index in front of it.
 fn index_in_front(text: &[u8]) -> Option<(u32, usize)>
     ensures found { IfSome result (λ found. (position is_space text.now ≡ Some found.1) × (index_in (take found.1 text.now) ≡ Some found.0)) }
@@ -138,11 +138,11 @@ fn mask_of(spelling: Spelling, digits: &[u8]) -> Option<RegSet>
     }
 }
 
-/// Whether an LF stands at this place.
-fn has_newline(text: &[u8], place: usize) -> bool
-    ensures { (result ≡ true) ↔ ((place < length text.now) × (slice_index text.now place ≡ 10)) }
+/// Whether an LF stands at this offset.
+fn has_newline(text: &[u8], offset: usize) -> bool
+    ensures { (result ≡ true) ↔ ((offset < length text.now) × (slice_index text.now offset ≡ 10)) }
 {
-    place < text.len() && text[place] == b'\n'
+    offset < text.len() && text[offset] == b'\n'
 }
 
 fn name_of(line: &[u8]) -> Option<&[u8]>
@@ -237,14 +237,14 @@ fn check_end(text: &[u8], line: usize) -> Result<(), CertFault>
     }
 }
 
-/// The last of these blocks, taken from them, unless it begins behind this place: then it waits for its
+/// The last of these blocks, taken from them, unless it begins behind this offset: then it waits for its
 /// turn.
-fn next_block<'a>(blocks: &mut Vec<Block<'a>>, place: usize) -> Option<Block<'a>>
+fn next_block<'a>(blocks: &mut Vec<Block<'a>>, offset: usize) -> Option<Block<'a>>
     ensures { (text : List ℕ) → AreOf text blocks.old.items
         → AreOf text blocks.new.items × IfSome result (λ block. block.text ≡ text) }
 {
     match blocks.last() {
-        Some(block) if block.start() <= place => blocks.pop(),
+        Some(block) if block.start() <= offset => blocks.pop(),
         _ => None,
     }
 }
@@ -266,9 +266,9 @@ pub(crate) fn list_at<'a>(
     ensures end { IfOk result (λ found. IsEnd text.now found.2.now) }
     ensures blocks { AreOf text.now blocks.new.items }
 {
-    let place = text.len() - left.len();
-    match next_block(blocks, place) {
-        Some(block) if block.start() == place && block.spelling() == spelling => {
+    let offset = text.len() - left.len();
+    match next_block(blocks, offset) {
+        Some(block) if block.start() == offset && block.spelling() == spelling => {
             Ok(block.into_parts())
         }
         _ => {

@@ -248,38 +248,38 @@ fn read_share<'a>(
     ensures { AreFound (map (λ piece. piece.now) pieces.now) found.new.items }
 {
     let text = pieces[piece];
-    let (mut place, to) = share;
+    let (mut offset, to) = share;
     for _ in 0..MOST_TASKS {
-        let Some(start) = list_from(text, place, to) else {
+        let Some(start) = list_from(text, offset, to) else {
             break;
         };
         let block = Block::read(alloc, spelling, text, start)?;
-        place = block.end();
+        offset = block.end();
         found.push((piece, block))?;
     }
     Ok(())
 }
 
-/// The place behind the first line of a task that begins from a place on and before another.
+/// The offset behind the first line of a task that begins from an offset on and before another.
 fn list_from(text: &[u8], from: usize, to: usize) -> Option<usize>
     requires { to ≤ length text.now }
     ensures { IfSome result (λ start. start ≤ length text.now) }
 {
-    for place in from..to {
-        if begins_task(text, place) {
-            let line = &text[place..];
+    for offset in from..to {
+        if begins_task(text, offset) {
+            let line = &text[offset..];
             let end = line.iter().position(|byte| *byte == b'\n')?;
-            return Some(place + end + 1);
+            return Some(offset + end + 1);
         }
     }
     None
 }
 
-/// Whether the line of a task begins at a place.
-fn begins_task(text: &[u8], place: usize) -> bool
-    requires { place ≤ length text.now }
+/// Whether the line of a task begins at an offset.
+fn begins_task(text: &[u8], offset: usize) -> bool
+    requires { offset ≤ length text.now }
 {
-    (place == 0 || text[place - 1] == b'\n') && text[place..].starts_with(b"task ")
+    (offset == 0 || text[offset - 1] == b'\n') && text[offset..].starts_with(b"task ")
 }
 
 /// The pieces, each with the blocks that were found in it.

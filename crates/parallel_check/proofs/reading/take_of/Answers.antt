@@ -3,22 +3,22 @@ use Rattle.std.proofs.Common.{◌≡◌, ℕ, List, [], ◌∷◌, ◌++◌, map
 use Rattle.std.specs.Prelude.{slice_index_or, IfSome}
 use Rattle.std.specs.Option.{option_to_list}
 use Rattle.std.proofs.lemmas.List.Elements.{All-pop, All-push}
-use Rattle.mask_certificate.specs.Blocks.{Place, AreOf}
+use Rattle.mask_certificate.specs.Blocks.{BlockView, AreOf}
 use Rattle.parallel_check.specs.Shares.{AreFound}
 use Rattle.parallel_check.proofs.reading.take_of.Goals as goal
 
 -- what is left, and the last
-popped : (pieces : List (List ℕ)) (found left : List (ℕ × Place)) (last : Option (ℕ × Place)) → found ≡ left ++ option_to_list last → AreFound pieces found →
+popped : (pieces : List (List ℕ)) (found left : List (ℕ × BlockView)) (last : Option (ℕ × BlockView)) → found ≡ left ++ option_to_list last → AreFound pieces found →
     AreFound pieces left × IfSome last (λ block. block.1.text ≡ slice_index_or pieces block.0 [])
-popped pieces found left last = All-pop (λ (block : ℕ × Place). block.1.text ≡ slice_index_or pieces block.0 []) found left last
+popped pieces found left last = All-pop (λ (block : ℕ × BlockView). block.1.text ≡ slice_index_or pieces block.0 []) found left last
 
 -- the last, where it is of the piece that is asked for, and those that were taken before
-taken : (pieces : List (List ℕ)) (last : Option (ℕ × Place)) (piece number : ℕ) (block : Place) (blocks : List Place) → last ≡ Some (piece, block) → piece ≡ number →
+taken : (pieces : List (List ℕ)) (last : Option (ℕ × BlockView)) (piece number : ℕ) (block : BlockView) (blocks : List BlockView) → last ≡ Some (piece, block) → piece ≡ number →
     IfSome last (λ found. found.1.text ≡ slice_index_or pieces found.0 []) → AreOf (slice_index_or pieces number []) blocks → AreOf (slice_index_or pieces number []) (blocks ++ block ∷ [])
 taken pieces last piece number block blocks is same here before =
-    let of_last = subst (λ (found : Option (ℕ × Place)). IfSome found (λ found. found.1.text ≡ slice_index_or pieces found.0 [])) is here in
+    let of_last = subst (λ (found : Option (ℕ × BlockView)). IfSome found (λ found. found.1.text ≡ slice_index_or pieces found.0 [])) is here in
     let of_piece = subst (λ (place : ℕ). block.text ≡ slice_index_or pieces place []) same of_last in
-    All-push (λ (block : Place). block.text ≡ slice_index_or pieces number []) blocks block before of_piece
+    All-push (λ (block : BlockView). block.text ≡ slice_index_or pieces number []) blocks block before of_piece
 
 pub loop-piece-preserved : goal.loop-piece-preserved
 loop-piece-preserved c =
