@@ -1,7 +1,8 @@
 //! Laws: each function does nothing, and its contract is a theorem about the definitions alone.
 
-ghost use Rattle.std.specs.Prelude.{◌≡◌, ◌↔◌, ◌++◌, ℕ, List, Ok};
-ghost use Rattle.mask_certificate.specs.CertificateText.{Spells};
+ghost use Rattle.std.specs.Prelude.{◌≡◌, ◌↔◌, ◌++◌, ℕ, List, length, Ok};
+ghost use Rattle.mask_certificate.specs.Lists.{IsCertificate};
+ghost use Rattle.mask_certificate.specs.CertificateText.{Spells, cert_text};
 ghost use Rattle.mask_certificate.specs.CertificateReading.{cert_parse, lines_in, AreNames};
 ghost use Rattle.mask_certificate.specs.declared.fault.Spelling.{Spelling};
 ghost use Rattle.text_pieces.specs.Pieces.{IsLines};
@@ -12,6 +13,12 @@ ghost use Rattle.text_pieces.specs.Pieces.{IsLines};
 pub fn read_is_spelled()
     ensures { (text : List ℕ) (names : List (List ℕ)) (cert : List (List (ℕ × ℕ))) → AreNames names
         → (cert_parse text names ≡ Ok cert) ↔ Spells text names cert }
+{}
+
+/// What is written is read again: the text of a certificate with one list for each task is read as
+/// that certificate.
+pub fn written_is_read()
+    ensures { (cert : List (List (ℕ × ℕ))) (names : List (List ℕ)) → IsCertificate cert → AreNames names → length cert ≡ length names → cert_parse (cert_text cert names) names ≡ Ok cert }
 {}
 
 /// The lines of a text that is cut behind an LF are those of the front and then those of the rest. So a

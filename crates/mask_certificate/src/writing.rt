@@ -1,12 +1,11 @@
 //! Writing the text of a certificate.
 
-ghost use Rattle.std.specs.Prelude.{◌≡◌, ◌<◌, ◌≤◌, ◌^◌, ◌++◌, length, IfOk, OnOk, List, ℕ, Ok};
+ghost use Rattle.std.specs.Prelude.{◌≡◌, ◌<◌, ◌≤◌, ◌^◌, ◌++◌, length, IfOk, OnOk};
 ghost use Rattle.std.specs.Char.{digit_char};
 ghost use Rattle.std.specs.Fmt.{decimal};
 ghost use Rattle.mask_certificate.specs.declared.fault.Spelling.TheVariants.{Wide};
-ghost use Rattle.mask_certificate.specs.Lists.{IsCertificate};
 ghost use Rattle.mask_certificate.specs.CertificateText.{hexadecimal, entry_text, task_text, cert_text};
-ghost use Rattle.mask_certificate.specs.CertificateReading.{names_of, cert_parse, AreNames};
+ghost use Rattle.mask_certificate.specs.CertificateReading.{names_of};
 
 use crate::certificate::Cert;
 use crate::fault::Spelling;
@@ -80,9 +79,3 @@ pub fn write(alloc: Global, cert: &Cert, program: &Program) -> Result<Vec<u8>, A
     }
     Ok(text)
 }
-
-/// What is written is read again: the text of a certificate with one list for each task is read as
-/// that certificate.
-pub fn written_is_read()
-    ensures { (cert : List (List (ℕ × ℕ))) (names : List (List ℕ)) → IsCertificate cert → AreNames names → length cert ≡ length names → cert_parse (cert_text cert names) names ≡ Ok cert }
-{}
