@@ -22,13 +22,13 @@ use Rattle.processor_steps.specs.Processors.{QueueView, ProcessorView, state_of,
 
 -- the front of the queue
 
-pub front : (v v0 : ProcessorView) (q : QueueView) (k : ℕ) → v ≡ v0 → q ≡ record { units = take k v.queue.units; places = v.queue.places } → with_queue (state_of v) (actives q) ≡ with_queue (state_of v0) (take k (actives v0.queue))
+pub front : (v v0 : ProcessorView) (q : QueueView) (k : ℕ) → v ≡ v0 → q ≡ record { units = take k v.queue.units; capacity = v.queue.capacity } → with_queue (state_of v) (actives q) ≡ with_queue (state_of v0) (take k (actives v0.queue))
 front v v0 q k same is =
     ap (λ (x : QueueView). with_queue (state_of v) (actives x)) is
     ∙ ap (λ (us : List Active). with_queue (state_of v) us) (sym (take-map active_of k v.queue.units))
     ∙ ap (λ (x : ProcessorView). with_queue (state_of x) (take k (actives x.queue))) same
 
-pub front_more : (v v0 : ProcessorView) (q : QueueView) (k : ℕ) → v ≡ v0 → q ≡ record { units = take (k + 1) v.queue.units; places = v.queue.places } → with_queue (state_of v) (actives q) ≡ with_queue (state_of v0) (take (suc k) (actives v0.queue))
+pub front_more : (v v0 : ProcessorView) (q : QueueView) (k : ℕ) → v ≡ v0 → q ≡ record { units = take (k + 1) v.queue.units; capacity = v.queue.capacity } → with_queue (state_of v) (actives q) ≡ with_queue (state_of v0) (take (suc k) (actives v0.queue))
 front_more v v0 q k same is =
     front v v0 q (k + 1) same is ∙ ap (λ (n : ℕ). with_queue (state_of v0) (take n (actives v0.queue))) (add-one k)
 
@@ -84,7 +84,7 @@ module _ (create : ℕ → Bool) (sent : ℕ → Option ℕ) (first : List ℕ) 
     | inr behind ↦ rest r behind ∙ not_created r (none r behind)
   ]
 
-pub assigned : (a : Checked) (v : ProcessorView) (q : QueueView) (t accum n : ℕ) (port : Ports) (u : UnitView) → q ≡ record { units = v.queue.units ++ u ∷ []; places = v.queue.places } → active_of u ≡ begun a t v.assigns port → ((r : ℕ) → has accum r ≡ is_reserved a.program (actives v.queue) r) → arrived_of port ≡ arrived_fresh v.registers accum → sent_of port ≡ no_pairs → n ≡ v.assigns + 1 → state_of (record v { queue = q; assigns = n }) ≡ after a.program (state_of v) (Assign t)
+pub assigned : (a : Checked) (v : ProcessorView) (q : QueueView) (t accum n : ℕ) (port : Ports) (u : UnitView) → q ≡ record { units = v.queue.units ++ u ∷ []; capacity = v.queue.capacity } → active_of u ≡ begun a t v.assigns port → ((r : ℕ) → has accum r ≡ is_reserved a.program (actives v.queue) r) → arrived_of port ≡ arrived_fresh v.registers accum → sent_of port ≡ no_pairs → n ≡ v.assigns + 1 → state_of (record v { queue = q; assigns = n }) ≡ after a.program (state_of v) (Assign t)
 assigned a v q t accum n port u pushed is reserved arrived sent more =
     let queue =
     ap (λ (x : QueueView). actives x) pushed ∙ map-append active_of v.queue.units (u ∷ [])

@@ -104,25 +104,25 @@ pub record LeavesRest (old new : ProcessorView) : Type 0 where
   pub reads : new.reads ≡ old.reads
   pub commits : new.commits ≡ old.commits
   pub assigns : new.assigns ≡ old.assigns
-  pub places : new.queue.places ≡ old.queue.places
+  pub capacity : new.queue.capacity ≡ old.queue.capacity
 
 pub head_tried : (p : Listing) (old new : ProcessorView) (n : ℕ) (result : Result (Unit {0}) Refused) → n < most_events → (state_of old).outcome ≡ Running → LeavesRest old new
     → OnOk result (HeadStep p (actives old.queue) (actives new.queue) old.world new.world)
-    → IfErr result (λ why. IsRefusedBy why (refusal p old.queue.places (state_of old) (Exec 0))) → OnErr result (new ≡ old) → Steps p old n (Exec 0) result new
+    → IfErr result (λ why. IsRefusedBy why (refusal p old.queue.capacity (state_of old) (Exec 0))) → OnErr result (new ≡ old) → Steps p old n (Exec 0) result new
 head_tried p old new n (Ok done) room runs rest ok refused err =
-    let may : refusal p old.queue.places (state_of old) (Exec 0) ≡ None = refusal_at p true (actives old.queue) 0 ok.unit None ok.is_unit ok.may in
+    let may : refusal p old.queue.capacity (state_of old) (Exec 0) ≡ None = refusal_at p true (actives old.queue) 0 ok.unit None ok.is_unit ok.may in
     record {
       allowed = room_none _ n may room;
       refused = tt;
-      next = head_steps p old.queue.places old new runs ok (ap (λ (xs : List ℕ). λ r. slice_index xs r) rest.registers) rest.next rest.reads rest.commits rest.assigns;
-      kept = record { places = rest.places; fixed = ok.step.fixed };
+      next = head_steps p old.queue.capacity old new runs ok (ap (λ (xs : List ℕ). λ r. slice_index xs r) rest.registers) rest.next rest.reads rest.commits rest.assigns;
+      kept = record { capacity = rest.capacity; fixed = ok.step.fixed };
       err = tt;
     }
 head_tried p old new n (Err why) room runs rest ok refused err = record {
   allowed = tt;
   refused = refused_later _ n why room refused;
   next = tt;
-  kept = record { places = rest.places; fixed = ap (λ (v : ProcessorView). v.world.contents.fixed) err };
+  kept = record { capacity = rest.capacity; fixed = ap (λ (v : ProcessorView). v.world.contents.fixed) err };
   err = err;
 }
 
@@ -130,13 +130,13 @@ pub ahead_tried : BurstsAreEvents → (p : Listing) (old new : ProcessorView) (n
     → OnOk result (AheadStep p k (actives old.queue) (actives new.queue))
     → IfErr result (λ why. IsRefusedBy why (for_some (slice_get (actives old.queue) k) refused.NoSuch (exec_refusal p false))) → OnErr result (new ≡ old) → Steps p old n (Exec k) result new
 ahead_tried law p old new n k (Ok done) room behind runs rest world ok refused err =
-    let may : refusal p old.queue.places (state_of old) (Exec k) ≡ None =
+    let may : refusal p old.queue.capacity (state_of old) (Exec k) ≡ None =
     refusal_at p (nat_eq k 0) (actives old.queue) k ok.unit None ok.is_unit (ap (λ (b : Bool). exec_refusal p b ok.unit) behind ∙ ok.may) in
     record {
       allowed = room_none _ n may room;
       refused = tt;
       next =
-          ahead_steps law p old.queue.places k (state_of old) (state_of new) runs (actives new.queue) ok
+          ahead_steps law p old.queue.capacity k (state_of old) (state_of new) runs (actives new.queue) ok
           (λ j. record {
             queue = actives new.queue;
             regs = λ r. slice_index (rest.registers j) r;
@@ -148,7 +148,7 @@ ahead_tried law p old new n k (Ok done) room behind runs rest world ok refused e
             commits = rest.commits j;
             assigns = rest.assigns j;
           });
-      kept = record { places = rest.places; fixed = ap (λ (w : WorldView). w.contents.fixed) world };
+      kept = record { capacity = rest.capacity; fixed = ap (λ (w : WorldView). w.contents.fixed) world };
       err = tt;
     }
 ahead_tried law p old new n k (Err why) room behind runs rest world ok by err = record {
@@ -157,17 +157,17 @@ ahead_tried law p old new n k (Err why) room behind runs rest world ok by err = 
       refused_later _ n why room
       (subst (λ (b : Bool). IsRefusedBy why (for_some (slice_get (actives old.queue) k) refused.NoSuch (exec_refusal p b))) (sym behind) by);
   next = tt;
-  kept = record { places = rest.places; fixed = ap (λ (w : WorldView). w.contents.fixed) world };
+  kept = record { capacity = rest.capacity; fixed = ap (λ (w : WorldView). w.contents.fixed) world };
   err = err;
 }
 
 -- a full history
 
-pub full_tried : (p : Listing) (v : ProcessorView) (n k : ℕ) (why : Refused) → most_events ≤ n → Some why ≡ option_or (refusal p v.queue.places (state_of v) (Exec k)) (Some refused.Full) → Steps p v n (Exec k) (Err why) v
+pub full_tried : (p : Listing) (v : ProcessorView) (n k : ℕ) (why : Refused) → most_events ≤ n → Some why ≡ option_or (refusal p v.queue.capacity (state_of v) (Exec k)) (Some refused.Full) → Steps p v n (Exec k) (Err why) v
 full_tried p v n k why full is = record {
   allowed = tt;
-  refused = inl (ap (λ (b : Bool). option_or (refusal p v.queue.places (state_of v) (Exec k)) (unless b refused.Full None)) (le-ltb n most_events full) ∙ sym is);
+  refused = inl (ap (λ (b : Bool). option_or (refusal p v.queue.capacity (state_of v) (Exec k)) (unless b refused.Full None)) (le-ltb n most_events full) ∙ sym is);
   next = tt;
-  kept = record { places = refl; fixed = refl };
+  kept = record { capacity = refl; fixed = refl };
   err = refl;
 }

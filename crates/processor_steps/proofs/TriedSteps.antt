@@ -27,7 +27,7 @@ pub does_steps : (p : Listing) (old : ProcessorView) (n : ℕ) (e : Event) (resu
 does_steps p old n e (Ok done) new d runs law = record {
   allowed = sym d.refused;
   refused = tt;
-  next = subst (Next p old.queue.places (state_of old) e) (sym d.state) (law old.queue.places (state_of old) e runs (may_none p old.queue.places (state_of old) n e (sym d.refused)));
+  next = subst (Next p old.queue.capacity (state_of old) e) (sym d.state) (law old.queue.capacity (state_of old) e runs (may_none p old.queue.capacity (state_of old) n e (sym d.refused)));
   kept = d.kept;
   err = tt;
 }

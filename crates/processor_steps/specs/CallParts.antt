@@ -38,7 +38,7 @@ IsRefusedBy why refusal = (refusal ≡ Some why) ⊎ ((why ≡ refused.OutOfMemo
 -- a call on a processor that does not take memory answers just what refuses the event, and leaves what
 -- the event leaves
 pub record Does (p : Listing) (old : ProcessorView) (n : ℕ) (e : Event) (result : Result (Unit {0}) Refused) (new : ProcessorView) : Type 0 where
-  pub refused : result_err result ≡ later_refusal p old.queue.places (state_of old) n e
+  pub refused : result_err result ≡ later_refusal p old.queue.capacity (state_of old) n e
   pub state : OnOk result (state_of new ≡ after p (state_of old) e)
   pub kept : Keeps old new
   pub err : OnErr result (new ≡ old)

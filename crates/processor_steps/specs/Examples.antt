@@ -52,7 +52,7 @@ tail = record {
 -- all of the two units are at work, and nothing has retired; data memory begins with the bytes 7 and 8
 abbrev pub processor : ProcessorView
 processor = record {
-  queue = record { units = head ∷ tail ∷ []; places = 2 };
+  queue = record { units = head ∷ tail ∷ []; capacity = 2 };
   registers = replicate 34 0;
   world = record { contents = record { bytes = 7 ∷ 8 ∷ []; fixed = [] }; output = []; outcome = standing.Running };
   next = 0x400000;
@@ -122,26 +122,26 @@ refused_first = refl
 -- a refused event leaves the processor as it is
 pub retire_refused : Steps count processor 5 Retire (Err (refused.Unfinished 10)) processor
 unfolding least
-retire_refused = record { allowed = tt; refused = inl refl; next = tt; kept = record { places = refl; fixed = refl }; err = refl }
+retire_refused = record { allowed = tt; refused = inl refl; next = tt; kept = record { capacity = refl; fixed = refl }; err = refl }
 
 -- so does want of memory for an event that may take some, as for the `slti` of the tail
 abbrev pub at_slti : ProcessorView
-at_slti = record processor { queue = record { units = head ∷ record tail { place = Inside 2 } ∷ []; places = 2 } }
+at_slti = record processor { queue = record { units = head ∷ record tail { place = Inside 2 } ∷ []; capacity = 2 } }
 
 pub memory_refused : Steps count at_slti 5 (Exec 1) (Err refused.OutOfMemory) at_slti
 unfolding least
-memory_refused = record { allowed = tt; refused = inr (refl, refl, refl); next = tt; kept = record { places = refl; fixed = refl }; err = refl }
+memory_refused = record { allowed = tt; refused = inr (refl, refl, refl); next = tt; kept = record { capacity = refl; fixed = refl }; err = refl }
 
 pub takes_none : takes_memory (Assign 0) ≡ false
 takes_none = refl
 
 -- a Drop of the tail leaves the head
-pub dropped : Steps count processor 5 (Drop 1) (Ok tt) (record processor { queue = record { units = head ∷ []; places = 2 } })
+pub dropped : Steps count processor 5 (Drop 1) (Ok tt) (record processor { queue = record { units = head ∷ []; capacity = 2 } })
 dropped = record {
   allowed = refl;
   refused = tt;
   next = record { runs = refl; does = record { unit = active_of tail; is_unit = refl; is_behind = omega arith; is = refl } };
-  kept = record { places = refl; fixed = refl };
+  kept = record { capacity = refl; fixed = refl };
   err = tt;
 }
 

@@ -20,7 +20,7 @@ use Rattle.unit_core.specs.Worlds.{WorldView, memory_of}
 -- the units from the head to the tail, and how many there may be
 pub record QueueView : Type 0 where
   pub units : List UnitView
-  pub places : ℕ
+  pub capacity : ℕ
 
 abbrev pub actives : QueueView → List Active
 actives q = map active_of q.units
@@ -50,7 +50,7 @@ state_of v = record {
 
 -- no event changes the number of units or read-only data
 pub record Keeps (old new : ProcessorView) : Type 0 where
-  pub places : new.queue.places ≡ old.queue.places
+  pub capacity : new.queue.capacity ≡ old.queue.capacity
   pub fixed : new.world.contents.fixed ≡ old.world.contents.fixed
 
 -- each active task stands at a valid place
@@ -70,11 +70,11 @@ takes_memory _ = false
 -- a call on a processor where the run goes on: it answers what refuses the event, or for one that
 -- takes memory that it is wanted; Ok leaves a state by the machine step, else nothing is changed
 pub record Steps (p : Listing) (old : ProcessorView) (n : ℕ) (e : Event) (result : Result (Unit {0}) Refused) (new : ProcessorView) : Type 0 where
-  pub allowed : OnOk result (later_refusal p old.queue.places (state_of old) n e ≡ None)
+  pub allowed : OnOk result (later_refusal p old.queue.capacity (state_of old) n e ≡ None)
   pub refused : IfErr result (λ why.
-      (later_refusal p old.queue.places (state_of old) n e ≡ Some why)
-      ⊎ ((takes_memory e ≡ true) × (why ≡ refused.OutOfMemory) × (later_refusal p old.queue.places (state_of old) n e ≡ None)))
-  pub next : OnOk result (Next p old.queue.places (state_of old) e (state_of new))
+      (later_refusal p old.queue.capacity (state_of old) n e ≡ Some why)
+      ⊎ ((takes_memory e ≡ true) × (why ≡ refused.OutOfMemory) × (later_refusal p old.queue.capacity (state_of old) n e ≡ None)))
+  pub next : OnOk result (Next p old.queue.capacity (state_of old) e (state_of new))
   pub kept : Keeps old new
   pub err : OnErr result (new ≡ old)
 

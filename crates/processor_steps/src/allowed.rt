@@ -47,11 +47,11 @@ impl Processor {
 
     /// Whether a task may be assigned.
     pub(crate) fn may_assign(&self, program: &Program, task: u32) -> Result<(), Refused>
-        ensures refused { result_err result ≡ refusal program.now self.now.queue.places (state_of self.now) (event.Assign task) }
+        ensures refused { result_err result ≡ refusal program.now self.now.queue.capacity (state_of self.now) (event.Assign task) }
         ensures there { OnOk result (task < length program.now.tasks) }
-        ensures free { OnOk result (length self.now.queue.units < self.now.queue.places) }
+        ensures free { OnOk result (length self.now.queue.units < self.now.queue.capacity) }
     {
-        if self.queue.len() >= self.queue.places() {
+        if self.queue.len() >= self.queue.capacity() {
             return Err(Refused::NoUnit);
         }
         if task as usize >= program.tasks().len() {
@@ -71,7 +71,7 @@ impl Processor {
         position: u32,
         register: Reg,
     ) -> Result<u32, Refused>
-        ensures refused { result_err result ≡ refusal program.now self.now.queue.places (state_of self.now) (event.Transfer position register) }
+        ensures refused { result_err result ≡ refusal program.now self.now.queue.capacity (state_of self.now) (event.Transfer position register) }
         ensures word { IfOk result (λ word. option_and_then (λ giver. pass program.now giver register) (slice_get (state_of self.now).queue (position - 1)) ≡ Some word) }
     {
         if position == 0 {
@@ -106,7 +106,7 @@ impl Processor {
         position: u32,
         register: Reg,
     ) -> Result<(), Refused>
-        ensures refused { result_err result ≡ refusal program.now self.now.queue.places (state_of self.now) (event.Drain position register) }
+        ensures refused { result_err result ≡ refusal program.now self.now.queue.capacity (state_of self.now) (event.Drain position register) }
     {
         let Some(unit) = self.queue.get(position as usize) else {
             return Err(Refused::NoSuch);
@@ -128,7 +128,7 @@ impl Processor {
 
     /// Whether all units behind a position may go.
     pub(crate) fn may_squash(&self, program: &Program, position: u32) -> Result<(), Refused>
-        ensures { result_err result ≡ refusal program.now self.now.queue.places (state_of self.now) (event.Squash position) }
+        ensures { result_err result ≡ refusal program.now self.now.queue.capacity (state_of self.now) (event.Squash position) }
     {
         let Some(after) = self.queue.get(position as usize + 1) else {
             return Err(Refused::NoSuch);
@@ -154,7 +154,7 @@ impl Processor {
 
     /// The exit at which the head may retire.
     pub(crate) fn exit_to_retire_at(&self, program: &Program) -> Result<u32, Refused>
-        ensures refused { result_err result ≡ refusal program.now self.now.queue.places (state_of self.now) event.Retire }
+        ensures refused { result_err result ≡ refusal program.now self.now.queue.capacity (state_of self.now) event.Retire }
         ensures exit { IfOk result (λ exit. option_and_then (λ u. exit_of u.place) (slice_get (state_of self.now).queue 0) ≡ Some exit) }
     {
         let Some(head) = self.queue.get(0) else {
@@ -187,7 +187,7 @@ impl Processor {
 
     /// The address, not listed, at which the head has stopped.
     pub(crate) fn unlisted_exit(&self, program: &Program) -> Result<u32, Refused>
-        ensures refused { result_err result ≡ refusal program.now self.now.queue.places (state_of self.now) event.Fault }
+        ensures refused { result_err result ≡ refusal program.now self.now.queue.capacity (state_of self.now) event.Fault }
         ensures exit { IfOk result (λ exit. option_and_then (λ u. exit_of u.place) (slice_get (state_of self.now).queue 0) ≡ Some exit) }
     {
         let Some(head) = self.queue.get(0) else {
@@ -204,7 +204,7 @@ impl Processor {
 
     /// Whether the unit at a position and all behind it may go.
     pub(crate) fn may_drop(&self, program: &Program, position: u32) -> Result<(), Refused>
-        ensures { result_err result ≡ refusal program.now self.now.queue.places (state_of self.now) (event.Drop position) }
+        ensures { result_err result ≡ refusal program.now self.now.queue.capacity (state_of self.now) (event.Drop position) }
     {
         if position == 0 || self.queue.get(position as usize).is_none() {
             return Err(Refused::NoSuch);

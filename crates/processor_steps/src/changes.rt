@@ -30,7 +30,7 @@ impl Processor {
     /// A unit begins with a task, behind the tail.
     pub(crate) fn assign(&mut self, alloc: Global, accepted: &Accepted, task: u32)
         requires there { task < length accepted.now.program.tasks }
-        requires free { length self.old.queue.units < self.old.queue.places }
+        requires free { length self.old.queue.units < self.old.queue.capacity }
         requires room { self.old.assigns + 1 < 2 ^ 32 }
         ensures state { state_of self.new ≡ after accepted.now.program (state_of self.old) (event.Assign task) }
         ensures kept { Keeps self.old self.new }
@@ -68,7 +68,7 @@ impl Processor {
     /// The unit at a position takes a register with the word that the unit before it passes on.
     #[inline]
     pub(crate) fn take_word(&mut self, program: &Program, position: u32, register: Reg, word: u32)
-        requires allowed { refusal program.now self.old.queue.places (state_of self.old) (event.Transfer position register) ≡ None }
+        requires allowed { refusal program.now self.old.queue.capacity (state_of self.old) (event.Transfer position register) ≡ None }
         requires word { option_and_then (λ giver. pass program.now giver register) (slice_get (state_of self.old).queue (position - 1)) ≡ Some word }
         ensures state { state_of self.new ≡ after program.now (state_of self.old) (event.Transfer position register) }
         ensures kept { Keeps self.old self.new }
@@ -81,7 +81,7 @@ impl Processor {
     /// The unit at a position, which has stopped, sends a register.
     #[inline]
     pub(crate) fn send_word(&mut self, accepted: &Accepted, position: u32, register: Reg)
-        requires allowed { refusal accepted.now.program self.old.queue.places (state_of self.old) (event.Drain position register) ≡ None }
+        requires allowed { refusal accepted.now.program self.old.queue.capacity (state_of self.old) (event.Drain position register) ≡ None }
         requires placed { ArePlaced accepted.now (state_of self.old).queue }
         ensures state { state_of self.new ≡ after accepted.now.program (state_of self.old) (event.Drain position register) }
         ensures kept { Keeps self.old self.new }

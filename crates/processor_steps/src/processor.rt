@@ -67,7 +67,7 @@ impl Processor {
     pub fn new(alloc: Global, program: &Program, units: u32) -> Result<Processor, OutOfMemory>
         requires { units ≤ 16 }
         ensures opening { IfOk result (λ processor. state_of processor ≡ opening program.now) }
-        ensures places { IfOk result (λ processor. processor.queue.places ≡ units) }
+        ensures capacity { IfOk result (λ processor. processor.queue.capacity ≡ units) }
         ensures fixed { IfOk result (λ processor. byte_of processor.world.contents.fixed ≡ byte_of program.now.fixed) }
     {
         let queue = Queue::new(alloc, units)?;
@@ -87,18 +87,18 @@ impl Processor {
 
     /// How many units there are, at work or not.
     #[inline]
-    pub fn places(&self) -> u32
-        ensures places { result ≡ self.now.queue.places }
-        ensures within { self.now.queue.places ≤ 16 }
+    pub fn capacity(&self) -> u32
+        ensures capacity { result ≡ self.now.queue.capacity }
+        ensures within { self.now.queue.capacity ≤ 16 }
     {
-        self.queue.places()
+        self.queue.capacity()
     }
 
     /// How many units are at work.
     #[inline]
     pub fn active(&self) -> u32
         ensures active { result ≡ length (state_of self.now).queue }
-        ensures within { length (state_of self.now).queue ≤ self.now.queue.places }
+        ensures within { length (state_of self.now).queue ≤ self.now.queue.capacity }
     {
         self.queue.len()
     }

@@ -1,4 +1,4 @@
-//! The queue of units from the head to the tail: a ring with one place for each unit (Sohi, Breach,
+//! The queue of units from the head to the tail: a ring as long as there are units (Sohi, Breach,
 //! Vijaykumar, ISCA 1995, section 2: a circular queue of units with a head and a tail).
 
 use crate::listing::created;
@@ -16,7 +16,7 @@ use unit_core::unit::Unit;
 use unit_core::wait::Wait;
 use unit_core::world::World;
 
-/// The units at work, in a ring with one place for each unit that there is.
+/// The units at work, in a ring as long as there are units.
 #[derive(Debug, Drop)]
 pub(crate) struct Queue {
     ring: HeapCircularBuffer<Unit>,
@@ -28,7 +28,7 @@ impl Model for Queue {
 
     ghost Value = { QueueView };
 
-    ghost view = { λ q. record { units = q.ring.items; places = q.ring.capacity } };
+    ghost view = { λ q. record { units = q.ring.items; capacity = q.ring.capacity } };
 
     ghost invariant = { λ q. (length q.ring.items ≤ q.ring.capacity) × (q.ring.capacity ≤ 16) };
 }
@@ -49,12 +49,12 @@ impl Queue {
     ghost use Rattle.machine_events.specs.declared.event.Refused.TheVariants as refused;
     ghost use Rattle.machine_events.specs.declared.event.Standing.TheVariants as standing;
 
-    /// A queue without a unit, with so many places.
-    pub(crate) fn new(alloc: Global, places: u32) -> Result<Queue, AllocError>
-        requires { places ≤ 16 }
-        ensures { IfOk result (λ queue. (queue.units ≡ []) × (queue.places ≡ places)) }
+    /// A queue without a unit, with room for so many units.
+    pub(crate) fn new(alloc: Global, capacity: u32) -> Result<Queue, AllocError>
+        requires { capacity ≤ 16 }
+        ensures { IfOk result (λ queue. (queue.units ≡ []) × (queue.capacity ≡ capacity)) }
     {
-        let ring = HeapCircularBuffer::with_capacity(alloc, places as usize)?;
+        let ring = HeapCircularBuffer::with_capacity(alloc, capacity as usize)?;
         Ok(Queue { ring })
     }
 
@@ -62,16 +62,16 @@ impl Queue {
     #[inline]
     pub(crate) fn len(&self) -> u32
         ensures len { result ≡ length self.now.units }
-        ensures within { (length self.now.units ≤ self.now.places) × (self.now.places ≤ 16) }
+        ensures within { (length self.now.units ≤ self.now.capacity) × (self.now.capacity ≤ 16) }
     {
         self.ring.len() as u32
     }
 
     /// How many there may be, 1 to 16.
     #[inline]
-    pub(crate) fn places(&self) -> u32
-        ensures places { result ≡ self.now.places }
-        ensures within { (length self.now.units ≤ self.now.places) × (self.now.places ≤ 16) }
+    pub(crate) fn capacity(&self) -> u32
+        ensures capacity { result ≡ self.now.capacity }
+        ensures within { (length self.now.units ≤ self.now.capacity) × (self.now.capacity ≤ 16) }
     {
         self.ring.capacity() as u32
     }
@@ -95,7 +95,7 @@ impl Queue {
 
     /// Puts a unit behind all others.
     pub(crate) fn push(&mut self, unit: Unit)
-        requires { length self.old.units < self.old.places }
+        requires { length self.old.units < self.old.capacity }
         ensures { self.new ≡ record self.old { units = self.old.units ++ unit ∷ [] } }
     {
         let _ = self.ring.try_push_back(unit);
@@ -144,7 +144,7 @@ impl Queue {
     pub(crate) fn arrive(&mut self, position: usize, register: Reg, word: u32)
         ensures active { (u : Active) → slice_get (actives self.old) position ≡ Some u → u.arrived register ≡ None
             → actives self.new ≡ slice_set (actives self.old) position (record u { arrived = put register word u.arrived }) }
-        ensures places { self.new.places ≡ self.old.places }
+        ensures capacity { self.new.capacity ≡ self.old.capacity }
     {
         let Some(unit) = self.ring.get_mut(position) else {
             return;
@@ -158,7 +158,7 @@ impl Queue {
         requires { ArePlaced accepted.now (actives self.old) }
         ensures active { (u : Active) → slice_get (actives self.old) position ≡ Some u → drain_refusal accepted.now.program u register ≡ None
             → actives self.new ≡ slice_set (actives self.old) position (after_drain u register (operand u register)) }
-        ensures places { self.new.places ≡ self.old.places }
+        ensures capacity { self.new.capacity ≡ self.old.capacity }
     {
         let Some(unit) = self.ring.get_mut(position) else {
             return;
@@ -169,7 +169,7 @@ impl Queue {
     /// Each register that has not arrived at the head arrives there, with its word of these.
     pub(crate) fn fill_head(&mut self, words: &[u32; 34])
         ensures active { actives self.new ≡ filled (λ r. slice_index words.now r) (actives self.old) }
-        ensures places { self.new.places ≡ self.old.places }
+        ensures capacity { self.new.capacity ≡ self.old.capacity }
     {
         let Some(head) = self.ring.get_mut(0) else {
             return;
@@ -189,7 +189,7 @@ impl Queue {
         ensures ok { OnOk result (HeadStep accepted.now.program (actives self.old) (actives self.new) world.old world.new) }
         ensures refused { IfErr result (λ why. IsRefusedBy why (for_some (slice_get (actives self.old) 0) refused.NoSuch (refusal_of accepted.now.program true))) }
         ensures err { OnErr result ((self.new ≡ self.old) × (world.new ≡ world.old)) }
-        ensures places { self.new.places ≡ self.old.places }
+        ensures capacity { self.new.capacity ≡ self.old.capacity }
     {
         let Some(head) = self.ring.get_mut(0) else {
             return Err(Refused::NoSuch);
@@ -208,7 +208,7 @@ impl Queue {
         ensures ok { OnOk result (AheadStep accepted.now.program position (actives self.old) (actives self.new)) }
         ensures refused { IfErr result (λ why. IsRefusedBy why (for_some (slice_get (actives self.old) position) refused.NoSuch (refusal_of accepted.now.program false))) }
         ensures err { OnErr result (self.new ≡ self.old) }
-        ensures places { self.new.places ≡ self.old.places }
+        ensures capacity { self.new.capacity ≡ self.old.capacity }
     {
         let Some(unit) = self.ring.get_mut(position) else {
             return Err(Refused::NoSuch);
@@ -253,7 +253,7 @@ impl Queue {
             → actives self.new ≡ slice_set (actives self.old) position (carried_on (active_of burst.entry.after) u)) }
         ensures back { IfErr result (λ back. back.0 ≡ burst.entry) }
         ensures err { OnErr result (self.new ≡ self.old) }
-        ensures places { self.new.places ≡ self.old.places }
+        ensures capacity { self.new.capacity ≡ self.old.capacity }
     {
         let Some(unit) = self.ring.get_mut(position) else {
             return Ok(());

@@ -49,14 +49,14 @@ impl Processor {
     /// The least register that the unit at a position may take from the unit before it; `None` exactly
     /// where it may take none.
     pub fn register_to_take(&self, program: &Program, position: u32) -> Option<Reg>
-        ensures { IsLeast (λ r. refusal program.now self.now.queue.places (state_of self.now) (event.Transfer position r) ≡ None) result }
+        ensures { IsLeast (λ r. refusal program.now self.now.queue.capacity (state_of self.now) (event.Transfer position r) ≡ None) result }
     {
         next_member(self.registers_to_take(program, position), 0)
     }
 
     /// The registers that the unit at a position may take from the unit before it.
     fn registers_to_take(&self, program: &Program, position: u32) -> RegSet
-        ensures { (r : ℕ) → r < 34 → has result r ≡ is_none (refusal program.now self.now.queue.places (state_of self.now) (event.Transfer position r)) }
+        ensures { (r : ℕ) → r < 34 → has result r ≡ is_none (refusal program.now self.now.queue.capacity (state_of self.now) (event.Transfer position r)) }
     {
         if position == 0 {
             return RegSet::empty();
@@ -70,14 +70,14 @@ impl Processor {
     /// The least register that the unit at a position, which has stopped, may send; `None` exactly where
     /// it may send none.
     pub fn register_to_send(&self, program: &Program, position: u32) -> Option<Reg>
-        ensures { IsLeast (λ r. refusal program.now self.now.queue.places (state_of self.now) (event.Drain position r) ≡ None) result }
+        ensures { IsLeast (λ r. refusal program.now self.now.queue.capacity (state_of self.now) (event.Drain position r) ≡ None) result }
     {
         next_member(self.registers_to_send(program, position), 0)
     }
 
     /// The registers that the unit at a position, which has stopped, may send.
     fn registers_to_send(&self, program: &Program, position: u32) -> RegSet
-        ensures { (r : ℕ) → r < 34 → has result r ≡ is_none (refusal program.now self.now.queue.places (state_of self.now) (event.Drain position r)) }
+        ensures { (r : ℕ) → r < 34 → has result r ≡ is_none (refusal program.now self.now.queue.capacity (state_of self.now) (event.Drain position r)) }
     {
         match self.unit(position) {
             Some(unit) => registers_left(program, unit),

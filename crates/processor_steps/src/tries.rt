@@ -138,7 +138,7 @@ impl Processor {
     /// What refuses an Exec where the history is full.
     fn exec_when_full(&self, accepted: &Accepted, position: u32) -> Refused
         requires { ArePlaced accepted.now (state_of self.now).queue }
-        ensures { Some result ≡ option_or (refusal accepted.now.program self.now.queue.places (state_of self.now) (events.Exec position)) (Some refused.Full) }
+        ensures { Some result ≡ option_or (refusal accepted.now.program self.now.queue.capacity (state_of self.now) (events.Exec position)) (Some refused.Full) }
     {
         match self.queue.exec_refusal(position as usize, accepted) {
             Some(refused) => refused,
@@ -201,7 +201,7 @@ impl Processor {
     /// Whether nothing but the run's end and the history's room can refuse an event.
     pub fn is_allowed(&self, accepted: &Accepted, event: Event) -> bool
         requires { ArePlaced accepted.now (state_of self.now).queue }
-        ensures { IsTrue result ↔ (refusal accepted.now.program self.now.queue.places (state_of self.now) event ≡ None) }
+        ensures { IsTrue result ↔ (refusal accepted.now.program self.now.queue.capacity (state_of self.now) event ≡ None) }
     {
         let program = accepted.program();
         match event {

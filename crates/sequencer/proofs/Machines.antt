@@ -31,9 +31,9 @@ pub goes_on : (m : MachineView) (es : List Event) (p' : ProcessorView) → IsMac
 goes_on m es p' h events kept room more =
     let p = m.accepted.program in
     record {
-      some_unit = subst (λ (n : ℕ). 0 < n) (sym kept.places) h.some_unit;
+      some_unit = subst (λ (n : ℕ). 0 < n) (sym kept.capacity) h.some_unit;
       replay =
-          subst (λ (n : ℕ). Replays p n (m.history ++ es) (state_of p')) (sym kept.places)
+          subst (λ (n : ℕ). Replays p n (m.history ++ es) (state_of p')) (sym kept.capacity)
           (more (units_of m) m.history es (state m) (state_of p') h.replay events);
       room = omega (arith, length-append m.history es);
       fixed = ap byte_of kept.fixed ∙ h.fixed;

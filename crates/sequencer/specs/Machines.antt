@@ -20,8 +20,8 @@ pub record MachineView : Type 0 where
 -- what every machine keeps: it is the replay of its history, on at least one unit (at most 16 is what
 -- its queue keeps)
 pub record IsMachine (m : MachineView) : Type 0 where
-  pub some_unit : 0 < m.processor.queue.places
-  pub replay : Replays m.accepted.program m.processor.queue.places m.history (state_of m.processor)
+  pub some_unit : 0 < m.processor.queue.capacity
+  pub replay : Replays m.accepted.program m.processor.queue.capacity m.history (state_of m.processor)
   pub room : length m.history ≤ most_events
   pub fixed : byte_of m.processor.world.contents.fixed ≡ byte_of m.accepted.program.fixed
 
@@ -30,7 +30,7 @@ abbrev pub state : MachineView → State
 state m = state_of m.processor
 
 abbrev pub units_of : MachineView → ℕ
-units_of m = m.processor.queue.places
+units_of m = m.processor.queue.capacity
 
 abbrev pub answer_to : MachineView → Event → Result (Unit {0}) Refused
 answer_to m e = answer m.accepted.program (units_of m) (state m) (length m.history) e

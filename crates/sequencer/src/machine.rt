@@ -86,7 +86,7 @@ impl<'a> Machine<'a> {
     ) -> Result<Machine<'a>, MachineFault>
         ensures units { (result ≡ Err MachineFault.Units) ↔ ((units ≡ 0) ⊎ (16 < units)) }
         ensures accepted { IfOk result (λ machine. machine.accepted ≡ accepted.now) }
-        ensures places { IfOk result (λ machine. units_of machine ≡ units) }
+        ensures capacity { IfOk result (λ machine. units_of machine ≡ units) }
         ensures history { IfOk result (λ machine. machine.history ≡ []) }
         ensures opening { IfOk result (λ machine. state machine ≡ opening accepted.now.program) }
     {
@@ -239,7 +239,7 @@ impl<'a> Machine<'a> {
     pub fn is_over(&self, accepted: &Accepted, units: u32) -> bool
         ensures { IsTrue result ↔ ((self.now.accepted ≡ accepted.now) × (units_of self.now ≡ units)) }
     {
-        self.processor.places() == units && is_same(self.accepted, accepted)
+        self.processor.capacity() == units && is_same(self.accepted, accepted)
     }
 
     /// What follows from the machine being the replay of its history; the call does nothing.
@@ -389,7 +389,7 @@ impl<'a> Machine<'a> {
         ensures position { IfSome result (λ k. (k < length (state self.now).queue) × (unit_for self.now (Exec k) ≡ unit)) }
         ensures none { IfNone result ((k : ℕ) → k < length (state self.now).queue → unit_for self.now (Exec k) ≡ unit → ⊥) }
     {
-        let units = self.processor.places() as usize;
+        let units = self.processor.capacity() as usize;
         let retired = self.processor.commits().len();
         for position in 0..self.processor.active() {
             if (retired + position as usize) % units == unit as usize {
@@ -404,7 +404,7 @@ impl<'a> Machine<'a> {
     pub(crate) fn number_at(&self, position: u32) -> u32
         ensures { result ≡ unit_for self.now (Exec position) }
     {
-        let units = self.processor.places() as usize;
+        let units = self.processor.capacity() as usize;
         ((self.processor.commits().len() + position as usize) % units) as u32
     }
 
@@ -412,7 +412,7 @@ impl<'a> Machine<'a> {
     pub fn next_unit(&self) -> Option<u32>
         ensures { (task : ℕ) → result ≡ (if nat_lt (length (state self.now).queue) (units_of self.now) then Some (unit_for self.now (Assign task)) else None) }
     {
-        let units = self.processor.places();
+        let units = self.processor.capacity();
         let active = self.processor.active();
         if active < units {
             Some(((self.processor.commits().len() + active as usize) % units as usize) as u32)

@@ -14,8 +14,8 @@ impl<'a> Machine<'a> {
         ensures active { result ≡ length (state self.now).queue }
         ensures within { result ≤ 16 }
     {
-        // The number of places tells its range.
-        let _ = self.processor.places();
+        // The ring's capacity tells its range.
+        let _ = self.processor.capacity();
         self.processor.active()
     }
 

@@ -436,7 +436,7 @@ module _ (cut : ReplayCut) (law : NextIsAfter) (p : Listing) (units budget : ℕ
 
 -- the same of the machine that a run leaves
 pub machine_in_steps : ReplayCut → NextIsAfter → (m now : MachineView) (accepted : Checked) (units budget steps : ℕ) (from to : Predictor) → m.accepted ≡ accepted → units_of m ≡ units → state m ≡ opening accepted.program → m.history ≡ [] → SameRing m now → course now to ≡ after_steps m.accepted.program units budget steps (course m from) → Takes m.accepted.program units budget (course m from) steps → Replays now.accepted.program (units_of now) now.history (state now) → AreSteps accepted.program units budget from steps
-machine_in_steps cut law m now accepted units budget steps from to over places at_start none kept is takes replay =
+machine_in_steps cut law m now accepted units budget steps from to over capacity at_start none kept is takes replay =
     let events : now.history ≡ (after_steps accepted.program units budget steps (beginning accepted.program from)).events =
     ap (λ (c : Course). c.events) (ran m now accepted units budget steps from to over at_start none is) in
     let P : Checked → Type 0 = λ a. Replays a.program (units_of now) now.history (state now) in
@@ -444,4 +444,4 @@ machine_in_steps cut law m now accepted units budget steps from to over places a
     let R : List Event → Type 0 = λ es. Replays accepted.program units es (state now) in
     all_steps cut law accepted.program units budget from steps (state now)
     (takes_from_start m accepted units budget steps from over at_start none takes).went_on
-    (subst R events (subst Q (kept.units ∙ places) (subst P (kept.accepted ∙ over) replay)))
+    (subst R events (subst Q (kept.units ∙ capacity) (subst P (kept.accepted ∙ over) replay)))

@@ -7,7 +7,7 @@ use Rattle.synchronous_runner.proofs.runner.run_steps.Goals as goal
 pub returns-clause-lockstep : goal.returns-clause-lockstep
 returns-clause-lockstep c =
     machine_in_steps c.replays_join.ensures c.next_is_after.ensures c.in-Ok.machine c.run.new.machine c.args.accepted.now c.args.units c.args.budget c.in-Ok-run.steps c.args.predictor c.run.new.predictor
-    c.in-Ok.ensures.accepted c.in-Ok.ensures.places c.in-Ok.ensures.opening c.in-Ok.ensures.history c.in-Ok-run.ensures.kept c.in-Ok-run.ensures.course c.in-Ok-run.ensures.steps c.history.ensures.replay
+    c.in-Ok.ensures.accepted c.in-Ok.ensures.capacity c.in-Ok.ensures.opening c.in-Ok.ensures.history c.in-Ok-run.ensures.kept c.in-Ok-run.ensures.course c.in-Ok-run.ensures.steps c.history.ensures.replay
 
 pub returns-clause-within : goal.returns-clause-within
 returns-clause-within c =

@@ -15,4 +15,4 @@ returns-in-Some c =
     let p = c.args.accepted.now.program in
     let v = c.args.self.now in
     ap (λ (o : Option Refused). option_or o (Some refused.Full))
-    (c.in-Some.ensures ∙ ap (λ (x : ProcessorView). refusal p v.queue.places (state_of x) (Exec c.args.position)) c.self.view_is)
+    (c.in-Some.ensures ∙ ap (λ (x : ProcessorView). refusal p v.queue.capacity (state_of x) (Exec c.args.position)) c.self.view_is)

@@ -20,7 +20,7 @@ returns-then-position-eq0 c =
     let p = c.args.accepted.now.program in
     let room : c.args.count < most_events = omega arith in
     let runs : v.world.outcome ≡ Running = ap (λ (x : ProcessorView). x.world.outcome) c.self.view_is ∙ c.requires.runs in
-    let rest : LeavesRest v new = record { registers = refl; next = refl; reads = refl; commits = refl; assigns = refl; places = c.exec_head.ensures.places } in
+    let rest : LeavesRest v new = record { registers = refl; next = refl; reads = refl; commits = refl; assigns = refl; capacity = c.exec_head.ensures.capacity } in
     let err = on_err c.exec_head.result ((c.exec_head.new.self ≡ i.queue) × (c.exec_head.new.world ≡ i.world)) (new ≡ v) c.exec_head.ensures.err (λ e. λ j. record v { queue = e.0 j; world = e.1 j }) in
     subst (λ (x : ProcessorView). Steps p x c.args.count (Exec c.args.position) c.exec_head.result new) c.self.view_is
     (subst (λ (k : ℕ). Steps p v c.args.count (Exec k) c.exec_head.result new) (sym c.if-position-eq0.true)
@@ -35,7 +35,7 @@ returns-else-position-eq0 c =
     let room : c.args.count < most_events = omega arith in
     let behind : 0 < c.args.position = omega arith in
     let runs : v.world.outcome ≡ Running = ap (λ (x : ProcessorView). x.world.outcome) c.self.view_is ∙ c.requires.runs in
-    let rest : LeavesRest v new = record { registers = refl; next = refl; reads = refl; commits = refl; assigns = refl; places = c.exec_ahead.ensures.places } in
+    let rest : LeavesRest v new = record { registers = refl; next = refl; reads = refl; commits = refl; assigns = refl; capacity = c.exec_ahead.ensures.capacity } in
     let err = on_err c.exec_ahead.result (c.exec_ahead.new.self ≡ i.queue) (new ≡ v) c.exec_ahead.ensures.err (λ e. ap (λ (q : QueueView). record v { queue = q }) e) in
     subst (λ (x : ProcessorView). Steps p x c.args.count (Exec c.args.position) c.exec_ahead.result new) c.self.view_is
     (ahead_tried c.bursts_are_events.ensures p v new c.args.count c.args.position c.exec_ahead.result room (not_zero c.args.position behind) runs rest refl c.exec_ahead.ensures.ok c.exec_ahead.ensures.refused err)

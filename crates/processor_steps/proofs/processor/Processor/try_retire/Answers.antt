@@ -16,7 +16,7 @@ pub returns-in-Ok : goal.returns-in-Ok
 returns-in-Ok c =
     let v = c.args.self.now in
     let p = c.args.accepted.now.program in
-    let none = c.in_ok-exit.ensures.refused ∙ ap (λ (q : Listing). refusal q v.queue.places (state_of v) Retire) c.program.ensures.value in
+    let none = c.in_ok-exit.ensures.refused ∙ ap (λ (q : Listing). refusal q v.queue.capacity (state_of v) Retire) c.program.ensures.value in
     let does : Does p v c.args.count Retire (Ok tt) c.retire.new.self = record {
       refused = c.in_ok-room_behind.ensures ∙ ap (λ (o : Option Refused). option_or o (unless (nat_lt c.args.count most_events) refused.Full None)) none;
       state = c.in-Ok.ensures.state ∙ ap (λ (q : Listing). after q (state_of v) Retire) c.program-2.ensures.value;

@@ -37,7 +37,7 @@ pub returns-in-Err-clause-err : goal.returns-in-Err-clause-err
 returns-in-Err-clause-err c =
     let items = c.self.inside.ring.items in
     let x = c.in-Some.head.now in
-    let queue_of : List UnitView → QueueView = λ us. record { units = us; places = c.self.inside.ring.capacity } in (
+    let queue_of : List UnitView → QueueView = λ us. record { units = us; capacity = c.self.inside.ring.capacity } in (
       ap (λ (us : List UnitView). queue_of us) (ap (λ (v : UnitView). slice_set items 0 v) c.in-Err.ensures.kept.0 ∙ set_back items 0 x c.in-Some.ensures.value) ∙ c.self.view_is,
       c.in-Err.ensures.kept.1,
     )

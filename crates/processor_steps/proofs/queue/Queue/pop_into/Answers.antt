@@ -20,7 +20,7 @@ returns-clause-reads c = λ u at.
 
 pub returns-clause-queue : goal.returns-clause-queue
 returns-clause-queue c =
-    let queue_of : List UnitView → QueueView = λ us. record { units = us; places = c.self.inside.ring.capacity } in
+    let queue_of : List UnitView → QueueView = λ us. record { units = us; capacity = c.self.inside.ring.capacity } in
     c.pop-2.ensures
     ∙ ap queue_of (behind_head c.self.inside.ring.items c.hand_over_reads.new.self)
     ∙ ap (λ (q : QueueView). record q { units = drop 1 q.units }) c.self.view_is
@@ -28,7 +28,7 @@ returns-clause-queue c =
 pub returns-in_err-hand_over_reads-clause-err : goal.returns-in_err-hand_over_reads-clause-err
 returns-in_err-hand_over_reads-clause-err c =
     let items = c.self.inside.ring.items in
-    let queue_of : List UnitView → QueueView = λ us. record { units = us; places = c.self.inside.ring.capacity } in
+    let queue_of : List UnitView → QueueView = λ us. record { units = us; capacity = c.self.inside.ring.capacity } in
     let same : queue_of (slice_set items 0 c.hand_over_reads.new.self) ≡ c.args.self.now =
     ap queue_of (ap (λ (v : UnitView). slice_set items 0 v) c.in_err-hand_over_reads.ensures.err.0 ∙ set_back items 0 c.in-Some.head.now c.in-Some.ensures.value) ∙ c.self.view_is in
     holds_on_err c.from_residual.result (same, c.in_err-hand_over_reads.ensures.err.1)

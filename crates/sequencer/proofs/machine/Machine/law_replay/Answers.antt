@@ -24,19 +24,19 @@ pub returns-clause-allowed : goal.returns-clause-allowed
 returns-clause-allowed c =
     let i = c.self.inside in
     subst (λ (x : MachineView). (e : Event) (s : State) → Next x.accepted.program (units_of x) (state x) e s → refusal x.accepted.program (units_of x) (state x) e ≡ None) c.self.view_is
-    (λ e s next. c.accepted_replays.ensures.allowed i.processor.queue.places (state_of i.processor) s e next)
+    (λ e s next. c.accepted_replays.ensures.allowed i.processor.queue.capacity (state_of i.processor) s e next)
 
 pub returns-clause-grows : goal.returns-clause-grows
 returns-clause-grows c =
     let i = c.self.inside in
     subst (λ (x : MachineView). (e : Event) (s : State) → Next x.accepted.program (units_of x) (state x) e s → count_h s ≡ count_h (state x) + growth (state x) e) c.self.view_is
-    (λ e s next. c.accepted_replays.ensures.grows i.processor.queue.places (state_of i.processor) s e next)
+    (λ e s next. c.accepted_replays.ensures.grows i.processor.queue.capacity (state_of i.processor) s e next)
 
 pub returns-clause-placed : goal.returns-clause-placed
 returns-clause-placed c =
     let i = c.self.inside in
     subst (λ (x : MachineView). ArePlaced x.accepted (state x).queue) c.self.view_is
-    (c.accepted_replays.ensures.placed i.processor.queue.places i.history (state_of i.processor) c.self.invariant.replay)
+    (c.accepted_replays.ensures.placed i.processor.queue.capacity i.history (state_of i.processor) c.self.invariant.replay)
 
 pub returns-clause-goes_on : goal.returns-clause-goes_on
 returns-clause-goes_on c =
@@ -49,16 +49,16 @@ pub returns-clause-fits : goal.returns-clause-fits
 returns-clause-fits c =
     let i = c.self.inside in
     subst (λ (x : MachineView). length (state x).queue ≤ units_of x) c.self.view_is
-    (c.accepted_replays.ensures.fits i.processor.queue.places i.history (state_of i.processor) c.self.invariant.replay)
+    (c.accepted_replays.ensures.fits i.processor.queue.capacity i.history (state_of i.processor) c.self.invariant.replay)
 
 pub returns-clause-distinct : goal.returns-clause-distinct
 returns-clause-distinct c =
     let i = c.self.inside in
     subst (λ (x : MachineView). AreDistinct (state x).queue) c.self.view_is
-    (c.accepted_replays.ensures.distinct i.processor.queue.places i.history (state_of i.processor) c.self.invariant.replay)
+    (c.accepted_replays.ensures.distinct i.processor.queue.capacity i.history (state_of i.processor) c.self.invariant.replay)
 
 pub returns-clause-in_range : goal.returns-clause-in_range
 returns-clause-in_range c =
     let i = c.self.inside in
     subst (λ (x : MachineView). All (EventFits (length x.accepted.program.tasks) (units_of x)) x.history) c.self.view_is
-    (c.accepted_replays.ensures.in_range i.processor.queue.places i.history (state_of i.processor) c.self.invariant.some_unit c.self.invariant.replay)
+    (c.accepted_replays.ensures.in_range i.processor.queue.capacity i.history (state_of i.processor) c.self.invariant.some_unit c.self.invariant.replay)
