@@ -1,6 +1,10 @@
-//! Tests of the lives of tasks and of their summaries, worked out by hand.
+//! Tests of the lives of tasks, of their summaries and of pictures of runs and of curves, worked out by hand.
 #![tactic(auto)]
 
+#[cfg(test)]
+mod curves;
+#[cfg(test)]
+mod drawn;
 #[cfg(test)]
 mod given;
 #[cfg(test)]
