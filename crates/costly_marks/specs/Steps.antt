@@ -10,7 +10,7 @@ use Rattle.task_descriptor.specs.declared.descriptor.Marked.{Marked}
 use Rattle.task_graph.specs.Edges.{sends}
 use Rattle.task_graph.specs.Neighbours.{Follows}
 use Rattle.task_graph.specs.Members.{Reaches}
-use Rattle.task_graph.specs.SearchSteps.{is_marked}
+use Rattle.task_graph.specs.SearchSteps.{is_marked, Search}
 use Rattle.costly_marks.specs.declared.mark.CostlyMark.{CostlyMark}
 use Rattle.costly_marks.specs.Costly.{IsCostly, ComesUnsent, has_target}
 use Rattle.costly_marks.specs.Candidates.{Picked}
@@ -61,20 +61,12 @@ pub record FollowsUnsent (p : Listing) (register i j : ℕ) : Type 0 where
   pub follows : Follows p i j
   pub unsent : sends follows.edge.at register ≡ false
 
--- some task begins at the index
-pub record BeginsAt (p : Listing) (i : ℕ) : Type 0 where
-  pub task : ℕ
-  pub descriptor : Descriptor
-  pub is_there : slice_get p.tasks task ≡ Some descriptor
-  pub entry : descriptor.entry ≡ i
-
--- The entries of the first n tasks are marked and wait, and nothing else.
+-- The entries of the first n tasks are marked, and the search for where a register may be unsent has begun with
+-- them alone.
 pub record IsBegun (p : Listing) (n : ℕ) (marks : List Bool) (work : List ℕ) : Type 0 where
   pub sized : length marks ≡ length p.code
   pub entries : (t : ℕ) (d : Descriptor) → t < n → slice_get p.tasks t ≡ Some d → is_marked marks d.entry ≡ true
-  pub only : (i : ℕ) → is_marked marks i ≡ true → BeginsAt p i
-  pub waits : (i : ℕ) → is_marked marks i ≡ true → Contains work i
-  pub waiting : (i : ℕ) → Contains work i → is_marked marks i ≡ true
+  pub search : (register : ℕ) → Search (length p.code) (ComesUnsent p register) (FollowsUnsent p register) marks work None
 
 -- the marks, without where they lie in memory
 abbrev pub marks_of : List (Vec Bool Global) → List (List Bool)

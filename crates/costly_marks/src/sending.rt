@@ -1,10 +1,10 @@
 //! Where a task comes without having sent a register: a search forward along inner edges.
 
-ghost use Rattle.std.specs.Prelude.{◌≡◌, ℕ, ◌<◌, ◌↔◌, true, false, [], Some, length, replicate, IfOk, OnOk};
+ghost use Rattle.std.specs.Prelude.{◌≡◌, ℕ, ◌<◌, ◌↔◌, true, false, [], length, replicate, IfOk, OnOk};
 ghost use Rattle.mips_plain.specs.Words.{has};
 ghost use Rattle.task_graph.specs.Edges.{sends as sends_of};
 ghost use Rattle.task_graph.specs.Neighbours.{is_among};
-ghost use Rattle.task_graph.specs.SearchSteps.{is_marked, mark_of, work_of};
+ghost use Rattle.task_graph.specs.SearchSteps.{is_marked};
 ghost use Rattle.costly_marks.specs.Costly.{ComesUnsent};
 ghost use Rattle.costly_marks.specs.Steps.{FollowsUnsent, IsBegun};
 
@@ -14,6 +14,7 @@ use std::alloc::{AllocError, Global};
 use task_descriptor::descriptor::Marked;
 use task_descriptor::program::Program;
 use task_graph::edges::{Next, next_inside};
+use task_graph::search::mark;
 
 /// A mark for each instruction to which some task may come without having sent the register.
 pub(crate) fn unsent(
@@ -43,21 +44,6 @@ fn begin(program: &Program, marks: &mut Vec<bool>, work: &mut Vec<u32>) -> Resul
 {
     for task in program.tasks() {
         mark(marks, work, Some(task.entry.get()))?;
-    }
-    Ok(())
-}
-
-/// Marks an index, and puts it into the work if it had no mark.
-fn mark(marks: &mut Vec<bool>, work: &mut Vec<u32>, index: Option<u32>) -> Result<(), AllocError>
-    requires { (j : ℕ) → index ≡ Some j → j < length marks.old.items }
-    ensures marks { OnOk result (marks.new.items ≡ mark_of index marks.old.items) }
-    ensures work { OnOk result (work.new.items ≡ work_of index marks.old.items work.old.items) }
-{
-    if let Some(j) = index {
-        if !marks[j as usize] {
-            work.push(j)?;
-        }
-        marks[j as usize] = true;
     }
     Ok(())
 }

@@ -1,6 +1,5 @@
--- Helper vocabulary of the search for the instructions that a task reaches: its marks and its work. No
--- contract of a public function cites a word of this file.
-use Rattle.std.specs.Prelude.{ℕ, Bool, true, false, if◌then◌else◌, List, [], ◌∷◌, ◌++◌, slice_index_or, slice_set, Option, Some, None}
+-- Helper vocabulary of a search along edges: its marks and its work.
+use Rattle.std.specs.Prelude.{◌≡◌, ℕ, ◌⊎◌, Bool, true, false, if◌then◌else◌, List, [], ◌∷◌, ◌++◌, length, Contains, slice_index_or, slice_set, Option, Some, None}
 
 -- a search's mark of an index
 abbrev pub is_marked : List Bool → ℕ → Bool
@@ -14,3 +13,11 @@ mark_of (Some j) marks = slice_set marks j true
 abbrev pub work_of : Option ℕ → List Bool → List ℕ → List ℕ
 work_of None marks work = work
 work_of (Some j) marks work = if is_marked marks j then work else work ++ j ∷ []
+
+-- A search among the indices below a bound: what is marked is come to; and each index that what is marked
+-- leads to is marked too, but for what still waits in the work, and for the one index that is being looked at.
+pub record Search (bound : ℕ) (Comes : ℕ → Type 0) (Leads : (from to : ℕ) → Type 0) (marks : List Bool) (work : List ℕ) (busy : Option ℕ) : Type 0 where
+  pub sized : length marks ≡ bound
+  pub sound : (i : ℕ) → is_marked marks i ≡ true → Comes i
+  pub waiting : (i : ℕ) → Contains work i → is_marked marks i ≡ true
+  pub closed : (i j : ℕ) → is_marked marks i ≡ true → Leads i j → (is_marked marks j ≡ true) ⊎ (Contains work i ⊎ (busy ≡ Some i))

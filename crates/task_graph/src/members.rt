@@ -1,13 +1,14 @@
 //! Which instructions belong to a task.
 
-ghost use Rattle.std.specs.Prelude.{◌≡◌, ℕ, ◌<◌, ◌≤◌, ◌↔◌, true, false, length, filter, Contains, IfOk, OnOk, Some, None, slice_get, slice_index_or, []};
+ghost use Rattle.std.specs.Prelude.{◌≡◌, ℕ, ◌<◌, ◌≤◌, ◌↔◌, true, false, length, filter, Contains, IfOk, Some, None, slice_get, slice_index_or, []};
 ghost use Rattle.std.specs.List.Sorted.{IsStrictlyIncreasing};
 ghost use Rattle.std.specs.List.{range_with_len};
 ghost use Rattle.task_descriptor.specs.declared.descriptor.Descriptor.{Descriptor};
 ghost use Rattle.task_graph.specs.Members.{Reaches};
-ghost use Rattle.task_graph.specs.SearchSteps.{is_marked, mark_of, work_of};
+ghost use Rattle.task_graph.specs.SearchSteps.{is_marked};
 
 use crate::edges::next_inside;
+use crate::search::mark;
 use std::alloc::{AllocError, Global};
 use task_descriptor::program::Program;
 
@@ -47,21 +48,6 @@ fn reached(alloc: Global, program: &Program, entry: u32) -> Result<Vec<bool>, Al
         mark(&mut marks, &mut work, next.second)?;
     }
     Ok(marks)
-}
-
-/// Marks an index, and puts it into the work if it had no mark.
-fn mark(marks: &mut Vec<bool>, work: &mut Vec<u32>, index: Option<u32>) -> Result<(), AllocError>
-    requires { (j : ℕ) → index ≡ Some j → j < length marks.old.items }
-    ensures marks { OnOk result (marks.new.items ≡ mark_of index marks.old.items) }
-    ensures work { OnOk result (work.new.items ≡ work_of index marks.old.items work.old.items) }
-{
-    if let Some(j) = index {
-        if !marks[j as usize] {
-            work.push(j)?;
-        }
-        marks[j as usize] = true;
-    }
-    Ok(())
 }
 
 /// The indices that have a mark, rising.

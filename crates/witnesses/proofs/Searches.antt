@@ -2,19 +2,21 @@
 -- looked at is marked; and none that was looked at, behind the first, is sought.
 use Rattle.std.proofs.Common.{◌≡◌, ℕ, ◌+◌, ◌-◌, ◌<◌, ◌≤◌, ◌⊎◌, ◌↔◌, Bool, true, false, if◌then◌else◌, Option, Some, None, List, [], ◌∷◌, ◌++◌, length, get_or, slice_get, replicate, refl, sym, ◌∙◌, ap, subst, inl, inr, arith, length-append, zero, suc}
 use Rattle.std.specs.Prelude.{sum_by, slice_set, IfSome, IfNone}
-use Rattle.std.proofs.lemmas.Bool.{cases_eq, cases_Bool, or_cases, or_left, or_right, eq-eqb, eqb-true}
-use Rattle.std.proofs.lemmas.List.{get_or-set_same, get_or-set_other, length-set, length-replicate}
+use Rattle.std.proofs.lemmas.Bool.{cases_eq, cases_Bool, or_cases}
+use Rattle.std.proofs.lemmas.List.{length-set, length-replicate}
 use Rattle.std.proofs.lemmas.List.Sums.{sum_by-set}
 use Rattle.std.proofs.lemmas.Option.{slice_get_within, slice_get-get_or}
 use Rattle.task_descriptor.specs.Listing.{Listing}
 use Rattle.task_descriptor.specs.declared.descriptor.Marked.{Marked}
 use Rattle.task_graph.specs.Edges.{Edge, Path, stay, onward}
 use Rattle.task_graph.specs.declared.edges.Next.{Next}
-use Rattle.task_graph.specs.Neighbours.{Follows, is_among, is_it}
+use Rattle.task_graph.specs.Neighbours.{Follows, is_it}
+use Rattle.task_graph.specs.SearchSteps.{is_marked}
+use Rattle.task_graph.proofs.Searches.{marked_new, marked_kept, marked_old, unmarked_first, unmarked, IsNext, first_leads, second_leads, that}
 use Rattle.witnesses.specs.declared.sought.Sought.{Sought}
 use Rattle.witnesses.specs.declared.visits.Visit.{Visit}
 use Rattle.witnesses.specs.Witnesses.{is_sought, is_sought_at, ListsPath, Onward, LeadsTo, LeadsOnward}
-use Rattle.witnesses.specs.Visits.{AreVisits, is_marked, marks_with, visits_with}
+use Rattle.witnesses.specs.Visits.{AreVisits, marks_with, visits_with}
 use Rattle.witnesses.proofs.Trails.{step, earlier_number}
 
 -- a visit of the index stands in the list at the number
@@ -63,28 +65,6 @@ pushed (y ∷ ys) x = pushed ys x
 
 still : (xs ys : List Visit) (u v : Visit) (k : ℕ) → slice_get xs k ≡ Some u → slice_get (xs ++ ys) k ≡ Some v → u ≡ v
 still xs ys u v k h g = let also = kept xs ys u k h in cc
-
--- marks
-marked_new : (marks : List Bool) (j : ℕ) → j < length marks → is_marked (slice_set marks j true) j ≡ true
-marked_new marks j h = get_or-set_same marks j true false h
-
-marked_kept : (marks : List Bool) (j k : ℕ) → j < length marks → is_marked marks k ≡ true → is_marked (slice_set marks j true) k ≡ true
-marked_kept marks j k h is = elim (cases_eq k j) [
-  | inl e ↦ subst (λ n. is_marked (slice_set marks j true) n ≡ true) (sym e) (marked_new marks j h)
-  | inr ne ↦ get_or-set_other marks j k true false ne ∙ is
-]
-
-marked_old : (marks : List Bool) (j k : ℕ) → is_marked (slice_set marks j true) k ≡ true → (k ≡ j) ⊎ (is_marked marks k ≡ true)
-marked_old marks j k is = elim (cases_eq k j) [
-  | inl e ↦ inl e
-  | inr ne ↦ inr (sym (get_or-set_other marks j k true false ne) ∙ is)
-]
-
-unmarked_first : (n i : ℕ) → is_marked (replicate n false) i ≡ true → ⊥
-unmarked_first zero zero h = cc
-unmarked_first zero (suc i) h = cc
-unmarked_first (suc n) zero h = cc
-unmarked_first (suc n) (suc i) h = unmarked_first n i h
 
 pub search_begins : (p : Listing) (start : ℕ) (sought : Sought) (marks : List Bool) (visits : List Visit)
     → marks ≡ replicate (length p.code) false → visits ≡ record { index = start; from = 0 } ∷ [] → start < length p.code
@@ -303,9 +283,6 @@ search_ends p start sought marks visits number all s k o is =
     wrong e = cc
 
 -- what is left to do: one for each index without a mark, and one for each visit that waits
-abbrev pub unmarked : List Bool → ℕ
-unmarked marks = sum_by (λ m. if m then 0 else 1) marks
-
 abbrev pub left_to_do : List Bool → List Visit → ℕ → ℕ
 left_to_do marks visits number = (unmarked marks + length visits) - number
 
@@ -327,30 +304,13 @@ as_much marks more visits on number (Some j) em ev h =
     same ∙ balanced (is_marked marks j) marks visits (record { index = j; from = number }) j refl (h j refl)
 
 -- the inner successors, one by one
-it : (o : Option ℕ) (j : ℕ) → o ≡ Some j → is_it o j ≡ true
-it None j e = absurd (cc)
-it (Some k) j e = let same : k ≡ j = cc in eq-eqb k j same
-
-that : (o : Option ℕ) (j : ℕ) → is_it o j ≡ true → o ≡ Some j
-that None j e = absurd (cc)
-that (Some k) j e = ap (λ (n : ℕ). Some n) (eqb-true k j e)
-
-abbrev IsNext : Listing → ℕ → Next → Type 0
-IsNext p i next = (j : ℕ) → (is_among next j ≡ true) ↔ Follows p i j
-
-first_follows : (p : Listing) (i : ℕ) (next : Next) → IsNext p i next → (j : ℕ) → next.first ≡ Some j → Follows p i j
-first_follows p i next exact j e = (exact j).0 (or_left (is_it next.first j) (is_it next.second j) (it next.first j e))
-
-second_follows : (p : Listing) (i : ℕ) (next : Next) → IsNext p i next → (j : ℕ) → next.second ≡ Some j → Follows p i j
-second_follows p i next exact j e = (exact j).0 (or_right (is_it next.first j) (is_it next.second j) (it next.second j e))
-
-pub first_within : (p : Listing) (i n : ℕ) (next : Next) → ((j : ℕ) → (is_among next j ≡ true) ↔ Follows p i j) → n ≡ length p.code
+pub first_within : (p : Listing) (i n : ℕ) (next : Next) → IsNext (Follows p) i next → n ≡ length p.code
     → (j : ℕ) → next.first ≡ Some j → j < n
-first_within p i n next exact sized j e = subst (λ k. j < k) (sym sized) (first_follows p i next exact j e).within
+first_within p i n next exact sized j e = subst (λ k. j < k) (sym sized) (first_leads (Follows p) i next exact j e).within
 
-pub second_within : (p : Listing) (i n : ℕ) (next : Next) → ((j : ℕ) → (is_among next j ≡ true) ↔ Follows p i j) → n ≡ length p.code
+pub second_within : (p : Listing) (i n : ℕ) (next : Next) → IsNext (Follows p) i next → n ≡ length p.code
     → (j : ℕ) → next.second ≡ Some j → j < n
-second_within p i n next exact sized j e = subst (λ k. j < k) (sym sized) (second_follows p i next exact j e).within
+second_within p i n next exact sized j e = subst (λ k. j < k) (sym sized) (second_leads (Follows p) i next exact j e).within
 
 length_kept : (b : Bool) (marks : List Bool) (j : ℕ) → length (if b then marks else slice_set marks j true) ≡ length marks
 length_kept true marks j = refl
@@ -362,7 +322,7 @@ length_with marks more (Some j) e = ap length e ∙ length_kept (is_marked marks
 
 -- one round of the search
 pub goes_on : (p : Listing) (start : ℕ) (sought : Sought) (marks first second : List Bool) (visits one two : List Visit) (number : ℕ) (u : Visit) (next : Next)
-    → slice_get visits number ≡ Some u → ((j : ℕ) → (is_among next j ≡ true) ↔ Follows p u.index j)
+    → slice_get visits number ≡ Some u → IsNext (Follows p) u.index next
     → first ≡ marks_with next.first marks → one ≡ visits_with next.first number marks visits
     → second ≡ marks_with next.second first → two ≡ visits_with next.second number first one
     → ((k : ℕ) → number ≡ suc k → is_sought p sought u.index ≡ false)
@@ -374,10 +334,10 @@ goes_on p start sought marks first second visits one two number u next there exa
     there_on = still_there marks visits one number number u next.first eo there
 
     now : Search p start sought first one number
-    now = visited p start sought marks first visits one number u next.first ef eo there (first_follows p u.index next exact) s
+    now = visited p start sought marks first visits one number u next.first ef eo there (first_leads (Follows p) u.index next exact) s
 
     after : Search p start sought second two number
-    after = visited p start sought first second one two number u next.second es et there_on (second_follows p u.index next exact) now
+    after = visited p start sought first second one two number u next.second es et there_on (second_leads (Follows p) u.index next exact) now
 
     all : (j : ℕ) → Follows p u.index j → is_marked second j ≡ true
     all j f = elim (or_cases (is_it next.first j) (is_it next.second j) ((exact j).1 f)) [
@@ -387,7 +347,7 @@ goes_on p start sought marks first second visits one two number u next there exa
     ]
 
 pub less_to_do : (p : Listing) (i : ℕ) (marks first second : List Bool) (visits one two : List Visit) (number : ℕ) (next : Next)
-    → number < length visits → length marks ≡ length p.code → ((j : ℕ) → (is_among next j ≡ true) ↔ Follows p i j)
+    → number < length visits → length marks ≡ length p.code → IsNext (Follows p) i next
     → first ≡ marks_with next.first marks → one ≡ visits_with next.first number marks visits
     → second ≡ marks_with next.second first → two ≡ visits_with next.second number first one
     → left_to_do second two (number + 1) < left_to_do marks visits number

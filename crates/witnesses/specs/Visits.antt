@@ -1,8 +1,9 @@
 -- Helper vocabulary of the search: its visits and its marks. No contract of a public function cites a
 -- word of this file.
-use Rattle.std.specs.Prelude.{◌≡◌, ℕ, suc, ◌≤◌, Bool, true, false, if◌then◌else◌, List, [], ◌∷◌, ◌++◌, length, slice_get, slice_index_or, slice_set, Option, Some, None}
+use Rattle.std.specs.Prelude.{◌≡◌, ℕ, suc, ◌≤◌, Bool, true, false, if◌then◌else◌, List, [], ◌∷◌, ◌++◌, length, slice_get, slice_set, Option, Some, None}
 use Rattle.task_descriptor.specs.Listing.{Listing}
 use Rattle.task_graph.specs.Edges.{Edge}
+use Rattle.task_graph.specs.SearchSteps.{is_marked}
 use Rattle.witnesses.specs.declared.visits.Visit.{Visit}
 
 -- each visit but the first came from an earlier one
@@ -25,10 +26,6 @@ pub record IsAsLong (visits : List Visit) (at : ℕ) (list : List ℕ) : Type 0 
   pub steps : ℕ
   pub back : StepsBack visits at steps
   pub long : length list ≡ suc steps
-
--- the mark of an index
-abbrev pub is_marked : List Bool → ℕ → Bool
-is_marked marks i = slice_index_or marks i false
 
 -- the marks with one more, and the visits with that of an index that had no mark
 abbrev pub marks_with : Option ℕ → List Bool → List Bool

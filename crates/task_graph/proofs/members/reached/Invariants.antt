@@ -1,12 +1,14 @@
-use Rattle.std.proofs.Common.{◌≡◌, true, None}
-use Rattle.task_graph.specs.SearchSteps.{is_marked}
-use Rattle.task_graph.proofs.Searches.{Search, left_to_do}
+use Rattle.std.proofs.Common.{◌≡◌, true, None, length}
+use Rattle.task_graph.specs.Members.{Reaches}
+use Rattle.task_graph.specs.Neighbours.{Follows}
+use Rattle.task_graph.specs.SearchSteps.{is_marked, Search}
+use Rattle.task_graph.proofs.Searches.{left_to_do}
 use Rattle.task_graph.proofs.members.reached.Given as goal
 
 abbrev pub invariant-loop-i : goal.invariant-loop-i
 invariant-loop-i l = record {
   begun : is_marked l.marks.items l.entry ≡ true;
-  search : Search l.program l.entry l.marks.items l.work.items None;
+  search : Search (length l.program.code) (Reaches l.program l.entry) (Follows l.program) l.marks.items l.work.items None;
 }
 
 abbrev pub decreases-loop-i : goal.decreases-loop-i
