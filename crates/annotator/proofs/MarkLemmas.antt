@@ -20,6 +20,7 @@ use Rattle.task_graph.specs.Edges.{Edge, Path, stay, onward, MayWrite}
 use Rattle.task_graph.specs.Members.{Reaches}
 use Rattle.task_graph.specs.SearchSteps.{is_marked}
 use Rattle.task_graph.specs.Neighbours.{Follows, is_among, is_it}
+use Rattle.task_graph.proofs.Searches.{unmarked_first, it, that}
 use Rattle.mask_certificate.specs.Lists.{list_of, mask_at}
 use Rattle.mark_checker.specs.CheckerSteps.{holds_at}
 use Rattle.mark_checker.proofs.Ahead.{holds_some, some_holds}
@@ -101,17 +102,11 @@ marked_more indices more index old new is within m = record {
     ]
 
 -- members
-unmarked_at : (n i : ℕ) → is_marked (replicate n false) i ≡ true → ⊥
-unmarked_at zero zero h = cc
-unmarked_at zero (suc i) h = cc
-unmarked_at (suc n) zero h = cc
-unmarked_at (suc n) (suc i) h = unmarked_at n i h
-
 pub members_none : (p : Listing) (marks : List Bool) (n : ℕ) → marks ≡ replicate n false → n ≡ length p.code → AreMembers p 0 marks
 members_none p marks n is sized = record {
   sized = ap (λ (xs : List Bool). length xs) is ∙ length-replicate n false ∙ sized;
   reached = λ i m less. absurd (omega arith);
-  only = λ i h. absurd (unmarked_at n i (subst (λ (xs : List Bool). is_marked xs i ≡ true) is h));
+  only = λ i h. absurd (unmarked_first n i (subst (λ (xs : List Bool). is_marked xs i ≡ true) is h));
 }
 
 pub members_more : (p : Listing) (cert : List (List (ℕ × ℕ))) (n : ℕ) (es : List (ℕ × ℕ)) (marks marks' : List Bool) → IsLeast p cert → n < length p.tasks → es ≡ list_of cert n
@@ -188,14 +183,6 @@ creates_more p cert n es code creates creates' create least is same pushed exact
     )
 
 -- what is written behind an instruction
-it : (o : Option ℕ) (j : ℕ) → o ≡ Some j → is_it o j ≡ true
-it None j e = absurd (cc)
-it (Some k) j e = eq-eqb k j (cc)
-
-that : (o : Option ℕ) (j : ℕ) → is_it o j ≡ true → o ≡ Some j
-that None j e = absurd (cc)
-that (Some k) j e = ap (λ n. Some n) (eqb-true k j e)
-
 pub behind_exact : (p : Listing) (masks : List ℕ) (i r : ℕ) (next : Next) (first second joined : ℕ) → AreExact p masks → ((j : ℕ) → (is_among next j ≡ true) ↔ Follows p i j)
     → has first r ≡ holds_at next.first (λ j. has (get_or masks j 0) r) → has second r ≡ holds_at next.second (λ j. has (get_or masks j 0) r)
     → has joined r ≡ (has first r || has second r) → (has joined r ≡ true) ↔ WrittenBehind p i r

@@ -3,13 +3,14 @@ use Rattle.std.proofs.Common.{◌≡◌, ℕ, ◌+◌, ◌<◌, ◌≤◌, ◌�
 use Rattle.std.specs.Prelude.{Contains}
 use Rattle.std.specs.declared.alloc.Global.{Global}
 use Rattle.std.specs.declared.vec.Vec.{Vec}
-use Rattle.std.proofs.lemmas.Bool.{cases_eq, cases_lt, or_cases, or_left, or_right, eq-eqb, eqb-true}
+use Rattle.std.proofs.lemmas.Bool.{cases_eq, cases_lt, or_cases, or_left, or_right}
 use Rattle.std.proofs.lemmas.List.{get_or-set_same, get_or-set_other, get_or-map, length-set, length-replicate, map-set, map-append}
 use Rattle.std.proofs.lemmas.List.Elements.{Contains-append_left, Contains-push, Contains-push_cases}
 use Rattle.std.proofs.lemmas.Option.{slice_get_within}
 use Rattle.task_descriptor.specs.Listing.{Listing}
 use Rattle.task_graph.specs.declared.edges.Next.{Next}
 use Rattle.task_graph.specs.Neighbours.{Follows, is_among, is_it}
+use Rattle.task_graph.proofs.Searches.{it, that, first_inside, second_inside}
 use Rattle.annotator.specs.Spreading.{lists_of, sources_of, with_source, AreLeading}
 
 -- the code's write, seen without where lists lie in memory
@@ -58,25 +59,6 @@ put_only lists (Some j) source k i within has = elim (cases_eq k j) [
   ]
   | inr ne ↦ inl (subst (λ (xs : List ℕ). Contains xs i) (put_elsewhere lists j source k ne) has)
 ]
-
--- an index that is one of two
-it : (o : Option ℕ) (j : ℕ) → o ≡ Some j → is_it o j ≡ true
-it None j e = absurd (cc)
-it (Some k) j e = eq-eqb k j (cc)
-
-that : (o : Option ℕ) (j : ℕ) → is_it o j ≡ true → o ≡ Some j
-that None j e = absurd (cc)
-that (Some k) j e = ap (λ n. Some n) (eqb-true k j e)
-
-pub first_inside : (p : Listing) (i n : ℕ) (next : Next) → ((j : ℕ) → (is_among next j ≡ true) ↔ Follows p i j)
-    → n ≡ length p.code → (j : ℕ) → next.first ≡ Some j → j < n
-first_inside p i n next exact sized j e =
-    subst (λ m. j < m) (sym sized) ((exact j).0 (or_left (is_it next.first j) (is_it next.second j) (it next.first j e))).within
-
-pub second_inside : (p : Listing) (i n : ℕ) (next : Next) → ((j : ℕ) → (is_among next j ≡ true) ↔ Follows p i j)
-    → n ≡ length p.code → (j : ℕ) → next.second ≡ Some j → j < n
-second_inside p i n next exact sized j e =
-    subst (λ m. j < m) (sym sized) ((exact j).0 (or_right (is_it next.first j) (is_it next.second j) (it next.second j e))).within
 
 -- nothing leads anywhere yet
 nothing_at : (n j : ℕ) → sources_of (replicate n []) j ≡ []

@@ -1,7 +1,7 @@
 -- Behind an instruction that a task reaches, the task's masks tell what may be written again.
 use Rattle.std.proofs.Common.{◌≡◌, ℕ, ◌<◌, ◌↔◌, ◌||◌, Bool, true, false, not, Option, Some, None, List, length, slice_get, refl, sym, ◌∙◌, ap, subst, inl, inr}
 use Rattle.std.specs.Prelude.{is_some}
-use Rattle.std.proofs.lemmas.Bool.{or_cases, or_left, or_right, cases_Bool, eq-eqb, eqb-true}
+use Rattle.std.proofs.lemmas.Bool.{or_cases, or_left, or_right, cases_Bool}
 use Rattle.mips_plain.specs.Words.{has}
 use Rattle.mips_plain.specs.Instruction.{dests}
 use Rattle.task_descriptor.specs.Listing.{Listing}
@@ -11,6 +11,7 @@ use Rattle.task_graph.specs.declared.edges.Next.{Next}
 use Rattle.task_graph.specs.Edges.{onward}
 use Rattle.task_graph.specs.Members.{Reaches}
 use Rattle.task_graph.specs.Neighbours.{Follows, is_among, is_it}
+use Rattle.task_graph.proofs.Searches.{it, that}
 use Rattle.mask_certificate.specs.Lists.{mask_at, list_of}
 use Rattle.mark_checker.specs.Rules.{in_mask}
 use Rattle.mark_checker.specs.CheckerSteps.{holds_at}
@@ -29,14 +30,6 @@ mask_has (Some k) r h = (k, refl, h)
 some_of : (o : Option ℕ) → is_some o ≡ true → (k : ℕ) × (o ≡ Some k)
 some_of None h = absurd (cc)
 some_of (Some k) h = (k, refl)
-
-it : (o : Option ℕ) (j : ℕ) → o ≡ Some j → is_it o j ≡ true
-it None j e = absurd (cc)
-it (Some k) j e = eq-eqb k j (cc)
-
-that : (o : Option ℕ) (j : ℕ) → is_it o j ≡ true → o ≡ Some j
-that None j e = absurd (cc)
-that (Some k) j e = ap (λ n. Some n) (eqb-true k j e)
 
 -- the task reaches what it has a mask of
 pub reaches : (p : Listing) (cert : List (List (ℕ × ℕ))) (t index : ℕ) → IsLeast p cert → t < length p.tasks → is_some (mask_at (list_of cert t) index) ≡ true

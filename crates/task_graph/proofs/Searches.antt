@@ -94,7 +94,7 @@ no_more_work (Some j) marks work h = work_grows (is_marked marks j) marks work j
 abbrev pub IsNext : (Leads : (from to : ℕ) → Type 0) → ℕ → Next → Type 0
 IsNext Leads i next = (j : ℕ) → (is_among next j ≡ true) ↔ Leads i j
 
-it : (o : Option ℕ) (j : ℕ) → o ≡ Some j → is_it o j ≡ true
+pub it : (o : Option ℕ) (j : ℕ) → o ≡ Some j → is_it o j ≡ true
 it None j e = absurd (cc)
 it (Some k) j e = eq-eqb k j (cc)
 
@@ -107,6 +107,13 @@ first_leads Leads i next exact j e = (exact j).0 (or_left (is_it next.first j) (
 
 pub second_leads : (Leads : (from to : ℕ) → Type 0) (i : ℕ) (next : Next) → IsNext Leads i next → (j : ℕ) → next.second ≡ Some j → Leads i j
 second_leads Leads i next exact j e = (exact j).0 (or_right (is_it next.first j) (is_it next.second j) (it next.second j e))
+
+-- an inner successor is an instruction
+pub first_inside : (p : Listing) (i n : ℕ) (next : Next) → IsNext (Follows p) i next → n ≡ length p.code → (j : ℕ) → next.first ≡ Some j → j < n
+first_inside p i n next exact sized j e = subst (λ m. j < m) (sym sized) (first_leads (Follows p) i next exact j e).within
+
+pub second_inside : (p : Listing) (i n : ℕ) (next : Next) → IsNext (Follows p) i next → n ≡ length p.code → (j : ℕ) → next.second ≡ Some j → j < n
+second_inside p i n next exact sized j e = subst (λ m. j < m) (sym sized) (second_leads (Follows p) i next exact j e).within
 
 -- where a search comes, and where it goes on from there, lies below the bound
 pub record Way (bound : ℕ) (Comes : ℕ → Type 0) (Leads : (from to : ℕ) → Type 0) : Type 0 where

@@ -12,7 +12,7 @@ use Rattle.task_graph.specs.Edges.{Edge, Path, stay, onward}
 use Rattle.task_graph.specs.declared.edges.Next.{Next}
 use Rattle.task_graph.specs.Neighbours.{Follows, is_it}
 use Rattle.task_graph.specs.SearchSteps.{is_marked}
-use Rattle.task_graph.proofs.Searches.{marked_new, marked_kept, marked_old, unmarked_first, unmarked, IsNext, first_leads, second_leads, that}
+use Rattle.task_graph.proofs.Searches.{marked_new, marked_kept, marked_old, unmarked_first, unmarked, IsNext, first_leads, second_leads, first_inside, second_inside, that}
 use Rattle.witnesses.specs.declared.sought.Sought.{Sought}
 use Rattle.witnesses.specs.declared.visits.Visit.{Visit}
 use Rattle.witnesses.specs.Witnesses.{is_sought, is_sought_at, ListsPath, Onward, LeadsTo, LeadsOnward}
@@ -303,15 +303,6 @@ as_much marks more visits on number (Some j) em ev h =
     λ k. unmarked (em k) + length (ev k) in
     same ∙ balanced (is_marked marks j) marks visits (record { index = j; from = number }) j refl (h j refl)
 
--- the inner successors, one by one
-pub first_within : (p : Listing) (i n : ℕ) (next : Next) → IsNext (Follows p) i next → n ≡ length p.code
-    → (j : ℕ) → next.first ≡ Some j → j < n
-first_within p i n next exact sized j e = subst (λ k. j < k) (sym sized) (first_leads (Follows p) i next exact j e).within
-
-pub second_within : (p : Listing) (i n : ℕ) (next : Next) → IsNext (Follows p) i next → n ≡ length p.code
-    → (j : ℕ) → next.second ≡ Some j → j < n
-second_within p i n next exact sized j e = subst (λ k. j < k) (sym sized) (second_leads (Follows p) i next exact j e).within
-
 length_kept : (b : Bool) (marks : List Bool) (j : ℕ) → length (if b then marks else slice_set marks j true) ≡ length marks
 length_kept true marks j = refl
 length_kept false marks j = length-set marks j true
@@ -341,9 +332,9 @@ goes_on p start sought marks first second visits one two number u next there exa
 
     all : (j : ℕ) → Follows p u.index j → is_marked second j ≡ true
     all j f = elim (or_cases (is_it next.first j) (is_it next.second j) ((exact j).1 f)) [
-      | inl a ↦ still_marked first second j next.second es (second_within p u.index (length first) next exact now.sized)
-          (asked marks first j next.first ef (first_within p u.index (length marks) next exact s.sized) (that next.first j a))
-      | inr b ↦ asked first second j next.second es (second_within p u.index (length first) next exact now.sized) (that next.second j b)
+      | inl a ↦ still_marked first second j next.second es (second_inside p u.index (length first) next exact now.sized)
+          (asked marks first j next.first ef (first_inside p u.index (length marks) next exact s.sized) (that next.first j a))
+      | inr b ↦ asked first second j next.second es (second_inside p u.index (length first) next exact now.sized) (that next.second j b)
     ]
 
 pub less_to_do : (p : Listing) (i : ℕ) (marks first second : List Bool) (visits one two : List Visit) (number : ℕ) (next : Next)
@@ -352,8 +343,8 @@ pub less_to_do : (p : Listing) (i : ℕ) (marks first second : List Bool) (visit
     → second ≡ marks_with next.second first → two ≡ visits_with next.second number first one
     → left_to_do second two (number + 1) < left_to_do marks visits number
 less_to_do p i marks first second visits one two number next less sized exact ef eo es et =
-    let a = as_much marks first visits one number next.first ef eo (first_within p i (length marks) next exact sized) in
-    let b = as_much first second one two number next.second es et (second_within p i (length first) next exact (length_with marks first next.first ef ∙ sized)) in
+    let a = as_much marks first visits one number next.first ef eo (first_inside p i (length marks) next exact sized) in
+    let b = as_much first second one two number next.second es et (second_inside p i (length first) next exact (length_with marks first next.first ef ∙ sized)) in
     omega arith
 
 -- an end that is refused is not sought, unless it is the first visit

@@ -4,7 +4,8 @@ use Rattle.std.specs.declared.alloc.Global.{Global}
 use Rattle.std.specs.declared.vec.Vec.{Vec}
 use Rattle.task_descriptor.specs.declared.descriptor.Marked.{Marked}
 use Rattle.annotator.specs.Spreading.{lists_of, AreLeading}
-use Rattle.annotator.proofs.Sources.{leading_none, leading_more, first_inside, second_inside, length-with_source}
+use Rattle.task_graph.proofs.Searches.{first_inside, second_inside}
+use Rattle.annotator.proofs.Sources.{leading_none, leading_more, length-with_source}
 use Rattle.annotator.proofs.leading.leading.Goals as goal
 
 counted : (lists : List (Vec ℕ Global)) → length lists ≡ length (lists_of lists)

@@ -1,4 +1,4 @@
-use Rattle.annotator.proofs.Sources.{first_inside, second_inside}
+use Rattle.task_graph.proofs.Searches.{first_inside, second_inside}
 use Rattle.annotator.proofs.MarkLemmas.{behind_exact}
 use Rattle.std.proofs.Common.{length}
 use Rattle.annotator.proofs.marks.written_behind.Goals as goal

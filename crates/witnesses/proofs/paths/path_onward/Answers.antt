@@ -3,7 +3,8 @@ use Rattle.std.proofs.lemmas.Option.{slice_get_read}
 use Rattle.task_descriptor.specs.declared.descriptor.Marked.{Marked}
 use Rattle.witnesses.specs.declared.visits.Visit.{Visit}
 use Rattle.witnesses.proofs.Trails.{earlier_number}
-use Rattle.witnesses.proofs.Searches.{search_begins, goes_on, less_to_do, first_within, second_within, length_with, not_sought, found_path, search_ends}
+use Rattle.task_graph.proofs.Searches.{first_inside, second_inside}
+use Rattle.witnesses.proofs.Searches.{search_begins, goes_on, less_to_do, length_with, not_sought, found_path, search_ends}
 use Rattle.witnesses.proofs.Nearest.{none_shorter}
 use Rattle.witnesses.proofs.paths.path_onward.Goals as goal
 
@@ -58,12 +59,12 @@ next_inside-next-requires c =
 
 pub visit-requires : goal.visit-requires
 visit-requires c =
-    first_within c.args.program.now c.index-here.result.now.index (length c.loop-number.marks.items) c.next_inside-next.result
+    first_inside c.args.program.now c.index-here.result.now.index (length c.loop-number.marks.items) c.next_inside-next.result
     c.next_inside-next.ensures.exact c.loop-number.invariant.sized
 
 pub visit-requires-in-loop-number : goal.visit-requires-in-loop-number
 visit-requires-in-loop-number c =
-    second_within c.args.program.now c.index-here.result.now.index (length c.visit.new.marks.items) c.next_inside-next.result
+    second_inside c.args.program.now c.index-here.result.now.index (length c.visit.new.marks.items) c.next_inside-next.result
     c.next_inside-next.ensures.exact
     (length_with c.loop-number.marks.items c.visit.new.marks.items c.next_inside-next.result.first c.in_ok-visit.ensures.marks ∙ c.loop-number.invariant.sized)
 
