@@ -1,18 +1,18 @@
 //! The calls below the jobs.
 
-use crate::replayed_values::accepted;
 use annotated_asm::assembler::assemble;
 use mark_checker::check::{check_task, verdict};
 use mark_checker::finding::{Finding, Rule};
 use mask_certificate::reading::read;
 use mips_plain::number::Reg;
 use task_graph::members::members;
+use test_programs::acceptance::accepted;
 use test_programs::certificates::{COUNT_CERTIFICATE, COUNT_CERTIFICATE_LACKING};
 use test_programs::programs::COUNT;
 
 #[test]
 fn finds_members(rt: HostRuntime) {
-    let accepted = accepted(&rt, rt.alloc(), COUNT, COUNT_CERTIFICATE);
+    let accepted = accepted(rt.alloc(), COUNT, COUNT_CERTIFICATE).expect(&rt, "accepted");
     let found = members(rt.alloc(), accepted.program(), 0).ok();
     let found = found.expect(&rt, "room for members");
     assert_eq!(rt; found.as_slice(), [0, 1, 2, 3].as_slice());
@@ -20,7 +20,7 @@ fn finds_members(rt: HostRuntime) {
 
 #[test]
 fn finds_nothing_in_a_task(rt: HostRuntime) {
-    let accepted = accepted(&rt, rt.alloc(), COUNT, COUNT_CERTIFICATE);
+    let accepted = accepted(rt.alloc(), COUNT, COUNT_CERTIFICATE).expect(&rt, "accepted");
     let found = check_task(rt.alloc(), accepted.program(), accepted.cert(), 0).ok();
     assert!(rt; found.expect(&rt, "room for findings").is_empty());
 }

@@ -1,14 +1,12 @@
 //! What the units of a machine hold after the events of a script.
 
 use crate::scripts::{COUNT_TAKEN_AGAIN, COUNT_WAITS, READ_AHEAD_BEGUN, events_of};
-use annotated_asm::assembler::assemble;
 use event_script::reading::read as read_script;
-use mark_checker::accept::Accepted;
-use mask_certificate::reading::read;
 use mips_plain::number::Reg;
 use sequencer::machine::Machine;
 use std::alloc::Global;
 use std::process::Abort;
+use test_programs::acceptance::accepted;
 use test_programs::certificates::{COUNT_CERTIFICATE, READ_ONLY_CERTIFICATE};
 use test_programs::programs::{COUNT, READ_ONLY};
 
@@ -46,19 +44,10 @@ const MACHINES: [Held; 3] = [
     },
 ];
 
-/// The program with its certificate, where nothing is found.
-pub fn accepted(rt: &impl Abort, alloc: Global, program: &str, certificate: &str) -> Accepted {
-    let program = assemble(alloc, program.as_bytes()).ok();
-    let program = program.expect(rt, "a program");
-    let cert = read(alloc, certificate.as_bytes(), &program).ok();
-    let cert = cert.expect(rt, "a certificate");
-    Accepted::new(program, cert).ok().expect(rt, "accepted")
-}
-
 impl Held {
     // Asserts the values.
     fn holds(&self, rt: &impl Abort, alloc: Global) {
-        let accepted = accepted(rt, alloc, self.program, self.certificate);
+        let accepted = accepted(alloc, self.program, self.certificate).expect(rt, "accepted");
         let machine = Machine::new(alloc, &accepted, 2).ok();
         let mut machine = machine.expect(rt, "a machine");
         let script = events_of(rt, alloc, self.answered);

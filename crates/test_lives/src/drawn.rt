@@ -2,7 +2,7 @@
 
 ghost use Rattle.std.specs.Prelude.{◌<◌};
 
-use crate::given::{accepted, apply_all, machine, two_rounds};
+use crate::given::{apply_all, machine, two_rounds};
 use machine_events::event::Event;
 use mark_checker::accept::Accepted;
 use run_picture::drawing::draw;
@@ -10,6 +10,7 @@ use sequencer::machine::Machine;
 use std::alloc::Global;
 use std::process::Abort;
 use task_lives::laws::histories_fit;
+use test_programs::acceptance::accepted;
 use test_programs::certificates::{COUNT_CERTIFICATE, DIAMOND_CERTIFICATE};
 use test_programs::programs::{COUNT, DIAMOND};
 
@@ -31,7 +32,7 @@ fn picture(
 // events. The second task is squashed by event 10.
 #[test]
 fn bars_of_two_rounds(rt: HostRuntime) {
-    let accepted = accepted(&rt, rt.alloc(), COUNT, COUNT_CERTIFICATE);
+    let accepted = accepted(rt.alloc(), COUNT, COUNT_CERTIFICATE).expect(&rt, "accepted");
     let mut machine = machine(&rt, rt.alloc(), &accepted, 2);
     two_rounds(&rt, &mut machine);
     let text = picture(&rt, rt.alloc(), &accepted, &machine, 2);
@@ -63,7 +64,7 @@ fn bars_of_two_rounds(rt: HostRuntime) {
 // Six instructions, four registers and a squash are marked; unit 1 takes each register from unit 0.
 #[test]
 fn marks_of_two_rounds(rt: HostRuntime) {
-    let accepted = accepted(&rt, rt.alloc(), COUNT, COUNT_CERTIFICATE);
+    let accepted = accepted(rt.alloc(), COUNT, COUNT_CERTIFICATE).expect(&rt, "accepted");
     let mut machine = machine(&rt, rt.alloc(), &accepted, 2);
     two_rounds(&rt, &mut machine);
     let text = picture(&rt, rt.alloc(), &accepted, &machine, 2);
@@ -84,7 +85,7 @@ fn marks_of_two_rounds(rt: HostRuntime) {
 // Of five lives of `DIAMOND` four have begun.
 #[test]
 fn picture_of_a_diamond(rt: HostRuntime) {
-    let accepted = accepted(&rt, rt.alloc(), DIAMOND, DIAMOND_CERTIFICATE);
+    let accepted = accepted(rt.alloc(), DIAMOND, DIAMOND_CERTIFICATE).expect(&rt, "accepted");
     let mut machine = machine(&rt, rt.alloc(), &accepted, 3);
     let events = [
         Event::Assign(0),
@@ -106,7 +107,7 @@ fn picture_of_a_diamond(rt: HostRuntime) {
 // Nothing was assigned.
 #[test]
 fn picture_of_nothing(rt: HostRuntime) {
-    let accepted = accepted(&rt, rt.alloc(), COUNT, COUNT_CERTIFICATE);
+    let accepted = accepted(rt.alloc(), COUNT, COUNT_CERTIFICATE).expect(&rt, "accepted");
     let machine = machine(&rt, rt.alloc(), &accepted, 1);
     let text = picture(&rt, rt.alloc(), &accepted, &machine, 1);
     assert_eq!(rt; text.matches("<title>task ").count(), 0);

@@ -2,10 +2,8 @@
 
 ghost use Rattle.std.specs.Prelude.{◌≡◌};
 
-use annotated_asm::assembler::assemble;
 use machine_events::event::Event;
 use mark_checker::accept::Accepted;
-use mask_certificate::reading::read;
 use mips_plain::number::Reg;
 use sequencer::machine::Machine;
 use std::alloc::Global;
@@ -14,19 +12,6 @@ use task_lives::life::{Ending, Life};
 
 pub(crate) fn register(rt: &impl Abort, number: u8) -> Reg {
     Reg::new(number).expect(rt, "a register")
-}
-
-pub(crate) fn accepted(
-    rt: &impl Abort,
-    alloc: Global,
-    program: &str,
-    certificate: &str,
-) -> Accepted {
-    let program = assemble(alloc, program.as_bytes()).ok();
-    let program = program.expect(rt, "a program");
-    let cert = read(alloc, certificate.as_bytes(), &program).ok();
-    let cert = cert.expect(rt, "a certificate");
-    Accepted::new(program, cert).ok().expect(rt, "accepted")
 }
 
 pub(crate) fn machine<'a>(

@@ -2,7 +2,7 @@
 
 ghost use Rattle.std.specs.Prelude.{◌<◌};
 
-use crate::given::{accepted, apply_all, life, machine, two_rounds};
+use crate::given::{apply_all, life, machine, two_rounds};
 use machine_events::event::Event;
 use sequencer::machine::Machine;
 use std::alloc::Global;
@@ -10,6 +10,7 @@ use std::process::Abort;
 use task_lives::laws::histories_fit;
 use task_lives::life::{Ending, Life};
 use task_lives::lives::lives_of_runs;
+use test_programs::acceptance::accepted;
 use test_programs::certificates::{COUNT_CERTIFICATE, DIAMOND_CERTIFICATE};
 use test_programs::programs::{COUNT, DIAMOND};
 
@@ -32,7 +33,7 @@ fn expect_lives(
 // round, which is unfinished.
 #[test]
 fn rounds_and_a_squash(rt: HostRuntime) {
-    let accepted = accepted(&rt, rt.alloc(), COUNT, COUNT_CERTIFICATE);
+    let accepted = accepted(rt.alloc(), COUNT, COUNT_CERTIFICATE).expect(&rt, "accepted");
     let mut machine = machine(&rt, rt.alloc(), &accepted, 2);
     expect_lives(&rt, rt.alloc(), &machine, 2, &[]);
     two_rounds(&rt, &mut machine);
@@ -53,7 +54,7 @@ fn rounds_and_a_squash(rt: HostRuntime) {
 // anew come nearer to the head.
 #[test]
 fn both_sides_of_the_diamond(rt: HostRuntime) {
-    let accepted = accepted(&rt, rt.alloc(), DIAMOND, DIAMOND_CERTIFICATE);
+    let accepted = accepted(rt.alloc(), DIAMOND, DIAMOND_CERTIFICATE).expect(&rt, "accepted");
     let mut machine = machine(&rt, rt.alloc(), &accepted, 3);
     let events = [
         Event::Assign(0),
@@ -90,7 +91,7 @@ fn both_sides_of_the_diamond(rt: HostRuntime) {
 // A Drop takes the unit at its position too.
 #[test]
 fn a_drop(rt: HostRuntime) {
-    let accepted = accepted(&rt, rt.alloc(), COUNT, COUNT_CERTIFICATE);
+    let accepted = accepted(rt.alloc(), COUNT, COUNT_CERTIFICATE).expect(&rt, "accepted");
     let mut machine = machine(&rt, rt.alloc(), &accepted, 3);
     let events = [
         Event::Assign(0),

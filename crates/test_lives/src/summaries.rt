@@ -2,7 +2,7 @@
 
 ghost use Rattle.std.specs.Prelude.{◌<◌};
 
-use crate::given::{accepted, apply_all, life, machine, two_rounds};
+use crate::given::{apply_all, life, machine, two_rounds};
 use machine_events::event::Event;
 use mark_checker::accept::Accepted;
 use run_summary::summary::write;
@@ -13,6 +13,7 @@ use std::process::Abort;
 use task_lives::laws::histories_fit;
 use task_lives::life::Ending;
 use task_lives::lives::lives_of_runs;
+use test_programs::acceptance::accepted;
 use test_programs::certificates::{COUNT_CERTIFICATE, DIAMOND_CERTIFICATE};
 use test_programs::programs::{COUNT, DIAMOND};
 
@@ -37,7 +38,7 @@ fn expect_summary(
 // Nothing was assigned.
 #[test]
 fn no_events(rt: HostRuntime) {
-    let accepted = accepted(&rt, rt.alloc(), COUNT, COUNT_CERTIFICATE);
+    let accepted = accepted(rt.alloc(), COUNT, COUNT_CERTIFICATE).expect(&rt, "accepted");
     let machine = machine(&rt, rt.alloc(), &accepted, 2);
     let expected = "assigned  retired  squashed  dropped  unfinished  useful  wasted  task
        0        0         0        0           0       0       0  A
@@ -50,7 +51,7 @@ fn no_events(rt: HostRuntime) {
 // The instructions of the unfinished round are of no column.
 #[test]
 fn rounds_and_a_squash(rt: HostRuntime) {
-    let accepted = accepted(&rt, rt.alloc(), COUNT, COUNT_CERTIFICATE);
+    let accepted = accepted(rt.alloc(), COUNT, COUNT_CERTIFICATE).expect(&rt, "accepted");
     let mut machine = machine(&rt, rt.alloc(), &accepted, 2);
     two_rounds(&rt, &mut machine);
     let expected = "assigned  retired  squashed  dropped  unfinished  useful  wasted  task
@@ -64,7 +65,7 @@ fn rounds_and_a_squash(rt: HostRuntime) {
 // The wrong side of `DIAMOND` and what stands behind it execute an instruction each, and are squashed.
 #[test]
 fn wasted_work(rt: HostRuntime) {
-    let accepted = accepted(&rt, rt.alloc(), DIAMOND, DIAMOND_CERTIFICATE);
+    let accepted = accepted(rt.alloc(), DIAMOND, DIAMOND_CERTIFICATE).expect(&rt, "accepted");
     let mut machine = machine(&rt, rt.alloc(), &accepted, 3);
     let events = [
         Event::Assign(0),
@@ -98,7 +99,7 @@ fn wasted_work(rt: HostRuntime) {
 // A Drop takes two of four tasks.
 #[test]
 fn a_drop(rt: HostRuntime) {
-    let accepted = accepted(&rt, rt.alloc(), COUNT, COUNT_CERTIFICATE);
+    let accepted = accepted(rt.alloc(), COUNT, COUNT_CERTIFICATE).expect(&rt, "accepted");
     let mut machine = machine(&rt, rt.alloc(), &accepted, 3);
     let events = [
         Event::Assign(0),

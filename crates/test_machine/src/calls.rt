@@ -1,10 +1,10 @@
 //! The numbers of units, the program of a machine, and the predictors.
 
-use crate::given::accepted;
 use mips_plain::number::Place;
 use sequencer::machine::{Machine, MachineFault};
 use sequencer::predict::{First, Last, Listed, Predict};
 use std::process::Abort;
+use test_programs::acceptance::accepted;
 use test_programs::certificates::COUNT_CERTIFICATE;
 use test_programs::programs::{COUNT, COUNT_FORWARDED};
 
@@ -18,7 +18,7 @@ const UNITS: [(u32, Option<MachineFault>); 4] = [
 
 #[test]
 fn machine_has_one_to_sixteen_units(rt: HostRuntime) {
-    let accepted = accepted(&rt, rt.alloc(), COUNT, COUNT_CERTIFICATE);
+    let accepted = accepted(rt.alloc(), COUNT, COUNT_CERTIFICATE).expect(&rt, "accepted");
     for (units, fault) in UNITS {
         assert_eq!(rt; Machine::new(rt.alloc(), &accepted, units).err(), fault);
     }
@@ -34,11 +34,11 @@ const OVER: [(&str, u32, bool); 3] = [
 // Program and certificate are compared by value.
 #[test]
 fn machine_is_over_its_program(rt: HostRuntime) {
-    let count = accepted(&rt, rt.alloc(), COUNT, COUNT_CERTIFICATE);
+    let count = accepted(rt.alloc(), COUNT, COUNT_CERTIFICATE).expect(&rt, "accepted");
     let machine = Machine::new(rt.alloc(), &count, 2).ok();
     let machine = machine.expect(&rt, "a machine");
     for (program, units, is_over) in OVER {
-        let accepted = accepted(&rt, rt.alloc(), program, COUNT_CERTIFICATE);
+        let accepted = accepted(rt.alloc(), program, COUNT_CERTIFICATE).expect(&rt, "accepted");
         assert_eq!(rt; machine.is_over(&accepted, units), is_over);
     }
 }

@@ -1,28 +1,11 @@
-//! Accepted programs, registers, and events as a table can name them.
+//! Registers, and events as a table can name them.
 
-use annotated_asm::assembler::assemble;
 use machine_events::event::Event;
-use mark_checker::accept::Accepted;
-use mask_certificate::reading::read;
 use mips_plain::number::Reg;
-use std::alloc::Global;
 use std::process::Abort;
 
 pub(crate) fn register(rt: &impl Abort, number: u8) -> Reg {
     Reg::new(number).expect(rt, "a register")
-}
-
-pub(crate) fn accepted(
-    rt: &impl Abort,
-    alloc: Global,
-    program: &str,
-    certificate: &str,
-) -> Accepted {
-    let program = assemble(alloc, program.as_bytes()).ok();
-    let program = program.expect(rt, "a program");
-    let cert = read(alloc, certificate.as_bytes(), &program).ok();
-    let cert = cert.expect(rt, "a certificate");
-    Accepted::new(program, cert).ok().expect(rt, "accepted")
 }
 
 /// An event, whose register is a number.

@@ -1,12 +1,13 @@
 //! A machine to which one thing after another is done.
 
 use crate::facts::Fact;
-use crate::given::{Told, accepted, register};
+use crate::given::{Told, register};
 use machine_events::event::{Event, Refused};
 use mark_checker::accept::Accepted;
 use sequencer::machine::Machine;
 use std::alloc::Global;
 use std::process::Abort;
+use test_programs::acceptance::accepted;
 use unit_core::burst::{Burst, MOST_STEPS};
 
 /// What is done to a machine.
@@ -43,8 +44,8 @@ pub(crate) struct Row<'a> {
 impl Row<'_> {
     /// Does it all.
     pub(crate) fn runs(&self, rt: &impl Abort, alloc: Global) {
-        let own = accepted(rt, alloc, self.program, self.certificate);
-        let other = accepted(rt, alloc, self.other, self.certificate);
+        let own = accepted(alloc, self.program, self.certificate).expect(rt, "accepted");
+        let other = accepted(alloc, self.other, self.certificate).expect(rt, "accepted");
         let mut trial = Trial {
             machine: machine(rt, alloc, &own, self.units),
             other: machine(rt, alloc, &other, self.units),

@@ -1,27 +1,17 @@
 //! How many steps the test programs take on 1, 2 and 4 units.
 
-use annotated_asm::assembler::assemble;
 use machine_events::event::{Event, Standing};
-use mark_checker::accept::Accepted;
-use mask_certificate::reading::read;
-use sequencer::predict::Listed;
+use sequencer::predict::Script;
 use std::alloc::Global;
 use std::process::Abort;
 use synchronous_runner::predictor::Predictor;
 use synchronous_runner::report::{How, StepsFault, StepsReport};
 use synchronous_runner::runner::run_steps;
+use test_programs::acceptance::accepted;
 use test_programs::certificates::{
     COUNT_CERTIFICATE, DIAMOND_CERTIFICATE, PAIR_CERTIFICATE, SPIN_CERTIFICATE,
 };
 use test_programs::programs::{COUNT, DIAMOND, PAIR, SPIN};
-
-fn accepted(rt: &impl Abort, alloc: Global, program: &str, certificate: &str) -> Accepted {
-    let program = assemble(alloc, program.as_bytes()).ok();
-    let program = program.expect(rt, "a program");
-    let cert = read(alloc, certificate.as_bytes(), &program).ok();
-    let cert = cert.expect(rt, "a certificate");
-    Accepted::new(program, cert).ok().expect(rt, "accepted")
-}
 
 /// Which target a run follows.
 #[derive(Clone, Copy)]
@@ -60,7 +50,7 @@ struct Row<'a> {
 
 impl Row<'_> {
     fn runs(&self, rt: &impl Abort, alloc: Global) {
-        let accepted = accepted(rt, alloc, self.program, self.certificate);
+        let accepted = accepted(alloc, self.program, self.certificate).expect(rt, "accepted");
         let predictor = self.follows.predictor(rt, alloc);
         let report = run_steps(alloc, &accepted, self.units, self.budget, predictor).ok();
         self.expect_report(rt, &report.expect(rt, "a report"));
@@ -227,7 +217,7 @@ const EVENTS_OF_PAIR: [Event; 8] = [
 // In each step the free unit comes first and the head last.
 #[test]
 fn events_of_pair(rt: HostRuntime) {
-    let accepted = accepted(&rt, rt.alloc(), PAIR, PAIR_CERTIFICATE);
+    let accepted = accepted(rt.alloc(), PAIR, PAIR_CERTIFICATE).expect(&rt, "accepted");
     let report = run_steps(rt.alloc(), &accepted, 2, 1_000_000, Predictor::First).ok();
     let report = report.expect(&rt, "a report");
     let history = report.machine.history();
@@ -248,7 +238,7 @@ const NUMBERS: [(u32, u32, Option<StepsFault>); 5] = [
 
 #[test]
 fn faults(rt: HostRuntime) {
-    let accepted = accepted(&rt, rt.alloc(), SPIN, SPIN_CERTIFICATE);
+    let accepted = accepted(rt.alloc(), SPIN, SPIN_CERTIFICATE).expect(&rt, "accepted");
     for (units, budget, fault) in NUMBERS {
         let answer = run_steps(rt.alloc(), &accepted, units, budget, Predictor::First);
         assert_eq!(rt; answer.err(), fault);

@@ -1,6 +1,6 @@
 //! Checks by several workers: what they answer. The expected values were worked out by hand.
 
-use crate::given::{Bench, parts};
+use crate::given::Bench;
 use mark_checker::finding::{Finding, Rule};
 use mask_certificate::certificate::Cert;
 use mips_plain::number::Reg;
@@ -9,6 +9,7 @@ use parallel_check::fault::ShareFault;
 use parallel_check::gate::Open;
 use std::alloc::Global;
 use task_descriptor::program::Program;
+use test_programs::acceptance::parts;
 use test_programs::certificates::{COUNT_CERTIFICATE, FIVE_FINDINGS_CERTIFICATE};
 use test_programs::programs::{COUNT, FIVE_FINDINGS};
 
@@ -87,7 +88,7 @@ const ROWS: [Row<'static>; 2] = [
 impl Row<'_> {
     /// Asserts what so many workers answer.
     fn expect_by(&self, rt: &impl Bench, alloc: Global, workers: u32) {
-        let (program, cert) = parts(rt, alloc, self.program, self.certificate);
+        let (program, cert) = parts(alloc, self.program, self.certificate).expect(rt, "parts");
         self.expect_findings(rt, alloc, &program, &cert, workers);
         let accepts = accepts_shared(rt, alloc, &program, &cert, workers, &Open);
         let is_accepted = self.findings.is_empty();
@@ -122,7 +123,7 @@ fn any_number_of_workers_answers_the_same(rt: HostRuntime) {
 
 #[test]
 fn refuses_other_numbers_of_workers(rt: HostRuntime) {
-    let (program, cert) = parts(&rt, rt.alloc(), COUNT, COUNT_CERTIFICATE);
+    let (program, cert) = parts(rt.alloc(), COUNT, COUNT_CERTIFICATE).expect(&rt, "parts");
     for workers in [0, 17, u32::MAX] {
         expect_refused(&rt, rt.alloc(), &program, &cert, workers);
     }

@@ -1,6 +1,6 @@
 //! That two workers work side by side: each meets the other at a gate.
 
-use crate::given::{Bench, Meeting, accepted, parts};
+use crate::given::{Bench, Meeting};
 use crate::runs::expect_counts;
 use machine_events::event::{Event, EventRun};
 use mark_checker::accept::Accepted;
@@ -8,6 +8,7 @@ use parallel_check::checking::verdict_shared;
 use sequencer::predict::{First, Last, Predict};
 use std::alloc::Global;
 use std::process::Abort;
+use test_programs::acceptance::{accepted, parts};
 use test_programs::certificates::{COUNT_CERTIFICATE, DIAMOND_CERTIFICATE, PAIR_CERTIFICATE};
 use test_programs::programs::{COUNT, DIAMOND, PAIR};
 use threaded_runner::report::{How, Report};
@@ -15,7 +16,7 @@ use threaded_runner::runner::run_threads;
 
 #[test]
 fn two_workers_check_at_the_same_time(rt: HostRuntime) {
-    let (program, cert) = parts(&rt, rt.alloc(), COUNT, COUNT_CERTIFICATE);
+    let (program, cert) = parts(rt.alloc(), COUNT, COUNT_CERTIFICATE).expect(&rt, "parts");
     let gate = Meeting::new(rt.clone().expect(&rt, "another handle"));
     let verdict = verdict_shared(&rt, rt.alloc(), &program, &cert, 2, &gate).ok();
     let found = verdict.expect(&rt, "room for findings").findings;
@@ -41,7 +42,7 @@ fn run_at<'a, P: Predict>(
 
 #[test]
 fn gate_pair(rt: HostRuntime) {
-    let accepted = accepted(&rt, rt.alloc(), PAIR, PAIR_CERTIFICATE);
+    let accepted = accepted(rt.alloc(), PAIR, PAIR_CERTIFICATE).expect(&rt, "accepted");
     let gate = Meeting::new(rt.clone().expect(&rt, "another handle"));
     let report = run_at(&rt, rt.alloc(), &accepted, First, &gate, (2, 3));
     assert!(rt; gate.both_saw());
@@ -60,7 +61,7 @@ fn expect_assigned(rt: &impl Abort, history: &[EventRun], tasks: &[(u32, bool)])
 // The last target of the first task is the right one.
 #[test]
 fn gate_diamond_last(rt: HostRuntime) {
-    let accepted = accepted(&rt, rt.alloc(), DIAMOND, DIAMOND_CERTIFICATE);
+    let accepted = accepted(rt.alloc(), DIAMOND, DIAMOND_CERTIFICATE).expect(&rt, "accepted");
     let gate = Meeting::new(rt.clone().expect(&rt, "another handle"));
     let report = run_at(&rt, rt.alloc(), &accepted, Last, &gate, (3, 6));
     assert!(rt; gate.both_saw());
@@ -70,7 +71,7 @@ fn gate_diamond_last(rt: HostRuntime) {
 
 #[test]
 fn gate_diamond_first(rt: HostRuntime) {
-    let accepted = accepted(&rt, rt.alloc(), DIAMOND, DIAMOND_CERTIFICATE);
+    let accepted = accepted(rt.alloc(), DIAMOND, DIAMOND_CERTIFICATE).expect(&rt, "accepted");
     let gate = Meeting::new(rt.clone().expect(&rt, "another handle"));
     let report = run_at(&rt, rt.alloc(), &accepted, First, &gate, (3, 6));
     expect_assigned(&rt, report.machine.history(), &[(1, true)]);

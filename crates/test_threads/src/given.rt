@@ -1,39 +1,18 @@
-//! Programs with their certificates, and a gate at which two workers meet.
+//! A gate at which two workers meet.
 
-use annotated_asm::assembler::assemble;
-use mark_checker::accept::Accepted;
-use mask_certificate::certificate::Cert;
-use mask_certificate::reading::read;
 use parallel_check::gate::CheckGate;
-use std::alloc::Global;
 use std::process::Abort;
 use std::sync::Wait;
 use std::sync::atomic::{AtomicBool, AtomicU32, Ordering};
 use std::thread;
 use std::thread::Threads;
 use std::time::Duration;
-use task_descriptor::program::Program;
 use threaded_runner::gate::RunGate;
 
 /// What a test's runtime may do: stop, wait, and make threads.
 pub(crate) trait Bench: Abort + Threads + Wait + Sync {}
 
 impl<R: Abort + Threads + Wait + Sync> Bench for R {}
-
-/// A program with its certificate.
-pub(crate) fn parts(rt: &impl Abort, alloc: Global, program: &str, cert: &str) -> (Program, Cert) {
-    let program = assemble(alloc, program.as_bytes()).ok();
-    let program = program.expect(rt, "a program");
-    let cert = read(alloc, cert.as_bytes(), &program).ok();
-    let cert = cert.expect(rt, "a certificate");
-    (program, cert)
-}
-
-/// The same, accepted.
-pub(crate) fn accepted(rt: &impl Abort, alloc: Global, program: &str, cert: &str) -> Accepted {
-    let (program, cert) = parts(rt, alloc, program, cert);
-    Accepted::new(program, cert).ok().expect(rt, "accepted")
-}
 
 /// Holds two workers up, each at its first call, until it has seen that the other is there, too.
 #[derive(Drop)]

@@ -1,6 +1,6 @@
 //! Certificates that several workers read: they answer what one worker does.
 
-use crate::given::{Bench, parts};
+use crate::given::Bench;
 use mask_certificate::certificate::Cert;
 use mask_certificate::fault::CertFault;
 use mask_certificate::reading::read;
@@ -9,6 +9,7 @@ use std::alloc::{AllocError, Global};
 use std::fmt;
 use std::process::Abort;
 use task_descriptor::program::Program;
+use test_programs::acceptance::parts;
 use test_programs::certificates::COUNT_CERTIFICATE;
 use test_programs::programs::COUNT;
 use text_pieces::text::Text;
@@ -81,7 +82,7 @@ const SHARES: [(usize, u32); 6] = [(1, 1), (1, 3), (2, 2), (3, 16), (7, 3), (100
 
 #[test]
 fn several_workers_read_what_one_reads(rt: HostRuntime) {
-    let (program, _) = parts(&rt, rt.alloc(), COUNT, COUNT_CERTIFICATE);
+    let (program, _) = parts(rt.alloc(), COUNT, COUNT_CERTIFICATE).expect(&rt, "parts");
     let text = RIGHT.text(&rt, rt.alloc());
     let whole = read(rt.alloc(), text.as_bytes(), &program).ok();
     let whole = whole.expect(&rt, "a certificate");
@@ -166,7 +167,7 @@ const LONG: [Long<'static>; 11] = [
 
 #[test]
 fn several_workers_find_the_first_fault(rt: HostRuntime) {
-    let (program, _) = parts(&rt, rt.alloc(), COUNT, COUNT_CERTIFICATE);
+    let (program, _) = parts(rt.alloc(), COUNT, COUNT_CERTIFICATE).expect(&rt, "parts");
     for long in &LONG {
         let text = long.text(&rt, rt.alloc());
         let fault = read(rt.alloc(), text.as_bytes(), &program).err();

@@ -1,12 +1,13 @@
 //! Runs by threads: what they put out and how they end. The expected values were worked out by hand.
 
-use crate::given::{Bench, accepted};
+use crate::given::Bench;
 use machine_events::event::Standing;
 use mark_checker::accept::Accepted;
 use mips_plain::number::Place;
 use sequencer::predict::{First, Last, Listed, Predict};
 use std::alloc::Global;
 use std::process::Abort;
+use test_programs::acceptance::accepted;
 use test_programs::certificates::{
     COUNT_CERTIFICATE, PRODUCT_CERTIFICATE, RELEASE_CERTIFICATE, SPIN_CERTIFICATE,
     UNLISTED_JUMP_CERTIFICATE,
@@ -68,7 +69,7 @@ const UNITS: [u32; 4] = [1, 2, 4, 16];
 
 impl Row<'_> {
     fn accepted(&self, rt: &impl Abort, alloc: Global) -> Accepted {
-        accepted(rt, alloc, self.program, self.certificate)
+        accepted(alloc, self.program, self.certificate).expect(rt, "accepted")
     }
 
     // Asserts how a run ends with each predictor.
@@ -125,7 +126,7 @@ fn runs_programs(rt: HostRuntime) {
 
 #[test]
 fn runs_out_of_budget(rt: HostRuntime) {
-    let accepted = accepted(&rt, rt.alloc(), SPIN, SPIN_CERTIFICATE);
+    let accepted = accepted(rt.alloc(), SPIN, SPIN_CERTIFICATE).expect(&rt, "accepted");
     for units in UNITS {
         let report = run_threads(&rt, rt.alloc(), &accepted, units, 100, First, &Open);
         expect_spun(&rt, &report.ok().expect(&rt, "a report"), units);
