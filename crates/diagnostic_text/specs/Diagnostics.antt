@@ -1,6 +1,6 @@
 -- The text of a finding for the author of a program text (own choice, in the form of gcc and clang): the
 -- sentence of its rule where it is wrong, the line itself, the path that shows it, and what to do.
-use Rattle.std.specs.Prelude.{◌≡◌, ◌↔◌, ℕ, ◌-◌, nat_eq, if◌then◌else◌, List, [], ◌∷◌, ◌++◌, codes, flat_map, length, slice_get, Option, Some, None, unwrap_or, Ok, not, position}
+use Rattle.std.specs.Prelude.{◌≡◌, ◌↔◌, ℕ, ◌-◌, List, [], ◌∷◌, ◌++◌, codes, flat_map, length, slice_get, Option, Some, None, unwrap_or, Ok, not, position}
 use Rattle.std.specs.Fmt.{decimal}
 use Rattle.std.specs.declared.alloc.Global.{Global}
 use Rattle.std.specs.declared.vec.Vec.{Vec}
@@ -21,7 +21,7 @@ use Rattle.finding_paths.specs.declared.shown.ShownFinding.{ShownFinding}
 use Rattle.finding_paths.specs.Shown.{AreShown}
 use Rattle.diagnostic_text.specs.Sentences.{number_in, sentence_text, help_text}
 use Rattle.diagnostic_text.specs.Lists.{task_name, create_text, targets_text}
-use Rattle.source_excerpt.specs.Excerpt.{position_text, excerpt_text}
+use Rattle.source_excerpt.specs.Excerpt.{position_text, excerpt_text, more_line}
 
 -- a position; where the map has none, the text's first byte
 abbrev pub position_in : Option Position → Position
@@ -137,10 +137,7 @@ most_shown = 1000
 
 -- how many more findings there are; nothing where there are no more
 abbrev pub more_text : (file : List ℕ) → (more : ℕ) → List ℕ
-more_text file more =
-    if nat_eq more 0 then []
-    else if nat_eq more 1 then file ++ (codes ": note: 1 more finding" ++ 10 ∷ [])
-    else file ++ (codes ": note: " ++ (decimal more ++ (codes " more findings" ++ 10 ∷ [])))
+more_text file more = more_line file more (codes "finding") (codes "findings")
 
 -- what is said of the findings that are shown, and of those behind them
 abbrev pub findings_text : (file : List ℕ) → (rows : List (List ℕ)) → Listing → Sources → List ShownFinding → (more : ℕ) → List ℕ

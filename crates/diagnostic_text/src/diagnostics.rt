@@ -10,7 +10,7 @@ ghost use Rattle.source_map.specs.Sources.{sources_in, sources_of};
 ghost use Rattle.source_excerpt.specs.Excerpt.{position_text};
 ghost use Rattle.annotator.specs.Least.{IsLeast};
 ghost use Rattle.diagnostic_text.specs.Sentences.{number_in as register_number};
-ghost use Rattle.diagnostic_text.specs.Diagnostics.{error_text, text_to_write, todo_text, line_of, path_text, note_text, path_note, finding_text, more_text, findings_text, IsExplained};
+ghost use Rattle.diagnostic_text.specs.Diagnostics.{error_text, text_to_write, todo_text, line_of, path_text, note_text, path_note, finding_text, findings_text, IsExplained};
 
 use crate::list::{task_name, write_create, write_targets};
 use crate::position::{
@@ -21,7 +21,7 @@ use annotated_asm::fault::AsmFault;
 use finding_paths::shown::{ShownFinding, ShownFindings, shown_findings};
 use mark_checker::finding::{Finding, Rule};
 use mask_certificate::certificate::Cert;
-use source_excerpt::excerpt::{lines_of, write_excerpt, write_position};
+use source_excerpt::excerpt::{lines_of, write_excerpt, write_more, write_position};
 use source_map::laws::map_fits;
 use source_map::position::{Position, SourceMap};
 use source_map::reading::source_map;
@@ -213,19 +213,6 @@ fn write_finding(
     write_todo(alloc, text, file, at, program, finding)
 }
 
-/// Adds how many findings are not shown, if there are any.
-fn write_more(text: &mut String, file: &str, more: usize) -> Result<(), AllocError>
-    ensures { OnOk result (string_bytes text.new ≡ string_bytes text.old ++ more_text file.now more) }
-{
-    if more == 0 {
-        return Ok(());
-    }
-    if more == 1 {
-        return writeln!(text, "{file}: note: 1 more finding");
-    }
-    writeln!(text, "{file}: note: {more} more findings")
-}
-
 /// What is said of the findings of a program whose text, `source`, has this map and stands in a file of
 /// this name: of each that is shown, and how many more there are.
 ///
@@ -249,7 +236,7 @@ pub fn findings_text(
     for shown in &findings.list {
         write_finding(alloc, &mut text, file, rows, program, map, shown)?;
     }
-    write_more(&mut text, file, findings.more)?;
+    write_more(&mut text, file, findings.more, "finding", "findings")?;
     Ok(text)
 }
 

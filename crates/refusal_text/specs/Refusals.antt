@@ -1,12 +1,11 @@
 -- What is said of a text that spells no program, as a text for its author (own choice, in the form of gcc and
 -- clang).
-use Rattle.std.specs.Prelude.{ℕ, List, [], ◌∷◌, ◌++◌, codes, nat_eq, if◌then◌else◌, Option, Some, None}
+use Rattle.std.specs.Prelude.{ℕ, List, [], ◌∷◌, ◌++◌, codes, Option, Some, None}
 use Rattle.std.specs.List.{flat_map}
-use Rattle.std.specs.Fmt.{decimal}
 use Rattle.annotated_asm.specs.declared.fault.AsmFault.{AsmFault}
 use Rattle.annotated_asm.specs.FaultText.{asm_fault_text}
 use Rattle.source_map.specs.declared.position.Stretch.{Stretch}
-use Rattle.source_excerpt.specs.Excerpt.{position_text, excerpt_text}
+use Rattle.source_excerpt.specs.Excerpt.{position_text, excerpt_text, more_line}
 use Rattle.refusal_text.specs.declared.diagnosis.Diagnosis.{Diagnosis}
 use Rattle.refusal_text.specs.MeantDiagnoses.{note_sentence}
 use Rattle.refusal_text.specs.Diagnoses.{rows_of, diagnoses, more_lines}
@@ -52,10 +51,7 @@ diagnosis_text file rows d = text_at file rows d.place d
 
 -- how many more lines there are; nothing where there are no more
 abbrev pub more_text : (file : List ℕ) → (more : ℕ) → List ℕ
-more_text file more =
-    if nat_eq more 0 then []
-    else if nat_eq more 1 then file ++ (codes ": note: 1 more line with a fault" ++ 10 ∷ [])
-    else file ++ (codes ": note: " ++ (decimal more ++ (codes " more lines with a fault" ++ 10 ∷ [])))
+more_text file more = more_line file more (codes "line with a fault") (codes "lines with a fault")
 
 -- All that is said of a text, in a file of this name, whose first fault this is.
 abbrev pub refusal_text : (file text : List ℕ) → AsmFault → List ℕ

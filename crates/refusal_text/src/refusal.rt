@@ -3,13 +3,13 @@
 ghost use Rattle.std.specs.Prelude.{◌≡◌, ◌++◌, map, IfOk, OnOk};
 ghost use Rattle.std.specs.List.{flat_map};
 ghost use Rattle.std.specs.String.{string_bytes};
-ghost use Rattle.refusal_text.specs.Refusals.{error_words, help_words, whole_text, other_text, note_text, placed_text, diagnosis_text, more_text, refusal_text};
+ghost use Rattle.refusal_text.specs.Refusals.{error_words, help_words, whole_text, other_text, note_text, placed_text, diagnosis_text, refusal_text};
 
 use crate::diagnoses::{diagnoses_in, rows_of};
 use crate::diagnosis::Diagnosis;
 use crate::meant_diagnosis::note_sentence;
 use annotated_asm::fault::AsmFault;
-use source_excerpt::excerpt::{write_excerpt, write_position};
+use source_excerpt::excerpt::{write_excerpt, write_more, write_position};
 use source_map::position::Stretch;
 use std::alloc::{AllocError, Global};
 
@@ -140,19 +140,6 @@ fn write_each(
     Ok(())
 }
 
-/// Adds how many lines with a fault are not shown, if there are any.
-fn write_more(said: &mut String, file: &str, more: usize) -> Result<(), AllocError>
-    ensures { OnOk result (string_bytes said.new ≡ string_bytes said.old ++ more_text file.now more) }
-{
-    if more == 0 {
-        return Ok(());
-    }
-    if more == 1 {
-        return writeln!(said, "{file}: note: 1 more line with a fault");
-    }
-    writeln!(said, "{file}: note: {more} more lines with a fault")
-}
-
 /// What is said of a text, in a file of this name, whose first fault this is, in the form of gcc and clang: each
 /// diagnosis with its place, the fault's number and name and the line with the bytes that are meant, and how many
 /// more lines have a fault.
@@ -172,6 +159,12 @@ pub fn refusal(
     let found = diagnoses_in(alloc, text, &rows, fault)?;
     let mut said = String::new(alloc);
     write_each(alloc, &mut said, file, &rows, &found.list)?;
-    write_more(&mut said, file, found.more)?;
+    write_more(
+        &mut said,
+        file,
+        found.more,
+        "line with a fault",
+        "lines with a fault",
+    )?;
     Ok(said)
 }

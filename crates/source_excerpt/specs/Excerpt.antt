@@ -1,5 +1,6 @@
--- How a place of a text is named, and its line shown with a caret below the column (own choice, in the form of gcc).
-use Rattle.std.specs.Prelude.{ℕ, ◌-◌, min, max, List, [], ◌∷◌, ◌++◌, map, take, length, replicate, codes, slice_get, Option, Some, None, nat_lt, if◌then◌else◌, ◌==◌}
+-- How a place of a text is named, its line shown with a caret below the column, and what is not shown counted (own
+-- choice, in the form of gcc).
+use Rattle.std.specs.Prelude.{ℕ, ◌-◌, min, max, List, [], ◌∷◌, ◌++◌, map, take, length, replicate, codes, slice_get, Option, Some, None, nat_lt, nat_eq, if◌then◌else◌, ◌==◌}
 use Rattle.std.specs.Fmt.{decimal}
 use Rattle.std.specs.Str.Lines.{strip_carriage_return}
 use Rattle.source_map.specs.declared.position.Position.{Position}
@@ -49,3 +50,10 @@ excerpt_text rows at width =
     let line = line_in rows at.line in
     if nat_lt longest_shown (length line) then []
     else line_row (decimal at.line) line ++ caret_row (decimal at.line) (take (at.column - 1) line) (further_bytes line at.column width)
+
+-- how many more there are than are shown, by the words for one and for some; no bytes where there are no more
+abbrev pub more_line : (file : List ℕ) → (more : ℕ) → (one some : List ℕ) → List ℕ
+more_line file more one some =
+    if nat_eq more 0 then []
+    else if nat_eq more 1 then file ++ (codes ": note: 1 more " ++ (one ++ 10 ∷ []))
+    else file ++ (codes ": note: " ++ (decimal more ++ (codes " more " ++ (some ++ 10 ∷ []))))

@@ -1,10 +1,10 @@
-//! How a place of a text is named, and its line shown with a caret below the column.
+//! How a place of a text is named, its line shown with a caret below the column, and what is not shown counted.
 
 ghost use Rattle.std.specs.Prelude.{◌≡◌, ◌++◌, ◌-◌, ◌<◌, map, take, replicate, IfOk, OnOk};
 ghost use Rattle.std.specs.String.{string_bytes};
 ghost use Rattle.std.specs.Str.Lines.{strip_carriage_return};
 ghost use Rattle.program_tokens.specs.Lines.{lines};
-ghost use Rattle.source_excerpt.specs.Excerpt.{position_text, line_in, shown_byte, below_byte, line_row, caret_row, further_bytes, excerpt_text};
+ghost use Rattle.source_excerpt.specs.Excerpt.{position_text, line_in, shown_byte, below_byte, line_row, caret_row, further_bytes, excerpt_text, more_line};
 
 use program_tokens::line::first_line;
 use source_map::position::Position;
@@ -195,4 +195,27 @@ pub fn write_excerpt(
     write_line_row(text, number.as_str(), line)?;
     let further = further_bytes(line, at.column, width);
     write_caret_row(text, number.as_str(), before(line, at.column), further)
+}
+
+/// Adds how many more there are than are shown, if there are any, by the words for one and for some.
+///
+/// # Errors
+///
+/// `AllocError` where memory was refused.
+pub fn write_more(
+    text: &mut String,
+    file: &str,
+    more: usize,
+    one: &str,
+    some: &str,
+) -> Result<(), AllocError>
+    ensures { OnOk result (string_bytes text.new ≡ string_bytes text.old ++ more_line file.now more one.now some.now) }
+{
+    if more == 0 {
+        return Ok(());
+    }
+    if more == 1 {
+        return writeln!(text, "{file}: note: 1 more {one}");
+    }
+    writeln!(text, "{file}: note: {more} more {some}")
 }

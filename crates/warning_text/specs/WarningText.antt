@@ -1,13 +1,13 @@
 -- The text of the marks that cost speed, for the author of a program text (own choice, in the form of gcc and
 -- clang): a sentence where it is told, the line itself, and what to do.
-use Rattle.std.specs.Prelude.{◌≡◌, ℕ, ◌-◌, nat_eq, if◌then◌else◌, List, [], ◌∷◌, ◌++◌, codes, take, length, slice_get, Ok}
+use Rattle.std.specs.Prelude.{◌≡◌, ℕ, ◌-◌, if◌then◌else◌, List, [], ◌∷◌, ◌++◌, codes, take, length, slice_get, Ok}
 use Rattle.std.specs.List.{flat_map}
 use Rattle.std.specs.Fmt.{decimal}
 use Rattle.task_descriptor.specs.Listing.{Listing}
 use Rattle.program_tokens.specs.Lines.{lines}
 use Rattle.source_map.specs.declared.position.Stretch.{Stretch}
 use Rattle.source_map.specs.Sources.{Sources, sources_of}
-use Rattle.source_excerpt.specs.Excerpt.{position_text, excerpt_text}
+use Rattle.source_excerpt.specs.Excerpt.{position_text, excerpt_text, more_line}
 use Rattle.diagnostic_text.specs.Lists.{task_name}
 use Rattle.diagnostic_text.specs.Diagnostics.{create_in, instruction_stretch}
 use Rattle.costly_marks.specs.declared.mark.CostlyMark.{CostlyMark}
@@ -50,10 +50,7 @@ most_shown = 1000
 
 -- how many more warnings there are; nothing where there are no more
 abbrev pub more_text : (file : List ℕ) → (more : ℕ) → List ℕ
-more_text file more =
-    if nat_eq more 0 then []
-    else if nat_eq more 1 then file ++ (codes ": note: 1 more warning" ++ 10 ∷ [])
-    else file ++ (codes ": note: " ++ (decimal more ++ (codes " more warnings" ++ 10 ∷ [])))
+more_text file more = more_line file more (codes "warning") (codes "warnings")
 
 -- what is said of the first marks of a list, of which at most so many are shown, and of those behind them
 abbrev pub warnings_text : (file : List ℕ) → (rows : List (List ℕ)) → Listing → Sources → (most : ℕ) → List CostlyMark → List ℕ

@@ -7,14 +7,14 @@ ghost use Rattle.annotated_asm.specs.ProgramText.{parse};
 ghost use Rattle.source_map.specs.Sources.{sources_in};
 ghost use Rattle.source_excerpt.specs.Excerpt.{position_text};
 ghost use Rattle.annotator.specs.Least.{IsLeast};
-ghost use Rattle.warning_text.specs.WarningText.{sentence_text, help_text, warning_text, more_text, warnings_text, AreTold};
+ghost use Rattle.warning_text.specs.WarningText.{sentence_text, help_text, warning_text, warnings_text, AreTold};
 
 use crate::sentence::{stretch_of, write_help, write_sentence};
 use costly_marks::mark::CostlyMark;
 use costly_marks::search::costly_marks;
 use diagnostic_text::diagnostics::{MOST_SHOWN, map_of};
 use mask_certificate::certificate::Cert;
-use source_excerpt::excerpt::{lines_of, write_excerpt, write_position};
+use source_excerpt::excerpt::{lines_of, write_excerpt, write_more, write_position};
 use source_map::laws::map_fits;
 use source_map::position::{Position, SourceMap};
 use std::alloc::{AllocError, Global};
@@ -73,19 +73,6 @@ fn write_warning(
     write_todo(text, file, meant.position, program, mark)
 }
 
-/// Adds how many warnings are not shown, if there are any.
-fn write_more(text: &mut String, file: &str, more: usize) -> Result<(), AllocError>
-    ensures { OnOk result (string_bytes text.new ≡ string_bytes text.old ++ more_text file.now more) }
-{
-    if more == 0 {
-        return Ok(());
-    }
-    if more == 1 {
-        return writeln!(text, "{file}: note: 1 more warning");
-    }
-    writeln!(text, "{file}: note: {more} more warnings")
-}
-
 /// The first marks of a list, of which at most so many are shown.
 pub fn first_of(list: &[CostlyMark], most: usize) -> &[CostlyMark]
     ensures { result.now ≡ take most list.now }
@@ -115,7 +102,8 @@ fn text_of(
     for mark in shown {
         write_warning(alloc, &mut text, file, rows, program, map, mark)?;
     }
-    write_more(&mut text, file, list.len().saturating_sub(most))?;
+    let more = list.len().saturating_sub(most);
+    write_more(&mut text, file, more, "warning", "warnings")?;
     Ok(text)
 }
 
