@@ -35,6 +35,15 @@ fn expect_applied(rt: &impl Abort, machine: &mut Machine<'_>, event: &Event) {
     assert!(rt; machine.apply(*event).is_ok());
 }
 
+/// Four tasks of `COUNT`, of which two are dropped.
+pub(crate) const A_DROP: [Event; 5] = [
+    Event::Assign(0),
+    Event::Assign(0),
+    Event::Assign(1),
+    Event::Drop(1),
+    Event::Assign(0),
+];
+
 /// Two rounds of `COUNT` on two units. Its second task is predicted behind the first round and squashed;
 /// its unit takes the next round, which is unfinished.
 pub(crate) fn two_rounds(rt: &impl Abort, machine: &mut Machine<'_>) {

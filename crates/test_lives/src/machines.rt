@@ -2,7 +2,7 @@
 
 ghost use Rattle.std.specs.Prelude.{◌<◌};
 
-use crate::given::{apply_all, life, machine, two_rounds};
+use crate::given::{A_DROP, apply_all, life, machine, two_rounds};
 use machine_events::event::Event;
 use sequencer::machine::Machine;
 use std::alloc::Global;
@@ -93,14 +93,7 @@ fn both_sides_of_the_diamond(rt: HostRuntime) {
 fn a_drop(rt: HostRuntime) {
     let accepted = accepted(rt.alloc(), COUNT, COUNT_CERTIFICATE).expect(&rt, "accepted");
     let mut machine = machine(&rt, rt.alloc(), &accepted, 3);
-    let events = [
-        Event::Assign(0),
-        Event::Assign(0),
-        Event::Assign(1),
-        Event::Drop(1),
-        Event::Assign(0),
-    ];
-    apply_all(&rt, &mut machine, &events);
+    apply_all(&rt, &mut machine, &A_DROP);
     expect_lives(
         &rt,
         rt.alloc(),
