@@ -109,7 +109,7 @@ impl RegisterWords {
     }
 }
 
-ghost use Rattle.std.specs.Prelude.{◌≡◌, ℕ, ◌<◌, true, not, ◌==◌, if◌then◌else◌, slice_index};
+ghost use Rattle.std.specs.Prelude.{◌≡◌, ℕ, ◌<◌, true, not, ◌==◌, if◌then◌else◌, slice_index, IsTrue};
 ghost use Rattle.mips_plain.specs.Words.{has};
 
 /// The set of all registers.
@@ -123,10 +123,33 @@ fn all_registers() -> RegSet
     }
 }
 
-/// The registers whose words differ. Each is looked at, without a branch: that takes less time than to go
-/// from one member of a set to the next.
+/// Whether all words are the same. Each is looked at, without a branch, so that several are compared at
+/// once.
+#[inline]
+fn are_same(words: &[u32; 34], others: &[u32; 34]) -> bool
+    ensures { IsTrue result → (r : ℕ) → r < 34 → slice_index words.now r ≡ slice_index others.now r }
+{
+    let mut same = true;
+    for index in 0..REGISTERS {
+        same &= words[index] == others[index];
+    }
+    same
+}
+
+/// The registers whose words differ: in most cases none.
 #[inline]
 fn differing(words: &[u32; 34], others: &[u32; 34]) -> RegSet
+    ensures { (r : ℕ) → has result r ≡ not (slice_index words.now r == slice_index others.now r) }
+{
+    if are_same(words, others) {
+        return RegSet::empty();
+    }
+    each_differing(words, others)
+}
+
+/// The same. Each register is looked at, without a branch: that takes less time than to go from one member
+/// of a set to the next.
+fn each_differing(words: &[u32; 34], others: &[u32; 34]) -> RegSet
     ensures { (r : ℕ) → has result r ≡ not (slice_index words.now r == slice_index others.now r) }
 {
     let mut bits = 0;

@@ -1,8 +1,8 @@
 -- A register is marked where its words differ, and all are marked at the end.
 use Rattle.std.proofs.Common.{◌≡◌, ℕ, ◌+◌, sym, subst, arith}
 use Rattle.register_ring.proofs.DifferLemmas.{Marks, mark_differing, keep_same, marked_all}
-use Rattle.register_ring.proofs.held.differing.Goals as goal
-use Rattle.register_ring.proofs.held.differing.Goals.{then-words-index, else-words-index}
+use Rattle.register_ring.proofs.held.each_differing.Goals as goal
+use Rattle.register_ring.proofs.held.each_differing.Goals.{then-words-index, else-words-index}
 
 pub loop-index-preserved : goal.loop-index-preserved
 loop-index-preserved c =
