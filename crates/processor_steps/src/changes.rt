@@ -1,7 +1,7 @@
 //! What an event that is allowed changes. None of these fails but for want of memory, and then nothing
 //! is changed.
 
-ghost use Rattle.std.specs.Prelude.{◌≡◌, ℕ, ◌+◌, ◌-◌, ◌^◌, ◌<◌, None, Some, IfErr, OnOk, OnErr, drop, length, slice_get, slice_set, slice_index};
+ghost use Rattle.std.specs.Prelude.{◌≡◌, ℕ, ◌+◌, ◌-◌, ◌^◌, ◌<◌, None, Some, OnOk, OnErr, drop, length, slice_get, slice_set, slice_index};
 ghost use Rattle.std.specs.Option.{option_and_then};
 ghost use Rattle.machine_model.specs.Machine.{Active, pass};
 ghost use Rattle.machine_model.specs.Unit.{exit_of};
@@ -9,7 +9,7 @@ ghost use Rattle.machine_model.specs.Answer.{refusal, after, with_queue};
 ghost use Rattle.machine_events.specs.declared.event.Event.TheVariants as event;
 ghost use Rattle.processor_steps.specs.Processors.{state_of, actives, Keeps, ArePlaced};
 ghost use Rattle.unit_core.specs.Units.{active_of};
-ghost use Rattle.unit_core.specs.Bursts.{HasMore, carried_on};
+ghost use Rattle.unit_core.specs.Bursts.{carried_on};
 
 use crate::listing::created;
 use crate::processor::Processor;
@@ -21,6 +21,7 @@ use mips_plain::outcome::OutOfMemory;
 use register_ring::members::next_member;
 use register_ring::port::Port;
 use std::alloc::Global;
+use std::mem;
 use task_descriptor::program::Program;
 use unit_core::burst::Burst;
 use unit_core::read_log::ReadLog;
@@ -37,29 +38,23 @@ impl Processor {
     {
         let reserved = self.queue.reserved(accepted.program());
         let port = Port::fresh(&self.registers, reserved);
+        let log = mem::replace(&mut self.spare, ReadLog::new(alloc));
         self.queue
-            .push(Unit::new(alloc, accepted, task, self.assigns, port));
+            .push(Unit::with_room(log, accepted, task, self.assigns, port));
         self.assigns += 1;
     }
 
-    /// The unit at a position goes on as a burst did. The caller sees to it that the burst was made on
-    /// that unit, which since has at most more registers arrived. Where no unit is there, only the number
-    /// of units and read-only data are promised.
+    /// The unit at a position goes on as a burst did, which is left without a step. The caller sees to it
+    /// that the burst was made on that unit, which since has at most more registers arrived. Where no unit
+    /// is there, only the number of units and read-only data are promised.
     ///
     /// # Errors
     ///
-    /// `OutOfMemory` where the reads of the burst find no room; it is handed back and nothing is changed
-    /// then.
-    pub fn take_burst<'a>(
-        &mut self,
-        position: u32,
-        burst: Burst<'a>,
-    ) -> Result<(), (Burst<'a>, OutOfMemory)>
-        requires { (u : Active) → slice_get (state_of self.old).queue position ≡ Some u → HasMore (active_of burst.before) u }
+    /// `OutOfMemory` where the reads of the burst find no room; nothing is changed then.
+    pub fn take_burst(&mut self, position: u32, burst: &mut Burst<'_>) -> Result<(), OutOfMemory>
         ensures state { OnOk result ((u : Active) → slice_get (state_of self.old).queue position ≡ Some u
-            → state_of self.new ≡ with_queue (state_of self.old) (slice_set (state_of self.old).queue position (carried_on (active_of burst.entry.after) u))) }
-        ensures back { IfErr result (λ back. back.0 ≡ burst.entry) }
-        ensures err { OnErr result (self.new ≡ self.old) }
+            → state_of self.new ≡ with_queue (state_of self.old) (slice_set (state_of self.old).queue position (carried_on (active_of burst.old.after) u))) }
+        ensures err { OnErr result ((self.new ≡ self.old) × (burst.new ≡ burst.old)) }
         ensures kept { Keeps self.old self.new }
     {
         self.queue.take(position as usize, burst)
@@ -143,7 +138,13 @@ impl Processor {
         };
         let mut registers = self.registers;
         hand_over(head, created(program, head.task()), &mut registers);
-        keep(&mut self.queue, &mut self.reads, &mut self.commits, commit)?;
+        keep(
+            &mut self.queue,
+            &mut self.reads,
+            &mut self.spare,
+            &mut self.commits,
+            commit,
+        )?;
         self.registers = registers;
         self.queue.fill_head(&self.registers);
         self.next = exit;
@@ -158,6 +159,7 @@ ghost use Rattle.mips_plain.specs.Words.{has};
 fn keep(
     queue: &mut Queue,
     reads: &mut ReadLog,
+    spare: &mut ReadLog,
     commits: &mut Vec<Commit>,
     commit: Commit,
 ) -> Result<(), OutOfMemory>
@@ -167,7 +169,7 @@ fn keep(
     ensures err { OnErr result ((queue.new ≡ queue.old) × (reads.new.reads ≡ reads.old.reads) × (commits.new.items ≡ commits.old.items)) }
 {
     commits.reserve(1)?;
-    queue.pop_into(reads)?;
+    queue.pop_into(reads, spare)?;
     commits.push_reserved(commit);
     Ok(())
 }

@@ -33,6 +33,8 @@ pub struct Processor {
     pub(crate) commits: Vec<Commit>,
     /// How many times a task was assigned.
     pub(crate) assigns: u32,
+    /// The log of the unit that retired last, without its reads: the next unit takes its room.
+    pub(crate) spare: ReadLog,
 }
 
 impl Model for Processor {
@@ -80,6 +82,7 @@ impl Processor {
                 reads: ReadLog::new(alloc),
                 commits: Vec::new(alloc),
                 assigns: 0,
+                spare: ReadLog::new(alloc),
             }),
             Err(_) => Err(OutOfMemory),
         }

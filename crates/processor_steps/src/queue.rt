@@ -43,7 +43,7 @@ impl Queue {
     ghost use Rattle.machine_model.specs.Unit.{exec_refusal as refusal_of, drain_refusal, after_drain, put, operand};
     ghost use Rattle.machine_model.specs.Step.{is_reserved, filled};
     ghost use Rattle.unit_core.specs.Units.{active_of};
-    ghost use Rattle.unit_core.specs.Bursts.{HasMore, carried_on};
+    ghost use Rattle.unit_core.specs.Bursts.{carried_on};
     ghost use Rattle.processor_steps.specs.Processors.{actives, ArePlaced, position_with as position_with_serial};
     ghost use Rattle.processor_steps.specs.CallParts.{HeadStep, AheadStep, IsRefusedBy};
     ghost use Rattle.machine_events.specs.declared.event.Refused.TheVariants as refused;
@@ -108,9 +108,13 @@ impl Queue {
         let _ = self.ring.pop_front();
     }
 
-    /// The head hands its reads over, behind others, and goes; nothing is changed where they find no
-    /// room.
-    pub(crate) fn pop_into(&mut self, reads: &mut ReadLog) -> Result<(), OutOfMemory>
+    /// The head hands its reads over, behind others, and goes; its empty log becomes the spare one. Nothing
+    /// is changed where they find no room.
+    pub(crate) fn pop_into(
+        &mut self,
+        reads: &mut ReadLog,
+        spare: &mut ReadLog,
+    ) -> Result<(), OutOfMemory>
         ensures reads { OnOk result ((u : Active) → slice_get (actives self.old) 0 ≡ Some u → reads.new.reads ≡ reads.old.reads ++ u.log) }
         ensures queue { OnOk result (self.new ≡ record self.old { units = drop 1 self.old.units }) }
         ensures err { OnErr result ((self.new ≡ self.old) × (reads.new.reads ≡ reads.old.reads)) }
@@ -120,6 +124,7 @@ impl Queue {
             return Ok(());
         };
         head.hand_over_reads(reads)?;
+        head.swap_log(spare);
         self.pop();
         Ok(())
     }
@@ -243,17 +248,11 @@ impl Queue {
     }
 
     /// The unit at a position goes on as the burst did, which was made on it.
-    pub(crate) fn take<'a>(
-        &mut self,
-        position: usize,
-        burst: Burst<'a>,
-    ) -> Result<(), (Burst<'a>, OutOfMemory)>
-        requires { (u : Active) → slice_get (actives self.old) position ≡ Some u → HasMore (active_of burst.before) u }
+    pub(crate) fn take(&mut self, position: usize, burst: &mut Burst<'_>) -> Result<(), OutOfMemory>
         ensures active { OnOk result ((u : Active) → slice_get (actives self.old) position ≡ Some u
-            → actives self.new ≡ slice_set (actives self.old) position (carried_on (active_of burst.entry.after) u)) }
-        ensures back { IfErr result (λ back. back.0 ≡ burst.entry) }
-        ensures err { OnErr result (self.new ≡ self.old) }
-        ensures capacity { self.new.capacity ≡ self.old.capacity }
+            → actives self.new ≡ slice_set (actives self.old) position (carried_on (active_of burst.old.after) u)) }
+        ensures err { OnErr result ((self.new ≡ self.old) × (burst.new ≡ burst.old)) }
+        ensures places { self.new.places ≡ self.old.places }
     {
         let Some(unit) = self.ring.get_mut(position) else {
             return Ok(());

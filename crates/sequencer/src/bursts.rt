@@ -67,7 +67,7 @@ impl<'a> Machine<'a> {
     /// `Ended` exactly where the run has ended; else, of a burst that is not answered 0, `Full` exactly
     /// where the history with its steps is longer than 1,000,000 events, and else `OutOfMemory` where its
     /// reads find no room in the unit's log. The burst is handed back and nothing is changed then.
-    pub fn apply_burst<'b>(&mut self, burst: Burst<'b>) -> Result<u32, (Burst<'b>, Refused)>
+    pub fn apply_burst<'b>(&mut self, mut burst: Burst<'b>) -> Result<u32, (Burst<'b>, Refused)>
         ensures running { IsOk result → (state self.old).outcome ≡ standing.Running }
         ensures taken { IfOk result (λ events. 0 < events → (events ≡ burst.entry.steps) × Takes self.old burst.entry self.new) }
         ensures stale { IfOk result (λ events. events ≡ 0 → (IsFresh self.old burst.entry → ⊥) × (self.new ≡ self.old)) }
@@ -75,7 +75,10 @@ impl<'a> Machine<'a> {
         ensures kept { SameRing self.old self.new }
     {
         let is_own = burst.is_of(self.accepted.program());
-        self.take_over(burst, is_own)
+        match self.take_over(&mut burst, is_own) {
+            Ok(events) => Ok(events),
+            Err(why) => Err((burst, why)),
+        }
     }
 
     /// Hands in a burst as `apply_burst` does, and compares nothing of the program: the caller sees to it
@@ -86,7 +89,7 @@ impl<'a> Machine<'a> {
     ///
     /// Those of `apply_burst`.
     #[tactic(auto, using(crate::proofs::TakenBursts::own_is_of))]
-    pub fn apply_own_burst<'b>(&mut self, burst: Burst<'b>) -> Result<u32, (Burst<'b>, Refused)>
+    pub fn apply_own_burst<'b>(&mut self, mut burst: Burst<'b>) -> Result<u32, (Burst<'b>, Refused)>
         requires { burst.accepted.program ≡ self.old.accepted.program }
         ensures running { IsOk result → (state self.old).outcome ≡ standing.Running }
         ensures taken { IfOk result (λ events. 0 < events → (events ≡ burst.entry.steps) × Takes self.old burst.entry self.new) }
@@ -94,39 +97,43 @@ impl<'a> Machine<'a> {
         ensures refused { IfErr result (λ back. (back.0 ≡ burst.entry) × (self.new ≡ self.old) × IsRefusedBurst self.old burst.entry back.1) }
         ensures kept { SameRing self.old self.new }
     {
-        self.take_over(burst, true)
+        match self.take_over(&mut burst, true) {
+            Ok(events) => Ok(events),
+            Err(why) => Err((burst, why)),
+        }
     }
 
-    /// Hands in a burst of which it is known whether its part of the program is this machine's.
-    fn take_over<'b>(&mut self, burst: Burst<'b>, is_own: bool) -> Result<u32, (Burst<'b>, Refused)>
-        requires { IsTrue is_own ↔ IsOf burst self.old.accepted.program }
+    /// Hands in a burst of which it is known whether its part of the program is this machine's; where it is
+    /// taken over, it is left without a step.
+    fn take_over(&mut self, burst: &mut Burst<'_>, is_own: bool) -> Result<u32, Refused>
+        requires { IsTrue is_own ↔ IsOf burst.old self.old.accepted.program }
         ensures running { IsOk result → (state self.old).outcome ≡ standing.Running }
-        ensures taken { IfOk result (λ events. 0 < events → (events ≡ burst.entry.steps) × Takes self.old burst.entry self.new) }
-        ensures stale { IfOk result (λ events. events ≡ 0 → (IsFresh self.old burst.entry → ⊥) × (self.new ≡ self.old)) }
-        ensures refused { IfErr result (λ back. (back.0 ≡ burst.entry) × (self.new ≡ self.old) × IsRefusedBurst self.old burst.entry back.1) }
+        ensures taken { IfOk result (λ events. 0 < events → (events ≡ burst.old.steps) × Takes self.old burst.old self.new) }
+        ensures stale { IfOk result (λ events. events ≡ 0 → (IsFresh self.old burst.old → ⊥) × (self.new ≡ self.old)) }
+        ensures refused { IfErr result (λ why. (burst.new ≡ burst.old) × (self.new ≡ self.old) × IsRefusedBurst self.old burst.old why) }
         ensures kept { SameRing self.old self.new }
     {
         bursts_are_events();
         self.law_replay();
         if !self.is_running() {
-            return Err((burst, Refused::Ended));
+            return Err(Refused::Ended);
         }
         if !is_own {
             return Ok(0);
         }
-        let Some(position) = self.position_for(&burst) else {
+        let Some(position) = self.position_for(burst) else {
             return Ok(0);
         };
         let steps = burst.steps();
         if self.history.len() + steps as usize > MOST_EVENTS {
-            return Err((burst, Refused::Full));
+            return Err(Refused::Full);
         }
         match self.processor.take_burst(position, burst) {
             Ok(()) => {
                 self.history.push_many(Event::Exec(position), steps);
                 Ok(steps)
             }
-            Err((burst, _)) => Err((burst, Refused::OutOfMemory)),
+            Err(_) => Err(Refused::OutOfMemory),
         }
     }
 

@@ -1,3 +1,4 @@
 pub mod StepLemmas
 pub mod UnitLemmas
 pub mod BurstLemmas
+pub mod EffectLemmas

@@ -3,6 +3,7 @@ pub mod Units
 pub mod Worlds
 pub mod UnitStep
 pub mod ExecParts
+pub mod Effects
 pub mod Bursts
 pub mod SentRegisters
 pub mod Examples

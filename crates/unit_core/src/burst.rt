@@ -217,7 +217,7 @@ impl Unit {
     /// # Errors
     ///
     /// `OutOfMemory` where the reads find no room; the burst is handed back and nothing is changed then.
-    pub fn take<'a>(&mut self, burst: Burst<'a>) -> Result<u32, (Burst<'a>, OutOfMemory)>
+    pub fn take<'a>(&mut self, mut burst: Burst<'a>) -> Result<u32, (Burst<'a>, OutOfMemory)>
         ensures taken { IfOk result (λ steps. 0 < steps → (steps ≡ burst.entry.steps)
             × HasMore (active_of burst.entry.before) (active_of self.old)
             × (active_of self.new ≡ carried_on (active_of burst.entry.after) (active_of self.old))) }
@@ -232,43 +232,30 @@ impl Unit {
         if steps == 0 || !self.has_more(&burst.before) {
             return Ok(0);
         }
-        match self.carry_on(burst) {
+        match self.carry_on(&mut burst) {
             Ok(()) => Ok(steps),
-            Err(refused) => Err(refused),
+            Err(refused) => Err((burst, refused)),
         }
     }
 
     /// Goes on as the unit of a burst did: its reads come behind the log, and what arrived stays
-    /// arrived. The caller sees to it that the unit is as it was lent, logs aside, but for registers
-    /// that arrived since. Where the reads are many they are moved, not copied.
+    /// arrived. The burst is left without a step. The caller sees to it that the unit is as it was lent,
+    /// logs aside, but for registers that arrived since. Where the reads are many they are moved, not
+    /// copied.
     ///
     /// # Errors
     ///
-    /// `OutOfMemory` where the reads find no room; the burst is handed back and nothing is changed then.
-    pub fn carry_on<'a>(&mut self, burst: Burst<'a>) -> Result<(), (Burst<'a>, OutOfMemory)>
-        requires { HasMore (active_of burst.before) (active_of self.old) }
-        ensures ok { OnOk result (active_of self.new ≡ carried_on (active_of burst.entry.after) (active_of self.old)) }
-        ensures back { IfErr result (λ back. back.0 ≡ burst.entry) }
-        ensures err { OnErr result (self.new ≡ self.old) }
+    /// `OutOfMemory` where the reads find no room; nothing is changed then.
+    pub fn carry_on(&mut self, burst: &mut Burst<'_>) -> Result<(), OutOfMemory>
+        ensures ok { OnOk result (active_of self.new ≡ carried_on (active_of burst.old.after) (active_of self.old)) }
+        ensures emptied { OnOk result (burst.new.steps ≡ 0) }
+        ensures err { OnErr result ((self.new ≡ self.old) × (burst.new ≡ burst.old)) }
     {
-        let Burst {
-            accepted,
-            before,
-            steps,
-            mut after,
-            stretch,
-        } = burst;
-        if let Err(refused) = self.take_reads_of(&mut after) {
-            let back = Burst {
-                accepted,
-                before,
-                steps,
-                after,
-                stretch,
-            };
-            return Err((back, refused));
-        }
-        self.go_on_as(&after);
+        self.take_reads_of(&mut burst.after)?;
+        self.go_on_as(&burst.after);
+        burst.before = burst.after.without_log();
+        burst.steps = 0;
+        burst.stretch = Stretch::none();
         Ok(())
     }
 }

@@ -56,6 +56,15 @@ impl ReadLog {
         ReadLog::new(*self.current.allocator())
     }
 
+    /// Keeps none of its reads, but the room of the current chunk.
+    pub fn clear(&mut self)
+        ensures { self.new.reads ≡ [] }
+    {
+        self.closed.clear();
+        self.closed_len = 0;
+        self.current.clear();
+    }
+
     /// How many reads it has.
     #[inline]
     pub fn len(&self) -> usize
@@ -94,7 +103,7 @@ impl ReadLog {
     }
 
     /// Puts the reads of another log behind its own; the other one keeps none. Only short logs are
-    /// copied: of a long one the chunks are moved.
+    /// copied: of a long one the chunks are moved, and a log without a read changes place with the other.
     ///
     /// # Errors
     ///
@@ -104,6 +113,10 @@ impl ReadLog {
         ensures emptied { OnOk result (other.new.reads ≡ []) }
         ensures err { OnErr result ((self.new.reads ≡ self.old.reads) × (other.new.reads ≡ other.old.reads)) }
     {
+        if self.len() == 0 {
+            mem::swap(self, other);
+            return Ok(());
+        }
         if other.closed.is_empty() && self.current.len() + other.current.len() <= SHORT {
             self.current.append(&mut other.current)?;
             return Ok(());

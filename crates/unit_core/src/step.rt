@@ -14,6 +14,7 @@ ghost use Rattle.machine_model.specs.Machine.{value, value_in};
 ghost use Rattle.register_ring.specs.Ports.{arrived_of, sent_of};
 ghost use Rattle.mips_plain.specs.InstructionTable.{general};
 ghost use Rattle.unit_core.specs.ExecParts.{in_general, loads, writes, replaced};
+ghost use Rattle.unit_core.specs.Effects.{Does};
 ghost use Rattle.unit_core.specs.declared.wait.Wait.TheVariants as wait;
 
 use crate::wait::Wait;
@@ -27,6 +28,25 @@ use register_ring::port::Port;
 use task_descriptor::descriptor::{Marked, Stop};
 use task_graph::edges::{ends_task, leads_to};
 
+/// What an instruction does, where that is found together with its operands.
+#[derive(Clone, Copy)]
+pub(crate) enum Effect {
+    /// It writes a word to one general register, and goes on at the following instruction.
+    Writes(Gpr, u32),
+    /// It writes nothing, and goes on at an index; a conditional branch is taken or isn't.
+    Goes(bool, u32),
+    /// Its operation has to be looked at once more.
+    Other,
+}
+
+/// The words of an instruction's operands, and what it does with them.
+#[derive(Clone, Copy)]
+pub(crate) struct Operands {
+    pub(crate) a: u32,
+    pub(crate) b: u32,
+    pub(crate) effect: Effect,
+}
+
 /// The instruction that a unit executes next: its index and address, and its operands.
 #[derive(Clone, Copy)]
 pub(crate) struct Next<'a> {
@@ -39,7 +59,7 @@ pub(crate) struct Next<'a> {
 
 impl Next<'_> {
     /// What the instruction reads.
-    #[inline]
+    #[inline(always)]
     pub(crate) fn read(&self) -> Read
         ensures { result ≡ record { pc = self.now.pc; a = self.now.a; b = self.now.b } }
     {
@@ -83,10 +103,28 @@ pub(crate) fn sends_of(marked: &Marked, dests: RegSet) -> RegSet
     }
 }
 
-/// The word that an instruction with the operand a loads, if it loads one; `NotHead` where it needs
-/// more than registers and read-only data, whose first bytes are `fixed`.
+/// The word that an instruction loads, if it loads one; `NotHead` where it needs more than registers
+/// and read-only data, whose first bytes are `fixed`.
+#[inline(always)]
+pub(crate) fn load_ahead(
+    next: &Next<'_>,
+    effect: &Effect,
+    fixed: &[u8],
+) -> Result<Option<u32>, Wait>
+    requires { Does next.now.marked.now.op next.now.index next.now.a next.now.b effect.now }
+    ensures loaded { IfOk result (λ word. (may_run_ahead next.now.marked.now.op next.now.a ≡ true) × (word ≡ loads next.now.marked.now.op next.now.a (byte_of fixed.now) no_memory)) }
+    ensures refused { IfErr result (λ why. (why ≡ wait.NotHead) × (may_run_ahead next.now.marked.now.op next.now.a ≡ false)) }
+{
+    match *effect {
+        Effect::Writes(..) => Ok(None),
+        Effect::Goes(..) => Ok(None),
+        Effect::Other => load_by_operation(&next.marked.op, next.a, fixed),
+    }
+}
+
+/// The same, by the operation.
 #[inline]
-pub(crate) fn load_ahead(op: &Op, a: u32, fixed: &[u8]) -> Result<Option<u32>, Wait>
+fn load_by_operation(op: &Op, a: u32, fixed: &[u8]) -> Result<Option<u32>, Wait>
     ensures loaded { IfOk result (λ word. (may_run_ahead op.now a ≡ true) × (word ≡ loads op.now a (byte_of fixed.now) no_memory)) }
     ensures refused { IfErr result (λ why. (why ≡ wait.NotHead) × (may_run_ahead op.now a ≡ false)) }
 {
@@ -127,6 +165,20 @@ fn spot_where(next: &Next<'_>, taken: bool) -> Spot
         }
     }
     Spot::Stopped(op.turn(next.a, next.b, next.pc))
+}
+
+/// Where a unit stands after an instruction that leads to an index, for a conditional branch where it is
+/// `taken` or isn't.
+#[inline(always)]
+pub(crate) fn spot_at(next: &Next<'_>, taken: bool, to: u32) -> Spot
+    requires index { next.now.index < 4096 }
+    requires leads { edge next.now.marked.now.op next.now.index taken ≡ Some to }
+    ensures { result ≡ place_after (leaves next.now.marked.now.stop taken) (Some to) (turn next.now.marked.now.op next.now.a next.now.b next.now.pc) }
+{
+    match next.marked.stop {
+        Stop::None => Spot::Inside(to),
+        _ => spot_where(next, taken),
+    }
 }
 
 /// Where a unit stands after an instruction that goes on at the following one, wherever the run is.
@@ -225,7 +277,7 @@ fn write_each(local: &mut RegisterWords, next: &Next<'_>, dests: RegSet, loaded:
 }
 
 /// The value of a register: 0 for register 0, else the unit's own write, else what arrived.
-#[inline]
+#[inline(always)]
 pub(crate) fn value_of(local: &RegisterWords, port: &Port, register: Reg) -> Option<u32>
     ensures { result ≡ value_in (pairs local.now) (arrived_of port.now) register }
 {

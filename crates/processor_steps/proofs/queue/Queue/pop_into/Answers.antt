@@ -22,7 +22,7 @@ pub returns-clause-queue : goal.returns-clause-queue
 returns-clause-queue c =
     let queue_of : List UnitView → QueueView = λ us. record { units = us; capacity = c.self.inside.ring.capacity } in
     c.pop-2.ensures
-    ∙ ap queue_of (behind_head c.self.inside.ring.items c.hand_over_reads.new.self)
+    ∙ ap queue_of (behind_head c.self.inside.ring.items c.swap_log.new.self)
     ∙ ap (λ (q : QueueView). record q { units = drop 1 q.units }) c.self.view_is
 
 pub returns-in_err-hand_over_reads-clause-err : goal.returns-in_err-hand_over_reads-clause-err

@@ -4,21 +4,15 @@ use Rattle.machine_model.specs.Machine.{Active}
 use Rattle.unit_core.specs.Units.{UnitView, active_of}
 use Rattle.unit_core.specs.Bursts.{carried_on}
 use Rattle.processor_steps.specs.Processors.{QueueView, actives}
-use Rattle.processor_steps.proofs.Queues.{is_there, unit_is, changed, set_back}
+use Rattle.processor_steps.proofs.Queues.{unit_is, changed, set_back}
 use Rattle.processor_steps.proofs.queue.Queue.take.Goals as goal
-
-pub carry_on-requires : goal.carry_on-requires
-carry_on-requires c =
-    let x = c.in-Some.unit.now in
-    c.requires (active_of x)
-    (is_there c.self.inside.ring.items c.args.self.now c.args.position x (ap (λ (q : QueueView). actives q) c.self.view_is) c.in-Some.ensures.value)
 
 pub returns-in-Ok-clause-active : goal.returns-in-Ok-clause-active
 returns-in-Ok-clause-active c = λ u at.
     let items = c.self.inside.ring.items in
     let same = ap (λ (q : QueueView). actives q) c.self.view_is in
     let x = c.in-Some.unit.now in
-    let after = active_of c.args.burst.after in
+    let after = active_of c.args.burst.now.after in
     let is : active_of x ≡ u = unit_is items c.args.self.now c.args.position x u same c.in-Some.ensures.value at in
     changed items c.args.self.now c.args.position c.carry_on.new.self (carried_on after u) same
     (c.in-Ok.ensures.ok ∙ ap (carried_on after) is)
@@ -27,5 +21,6 @@ pub returns-in-Err-clause-err : goal.returns-in-Err-clause-err
 returns-in-Err-clause-err c =
     let items = c.self.inside.ring.items in
     let x = c.in-Some.unit.now in
-    let queue_of : List UnitView → QueueView = λ us. record { units = us; capacity = c.self.inside.ring.capacity } in
-    ap (λ (us : List UnitView). queue_of us) (ap (λ (v : UnitView). slice_set items c.args.position v) c.in-Err.ensures.err ∙ set_back items c.args.position x c.in-Some.ensures.value) ∙ c.self.view_is
+    let queue_of : List UnitView → QueueView = λ us. record { units = us; places = c.self.inside.ring.capacity } in
+    let same = ap (λ (us : List UnitView). queue_of us) (ap (λ (v : UnitView). slice_set items c.args.position v) c.in-Err.ensures.err.0 ∙ set_back items c.args.position x c.in-Some.ensures.value) ∙ c.self.view_is in
+    (same, c.in-Err.ensures.err.1)

@@ -15,7 +15,7 @@ pub returns-in-Ok-clause-taken : goal.returns-in-Ok-clause-taken
 returns-in-Ok-clause-taken c = λ some.
     let i = c.self.inside in
     let m : MachineView = record { accepted = i.accepted.now; processor = i.processor; history = i.history } in
-    let b : BurstView = c.args.burst in
+    let b : BurstView = c.args.burst.now in
     let k = c.in-Some.position in
     let own = c.requires.0 c.if-not-is_own.false in
     let there = c.in-Some.ensures.some in
@@ -40,4 +40,4 @@ invariant_of-self c =
     let kept = subst (λ (x : MachineView). Keeps x.processor p') c.self.view_is c.take_burst.ensures.kept in
     let same : (let x : MachineView = record { accepted = c.self.inside.accepted.now; processor = c.self.inside.processor; history = c.self.inside.history } in x) ≡ m = c.self.view_is in
     subst (λ (x : MachineView). IsMachine (record x { processor = p'; history = h' })) (sym same)
-    (is_machine m c.args.burst p' h' (subst (λ (x : MachineView). Takes m c.args.burst (record x { processor = p'; history = h' })) same taken) kept c.law_replay.ensures.goes_on)
+    (is_machine m c.args.burst.now p' h' (subst (λ (x : MachineView). Takes m c.args.burst.now (record x { processor = p'; history = h' })) same taken) kept c.is_known.ensures.goes_on)
