@@ -252,7 +252,7 @@ impl Queue {
         ensures active { OnOk result ((u : Active) → slice_get (actives self.old) position ≡ Some u
             → actives self.new ≡ slice_set (actives self.old) position (carried_on (active_of burst.old.after) u)) }
         ensures err { OnErr result ((self.new ≡ self.old) × (burst.new ≡ burst.old)) }
-        ensures places { self.new.places ≡ self.old.places }
+        ensures capacity { self.new.capacity ≡ self.old.capacity }
     {
         let Some(unit) = self.ring.get_mut(position) else {
             return Ok(());

@@ -1,7 +1,7 @@
 //! How many steps the test programs take on 1, 2 and 4 units.
 
 use machine_events::event::{Event, Standing};
-use sequencer::predict::Script;
+use sequencer::predict::Listed;
 use std::alloc::Global;
 use std::process::Abort;
 use synchronous_runner::predictor::Predictor;

@@ -21,6 +21,6 @@ pub returns-in-Err-clause-err : goal.returns-in-Err-clause-err
 returns-in-Err-clause-err c =
     let items = c.self.inside.ring.items in
     let x = c.in-Some.unit.now in
-    let queue_of : List UnitView → QueueView = λ us. record { units = us; places = c.self.inside.ring.capacity } in
+    let queue_of : List UnitView → QueueView = λ us. record { units = us; capacity = c.self.inside.ring.capacity } in
     let same = ap (λ (us : List UnitView). queue_of us) (ap (λ (v : UnitView). slice_set items c.args.position v) c.in-Err.ensures.err.0 ∙ set_back items c.args.position x c.in-Some.ensures.value) ∙ c.self.view_is in
     (same, c.in-Err.ensures.err.1)

@@ -40,4 +40,4 @@ invariant_of-self c =
     let kept = subst (λ (x : MachineView). Keeps x.processor p') c.self.view_is c.take_burst.ensures.kept in
     let same : (let x : MachineView = record { accepted = c.self.inside.accepted.now; processor = c.self.inside.processor; history = c.self.inside.history } in x) ≡ m = c.self.view_is in
     subst (λ (x : MachineView). IsMachine (record x { processor = p'; history = h' })) (sym same)
-    (is_machine m c.args.burst.now p' h' (subst (λ (x : MachineView). Takes m c.args.burst.now (record x { processor = p'; history = h' })) same taken) kept c.is_known.ensures.goes_on)
+    (is_machine m c.args.burst.now p' h' (subst (λ (x : MachineView). Takes m c.args.burst.now (record x { processor = p'; history = h' })) same taken) kept c.law_replay.ensures.goes_on)
