@@ -122,7 +122,7 @@ def newer_calls(job, options, units, budget, guess):
     by_steps = ["run", "--schedule", "steps", "--least", *units, "--budget", "600", "--predict", PREDICTS[options // 5 % 4]]
     drawn = ["--emit", "svg"] if options & 64 and "svg" in CHOICES.get("curve", ()) else []
     return {16: [["curve", *units, *budget, *guess, *drawn, *(["--least", "p"] if options & 128 else ["p", "c"])]],
-            17: [["explain", "--format", "sarif", *(["p", "c"] if options & 16 else ["p"])]],
+            17: [["explain", "--format", "sarif", *(["--no-warnings"] if options & 32 else []), *(["p", "c"] if options & 16 else ["p"])]],
             18: [["annotate", "--emit", "marks", "p"]],
             19: [[*traced, *(["--schedule", "steps"] if options & 16 else ["--workers", "1"]), "p", "c"]],
             20: [["replay", *units, *emit, "p", "c", "s"]],

@@ -500,7 +500,7 @@ static void marks_in_the_text(void) {
     call(&c, 18);
     if (!same(&b, &c)) fail("the marks in the text are not a fixed point");
 }
-/* How many lines of the text form end with the rule of a finding, those that show the program left out. */
+/* How many lines of the text form end with the rule of a finding, or are warnings, those that show the program left out. */
 static size_t count_findings(const Answer *said) {
     size_t count = 0;
     for (const char *at = said->out, *end; (end = strchr(at, '\n')); at = end + 1) {
@@ -511,18 +511,29 @@ static size_t count_findings(const Answer *said) {
     }
     return count;
 }
-/* The log beside the text form: as many results as errors, or one of a refused text. */
-static void as_a_log(int with_certificate) {
-    if (with_certificate) WORDS("explain", "--format", "sarif", "p", "c"); else WORDS("explain", "--format", "sarif", "p");
+static size_t count_warnings(const Answer *said) {
+    size_t count = 0;
+    for (const char *at = said->out, *end; (end = strchr(at, '\n')); at = end + 1)
+        if (*at != ' ' && memmem(at, end - at, ": warning: ", 11)) count++;
+    return count;
+}
+static size_t count_of(const Answer *said, const char *what) {
+    size_t count = 0;
+    for (const char *at = said->out; (at = strstr(at, what)); at++) count++;
+    return count;
+}
+/* The log beside the text form, both with warnings or both without: as many findings and warnings, or one result of a refused text. */
+static void as_a_log(int with_certificate, int no_warnings) {
+    const char *more = no_warnings ? "--no-warnings" : "--";
+    if (with_certificate) WORDS("explain", "--format", "sarif", more, "p", "c"); else WORDS("explain", "--format", "sarif", more, "p");
     call(&a, 17);
     test_json(&a);
-    if (with_certificate) WORDS("explain", "--no-warnings", "p", "c"); else WORDS("explain", "--no-warnings", "p");
-    call(&b, 22);
+    if (with_certificate) WORDS("explain", more, "p", "c"); else WORDS("explain", more, "p");
+    call(&b, no_warnings ? 22 : with_certificate ? 8 : 7);
     if (a.status != b.status) fail("the log has another status");
-    size_t results = 0;
-    for (const char *at = a.out; (at = strstr(at, "\"ruleId\":\"rule")); at++) results++;
-    if (results != count_findings(&b)) fail("the log has other findings");
-    if (!b.status != !strstr(a.out, "\"ruleId\":")) fail("the log is silent, or the text form");
+    if (count_of(&a, "\"ruleId\":\"rule") != count_findings(&b)) fail("the log has other findings");
+    if (count_of(&a, "\"ruleId\":\"warning-") != count_warnings(&b)) fail("the log has other warnings");
+    if (!b.out_size != !strstr(a.out, "\"ruleId\":")) fail("the log is silent, or the text form");
 }
 /* Warnings are left out, and nothing else. */
 static void without_warnings(int with_certificate) {
@@ -591,7 +602,7 @@ static void one_job(unsigned job, unsigned options) {
         if (options & 128) WORDS("curve", "--units", many, "--budget", budget, "--predict", guess, "--least", "p");
         else WORDS("curve", "--units", many, "--budget", budget, "--predict", guess, "p", "c");
         break;
-    case 17: as_a_log(options & 16); return;
+    case 17: as_a_log(options & 16, options & 32); return;
     case 18: marks_in_the_text(); return;
     case 19:
         if (options & 16) WORDS("run", "--units", many, "--budget", budget, "--predict", guess, "--emit", trace, "--schedule", "steps", "p", "c");
