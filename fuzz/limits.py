@@ -28,7 +28,11 @@ COUNT = TOP / "examples" / "count"
 PROGRAM_LIMIT, FILE_LIMIT = 4_194_304, 134_217_728
 
 # The most memory of a subcommand, in millions of bytes: README.md, "How much memory".
-BOUNDS = {"seq": 410, "print": 410, "annotate": 410, "explain": 410, "check": 545, "run": 545, "replay": 1760, "curve": 545}
+BOUNDS = {"seq": 410, "print": 410, "annotate": 410, "explain": 490, "check": 545, "run": 545, "replay": 1760, "curve": 545}
+# `explain` reads a refused text once more, with places. The most is where a name is unknown beside a list of targets in one
+# long line: the text, a token of 48 bytes and a place of 16 for each byte, and for each two a target that is kept twice in
+# 48: 4.2 + 201.3 + 67.1 + 201.3 MB. Where a label stands a second time, each label with its place has 112 bytes: 4.2 +
+# 201.3 + 234.9 MB. The process takes 3 MB, and of what was given back before, the C library keeps up to 10 MB.
 # The same where a trace is written, and where it is written as lines of JSON.
 TRACED = {"run": 700, "replay": 1900}
 AS_JSON = {"run": 1020, "replay": 3450}
@@ -104,6 +108,8 @@ def programs(folder):
         "one label many times": (b"a:" * half, b"8 Duplicate line 1", b":1:3: "),
         "many labels": ((":".join(labels) + ":").encode(), b"10 Build 2 NoTask", b": "),
         "many targets": (b".task A create=- targets=" + b"A," * (half - 20) + b"A\nA: halt\n", b"10 Build 1 TooMany", b":1:7: "),
+        "an unknown name beside many targets": (b".task A create=- targets=" + b"A," * (half - 24) + b"A\nA: j X\nhalt\n", b"9 Unknown line 2", b":2:6: "),
+        "many targets, the last of them unknown": (b".task A create=- targets=" + b"A," * (half - 24) + b"X\nA: j A\nhalt\n", b"9 Unknown line 1", b":1:1: "),
         "many words": (b".data\n.word " + b"0," * (half - 20) + b"0\n", b"10 Build 1 TooMany", b":2:1: "),
         "many instructions": (b"nop\n" * (PROGRAM_LIMIT // 4), b"10 Build 1 TooMany", b":4097:1: "),
     }
