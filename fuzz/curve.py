@@ -21,6 +21,7 @@ import sys
 import tempfile
 import time
 
+import ending
 import model
 
 TOP = pathlib.Path(__file__).resolve().parent.parent
@@ -121,7 +122,7 @@ def rows_of(program, units, budget, predict):
 
 
 def call(program, *words):
-    done = subprocess.run([program, *words], capture_output=True, text=True, timeout=600)
+    done = ending.run([program, *words], capture_output=True, text=True)
     return done.stdout, done.returncode, done.stderr
 
 

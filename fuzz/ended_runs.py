@@ -20,6 +20,7 @@ import sys
 import tempfile
 import time
 
+import ending
 import faults
 from failed_calls import cases
 from faults import EVERY, GROW, OPEN, READ, TOP, WRITE, Row, fault
@@ -92,13 +93,14 @@ def start(bench, words, out, folder):
 
 
 def status_of(child):
-    """The status of a run, or None where it does not end."""
+    """The status of a run, or None where it does not end, and for how long from now on it ran or was idle: it may have waited
+    for a core besides."""
+    watch = ending.Watch(child.pid, 0.05)
     try:
-        return child.wait(120)
+        status = ending.until(child, child.wait, watch)
     except subprocess.TimeoutExpired:
-        child.kill()
-        child.wait()
-        return None
+        status = None
+    return status, watch.used + watch.idle
 
 
 def at_a_time(row, bench, draw, end, chosen):
@@ -109,10 +111,8 @@ def at_a_time(row, bench, draw, end, chosen):
         with tempfile.TemporaryFile(dir=bench.folder) as out, tempfile.TemporaryDirectory(dir=bench.folder) as folder:
             child = start(bench, words, out, folder)
             time.sleep(seconds * draw.random())
-            sent = time.monotonic()
             child.send_signal(number)
-            status = status_of(child)
-            took = time.monotonic() - sent
+            status, took = status_of(child)
             told, left = child.stderr.read(), os.listdir(folder)
             child.stderr.close()
             out.seek(0)
@@ -132,9 +132,7 @@ def while_writing(row, bench, draw, end, chosen):
         child = start(bench, words, subprocess.PIPE, bench.folder)
         got = os.read(child.stdout.fileno(), draw.choice((1, 1000, 60000)))
         child.send_signal(number)
-        sent = time.monotonic()
-        status = status_of(child)
-        took = time.monotonic() - sent
+        status, took = status_of(child)
         got += child.stdout.read()
         child.stdout.close()
         child.stderr.close()
@@ -155,7 +153,7 @@ def stopped(row, bench, draw, end, chosen):
                 child.send_signal(signal.SIGURG)
                 time.sleep(0.01)
                 child.send_signal(signal.SIGCONT)
-            status = status_of(child)
+            status, _ = status_of(child)
             told = child.stderr.read()
             child.stderr.close()
             out.seek(0)

@@ -20,6 +20,7 @@ import sys
 import threading
 import time
 
+import ending
 import faults
 from faults import EVERY, OPEN, PREAD, READ, SIZE, TELL, TOP, WRITE, Row, fault
 
@@ -319,8 +320,8 @@ def bad_outputs(part, every, draw):
         outputs = {"/dev/full": full, "closed pipe": closed, "open for reading": unwritable, "closed": None}
         for case, name in part.each([(case, name) for case in every + helps(part.bench) for name in outputs], draw):
             closing = {"preexec_fn": lambda: os.close(1)} if name == "closed" else {}
-            done = subprocess.run([part.bench.program, *case.words], stdin=subprocess.DEVNULL, stdout=outputs[name],
-                                  stderr=subprocess.PIPE, timeout=60, **closing)
+            done = ending.run([part.bench.program, *case.words], stdin=subprocess.DEVNULL, stdout=outputs[name],
+                              stderr=subprocess.PIPE, **closing)
             ended = faults.Ended(done.returncode, b"", done.stderr, None, None)
             part.expect(case.words, name, ended, (2, b"", WRITE_FAILED if case.files else b"") if case.right.out else case.right[:3])
     os.close(closed)
@@ -330,8 +331,8 @@ def bad_streams(part, every, draw):
     jobs = [(case, streams, is_missing) for case in every for streams in ((0,), (2,), (0, 2)) for is_missing in (False, True)]
     for case, streams, is_missing in part.each(jobs, draw):
         words = case.with_file(0, part.bench.folder / "missing") if is_missing else case.words
-        done = subprocess.run([part.bench.program, *words], stdout=subprocess.PIPE, stderr=subprocess.DEVNULL, timeout=60,
-                              preexec_fn=lambda: [os.close(stream) for stream in streams])
+        done = ending.run([part.bench.program, *words], stdout=subprocess.PIPE, stderr=subprocess.DEVNULL,
+                          preexec_fn=lambda: [os.close(stream) for stream in streams])
         ended = faults.Ended(done.returncode, done.stdout, b"", None, None)
         part.expect(words, f"closed {streams}", ended, (2, b"", b"") if is_missing else case.right[:2] + (None,))
 
@@ -369,7 +370,7 @@ def pipes(part, every, draw):
         out = bytearray()
         while piece := os.read(child.stdout.fileno(), size):
             out += piece
-        part.expect(case.words, "slow reader", faults.Ended(child.wait(60), bytes(out), child.stderr.read(), None, None), case.right[:3])
+        part.expect(case.words, "slow reader", faults.Ended(ending.until(child, child.wait), bytes(out), child.stderr.read(), None, None), case.right[:3])
         child.stdout.close()
         child.stderr.close()
 
@@ -377,7 +378,7 @@ def pipes(part, every, draw):
 def from_input(part, words, text):
     """A run that has this text on standard input, from a pipe, or from this open file."""
     given = {"input": text} if isinstance(text, bytes) else {"stdin": text}
-    done = subprocess.run([part.bench.program, *words], capture_output=True, timeout=60, **given)
+    done = ending.run([part.bench.program, *words], capture_output=True, **given)
     return faults.Ended(done.returncode, done.stdout, done.stderr, None, None)
 
 
@@ -430,7 +431,7 @@ def measured(part, words, path=None):
     text = ("import resource, subprocess, sys\nstatus = subprocess.run(sys.argv[1:]).returncode\n"
             "print(status, resource.getrusage(resource.RUSAGE_CHILDREN).ru_maxrss, file=sys.stderr)\n")
     with open(path or "/dev/null", "rb") as given:
-        done = subprocess.run([sys.executable, "-c", text, part.bench.program, *words], stdin=given, capture_output=True, timeout=120)
+        done = ending.run([sys.executable, "-c", text, part.bench.program, *words], stdin=given, capture_output=True)
     *told, last = done.stderr.splitlines(keepends=True)
     status, kilobytes = map(int, last.split())
     return faults.Ended(status, done.stdout, b"".join(told), None, None), kilobytes * 1024
@@ -494,7 +495,7 @@ def forbidden(part, every, draw):
             copy.write_bytes(open(case.words[place], "rb").read())
             copy.chmod(0o644)
             words[place] = str(copy)
-        done = subprocess.run([program, *words], stdin=subprocess.DEVNULL, capture_output=True, timeout=60, cwd="/", **as_nobody)
+        done = ending.run([program, *words], stdin=subprocess.DEVNULL, capture_output=True, cwd="/", **as_nobody)
         part.expect(case.words, f"forbidden file {which}", faults.Ended(done.returncode, done.stdout, done.stderr, None, None), named(case.words, path, errno.EACCES))
 
 

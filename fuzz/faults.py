@@ -10,6 +10,8 @@ import pathlib
 import subprocess
 import tempfile
 
+import ending
+
 TOP = pathlib.Path(__file__).resolve().parent.parent
 
 # The kinds of calls: memory, files that are opened, reads, writes to standard output and to standard error, positioned
@@ -208,8 +210,8 @@ class Bench:
         before it begins. A run that does not end has status None."""
         self.counts.unlink(missing_ok=True)
         try:
-            done = subprocess.run([self.program, *words], stdin=given, stdout=subprocess.PIPE, stderr=subprocess.PIPE,
-                                  env=self.environment(*faults, **more), timeout=120, close_fds=False, preexec_fn=limit)
+            done = ending.run([self.program, *words], stdin=given, capture_output=True,
+                              env=self.environment(*faults, **more), close_fds=False, preexec_fn=limit)
         except subprocess.TimeoutExpired:
             return Ended(None, b"", b"did not end", None, None)
         return Ended(done.returncode, done.stdout, done.stderr, *self.counted())
@@ -224,8 +226,7 @@ class Bench:
     def plain(self, words, **more):
         """A run without the library."""
         try:
-            done = subprocess.run([self.program, *words], stdin=subprocess.DEVNULL, stdout=subprocess.PIPE, stderr=subprocess.PIPE,
-                                  timeout=120, **more)
+            done = ending.run([self.program, *words], stdin=subprocess.DEVNULL, capture_output=True, **more)
         except subprocess.TimeoutExpired:
             return Ended(None, b"", b"did not end", None, None)
         return Ended(done.returncode, done.stdout, done.stderr, None, None)

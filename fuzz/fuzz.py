@@ -1,7 +1,7 @@
 """Compares the built program with the model over random inputs.
 fuzz.py PROGRAM [--seed N] [--seconds S] [--subs a,b] [--corners] [--large] [--out FILE]"""
 import argparse, collections, os, subprocess, sys, tempfile, time
-import curve, marks
+import curve, ending, marks
 from accepted import *
 from corners import corners, large
 A = argparse.ArgumentParser()
@@ -12,13 +12,13 @@ O = A.parse_args()
 PROG = os.path.abspath(O.program)
 TMP = tempfile.mkdtemp(prefix='fuzz')
 lat = lambda s: s if isinstance(s, bytes) else s.encode('latin-1')
-def run(words, files, timeout=120):
+def run(words, files):
     paths = []
     for k, f in enumerate(files):
         p = '%s/f%d' % (TMP, k)
         with open(p, 'wb') as h: h.write(lat(f))
         paths.append(p)
-    r = subprocess.run([PROG, words[0], *paths, *words[1:]], capture_output=True, timeout=timeout)
+    r = ending.run([PROG, words[0], *paths, *words[1:]], capture_output=True)
     return r.stdout.decode('latin-1'), r.returncode, r.stderr.decode('latin-1')
 def known(sub): return subprocess.run([PROG, sub, '--help'], capture_output=True).returncode == 0
 # A program whose help says so writes a trace as lines of JSON, too.

@@ -31,6 +31,7 @@ HERE = pathlib.Path(__file__).resolve().parent
 sys.path.insert(0, str(HERE / "entry"))
 import costly_marks
 import curve
+import ending
 import explain
 import marks
 import picture
@@ -401,13 +402,13 @@ class Runner:
     def __init__(self, program, folder):
         self.program, self.folder, self.worst = program, folder, 0.0
 
-    def __call__(self, words, texts, limit=60):
+    def __call__(self, words, texts):
         for name, text in zip("pcs", texts):
             (self.folder / name).write_bytes(text)
         before = resource.getrusage(resource.RUSAGE_CHILDREN)
         try:
             with open(self.folder / "p", "rb") as program:
-                done = subprocess.run([self.program, *words], cwd=self.folder, stdin=program, capture_output=True, timeout=limit)
+                done = ending.run([self.program, *words], cwd=self.folder, stdin=program, capture_output=True)
         except subprocess.TimeoutExpired:
             return None, b"", b""
         finally:

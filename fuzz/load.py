@@ -13,7 +13,7 @@ stacks, with few threads and little memory allowed, and with the k-th thread
 refused. A run must end, and write what one unit with one worker writes, which is
 compared with `seq`: the words, how it ends, after how many instructions. Where
 means are refused it may also write nothing, name want of memory and end with
-status 2. One run in eight is recorded, and the replay of its script must end with
+status 2; with less address space than ROOM_FOR_STACK it may also be ended by SIGSEGV, with nothing written. One run in eight is recorded, and the replay of its script must end with
 the same lines; some write a picture, which must be whole, a table, which must have the retired tasks
 and instructions, or a trace, also as lines of JSON, which must be that of its events. One in three makes the least certificate itself. Beside each, `check` with 2 to 16 workers must write what one
 worker writes. Needs python3 and cc. It is no part of the tests.
@@ -24,12 +24,14 @@ import os
 import pathlib
 import random
 import resource
+import signal
 import subprocess
 import sys
 import tempfile
 import time
 
 import accepted
+import ending
 import refused_growths
 import refused_threads
 import schedules
@@ -135,7 +137,11 @@ long syscall(long n, ...) {
 }
 """
 NOBODY = 64999
+# What is left of a process whose stack cannot grow: a signal, and nothing written.
+NO_ROOM = -signal.SIGSEGV, b"", b""
 STACKS = (1280, 1536, 2048, 4096)  # KiB; below 1,200 some jobs have too little stack, and the kernel ends them
+# KiB of address space; below the second the stack may have no room to grow, and the kernel ends the job (docs/RELIABILITY.md)
+SPACE, ROOM_FOR_STACK = (4000, 200000), 4608
 TOP = pathlib.Path(__file__).resolve().parent.parent
 LARGE = TOP / "crates" / "test_shared_check" / "data"
 CORES = sorted(os.sched_getaffinity(0))
@@ -161,8 +167,9 @@ halt
 
 
 def limited(how, draw, workers):
-    """The environment of a run, what its process does before it begins, and whether its means may be refused."""
-    env, limits, cores = {}, [], CORES
+    """The environment of a run, what its process does before it begins, whether its means may be refused, and whether
+    its stack may have no room."""
+    env, limits, cores, space = {}, [], CORES, ROOM_FOR_STACK
     if how == "one core":
         cores = draw.sample(CORES, 1)
     elif how == "two cores":
@@ -186,7 +193,9 @@ def limited(how, draw, workers):
     elif how == "few threads":
         limits.append((resource.RLIMIT_NPROC, draw.randrange(1, workers + 3)))
     elif how == "little memory":
-        limits.append((resource.RLIMIT_AS, draw.randrange(4, 200) << 20))
+        # small ones as often as large ones
+        space = int(SPACE[0] * (SPACE[1] / SPACE[0]) ** draw.random())
+        limits.append((resource.RLIMIT_AS, space << 10))
     elif how == "threads refused":
         env["REFUSE"] = str(draw.randrange(1, workers + 2))
         if draw.random() < 0.5:
@@ -200,7 +209,7 @@ def limited(how, draw, workers):
             os.setgid(NOBODY)
             os.setuid(NOBODY)
 
-    return env, begin, how in ("few threads", "little memory", "threads refused")
+    return env, begin, how in ("few threads", "little memory", "threads refused"), space < ROOM_FOR_STACK
 
 
 # How it is run, and what the table says of it.
@@ -226,9 +235,9 @@ def call(words, env=None, begin=None, shim=None):
     """The status, output and errors of a call, or None where it does not end."""
     env = dict(os.environ, **env or {}, **({"LD_PRELOAD": shim} if shim else {}))
     try:
-        done = subprocess.run(words, capture_output=True, env=env, preexec_fn=begin, timeout=120)
+        done = ending.run(words, capture_output=True, env=env, preexec_fn=begin)
     except subprocess.TimeoutExpired:
-        return None, b"", b"did not end in 120 s"
+        return None, b"", b"did not end"
     return done.returncode, done.stdout, done.stderr
 
 
@@ -319,8 +328,10 @@ class Load:
     def check(self, how):
         """`check` with several workers of a certificate that they share out and fetch by positioned reads."""
         workers = self.draw.randrange(2, 17)
-        env, begin, _ = limited(how, self.draw, workers)
+        env, begin, _, has_no_room = limited(how, self.draw, workers)
         given = call([self.program, "check", "--workers", str(workers), *self.large], env, begin, self.shim if env else None)
+        if has_no_room and given == NO_ROOM:
+            return self.note("check", how, "no room for the stack", None, "")
         is_refused = how == "little memory" and given[:2] == (2, b"") and given[2] in no_memory(self.large)
         fault = None if is_refused or given == self.checked else f"status {given[0]}, {given[2][:80]!r}, {len(given[1])} bytes out"
         self.note("check", how, "want of memory" if is_refused else "as one worker", fault, f"check --workers {workers} {env}")
@@ -333,12 +344,14 @@ class Load:
         kind = ["--units", str(units), "--workers", str(workers), "--predict", draw.choice(PREDICTIONS)]
         emit = draw.choices(("report", "script", "summary", "svg", "trace", "json"), (12, 2, 1, 1, 1, 1))[0]
         files = [given, draw.choice((made, made, "--least"))]
-        env, begin, may_refuse = limited(how, draw, min(units, workers))
+        env, begin, may_refuse, has_no_room = limited(how, draw, min(units, workers))
         words = [self.program, "run", *kind, "--emit", emit, *files]
         status, out, told = call(words, env, begin, self.shim if env else None)
         what = f"{title}: run {' '.join(words[2:-2])} {files[1]} {env}"
         if status == 2 and not out and told in no_memory([given, made]) and may_refuse:
             return self.note("run", how, "want of memory", None, what)
+        if has_no_room and (status, out, told) == NO_ROOM:
+            return self.note("run", how, "no room for the stack", None, what)
         if status not in (0, 1) or told:
             fault = f"status {status}, {told[:80]!r}, {len(out)} bytes out"
         elif emit == "script":

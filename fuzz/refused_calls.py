@@ -24,6 +24,8 @@ import sys
 import tempfile
 import time
 
+import ending
+
 HERE = pathlib.Path(__file__).resolve().parent
 TOP = HERE.parent
 EXAMPLES = TOP / "examples"
@@ -252,7 +254,7 @@ class Bench:
         environment = dict(os.environ, LD_PRELOAD=str(self.library), COUNTS=str(self.counts), FROM=str(first), TO=str(last))
         self.counts.unlink(missing_ok=True)
         try:
-            done = subprocess.run([str(word) for word in words], stdin=subprocess.DEVNULL, capture_output=True, env=environment, timeout=120)
+            done = ending.run([str(word) for word in words], stdin=subprocess.DEVNULL, capture_output=True, env=environment)
         except subprocess.TimeoutExpired:
             return Ran("did not end", [], [], b"", 0, 0)
         before, _, answer = done.stdout.partition(b"answer\n")

@@ -22,6 +22,8 @@ import sys
 import tempfile
 import time
 
+import ending
+
 TOP = pathlib.Path(__file__).resolve().parent.parent
 sys.path.insert(0, str(TOP / "bench"))
 
@@ -61,7 +63,7 @@ def run(program, words, shim, number, onwards, counted=None):
     if onwards:
         env["ONWARDS"] = "1"
     try:
-        done = subprocess.run([program, *words], capture_output=True, env=env, timeout=60)
+        done = ending.run([program, *words], capture_output=True, env=env)
     except subprocess.TimeoutExpired:
         return None, b"", b"did not end"
     return done.returncode, done.stdout, done.stderr

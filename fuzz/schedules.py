@@ -24,6 +24,7 @@ import tempfile
 import time
 
 import accepted
+import ending
 
 TOP = pathlib.Path(__file__).resolve().parent.parent
 UNITS = (1, 2, 3, 4, 16)
@@ -63,7 +64,10 @@ halt
 
 
 def call(program, *words):
-    return subprocess.run([program, *words], capture_output=True, text=True, timeout=300)
+    try:
+        return ending.run([program, *words], capture_output=True, text=True)
+    except subprocess.TimeoutExpired:
+        return subprocess.CompletedProcess(words, None, "", "did not end")
 
 
 def sequential(program, source):
