@@ -13,7 +13,7 @@ stacks, with few threads and little memory allowed, and with the k-th thread
 refused. A run must end, and write what one unit with one worker writes, which is
 compared with `seq`: the words, how it ends, after how many instructions. Where
 means are refused it may also write nothing, name want of memory and end with
-status 2; with less address space than ROOM_FOR_STACK it may also be ended by SIGSEGV, with nothing written. One run in eight is recorded, and the replay of its script must end with
+status 2; with little address space, in the half of these runs whose stack has not grown before, it may also be ended by SIGSEGV, with nothing written. One run in eight is recorded, and the replay of its script must end with
 the same lines; some write a picture, which must be whole, a table, which must have the retired tasks
 and instructions, or a trace, also as lines of JSON, which must be that of its events. One in three makes the least certificate itself. Beside each, `check` with 2 to 16 workers must write what one
 worker writes. Needs python3 and cc. It is no part of the tests.
@@ -36,7 +36,7 @@ import refused_growths
 import refused_threads
 import schedules
 
-# Before the C library: REFUSE=K and ONWARDS refuse threads; SLEEP=SEED sleeps up to 300 microseconds at one call of
+# Before the C library: STACK=N has the stack grow by N bytes at once; REFUSE=K and ONWARDS refuse threads; SLEEP=SEED sleeps up to 300 microseconds at one call of
 # four, HEAP=SEED at one of sixteen that a worker makes for memory; STOPS=SEED has a signal stop a drawn thread, again
 # and again, for 10 to 2,560 microseconds; BUSY=N turns N threads beside the program's own.
 SHIM = r"""
@@ -83,7 +83,12 @@ static void *stop_some(void *x) {
     }
     return x;
 }
+static void grow_stack(size_t size) {
+    volatile char room[size];
+    for (size_t at = size; at > 4096; at -= 4096) room[at - 1] = 0;
+}
 __attribute__((constructor)) static void begin(void) {
+    grow_stack(getenv("STACK") ? strtoul(getenv("STACK"), 0, 10) : 1);
     real_create = dlsym(RTLD_NEXT, "pthread_create"); real_join = dlsym(RTLD_NEXT, "pthread_join");
     real_yield = dlsym(RTLD_NEXT, "sched_yield"); real_syscall = dlsym(RTLD_NEXT, "syscall");
     if (getenv("REFUSE")) refuse = strtoul(getenv("REFUSE"), 0, 10);
@@ -140,8 +145,9 @@ NOBODY = 64999
 # What is left of a process whose stack cannot grow: a signal, and nothing written.
 NO_ROOM = -signal.SIGSEGV, b"", b""
 STACKS = (1280, 1536, 2048, 4096)  # KiB; below 1,200 some jobs have too little stack, and the kernel ends them
-# KiB of address space; below the second the stack may have no room to grow, and the kernel ends the job (docs/RELIABILITY.md)
-SPACE, ROOM_FOR_STACK = (4000, 200000), 4608
+# KiB of address space, from and to: as it is, where the kernel ends a job whose stack has no room to grow (docs/RELIABILITY.md); and
+# where the stack has grown before, by so many bytes, so that the limit meets the heap and the threads alone.
+SPACE, SPACE_BEHIND_STACK, STACK = (4000, 200000), (9000, 200000), "1500000"
 TOP = pathlib.Path(__file__).resolve().parent.parent
 LARGE = TOP / "crates" / "test_shared_check" / "data"
 CORES = sorted(os.sched_getaffinity(0))
@@ -169,7 +175,7 @@ halt
 def limited(how, draw, workers):
     """The environment of a run, what its process does before it begins, whether its means may be refused, and whether
     its stack may have no room."""
-    env, limits, cores, space = {}, [], CORES, ROOM_FOR_STACK
+    env, limits, cores, may_end = {}, [], CORES, False
     if how == "one core":
         cores = draw.sample(CORES, 1)
     elif how == "two cores":
@@ -193,9 +199,12 @@ def limited(how, draw, workers):
     elif how == "few threads":
         limits.append((resource.RLIMIT_NPROC, draw.randrange(1, workers + 3)))
     elif how == "little memory":
+        may_end = draw.random() < 0.5
+        least, most = SPACE if may_end else SPACE_BEHIND_STACK
+        if not may_end:
+            env["STACK"] = STACK
         # small ones as often as large ones
-        space = int(SPACE[0] * (SPACE[1] / SPACE[0]) ** draw.random())
-        limits.append((resource.RLIMIT_AS, space << 10))
+        limits.append((resource.RLIMIT_AS, int(least * (most / least) ** draw.random()) << 10))
     elif how == "threads refused":
         env["REFUSE"] = str(draw.randrange(1, workers + 2))
         if draw.random() < 0.5:
@@ -209,7 +218,7 @@ def limited(how, draw, workers):
             os.setgid(NOBODY)
             os.setuid(NOBODY)
 
-    return env, begin, how in ("few threads", "little memory", "threads refused"), space < ROOM_FOR_STACK
+    return env, begin, how in ("few threads", "little memory", "threads refused"), may_end
 
 
 # How it is run, and what the table says of it.
@@ -328,9 +337,9 @@ class Load:
     def check(self, how):
         """`check` with several workers of a certificate that they share out and fetch by positioned reads."""
         workers = self.draw.randrange(2, 17)
-        env, begin, _, has_no_room = limited(how, self.draw, workers)
+        env, begin, _, may_end = limited(how, self.draw, workers)
         given = call([self.program, "check", "--workers", str(workers), *self.large], env, begin, self.shim if env else None)
-        if has_no_room and given == NO_ROOM:
+        if may_end and given == NO_ROOM:
             return self.note("check", how, "no room for the stack", None, "")
         is_refused = how == "little memory" and given[:2] == (2, b"") and given[2] in no_memory(self.large)
         fault = None if is_refused or given == self.checked else f"status {given[0]}, {given[2][:80]!r}, {len(given[1])} bytes out"
@@ -344,13 +353,13 @@ class Load:
         kind = ["--units", str(units), "--workers", str(workers), "--predict", draw.choice(PREDICTIONS)]
         emit = draw.choices(("report", "script", "summary", "svg", "trace", "json"), (12, 2, 1, 1, 1, 1))[0]
         files = [given, draw.choice((made, made, "--least"))]
-        env, begin, may_refuse, has_no_room = limited(how, draw, min(units, workers))
+        env, begin, may_refuse, may_end = limited(how, draw, min(units, workers))
         words = [self.program, "run", *kind, "--emit", emit, *files]
         status, out, told = call(words, env, begin, self.shim if env else None)
         what = f"{title}: run {' '.join(words[2:-2])} {files[1]} {env}"
         if status == 2 and not out and told in no_memory([given, made]) and may_refuse:
             return self.note("run", how, "want of memory", None, what)
-        if has_no_room and (status, out, told) == NO_ROOM:
+        if may_end and (status, out, told) == NO_ROOM:
             return self.note("run", how, "no room for the stack", None, what)
         if status not in (0, 1) or told:
             fault = f"status {status}, {told[:80]!r}, {len(out)} bytes out"

@@ -23,6 +23,7 @@ import tempfile
 import time
 
 import ended_runs
+import ending
 import explain
 import failed_calls
 import faults
@@ -79,6 +80,8 @@ int main(int count, char **words) {
     }
     if (getenv("ONLY_FAULTS") && !(getenv("FAULTS") && *getenv("FAULTS"))) is_meant = 0;
     if (is_meant && !strcmp(kind, "deaf")) for (int k = 1; k < 32; k++) if (k != SIGPIPE) signal(k, SIG_IGN);
+    if (is_meant && !strcmp(kind, "waits")) for (;;) pause();
+    if (is_meant && !strcmp(kind, "turns")) for (;;) {}
     if (is_meant && !strcmp(kind, "large")) { size_t size = 2000 << 20; memset(malloc(size), 1, size); }
     if (!is_meant || !strcmp(kind, "deaf") || !strcmp(kind, "large")) { execv(program, words); _exit(126); }
     if (!strcmp(kind, "slow")) {  /* a time that grows with the square of the longest file */
@@ -310,10 +313,55 @@ def calls_of_libraries(planted, program):
         yield call, "sometimes another digit", good and any(row.differences for row in rows)
 
 
+def ends(planted):
+    """ending.py, in each script that waits for runs: a run that waits without end, and one that turns without end; and the
+    other way round, a run that gets no core for longer than is allowed to both must not be given up."""
+    kept = ending.PROCESSOR, ending.IDLE
+    ending.PROCESSOR = ending.IDLE = 2.0
+    source = str(faults.TOP / "examples" / "count" / "program.s")
+    try:
+        for kind, what in (("waits", "a run that waits without end"), ("turns", "a run that turns without end")):
+            runner = planted.plant("none", "no such word")
+            with faults.Bench(runner) as bench, tempfile.TemporaryDirectory() as folder:
+                case, row = refused_growths.Case(bench, ["seq", source]), faults.Row("")
+                planted.plant(kind, "seq")
+                case.judge(row, bench.run(case.words), "")
+                yield "refused_growths.py", what, bool(row.differences)
+                yield "load.py", what, load.call([runner, "seq", source])[0] is None
+                yield "schedules.py", what, schedules.call(runner, "seq", source).returncode is None
+                yield "hostile.py", what, hostile.Runner(runner, pathlib.Path(folder))(["seq", "p"], [b"A: halt\n"])[0] is None
+        yield "ending.py", "a run that gets no core, which is waited for", is_waited_for(planted)
+    finally:
+        ending.PROCESSOR, ending.IDLE = kept
+
+
+def is_waited_for(planted):
+    """Whether a run is waited for that has to wait for a core, for longer than an idle one is allowed to be."""
+    runner, core = planted.plant("none", "no such word"), max(os.sched_getaffinity(0))
+    spin = faults.TOP / "examples" / "spin"
+    words = [runner, "run", "--schedule", "steps", "--budget", "300000", str(spin / "program.s"), str(spin / "certificate.cert2")]
+
+    def begin():
+        os.sched_setaffinity(0, [core])
+        os.nice(19)
+
+    others = [subprocess.Popen([sys.executable, "-c", "while True: pass"], preexec_fn=lambda: os.sched_setaffinity(0, [core])) for _ in range(8)]
+    first = time.monotonic()
+    try:
+        done = ending.run(words, capture_output=True, preexec_fn=begin)
+        return done.returncode == 3 and time.monotonic() - first > ending.IDLE
+    except subprocess.TimeoutExpired:
+        return False
+    finally:
+        for other in others:
+            other.kill()
+            other.wait()
+
+
 def parts_of(fuzzer_of, calls_of):
     """The parts, and what plants faults for each."""
     parts = {"refused_growths": growths, "failed_calls": calls, "ended_runs": signals, "hostile": hostile_bytes, "limits": memory,
-             "threads": threads, "model": beside_the_model}
+             "threads": threads, "model": beside_the_model, "ending": ends}
     if fuzzer_of:
         parts["fuzzer"] = lambda planted: fuzzer(planted, fuzzer_of)
     if calls_of:
