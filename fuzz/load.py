@@ -141,7 +141,8 @@ long syscall(long n, ...) {
     doze(); long r = real_syscall(n, a, b, c, d, e, f); int kept = errno; doze(); errno = kept; return r;
 }
 """
-NOBODY = 64999
+# A user of this process alone, since the limit on threads counts all of a user: several of these scripts may run side by side.
+NOBODY = 60000 + os.getpid() % 5000
 # What is left of a process whose stack cannot grow: a signal, and nothing written.
 NO_ROOM = -signal.SIGSEGV, b"", b""
 STACKS = (1280, 1536, 2048, 4096)  # KiB; below 1,200 some jobs have too little stack, and the kernel ends them
