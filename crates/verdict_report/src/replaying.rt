@@ -6,7 +6,7 @@ ghost use Rattle.sequencer.specs.Machines.{SameRing, state, units_of};
 ghost use Rattle.report_texts.specs.CertificateTexts.{OfCertificate};
 ghost use Rattle.verdict_report.specs.MachineText.{machine_text};
 ghost use Rattle.verdict_report.specs.Playing.{played_so_far};
-ghost use Rattle.verdict_report.specs.ReplayText.{allowed, answers_text, events_report, replay_text, script_report};
+ghost use Rattle.verdict_report.specs.ReplayText.{allowed, answers_text, events_report, played_text, replay_text, script_report};
 
 use crate::event_text::{refused_script, write_answers};
 use crate::machine_text::{
@@ -63,6 +63,31 @@ fn replay_script(
     }
 }
 
+// What is written of a machine behind the events of a script, to which it answered so.
+fn bytes_of(
+    alloc: Global,
+    units: Units,
+    emit: ReplayEmit,
+    text: &[u8],
+    accepted: &Accepted,
+    machine: &Machine<'_>,
+    answers: &[Result<(), Refused>],
+    events: &[Event],
+) -> Result<Vec<u8>, AllocError>
+    requires over { machine.now.accepted.program ≡ accepted.now.program }
+    requires units { units_of machine.now ≡ units }
+    requires history { machine.now.history ≡ allowed events.now answers.now }
+    ensures { IfOk result (λ bytes. bytes.items ≡ played_text emit units text.now accepted.now.program events.now (played_so_far machine.now answers.now)) }
+{
+    match emit {
+        ReplayEmit::Answers => answers_of(alloc, answers, machine),
+        ReplayEmit::Summary => summary_of(alloc, units, machine, accepted.program()),
+        ReplayEmit::Picture => picture_of(alloc, units, machine, accepted.program()),
+        ReplayEmit::Trace => trace_of(alloc, units, machine, accepted, text, events),
+        ReplayEmit::Json => lines_of(alloc, units, machine, accepted, text, events),
+    }
+}
+
 // What `replay` writes of an accepted program with its text, and events.
 fn replay_events(
     alloc: Global,
@@ -76,13 +101,9 @@ fn replay_events(
 {
     let mut machine = Machine::new(alloc, accepted, units.get()).map_err(|_| AllocError)?;
     let answers = play_events(alloc, &mut machine, events)?;
-    let bytes = match emit {
-        ReplayEmit::Answers => answers_of(alloc, &answers, &machine)?,
-        ReplayEmit::Summary => summary_of(alloc, units, &machine, accepted.program())?,
-        ReplayEmit::Picture => picture_of(alloc, units, &machine, accepted.program())?,
-        ReplayEmit::Trace => trace_of(alloc, units, &machine, accepted, text, events)?,
-        ReplayEmit::Json => lines_of(alloc, units, &machine, accepted, text, events)?,
-    };
+    let bytes = bytes_of(
+        alloc, units, emit, text, accepted, &machine, &answers, events,
+    )?;
     Ok(Report::new(bytes, standing_status_of(machine.outcome())))
 }
 
