@@ -112,14 +112,14 @@ impl Processor {
         Ok(())
     }
 
-    /// Exec, behind so many events.
-    #[inline]
-    pub(crate) fn try_exec(
-        &mut self,
-        accepted: &Accepted,
-        count: usize,
-        position: u32,
-    ) -> Result<(), Refused>
+    /// One instruction of the unit at a position, where the run goes on, behind so many events: `step` for an
+    /// Exec. It is a call of its own because most events are of this kind, so it pays not to look for others.
+    ///
+    /// # Errors
+    ///
+    /// The first refusal that holds, `Full` the last of them, else `OutOfMemory`; nothing is changed then.
+    #[inline(always)]
+    pub fn exec(&mut self, accepted: &Accepted, count: usize, position: u32) -> Result<(), Refused>
         requires runs { self.old.world.outcome ≡ standing.Running }
         requires placed { ArePlaced accepted.now (state_of self.old).queue }
         ensures { Steps accepted.now.program self.old count (events.Exec position) result self.new }
@@ -186,7 +186,7 @@ impl Processor {
         let program = accepted.program();
         match *event {
             Event::Assign(task) => self.try_assign(alloc, accepted, count, task),
-            Event::Exec(position) => self.try_exec(accepted, count, position),
+            Event::Exec(position) => self.exec(accepted, count, position),
             Event::Transfer(position, register) => self.try_transfer(
                 program, count, position, register,
             ),

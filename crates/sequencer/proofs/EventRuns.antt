@@ -1,7 +1,7 @@
 -- The events of runs, with one run more, or with a longer last one; and events compared.
-use Rattle.std.proofs.Common.{◌≡◌, ℕ, zero, suc, ◌+◌, ◌<◌, ◌≤◌, List, [], ◌∷◌, ◌++◌, length, replicate, refl, sym, ap, ◌∙◌, true, arith, append_assoc, length-append, true≢false, eqb-true}
+use Rattle.std.proofs.Common.{◌≡◌, ℕ, zero, suc, ◌+◌, ◌<◌, ◌≤◌, List, [], ◌∷◌, ◌++◌, length, replicate, take, set, get_or, refl, sym, ap, ◌∙◌, true, arith, append_assoc, length-append, true≢false, eqb-true}
 use Rattle.std.proofs.lemmas.Grind.{flat_map-append}
-use Rattle.std.proofs.lemmas.List.{length-replicate, append-nil}
+use Rattle.std.proofs.lemmas.List.{length-replicate, append-nil, set_split, set-get_or, drop_all}
 use Rattle.std.proofs.lemmas.List.Concat.{flat_map-cons}
 use Rattle.std.proofs.lemmas.Bool.{and_parts}
 use Rattle.std.specs.Prelude.{nat_eq}
@@ -35,6 +35,21 @@ grown runs e m n =
     ∙ (ap (λ (es : List Event). events_of runs ++ es) (repeated m n e)
     ∙ (sym (append_assoc (events_of runs) (replicate m e) (replicate n e))
     ∙ ap (λ (es : List Event). es ++ replicate n e) (sym (joined runs (record { event = e; count = m })))))
+
+-- what a list has with another last run
+relaid : (runs : List EventRun) (i : ℕ) (run : EventRun) → i + 1 ≡ length runs → set runs i run ≡ take i runs ++ run ∷ []
+relaid runs i run last =
+    set_split runs i run (omega (arith, last))
+    ∙ ap (λ (rest : List EventRun). take i runs ++ run ∷ rest) (drop_all (suc i) runs (omega (arith, last)))
+
+-- the last run made longer where it stands
+pub lengthened : (runs : List EventRun) (i n : ℕ) (run : EventRun) → i + 1 ≡ length runs → run ≡ get_or runs i run → events_of (set runs i (record { event = run.event; count = run.count + n })) ≡ events_of runs ++ replicate n run.event
+lengthened runs i n run last is =
+    let before : take i runs ++ run ∷ [] ≡ runs =
+    sym (relaid runs i run last) ∙ (ap (λ (r : EventRun). set runs i r) is ∙ set-get_or runs i run) in
+    ap (λ (rs : List EventRun). events_of rs) (relaid runs i (record { event = run.event; count = run.count + n }) last)
+    ∙ (grown (take i runs) run.event run.count n
+    ∙ ap (λ (rs : List EventRun). events_of rs ++ replicate n run.event) before)
 
 -- there are no more runs than events, and none is longer than all of them
 pub few_runs : (runs : List EventRun) → AreCounted runs → length runs ≤ length (events_of runs)

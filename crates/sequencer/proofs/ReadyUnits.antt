@@ -1,6 +1,6 @@
 -- A unit that lacks nothing for an instruction ahead of the head is refused nothing; and an event that
 -- nothing refuses is answered Ok.
-use Rattle.std.proofs.Common.{◌≡◌, ℕ, Bool, true, false, Option, Some, None, Result, Ok, refl, ap, ◌∙◌}
+use Rattle.std.proofs.Common.{◌≡◌, ℕ, Bool, true, false, Option, Some, None, Ok, refl, ap, ◌∙◌}
 use Rattle.std.specs.Prelude.{◌||◌, nat_eq, slice_get}
 use Rattle.std.specs.Option.{option_or}
 use Rattle.mips_plain.specs.Instruction.{reg_a}

@@ -1,6 +1,6 @@
 -- Serial numbers rise from the head to the tail and stay below the number of Assigns: each Assign gives
 -- the next one, and no other event gives any.
-use Rattle.std.proofs.Common.{◌≡◌, ℕ, zero, suc, ◌<◌, ◌≤◌, List, [], ◌∷◌, ◌++◌, take, Some, refl, sym, ap, ◌∙◌, subst, arith}
+use Rattle.std.proofs.Common.{◌≡◌, ℕ, zero, suc, ◌≤◌, List, [], ◌∷◌, ◌++◌, take, Some, refl, sym, ap, ◌∙◌, subst, arith}
 use Rattle.std.specs.Prelude.{slice_get, slice_set}
 use Rattle.mips_plain.specs.Effect.{outcome_after}
 use Rattle.mips_plain.specs.declared.outcome.Outcome.{Outcome}

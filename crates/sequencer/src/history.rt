@@ -94,7 +94,7 @@ impl History {
     }
 }
 
-ghost use Rattle.std.specs.Prelude.{◌≡◌, ◌+◌, ◌<◌, ◌≤◌, ◌++◌, length, replicate, vec_capacity};
+ghost use Rattle.std.specs.Prelude.{◌≡◌, ◌↔◌, ◌+◌, ◌<◌, ◌≤◌, ◌++◌, IsTrue, length, replicate, vec_capacity};
 ghost use Rattle.machine_model.specs.Answer.{most_events};
 ghost use Rattle.machine_events.specs.Runs.{events_of};
 ghost use Rattle.sequencer.specs.Histories.{AreCounted, executed_in};
@@ -123,17 +123,22 @@ fn append(runs: &mut Vec<EventRun>, event: Event, count: u32)
     ensures counted { AreCounted runs.new.items }
     ensures capacity { vec_capacity runs.new ≡ vec_capacity runs.old }
 {
-    let Some(last) = runs.pop() else {
-        runs.push_reserved(EventRun { event, count });
-        return;
-    };
-    if last.event == event {
-        runs.push_reserved(EventRun {
-            event,
-            count: last.count + count,
-        });
-        return;
+    if let Some(last) = runs.last_mut() {
+        if is_same(&last.event, &event) {
+            last.count += count;
+            return;
+        }
     }
-    runs.push_reserved(last);
     runs.push_reserved(EventRun { event, count });
+}
+
+/// Whether two events are the same. Most are Exec events, which are looked at first.
+#[inline(always)]
+fn is_same(event: &Event, other: &Event) -> bool
+    ensures { IsTrue result ↔ (event.now ≡ other.now) }
+{
+    match (*event, *other) {
+        (Event::Exec(position), Event::Exec(other)) => position == other,
+        _ => event == other,
+    }
 }

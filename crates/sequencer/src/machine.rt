@@ -120,10 +120,41 @@ impl<'a> Machine<'a> {
         ensures err { OnErr result (self.new ≡ self.old) }
         ensures kept { SameRing self.old self.new }
     {
-        self.law_replay();
-        if !self.processor.world().is_running() {
+        if !self.is_running() {
             return Err(Refused::Ended);
         }
+        match event {
+            Event::Exec(position) => self.apply_exec(position),
+            _ => self.apply_other(event),
+        }
+    }
+
+    /// The same for an Exec where the run goes on.
+    #[inline(always)]
+    fn apply_exec(&mut self, position: u32) -> Result<(), Refused>
+        requires { (state self.old).outcome ≡ standing.Running }
+        ensures answer { IsAnswered self.old (Exec position) result }
+        ensures ok { OnOk result (Applies self.old (Exec position) self.new) }
+        ensures err { OnErr result (self.new ≡ self.old) }
+        ensures kept { SameRing self.old self.new }
+    {
+        self.law_replay();
+        let count = self.length();
+        self.processor.exec(self.accepted, count, position)?;
+        self.history.push(Event::Exec(position));
+        Ok(())
+    }
+
+    /// The same for any event where the run goes on, out of line, since most are Exec events.
+    #[inline(never)]
+    fn apply_other(&mut self, event: Event) -> Result<(), Refused>
+        requires { (state self.old).outcome ≡ standing.Running }
+        ensures answer { IsAnswered self.old event result }
+        ensures ok { OnOk result (Applies self.old event self.new) }
+        ensures err { OnErr result (self.new ≡ self.old) }
+        ensures kept { SameRing self.old self.new }
+    {
+        self.law_replay();
         let alloc = self.alloc;
         let count = self.length();
         self.processor.step(alloc, self.accepted, count, &event)?;
@@ -389,14 +420,21 @@ impl<'a> Machine<'a> {
         ensures position { IfSome result (λ k. (k < length (state self.now).queue) × (unit_for self.now (Exec k) ≡ unit)) }
         ensures none { IfNone result ((k : ℕ) → k < length (state self.now).queue → unit_for self.now (Exec k) ≡ unit → ⊥) }
     {
-        let units = self.processor.capacity() as usize;
-        let retired = self.processor.commits().len();
-        for position in 0..self.processor.active() {
-            if (retired + position as usize) % units == unit as usize {
-                return Some(position);
-            }
+        let units = self.processor.capacity();
+        if unit >= units {
+            return None;
         }
-        None
+        let head = self.number_at(0);
+        let position = if unit >= head {
+            unit - head
+        } else {
+            unit + units - head
+        };
+        if position < self.processor.active() {
+            Some(position)
+        } else {
+            None
+        }
     }
 
     /// The number round the ring of the unit at a position.

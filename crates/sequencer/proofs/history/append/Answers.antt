@@ -1,37 +1,62 @@
--- What was taken off the end comes back, as it was or longer.
-use Rattle.std.proofs.Common.{◌≡◌, ℕ, ◌+◌, ◌<◌, List, [], ◌∷◌, ◌++◌, replicate, Some, sym, ap, ◌∙◌, subst, arith}
-use Rattle.std.proofs.lemmas.List.Elements.{All-push, All-pop}
+-- The last run is as it was or longer, and another run is put behind it.
+use Rattle.std.proofs.Common.{◌≡◌, ◌+◌, ◌-◌, ◌<◌, List, ◌++◌, replicate, refl, sym, ap, ◌∙◌, subst, arith, set, Vec, Global}
+use Rattle.std.specs.Vec.{vec_len, vec_capacity}
+use Rattle.std.proofs.lemmas.List.{set-get_or}
+use Rattle.std.proofs.lemmas.List.Elements.{All-push, All-set}
 use Rattle.machine_events.specs.Runs.{events_of}
 use Rattle.machine_events.specs.declared.event.Event.{Event}
 use Rattle.machine_events.specs.declared.event.EventRun.{EventRun}
 use Rattle.sequencer.specs.Histories.{AreCounted}
-use Rattle.sequencer.proofs.EventRuns.{grown, few_runs, last_within, same_event}
+use Rattle.sequencer.proofs.EventRuns.{lengthened, joined, few_runs}
+use Rattle.sequencer.proofs.history.append.Goals.{in-Some+else-is_same, in_default}
 use Rattle.sequencer.proofs.history.append.Goals as goal
 
-pub returns-then-eq-clause-events : goal.returns-then-eq-clause-events
-returns-then-eq-clause-events c =
-    let xs = c.pop.new.self.items in
-    let last : EventRun = c.in-Some.last in
-    let count = c.args.count in
-    let same : last.event ≡ c.args.event = same_event last.event c.args.event (sym c.eq.ensures ∙ c.if-eq.true) in
-    let split : c.args.runs.now.items ≡ xs ++ last ∷ [] = c.in-Some.ensures.items in
-    let before : events_of (xs ++ record { event = c.args.event; count = last.count } ∷ []) ≡ events_of c.args.runs.now.items =
-    ap (λ (e : Event). events_of (xs ++ record { event = e; count = last.count } ∷ [])) (sym same) ∙ ap (λ (runs : List EventRun). events_of runs) (sym split) in
-    ap (λ (runs : List EventRun). events_of runs) c.push_reserved-then-eq.ensures.items
-    ∙ (grown xs c.args.event last.count count ∙ ap (λ (es : List Event). es ++ replicate count c.args.event) before)
+pub returns-then-is_same-clause-events : goal.returns-then-is_same-clause-events
+returns-then-is_same-clause-events c =
+    let runs = c.args.runs.now.items in
+    let last : EventRun = c.in-Some.last.now in
+    let same : last.event ≡ c.args.event = c.is_same.ensures.0 c.if-is_same.true in
+    lengthened runs (vec_len c.args.runs.now - 1) c.args.count last (omega (arith, c.args.runs.now.ok.0, c.in-Some.ensures.variant.0 refl)) c.in-Some.ensures.value
+    ∙ ap (λ (e : Event). events_of runs ++ replicate c.args.count e) same
 
-pub push_reserved-requires-3 : goal.push_reserved-requires-3
-push_reserved-requires-3 c =
-    let few = few_runs c.args.runs.now.items c.requires.counted in
-    let long = c.args.runs.now.ok.0 in
-    omega (arith, few, long, c.requires.some, c.requires.room, c.requires.capacity, c.in-Some.ensures.cases, c.in-Some.ensures.capacity, c.push_reserved-2.ensures.len, c.push_reserved-2.ensures.capacity)
+pub returns-clause-events : goal.returns-clause-events
+returns-clause-events c =
+    let runs = c.args.runs.now.items in
+    let kept : c.match-last_mut.runs.items ≡ runs = elim c.match-last_mut.branch [
+      | in-Some+else-is_same w ↦ (
+          ap (λ (v : Vec EventRun Global). v.items) w.runs-is
+          ∙ (ap (λ (r : EventRun). set runs (vec_len c.args.runs.now - 1) r) w.in-Some.ensures.value ∙ set-get_or runs (vec_len c.args.runs.now - 1) w.in-Some.last.now)
+          )
+      | in_default w ↦ ap (λ (v : Vec EventRun Global). v.items) w.runs-is
+    ] in
+    ap (λ (rs : List EventRun). events_of rs) c.push_reserved.ensures.items
+    ∙ (joined c.match-last_mut.runs.items (record { event = c.args.event; count = c.args.count })
+    ∙ ap (λ (rs : List EventRun). events_of rs ++ replicate c.args.count c.args.event) kept)
+
+pub returns-then-is_same-clause-counted : goal.returns-then-is_same-clause-counted
+returns-then-is_same-clause-counted c =
+    let last : EventRun = c.in-Some.last.now in
+    All-set (λ (r : EventRun). 0 < r.count) c.args.runs.now.items (vec_len c.args.runs.now - 1) (record { event = last.event; count = last.count + c.args.count }) (omega (arith, c.requires.some)) c.requires.counted
 
 pub returns-clause-counted : goal.returns-clause-counted
 returns-clause-counted c =
-    let P : EventRun → Type 0 = λ r. 0 < r.count in
-    let xs = c.pop.new.self.items in
-    let rest = All-pop P c.args.runs.now.items xs c.pop.result c.pop.ensures.items c.requires.counted in
-    let some : 0 < c.in-Some.last.count = (All-pop P c.args.runs.now.items xs (Some c.in-Some.last) c.in-Some.ensures.items c.requires.counted).1 in
-    let once = subst AreCounted (sym c.push_reserved-2.ensures.items) (All-push P xs c.in-Some.last rest.0 some) in
-    subst AreCounted (sym c.push_reserved-3.ensures.items)
-    (All-push P c.push_reserved-2.new.self.items (record { event = c.args.event; count = c.args.count }) once c.requires.some)
+    let runs = c.args.runs.now.items in
+    let kept : c.match-last_mut.runs.items ≡ runs = elim c.match-last_mut.branch [
+      | in-Some+else-is_same w ↦ (
+          ap (λ (v : Vec EventRun Global). v.items) w.runs-is
+          ∙ (ap (λ (r : EventRun). set runs (vec_len c.args.runs.now - 1) r) w.in-Some.ensures.value ∙ set-get_or runs (vec_len c.args.runs.now - 1) w.in-Some.last.now)
+          )
+      | in_default w ↦ ap (λ (v : Vec EventRun Global). v.items) w.runs-is
+    ] in
+    subst AreCounted (sym c.push_reserved.ensures.items)
+    (All-push (λ (r : EventRun). 0 < r.count) c.match-last_mut.runs.items (record { event = c.args.event; count = c.args.count }) (subst AreCounted (sym kept) c.requires.counted) c.requires.some)
+
+pub push_reserved-requires : goal.push_reserved-requires
+push_reserved-requires c =
+    let few = few_runs c.args.runs.now.items c.requires.counted in
+    let long = c.args.runs.now.ok.0 in
+    let room : vec_len c.args.runs.now < vec_capacity c.args.runs.now = omega (arith, few, long, c.requires.some, c.requires.room, c.requires.capacity) in
+    elim c.match-last_mut.branch [
+      | in-Some+else-is_same w ↦ subst (λ (v : Vec EventRun Global). vec_len v < vec_capacity v) (sym w.runs-is) room
+      | in_default w ↦ subst (λ (v : Vec EventRun Global). vec_len v < vec_capacity v) (sym w.runs-is) room
+    ]

@@ -1,5 +1,5 @@
 -- The burst is fresh, so its unit takes it over, and the events behind the history are those of its steps.
-use Rattle.std.proofs.Common.{◌≡◌, ℕ, ◌<◌, length, ◌++◌, sym, ap, ◌∙◌, subst, arith, inl, inr}
+use Rattle.std.proofs.Common.{◌≡◌, ℕ, ◌<◌, length, ◌++◌, sym, ap, ◌∙◌, subst, arith}
 use Rattle.std.specs.Prelude.{replicate}
 use Rattle.machine_events.specs.declared.event.Event.TheVariants.{Exec}
 use Rattle.machine_events.specs.declared.event.Standing.TheVariants.{Running}

@@ -4,7 +4,7 @@ use Rattle.machine_events.specs.declared.event.Event.TheVariants.{Exec}
 use Rattle.machine_events.specs.declared.event.Standing.TheVariants.{Running}
 use Rattle.processor_steps.specs.Processors.{QueueView, ProcessorView, actives, ArePlaced, Steps}
 use Rattle.processor_steps.proofs.Executions.{LeavesRest, head_tried, ahead_tried, on_err, not_zero}
-use Rattle.processor_steps.proofs.processor.Processor.try_exec.Goals as goal
+use Rattle.processor_steps.proofs.processor.Processor.exec.Goals as goal
 
 pub exec_head-requires-clause-placed : goal.exec_head-requires-clause-placed
 exec_head-requires-clause-placed c = subst (λ (v : ProcessorView). ArePlaced c.args.accepted.now (actives v.queue)) (sym c.self.view_is) c.requires.placed

@@ -2,7 +2,7 @@ use Rattle.std.proofs.Common.{ℕ, List, length, ◌++◌, ◌∷◌, [], Ok, sy
 use Rattle.machine_events.specs.declared.event.Event.{Event}
 use Rattle.processor_steps.specs.Processors.{ProcessorView, Steps, ArePlaced}
 use Rattle.sequencer.specs.Machines.{MachineView, IsMachine, state}
-use Rattle.sequencer.proofs.machine.Machine.apply.Goals as goal
+use Rattle.sequencer.proofs.machine.Machine.apply_other.Goals as goal
 
 pub step-requires-clause-placed : goal.step-requires-clause-placed
 step-requires-clause-placed c = subst (λ (m : MachineView). ArePlaced m.accepted (state m).queue) (sym c.self.view_is) c.law_replay.ensures.placed
