@@ -183,7 +183,7 @@ impl Queue {
     }
 
     /// The head executes one instruction.
-    #[inline(always)]
+    #[inline]
     pub(crate) fn exec_head(
         &mut self,
         accepted: &Accepted,
@@ -206,7 +206,7 @@ impl Queue {
     }
 
     /// The unit at a position behind the head executes one instruction.
-    #[inline(always)]
+    #[inline]
     pub(crate) fn exec_ahead(&mut self, position: usize, accepted: &Accepted) -> Result<(), Refused>
         requires behind { 0 < position }
         requires placed { ArePlaced accepted.now (actives self.old) }
