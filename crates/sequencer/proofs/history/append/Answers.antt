@@ -19,19 +19,23 @@ returns-then-is_same-clause-events c =
     lengthened runs (vec_len c.args.runs.now - 1) c.args.count last (omega (arith, c.args.runs.now.ok.0, c.in-Some.ensures.variant.0 refl)) c.in-Some.ensures.value
     ∙ ap (λ (e : Event). events_of runs ++ replicate c.args.count e) same
 
-pub returns-clause-events : goal.returns-clause-events
-returns-clause-events c =
+-- where the last run is not of this event, the runs are as they were
+kept : (c : goal.After-push_reserved) → c.match-last_mut.runs.items ≡ c.args.runs.now.items
+kept c =
     let runs = c.args.runs.now.items in
-    let kept : c.match-last_mut.runs.items ≡ runs = elim c.match-last_mut.branch [
+    elim c.match-last_mut.branch [
       | in-Some+else-is_same w ↦ (
           ap (λ (v : Vec EventRun Global). v.items) w.runs-is
           ∙ (ap (λ (r : EventRun). set runs (vec_len c.args.runs.now - 1) r) w.in-Some.ensures.value ∙ set-get_or runs (vec_len c.args.runs.now - 1) w.in-Some.last.now)
           )
       | in_default w ↦ ap (λ (v : Vec EventRun Global). v.items) w.runs-is
-    ] in
+    ]
+
+pub returns-clause-events : goal.returns-clause-events
+returns-clause-events c =
     ap (λ (rs : List EventRun). events_of rs) c.push_reserved.ensures.items
     ∙ (joined c.match-last_mut.runs.items (record { event = c.args.event; count = c.args.count })
-    ∙ ap (λ (rs : List EventRun). events_of rs ++ replicate c.args.count c.args.event) kept)
+    ∙ ap (λ (rs : List EventRun). events_of rs ++ replicate c.args.count c.args.event) (kept c))
 
 pub returns-then-is_same-clause-counted : goal.returns-then-is_same-clause-counted
 returns-then-is_same-clause-counted c =
@@ -40,16 +44,8 @@ returns-then-is_same-clause-counted c =
 
 pub returns-clause-counted : goal.returns-clause-counted
 returns-clause-counted c =
-    let runs = c.args.runs.now.items in
-    let kept : c.match-last_mut.runs.items ≡ runs = elim c.match-last_mut.branch [
-      | in-Some+else-is_same w ↦ (
-          ap (λ (v : Vec EventRun Global). v.items) w.runs-is
-          ∙ (ap (λ (r : EventRun). set runs (vec_len c.args.runs.now - 1) r) w.in-Some.ensures.value ∙ set-get_or runs (vec_len c.args.runs.now - 1) w.in-Some.last.now)
-          )
-      | in_default w ↦ ap (λ (v : Vec EventRun Global). v.items) w.runs-is
-    ] in
     subst AreCounted (sym c.push_reserved.ensures.items)
-    (All-push (λ (r : EventRun). 0 < r.count) c.match-last_mut.runs.items (record { event = c.args.event; count = c.args.count }) (subst AreCounted (sym kept) c.requires.counted) c.requires.some)
+    (All-push (λ (r : EventRun). 0 < r.count) c.match-last_mut.runs.items (record { event = c.args.event; count = c.args.count }) (subst AreCounted (sym (kept c)) c.requires.counted) c.requires.some)
 
 pub push_reserved-requires : goal.push_reserved-requires
 push_reserved-requires c =
