@@ -1,6 +1,6 @@
 -- A step reads no log, and of its program only its own instruction and, for a load, read-only data. So
 -- what was made on one program and a unit without a log holds of another with the same stretch, too.
-use Rattle.std.specs.Prelude.{◌≡◌, ℕ, zero, suc, ◌+◌, ◌<◌, ◌≤◌, ◌||◌, ◌++◌, ◌∷◌, [], List, Bool, true, false, cond, Option, Some, None, ◌-◌, ◌*◌, ◌%◌, min, max, nat_eq, nat_le, slice_get, unwrap_or}
+use Rattle.std.specs.Prelude.{◌≡◌, ℕ, ◌+◌, ◌||◌, ◌++◌, ◌∷◌, [], List, Bool, true, false, Option, Some, ◌-◌, ◌*◌, ◌%◌, nat_eq, nat_le, slice_get, unwrap_or}
 use Rattle.std.proofs.Common.{refl, sym, ap, ◌∙◌, subst, arith, append_assoc, add-one}
 use Rattle.std.proofs.Math.Path.{fun_ext}
 use Rattle.std.proofs.lemmas.Bool.{cond-true, le-leb, eq-eqb, and_from}
@@ -17,8 +17,8 @@ use Rattle.mips_plain.specs.declared.instruction.Op.{Op}
 use Rattle.mips_plain.specs.declared.instruction.Op.TheVariants.{Load}
 use Rattle.task_descriptor.specs.Listing.{Listing}
 use Rattle.task_descriptor.specs.declared.descriptor.Marked.{Marked}
-use Rattle.machine_model.specs.Machine.{Words, Active}
-use Rattle.machine_model.specs.Unit.{with_log, gone_on, executed, after_exec}
+use Rattle.machine_model.specs.Machine.{Active}
+use Rattle.machine_model.specs.Unit.{with_log, gone_on, executed}
 use Rattle.machine_model.specs.Burst.{no_memory, StepsAlone, Burst}
 use Rattle.unit_core.specs.Units.{UnitView, active_of}
 use Rattle.unit_core.specs.Bursts.{no_stretch, longer, index_of_read, is_load_at, stretch_of, SameStretch, Makes, HasSentTheSame, SendsLast}
@@ -102,16 +102,32 @@ index_back i =
     let exact : nat_eq ((0x400000 + 4 * i - 0x400000) % 4) 0 ≡ true = eq-eqb _ _ (omega arith) in
     cond-true _ _ _ (and_from _ _ first exact) ∙ ap Some (omega arith)
 
-pub longer_stretch : (p : Listing) (s s' : Stretch) (loads : Bool) (u u' : Active) (step : StepsAlone p u u') → loads ≡ is_load step.at.op → s' ≡ longer s step.index loads → s ≡ stretch_of p u.log → s' ≡ stretch_of p u'.log
-longer_stretch p s s' loads u u' step is_loads is before =
+pub stretch_grows : (p : Listing) (u u' : Active) (step : StepsAlone p u u') → stretch_of p u'.log ≡ longer (stretch_of p u.log) step.index (is_load step.at.op)
+stretch_grows p u u' step =
     let read : Read = record { pc = address step.index; a = step.a; b = step.b } in
     let index : index_of_read read ≡ step.index = ap (λ (o : Option ℕ). unwrap_or o 0) (index_back step.index) in
     let at : is_load_at p step.index ≡ is_load step.at.op = ap (λ (o : Option Marked). unwrap_or (option_map (λ (m : Marked). is_load m.op) o) false) step.next.is_there in
     let log : u'.log ≡ u.log ++ read ∷ [] = ap (λ (x : Active). x.log) step.is in
-    is
-    ∙ (λ j. longer (before j) (sym index j) ((is_loads ∙ sym at) j))
-    ∙ ap (λ (i : ℕ). longer (stretch_of p u.log) (index_of_read read) (is_load_at p i)) (sym index)
-    ∙ sym (ap (λ (l : List Read). stretch_of p l) log ∙ fold_push (λ (x : Stretch) (r : Read). longer x (index_of_read r) (is_load_at p (index_of_read r))) no_stretch u.log read)
+    ap (λ (l : List Read). stretch_of p l) log
+    ∙ fold_push (λ (x : Stretch) (r : Read). longer x (index_of_read r) (is_load_at p (index_of_read r))) no_stretch u.log read
+    ∙ ap (λ (i : ℕ). longer (stretch_of p u.log) i (is_load_at p i)) index
+    ∙ ap (λ (b : Bool). longer (stretch_of p u.log) step.index b) at
+
+-- a program with the stretch behind a step has the one before it
+pub shorter : (p q : Listing) (u u' : Active) → StepsAlone p u u' → SameStretch (stretch_of p u'.log) p q → SameStretch (stretch_of p u.log) p q
+shorter p q u u' step same =
+    narrower (stretch_of p u.log) step.index (is_load step.at.op) p q (subst (λ (s : Stretch). SameStretch s p q) (stretch_grows p u u' step) same)
+
+-- one step more
+pub steps_on : (p : Listing) (u mid after : UnitView) (n : ℕ) → Makes p (stretch_of p mid.log) u n mid → StepsAlone p (active_of mid) (active_of after) → Makes p (stretch_of p after.log) u (n + 1) after
+steps_on p u mid after n made step =
+    let s = stretch_of p mid.log in
+    let longer_same : (q : Listing) → SameStretch (stretch_of p after.log) p q → SameStretch (longer s step.index (is_load step.at.op)) p q =
+    λ q same. subst (λ (x : Stretch). SameStretch x p q) (stretch_grows p (active_of mid) (active_of after) step) same in
+    more_made p s (stretch_of p after.log) u mid after n made (λ q same. shorter p q (active_of mid) (active_of after) step same)
+    (λ q same log. same_step p q (active_of mid) (active_of after) step
+    (has_instruction s step.index (is_load step.at.op) p q (longer_same q same))
+    (has_fixed s step.index (is_load step.at.op) p q (longer_same q same)) log)
 
 -- One step more where nothing was sent for the first time
 

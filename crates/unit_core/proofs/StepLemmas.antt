@@ -1,5 +1,5 @@
 -- The loops over the members of a set, and what they leave when no member is left.
-use Rattle.std.specs.Prelude.{◌≡◌, ℕ, ◌+◌, ◌<◌, ◌≤◌, Bool, true, false, not, ◌&&◌, ◌||◌, nat_eq, cond, Option, Some, None}
+use Rattle.std.specs.Prelude.{◌≡◌, ℕ, ◌+◌, ◌<◌, ◌≤◌, Bool, true, false, not, ◌&&◌, ◌||◌, nat_eq, cond, Option, Some, None, is_some}
 use Rattle.std.specs.Option.{option_or}
 use Rattle.std.proofs.Common.{refl, sym, ap, ◌∙◌, arith, inl, inr}
 use Rattle.std.proofs.Math.Path.{fun_ext}
@@ -68,6 +68,18 @@ sent_off set values sent r e = ap (λ (o : Option ℕ). option_or (sent r) o) (c
 
 pub sent_on : (set : ℕ → Bool) (values sent : Words) (r : ℕ) → set r ≡ true → sent_with set values sent r ≡ option_or (sent r) (values r)
 sent_on set values sent r e = ap (λ (o : Option ℕ). option_or (sent r) o) (cond-true _ _ _ e)
+
+-- what was sent stays, so only the other registers of a set have to be looked at
+unsent_or : (o : Option ℕ) (in_set in_rest : Bool) (word : Option ℕ) → in_rest ≡ (in_set && not (is_some o)) → option_or o (cond in_rest word None) ≡ option_or o (cond in_set word None)
+unsent_or None true in_rest word e = ap (λ (b : Bool). cond b word None) e
+unsent_or None false in_rest word e = ap (λ (b : Bool). cond b word None) e
+unsent_or (Some x) in_set in_rest word e = refl
+
+pub rest_sent : (set rest : ℕ → Bool) (values sent : Words) → ((r : ℕ) → rest r ≡ (set r && not (is_some (sent r)))) → sent_with rest values sent ≡ sent_with set values sent
+rest_sent set rest values sent is = fun_ext (λ (r : ℕ). unsent_or (sent r) (set r) (rest r) (values r) (is r))
+
+pub none_sent : (set : ℕ → Bool) (values sent : Words) → ((r : ℕ) → set r ≡ false) → sent ≡ sent_with set values sent
+none_sent set values sent none = fun_ext (λ (r : ℕ). sym (sent_off set values sent r (none r)))
 
 first_or : (here : Bool) (word word' : Option ℕ) (w : ℕ) → (here ≡ true → word ≡ word') → option_or word (cond here (Some w) None) ≡ cond here (option_or word' (Some w)) word
 first_or true word word' w same = ap (λ (o : Option ℕ). option_or o (Some w)) (same refl)

@@ -42,8 +42,11 @@ index_of_read r = unwrap_or (index_of r.pc) 0
 abbrev pub is_load_at : Listing → (index : ℕ) → Bool
 is_load_at p index = unwrap_or (option_map (λ m. is_load m.op) (slice_get p.code index)) false
 
+abbrev pub stretch_from : Listing → Stretch → List Read → Stretch
+stretch_from p s reads = fold (λ s r. longer s (index_of_read r) (is_load_at p (index_of_read r))) s reads
+
 abbrev pub stretch_of : Listing → List Read → Stretch
-stretch_of p reads = fold (λ s r. longer s (index_of_read r) (is_load_at p (index_of_read r))) no_stretch reads
+stretch_of p reads = stretch_from p no_stretch reads
 
 -- two programs have the same stretch: its code and, where it loads any, the read-only data
 pub record SameStretch (s : Stretch) (p q : Listing) : Type 0 where

@@ -1,22 +1,18 @@
 //! Work outside the lock: a unit is lent, a burst of its instructions is made on the copy, and the
 //! unit takes the burst over.
 
-ghost use Rattle.std.specs.Prelude.{◌≡◌, ℕ, ◌<◌, ◌≤◌, ◌++◌, [], List, IfSome, IfNone, IfOk, IfErr, OnOk, OnErr, IsTrue, ◌↔◌, is_some};
+ghost use Rattle.std.specs.Prelude.{◌≡◌, ℕ, ◌<◌, ◌≤◌, [], IfOk, IfErr, OnOk, OnErr, IsTrue, ◌↔◌, is_some};
 ghost use Rattle.mips_plain.specs.Words.{has};
-ghost use Rattle.mips_plain.specs.declared.outcome.Read.{Read};
-ghost use Rattle.task_descriptor.specs.Listing.{Listing};
-ghost use Rattle.machine_model.specs.Unit.{with_log};
-ghost use Rattle.machine_model.specs.Burst.{StepsAlone};
-ghost use Rattle.unit_core.specs.Units.{active_of, IsPlaced};
-ghost use Rattle.unit_core.specs.Bursts.{HasMore, IsMade, IsOf, Makes, SameStretch, SendsLast, carried_on, stretch_of};
+ghost use Rattle.unit_core.specs.Units.{active_of, unlogged, IsPlaced};
+ghost use Rattle.unit_core.specs.Bursts.{HasMore, IsMade, IsOf, Makes, SendsLast, carried_on, stretch_of};
 
-use crate::step::is_load;
+use crate::state::UnitState;
 use crate::stretch::{Stretch, has_same_task};
 use crate::unit::Unit;
-use machine_events::event::Spot;
 use mark_checker::accept::Accepted;
 use mips_plain::number::RegSet;
 use mips_plain::outcome::OutOfMemory;
+use std::alloc::Global;
 use std::marker::Model;
 use task_descriptor::program::Program;
 
@@ -27,19 +23,19 @@ pub const MOST_STEPS: u32 = 65_536;
 #[derive(Drop)]
 pub struct Lease<'a> {
     accepted: &'a Accepted,
-    unit: Unit,
+    state: UnitState,
+    alloc: Global,
 }
 
 impl<'a> Model for Lease<'a> {
-    ghost use Rattle.std.specs.Prelude.{◌≡◌, []};
     ghost use Rattle.unit_core.specs.Bursts.{LeaseView};
-    ghost use Rattle.unit_core.specs.Units.{active_of, IsPlaced};
+    ghost use Rattle.unit_core.specs.Units.{active_of, unlogged, IsPlaced};
 
     ghost Value = { LeaseView };
 
-    ghost view = { λ l. record { accepted = l.accepted.now; unit = l.unit } };
+    ghost view = { λ l. record { accepted = l.accepted.now; unit = unlogged l.state } };
 
-    ghost invariant = { λ l. (l.unit.log ≡ []) × IsPlaced l.accepted.now (active_of l.unit) };
+    ghost invariant = { λ l. IsPlaced l.accepted.now (active_of (unlogged l.state)) };
 }
 
 /// A unit before and after some steps, its log aside: instructions, each register-only or a load of
@@ -47,46 +43,24 @@ impl<'a> Model for Lease<'a> {
 #[derive(Drop)]
 pub struct Burst<'a> {
     accepted: &'a Accepted,
-    before: Unit,
+    before: UnitState,
     steps: u32,
     after: Unit,
-    stretch: Stretch,
 }
 
 impl<'a> Model for Burst<'a> {
-    ghost use Rattle.unit_core.specs.Bursts.{BurstView, IsMade};
+    ghost use Rattle.unit_core.specs.Bursts.{BurstView, IsMade, stretch_of};
+    ghost use Rattle.unit_core.specs.Units.{unlogged};
 
     ghost Value = { BurstView };
 
-    ghost view = { λ b. record { accepted = b.accepted.now; before = b.before; steps = b.steps; after = b.after; stretch = b.stretch } };
+    ghost view = { λ b. record { accepted = b.accepted.now; before = unlogged b.before; steps = b.steps; after = b.after; stretch = stretch_of b.accepted.now.program b.after.log } };
 
-    ghost invariant = { λ b. IsMade (record { accepted = b.accepted.now; before = b.before; steps = b.steps; after = b.after; stretch = b.stretch }) };
+    ghost invariant = { λ b. IsMade (record { accepted = b.accepted.now; before = unlogged b.before; steps = b.steps; after = b.after; stretch = stretch_of b.accepted.now.program b.after.log }) };
 }
 
 /// For how many reads a burst takes memory before its first step, so that the log of a usual one grows once.
 const RESERVED_READS: u32 = 64;
-
-/// Executes one instruction ahead, where the unit may, and answers the stretch with it.
-#[inline(always)]
-fn step_ahead(accepted: &Accepted, unit: &mut Unit, stretch: Stretch) -> Option<Stretch>
-    requires { IsPlaced accepted.now (active_of unit.old) }
-    ensures narrower { IfSome result (λ s. (q : Listing) → SameStretch s accepted.now.program q → SameStretch stretch accepted.now.program q) }
-    ensures step { IfSome result (λ s. (q : Listing) → SameStretch s accepted.now.program q → (log : List Read)
-        → StepsAlone q (with_log (active_of unit.old) (log ++ unit.old.log)) (with_log (active_of unit.new) (log ++ unit.new.log))) }
-    ensures stretch { IfSome result (λ s. stretch ≡ stretch_of accepted.now.program unit.old.log → s ≡ stretch_of accepted.now.program unit.new.log) }
-    ensures none { IfNone result (unit.new ≡ unit.old) }
-    ensures placed { IsPlaced accepted.now (active_of unit.new) }
-{
-    let Spot::Inside(index) = unit.spot() else {
-        return None;
-    };
-    let marked = &accepted.program().code()[index as usize];
-    let loads = is_load(&marked.op);
-    match unit.exec_ahead(accepted) {
-        Ok(()) => Some(stretch.with(index, loads)),
-        Err(_) => None,
-    }
-}
 
 /// Whether a unit has sent the registers of a set and no others.
 #[inline]
@@ -97,30 +71,27 @@ fn has_sent(unit: &Unit, set: RegSet) -> bool
 }
 
 /// Executes instructions ahead until one is refused or sends a register for the first time, at most
-/// `most`, and answers how many, and their stretch.
-fn run_ahead(accepted: &Accepted, unit: &mut Unit, most: u32) -> (u32, Stretch)
+/// `most`, and answers how many.
+fn run_ahead(accepted: &Accepted, unit: &mut Unit, most: u32) -> u32
     requires placed { IsPlaced accepted.now (active_of unit.old) }
     requires no_log { unit.old.log ≡ [] }
-    ensures few { result.0 ≤ most }
-    ensures made { Makes accepted.now.program result.1 unit.old result.0 unit.new }
-    ensures stretch { result.1 ≡ stretch_of accepted.now.program unit.new.log }
-    ensures sends_last { SendsLast accepted.now.program result.1 unit.old result.0 }
+    ensures few { result ≤ most }
+    ensures made { Makes accepted.now.program (stretch_of accepted.now.program unit.new.log) unit.old result unit.new }
+    ensures sends_last { SendsLast accepted.now.program (stretch_of accepted.now.program unit.new.log) unit.old result }
     ensures placed { IsPlaced accepted.now (active_of unit.new) }
 {
     let sent = unit.sent_set();
-    let mut stretch = Stretch::none();
     let mut steps = 0;
     for _ in 0..most {
-        let Some(more) = step_ahead(accepted, unit, stretch) else {
+        let Ok(()) = unit.exec_ahead(accepted) else {
             break;
         };
-        stretch = more;
         steps += 1;
         if !has_sent(unit, sent) {
             break;
         }
     }
-    (steps, stretch)
+    steps
 }
 
 impl<'a> Burst<'a> {
@@ -136,17 +107,20 @@ impl<'a> Burst<'a> {
         ensures made { IsMade result }
         ensures sends_last { SendsLast result.accepted.program result.stretch result.before result.steps }
     {
-        let Lease { accepted, unit } = lease;
-        let mut after = unit.without_log();
+        let Lease {
+            accepted,
+            state,
+            alloc,
+        } = lease;
+        let mut after = Unit::with_state(alloc, &state);
         // Where this growth is refused, each step asks for room of its own.
         let _ = after.reserve_reads(most.min(RESERVED_READS) as usize);
-        let (steps, stretch) = run_ahead(accepted, &mut after, most);
+        let steps = run_ahead(accepted, &mut after, most);
         Burst {
             accepted,
-            before: unit,
+            before: state,
             steps,
             after,
-            stretch,
         }
     }
 
@@ -160,8 +134,8 @@ impl<'a> Burst<'a> {
 
     /// The unit as it was lent, without its log.
     #[inline]
-    pub fn before(&self) -> &Unit
-        ensures { result.now ≡ self.now.before }
+    pub fn before(&self) -> &UnitState
+        ensures { unlogged result.now ≡ self.now.before }
     {
         &self.before
     }
@@ -190,8 +164,8 @@ impl<'a> Burst<'a> {
         ensures { IsTrue result ↔ IsOf self.now program.now }
     {
         let made_with = self.accepted.program();
-        self.stretch.is_same(made_with, program)
-            && has_same_task(made_with, program, self.before.task())
+        let stretch = Stretch::of(made_with, self.after.reads());
+        stretch.is_same(made_with, program) && has_same_task(made_with, program, self.before.task())
     }
 }
 
@@ -205,7 +179,8 @@ impl Unit {
     {
         Lease {
             accepted,
-            unit: self.without_log(),
+            state: self.state(),
+            alloc: self.allocator(),
         }
     }
 
@@ -253,9 +228,8 @@ impl Unit {
     {
         self.take_reads_of(&mut burst.after)?;
         self.go_on_as(&burst.after);
-        burst.before = burst.after.without_log();
+        burst.before = burst.after.state();
         burst.steps = 0;
-        burst.stretch = Stretch::none();
         Ok(())
     }
 }

@@ -5,6 +5,7 @@
 pub mod burst;
 pub mod laws;
 pub mod read_log;
+pub mod state;
 mod step;
 pub mod stretch;
 pub mod unit;

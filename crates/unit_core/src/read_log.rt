@@ -49,11 +49,10 @@ impl ReadLog {
         }
     }
 
-    /// Another log, without a read, that takes its memory where this one does. Takes none yet.
-    pub fn emptied(&self) -> ReadLog
-        ensures { result.reads ≡ [] }
-    {
-        ReadLog::new(*self.current.allocator())
+    /// Where it takes its memory.
+    #[inline]
+    pub(crate) fn allocator(&self) -> Global {
+        *self.current.allocator()
     }
 
     /// Keeps none of its reads, but the room of the current chunk.

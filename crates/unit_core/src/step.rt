@@ -35,6 +35,8 @@ pub(crate) enum Effect {
     Writes(Gpr, u32),
     /// It writes nothing, and goes on at an index; a conditional branch is taken or isn't.
     Goes(bool, u32),
+    /// It sends the registers of a set, and goes on at the following instruction.
+    Releases(RegSet),
     /// Its operation has to be looked at once more.
     Other,
 }
@@ -118,6 +120,7 @@ pub(crate) fn load_ahead(
     match *effect {
         Effect::Writes(..) => Ok(None),
         Effect::Goes(..) => Ok(None),
+        Effect::Releases(_) => Ok(None),
         Effect::Other => load_by_operation(&next.marked.op, next.a, fixed),
     }
 }
@@ -291,7 +294,7 @@ pub(crate) fn value_of(local: &RegisterWords, port: &Port, register: Reg) -> Opt
 }
 
 /// Sends each register of a set with its value; one that was sent stays as it was.
-#[inline]
+#[inline(never)]
 pub(crate) fn send_each(port: &mut Port, local: &RegisterWords, set: RegSet)
     ensures sent { sent_of port.new ≡ sent_with (has set) (value_in (pairs local.now) (arrived_of port.old)) (sent_of port.old) }
     ensures arrived { arrived_of port.new ≡ arrived_of port.old }
@@ -300,5 +303,17 @@ pub(crate) fn send_each(port: &mut Port, local: &RegisterWords, set: RegSet)
     while let Some(register) = next_member(set, from) {
         send_some(port, register, value_of(local, port, register));
         from = register.get() + 1;
+    }
+}
+
+/// The same. Registers that were sent are not looked at again.
+#[inline(always)]
+pub(crate) fn send_unsent(port: &mut Port, local: &RegisterWords, set: RegSet)
+    ensures sent { sent_of port.new ≡ sent_with (has set) (value_in (pairs local.now) (arrived_of port.old)) (sent_of port.old) }
+    ensures arrived { arrived_of port.new ≡ arrived_of port.old }
+{
+    let unsent = set.minus(port.sent_set());
+    if !unsent.is_empty() {
+        send_each(port, local, unsent);
     }
 }

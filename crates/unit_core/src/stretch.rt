@@ -1,7 +1,13 @@
 //! The part of a program that a burst depends on.
 
-ghost use Rattle.std.specs.Prelude.{◌≡◌, ℕ, ◌+◌, ◌<◌, ◌≤◌, ◌||◌, ◌↔◌, Bool, min, max, slice_get, IsTrue};
+ghost use Rattle.std.specs.Prelude.{◌≡◌, ℕ, ◌+◌, ◌^◌, ◌<◌, ◌≤◌, ◌||◌, ◌↔◌, Bool, min, max, slice_get, unwrap_or, IsTrue};
+ghost use Rattle.mips_plain.specs.Words.{index_of};
+ghost use Rattle.unit_core.specs.Bursts.{is_load_at as is_load_of};
 
+use crate::read_log::ReadLog;
+use crate::step::is_load;
+use mips_plain::outcome::Read;
+use mips_plain::places::CODE_START;
 use task_descriptor::descriptor::Marked;
 use task_descriptor::program::Program;
 use task_descriptor::same::{is_same_instruction, is_same_task};
@@ -19,11 +25,11 @@ pub struct Stretch {
 }
 
 impl Stretch {
-    ghost use Rattle.unit_core.specs.Bursts.{no_stretch, longer, SameStretch};
+    ghost use Rattle.unit_core.specs.Bursts.{no_stretch, longer, stretch_from, stretch_of, SameStretch};
 
     /// What no instruction depends on.
     #[inline]
-    pub(crate) fn none() -> Stretch
+    fn none() -> Stretch
         ensures { result ≡ no_stretch }
     {
         Stretch {
@@ -33,10 +39,34 @@ impl Stretch {
         }
     }
 
+    /// The stretch of the instructions of a program with these reads.
+    pub(crate) fn of(program: &Program, reads: &ReadLog) -> Stretch
+        ensures { result ≡ stretch_of program.now reads.now.reads }
+    {
+        let (closed, current) = reads.chunks();
+        let mut stretch = Stretch::none();
+        for chunk in closed {
+            stretch = stretch.with_reads(program, chunk);
+        }
+        stretch.with_reads(program, current)
+    }
+
+    /// The stretch with the instructions of more reads.
+    fn with_reads(self, program: &Program, reads: &[Read]) -> Stretch
+        ensures { result ≡ stretch_from program.now self reads.now }
+    {
+        let mut stretch = self;
+        for read in reads {
+            let index = index_at(read.pc);
+            stretch = stretch.with(index, is_load_at(program, index));
+        }
+        stretch
+    }
+
     /// The stretch with one more instruction.
     #[inline]
-    pub(crate) fn with(self, index: u32, loads: bool) -> Stretch
-        requires { index < 4096 }
+    fn with(self, index: u32, loads: bool) -> Stretch
+        requires { index + 1 < 2 ^ 32 }
         ensures { result ≡ longer self index loads }
     {
         Stretch {
@@ -54,6 +84,30 @@ impl Stretch {
             return false;
         }
         is_same_code(program.code(), other.code(), self.from, self.to)
+    }
+}
+
+/// The index of the instruction with an address, 0 where there is none.
+#[inline]
+#[tactic(auto, unfolding(mips_plain::specs::Words::index_of))]
+fn index_at(pc: u32) -> u32
+    ensures index { result ≡ unwrap_or (index_of pc) 0 }
+    ensures range { result < 2 ^ 31 }
+{
+    if pc < CODE_START || !(pc - CODE_START).is_multiple_of(4) {
+        return 0;
+    }
+    (pc - CODE_START) / 4
+}
+
+/// Whether a program has a load at an index.
+#[inline]
+fn is_load_at(program: &Program, index: u32) -> bool
+    ensures { result ≡ is_load_of program.now index }
+{
+    match program.code().get(index as usize) {
+        Some(marked) => is_load(&marked.op),
+        None => false,
     }
 }
 

@@ -8,9 +8,8 @@ use Rattle.unit_core.proofs.burst.run_ahead.Given as goal
 abbrev pub invariant-loop : goal.invariant-loop
 invariant-loop l = record {
   few : l.steps ≤ l.counter;
-  made : Makes l.accepted.program l.stretch l.initial.unit l.steps l.unit;
-  stretch : l.stretch ≡ stretch_of l.accepted.program l.unit.log;
+  made : Makes l.accepted.program (stretch_of l.accepted.program l.unit.log) l.initial.unit l.steps l.unit;
   sent : (r : ℕ) → is_some ((active_of l.unit).sent r) ≡ has l.sent r;
-  sends_last : SendsLast l.accepted.program l.stretch l.initial.unit l.steps;
+  sends_last : SendsLast l.accepted.program (stretch_of l.accepted.program l.unit.log) l.initial.unit l.steps;
   placed : IsPlaced l.accepted (active_of l.unit);
 }

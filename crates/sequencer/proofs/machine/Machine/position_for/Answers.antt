@@ -3,7 +3,7 @@ use Rattle.std.proofs.Common.{◌≡◌, Some, None, sym, ap, ◌∙◌, subst}
 use Rattle.std.specs.Prelude.{slice_get}
 use Rattle.std.proofs.lemmas.Bool.{false≢true}
 use Rattle.machine_model.specs.Machine.{Active}
-use Rattle.unit_core.specs.Units.{UnitView, active_of}
+use Rattle.unit_core.specs.Units.{UnitView, active_of, unlogged}
 use Rattle.unit_core.specs.Bursts.{HasMore}
 use Rattle.processor_steps.specs.Processors.{position_with}
 use Rattle.sequencer.specs.Machines.{MachineView, state}
@@ -48,7 +48,7 @@ returns-then-not-has_more-clause-none c = λ f.
     ap (λ (x : MachineView). slice_get (state x).queue k) (sym c.self.view_is) ∙ sym c.in-Some-unit.ensures in
     let both : Some u ≡ Some f.unit = sym there ∙ here in
     let same : u ≡ f.unit = cc in
-    let more : HasMore (active_of c.before-before.result.now) u =
-    subst (λ (v : Active). HasMore (active_of c.before-before.result.now) v) (sym same)
+    let more : HasMore (active_of (unlogged c.before-before.result.now)) u =
+    subst (λ (v : Active). HasMore (active_of (unlogged c.before-before.result.now)) v) (sym same)
     (subst (λ (x : UnitView). HasMore (active_of x) f.unit) (sym c.before-before.ensures) f.has_more) in
     false≢true (sym c.if-not-has_more.true ∙ c.has_more.ensures.1 more)

@@ -1,10 +1,10 @@
 -- Each test that failed says that the units differ in a field; where none did, they have all but
 -- what arrived and the log in common.
 use Rattle.std.specs.Prelude.{IsTrue, false}
-use Rattle.std.proofs.Common.{sym, ap, ◌∙◌, subst}
+use Rattle.std.proofs.Common.{rules, ◌≡◌, sym, ap, ◌∙◌, subst}
 use Rattle.std.proofs.lemmas.Bool.{false≢true}
 use Rattle.machine_model.specs.Machine.{Active}
-use Rattle.unit_core.specs.Units.{UnitView, active_of}
+use Rattle.unit_core.specs.Units.{UnitView, active_of, unlogged}
 use Rattle.register_ring.specs.Ports.{arrived_of}
 use Rattle.unit_core.specs.Bursts.{HasMore}
 use Rattle.unit_core.proofs.unit.Unit.has_more.Goals as goal
@@ -12,20 +12,19 @@ use Rattle.unit_core.proofs.unit.Unit.has_more.Goals as goal
 pub returns-then-not-is_within : goal.returns-then-not-is_within
 returns-then-not-is_within c =
     let u : UnitView = record { task = c.self.inside.task; serial = c.self.inside.serial; place = c.self.inside.spot; port = c.self.inside.port; local = c.self.inside.local; log = c.self.inside.log.reads } in
-    let b : UnitView = record { task = c.before-2.inside.task; serial = c.before-2.inside.serial; place = c.before-2.inside.spot; port = c.before-2.inside.port; local = c.before-2.inside.local; log = c.before-2.inside.log.reads } in
+    let b : UnitView = unlogged c.args.before.now in
     let differs : HasMore (active_of b) (active_of u) → IsTrue false =
     λ h. absurd (false≢true (sym c.if-not-is_within.true ∙ c.is_within.ensures.1 (h.more, sym (ap (λ (a : Active). a.sent) h.is)))) in (
       λ never. absurd (false≢true never),
-      subst (λ (v : UnitView). HasMore (active_of c.args.before.now) (active_of v) → IsTrue false) c.self.view_is
-          (subst (λ (w : UnitView). HasMore (active_of w) (active_of u) → IsTrue false) c.before-2.view_is differs),
+      subst (λ (v : UnitView). HasMore (active_of b) (active_of v) → IsTrue false) c.self.view_is differs,
     )
 
 pub returns : goal.returns
 returns c =
     let u : UnitView = record { task = c.self.inside.task; serial = c.self.inside.serial; place = c.self.inside.spot; port = c.self.inside.port; local = c.self.inside.local; log = c.self.inside.log.reads } in
-    let b : UnitView = record { task = c.before-2.inside.task; serial = c.before-2.inside.serial; place = c.before-2.inside.spot; port = c.before-2.inside.port; local = c.before-2.inside.local; log = c.before-2.inside.log.reads } in
+    let b : UnitView = unlogged c.args.before.now in
     let within = c.is_within.ensures.0 c.if-not-is_within.false in
-    let place = c.is_same_spot.ensures.0 c.if-not-is_same_spot.false in
+    let place : u.place ≡ b.place = search rules in
     let same : IsTrue c.is_same.result → HasMore (active_of b) (active_of u) =
     λ yes. record {
       more = within.0;
@@ -41,6 +40,5 @@ returns c =
     } in
     let back : HasMore (active_of b) (active_of u) → IsTrue c.is_same.result =
     λ h. c.is_same.ensures.1 (ap (λ (a : Active). a.local) h.is) in
-    subst (λ (v : UnitView). (IsTrue c.is_same.result → HasMore (active_of c.args.before.now) (active_of v)) × (HasMore (active_of c.args.before.now) (active_of v) → IsTrue c.is_same.result)) c.self.view_is
-    (subst (λ (w : UnitView). (IsTrue c.is_same.result → HasMore (active_of w) (active_of u)) × (HasMore (active_of w) (active_of u) → IsTrue c.is_same.result)) c.before-2.view_is
-    (same, back))
+    subst (λ (v : UnitView). (IsTrue c.is_same.result → HasMore (active_of b) (active_of v)) × (HasMore (active_of b) (active_of v) → IsTrue c.is_same.result)) c.self.view_is
+    (same, back)

@@ -1,0 +1,37 @@
+//! What a unit holds beside its log.
+
+ghost use Rattle.std.specs.Prelude.{◌≡◌};
+ghost use Rattle.unit_core.specs.Units.{unlogged};
+
+use machine_events::event::Spot;
+use register_ring::held::RegisterWords;
+use register_ring::port::Port;
+
+/// What a unit holds, its log aside: its task and serial number, where it stands, what arrived and was
+/// sent, and what it wrote itself. A burst is made on a copy of it.
+#[derive(Clone, Copy, Debug)]
+pub struct UnitState {
+    pub(crate) task: u32,
+    pub(crate) serial: u32,
+    pub(crate) spot: Spot,
+    pub(crate) port: Port,
+    pub(crate) local: RegisterWords,
+}
+
+impl UnitState {
+    /// The number of its task.
+    #[inline]
+    pub fn task(&self) -> u32
+        ensures { result ≡ (unlogged self.now).task }
+    {
+        self.task
+    }
+
+    /// Its serial number.
+    #[inline]
+    pub fn serial(&self) -> u32
+        ensures { result ≡ (unlogged self.now).serial }
+    {
+        self.serial
+    }
+}
