@@ -1,6 +1,6 @@
 //! A log of reads in chunks, so that a long log joins another one without being copied.
 
-ghost use Rattle.std.specs.Prelude.{◌≡◌, ℕ, ◌+◌, ◌<◌, ◌≤◌, [], ◌∷◌, ◌++◌, length, flat_map, OnOk, OnErr, vec_len, vec_capacity};
+ghost use Rattle.std.specs.Prelude.{◌≡◌, ℕ, ◌+◌, ◌^◌, ◌<◌, ◌≤◌, [], ◌∷◌, ◌++◌, length, flat_map, IfOk, OnOk, OnErr, vec_len, vec_capacity};
 
 use mips_plain::outcome::{OutOfMemory, Read};
 use std::alloc::{AllocError, Global};
@@ -11,8 +11,8 @@ use std::mem;
 /// other. Own choice: 12 KB.
 const SHORT: usize = 1_000;
 
-/// The most reads that closed chunks may have, which is more than any memory holds.
-const MOST: usize = 1 << 62;
+/// The most reads that closed chunks may have: no vector has room for more.
+const MOST: usize = usize::MAX / 2;
 
 /// What instructions read, oldest first: some closed chunks, which stay as they are, and behind them
 /// the current one, to which a read is pushed.
@@ -24,7 +24,7 @@ pub struct ReadLog {
 }
 
 impl Model for ReadLog {
-    ghost use Rattle.std.specs.Prelude.{◌≡◌, ◌-◌, ◌≤◌, ◌^◌, ◌++◌, length, flat_map, vec_len, vec_capacity};
+    ghost use Rattle.std.specs.Prelude.{◌≡◌, ◌-◌, ◌<◌, ◌^◌, ◌++◌, length, flat_map, vec_len, vec_capacity};
     ghost use Rattle.unit_core.specs.Logs.{LogView};
 
     ghost Value = { LogView };
@@ -34,7 +34,7 @@ impl Model for ReadLog {
       room = vec_capacity l.current - vec_len l.current;
     } };
 
-    ghost invariant = { λ l. (length (flat_map (λ c. c.items) l.closed.items) ≡ l.closed_len) × (l.closed_len ≤ 2 ^ 62) };
+    ghost invariant = { λ l. (length (flat_map (λ c. c.items) l.closed.items) ≡ l.closed_len) × (l.closed_len < 2 ^ 63) };
 }
 
 impl ReadLog {
@@ -123,6 +123,20 @@ impl ReadLog {
         self.move_from(other)
     }
 
+    /// How many reads it has with so many more. Where they are more than any memory holds, room for them is
+    /// asked for, which is refused.
+    fn len_with(&mut self, more: usize) -> Result<usize, AllocError>
+        ensures len { IfOk result (λ len. (len ≡ length self.old.reads + more) × (len < 2 ^ 63)) }
+        ensures reads { self.new.reads ≡ self.old.reads }
+    {
+        let len = self.len().saturating_add(more);
+        if len <= MOST {
+            return Ok(len);
+        }
+        self.current.reserve(len)?;
+        Ok(len)
+    }
+
     /// Closes its current chunk, and moves the chunks of another log behind it: the other one's current
     /// chunk is then its own.
     fn move_from(&mut self, other: &mut ReadLog) -> Result<(), OutOfMemory>
@@ -130,10 +144,7 @@ impl ReadLog {
         ensures emptied { OnOk result (other.new.reads ≡ []) }
         ensures err { OnErr result ((self.new.reads ≡ self.old.reads) × (other.new.reads ≡ other.old.reads)) }
     {
-        let closed_len = self.len().saturating_add(other.closed_len);
-        if closed_len > MOST {
-            return Err(OutOfMemory);
-        }
+        let closed_len = self.len_with(other.closed_len)?;
         self.closed.reserve(other.closed.len() + 1)?;
         close(&mut self.closed, &mut self.current);
         move_all(&mut self.closed, &mut other.closed);
