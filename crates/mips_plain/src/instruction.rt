@@ -2,11 +2,12 @@
 //! project's own), and the parts of one that need no memory: its operands, its destinations, the word
 //! that it writes and the address that it goes to. Each `Kind` names the mnemonics of one row.
 
-ghost use Rattle.std.specs.Prelude.{◌≡◌, ℕ, ◌<◌, ◌%◌, ◌^◌, ◌+◌, ◌/◌, ◌==◌, ◌||◌, if◌then◌else◌};
+ghost use Rattle.std.specs.Prelude.{◌≡◌, ℕ, ◌<◌, ◌%◌, ◌^◌, ◌+◌, ◌/◌, ◌==◌, ◌||◌, if◌then◌else◌, [], ◌∷◌};
 ghost use Rattle.mips_plain.specs.Words.{HI, LO, has, address};
-ghost use Rattle.mips_plain.specs.InstructionTable.{general, moved_from, moved_to};
+ghost use Rattle.mips_plain.specs.InstructionTable.{three_name, shift_by_name, shift_var_name, imm_name, logic_name, mult_name, move_from_name, move_to_name, load_name, store_name, branch_two_name, branch_one_name, name_of, listed, operands, general, moved_from, moved_to};
 ghost use Rattle.mips_plain.specs.Instruction.{source_a, source_b, is_source, waits, dests, alu, taken, turn};
 
+use self::InstructionOperand as Operand;
 use crate::arithmetic::{
     high, imm, logic, low, product, shift_by, shift_var, takes_one, takes_two, three,
 };
@@ -26,12 +27,43 @@ pub enum ThreeKind {
     Sltu,
 }
 
+impl ThreeKind {
+    /// The word.
+    pub fn name(self) -> &'static str
+        ensures { result.now ≡ three_name self }
+    {
+        match self {
+            ThreeKind::Addu => "addu",
+            ThreeKind::Subu => "subu",
+            ThreeKind::And => "and",
+            ThreeKind::Or => "or",
+            ThreeKind::Xor => "xor",
+            ThreeKind::Nor => "nor",
+            ThreeKind::Slt => "slt",
+            ThreeKind::Sltu => "sltu",
+        }
+    }
+}
+
 /// Shifts by a fixed amount.
 #[derive(Clone, Copy, Debug, PartialEq, Eq)]
 pub enum ShiftByKind {
     Sll,
     Srl,
     Sra,
+}
+
+impl ShiftByKind {
+    /// The word.
+    pub fn name(self) -> &'static str
+        ensures { result.now ≡ shift_by_name self }
+    {
+        match self {
+            ShiftByKind::Sll => "sll",
+            ShiftByKind::Srl => "srl",
+            ShiftByKind::Sra => "sra",
+        }
+    }
 }
 
 /// Shifts by a register.
@@ -42,12 +74,38 @@ pub enum ShiftVarKind {
     Srav,
 }
 
+impl ShiftVarKind {
+    /// The word.
+    pub fn name(self) -> &'static str
+        ensures { result.now ≡ shift_var_name self }
+    {
+        match self {
+            ShiftVarKind::Sllv => "sllv",
+            ShiftVarKind::Srlv => "srlv",
+            ShiftVarKind::Srav => "srav",
+        }
+    }
+}
+
 /// Operations with a signed immediate.
 #[derive(Clone, Copy, Debug, PartialEq, Eq)]
 pub enum ImmKind {
     Addiu,
     Slti,
     Sltiu,
+}
+
+impl ImmKind {
+    /// The word.
+    pub fn name(self) -> &'static str
+        ensures { result.now ≡ imm_name self }
+    {
+        match self {
+            ImmKind::Addiu => "addiu",
+            ImmKind::Slti => "slti",
+            ImmKind::Sltiu => "sltiu",
+        }
+    }
 }
 
 /// Operations with an immediate that is not signed.
@@ -58,11 +116,36 @@ pub enum LogicKind {
     Xori,
 }
 
+impl LogicKind {
+    /// The word.
+    pub fn name(self) -> &'static str
+        ensures { result.now ≡ logic_name self }
+    {
+        match self {
+            LogicKind::Andi => "andi",
+            LogicKind::Ori => "ori",
+            LogicKind::Xori => "xori",
+        }
+    }
+}
+
 /// Products of 64 bits.
 #[derive(Clone, Copy, Debug, PartialEq, Eq)]
 pub enum MultKind {
     Mult,
     Multu,
+}
+
+impl MultKind {
+    /// The word.
+    pub fn name(self) -> &'static str
+        ensures { result.now ≡ mult_name self }
+    {
+        match self {
+            MultKind::Mult => "mult",
+            MultKind::Multu => "multu",
+        }
+    }
 }
 
 /// Moves from HI or LO.
@@ -72,11 +155,35 @@ pub enum MoveFromKind {
     Mflo,
 }
 
+impl MoveFromKind {
+    /// The word.
+    pub fn name(self) -> &'static str
+        ensures { result.now ≡ move_from_name self }
+    {
+        match self {
+            MoveFromKind::Mfhi => "mfhi",
+            MoveFromKind::Mflo => "mflo",
+        }
+    }
+}
+
 /// Moves to HI or LO.
 #[derive(Clone, Copy, Debug, PartialEq, Eq)]
 pub enum MoveToKind {
     Mthi,
     Mtlo,
+}
+
+impl MoveToKind {
+    /// The word.
+    pub fn name(self) -> &'static str
+        ensures { result.now ≡ move_to_name self }
+    {
+        match self {
+            MoveToKind::Mthi => "mthi",
+            MoveToKind::Mtlo => "mtlo",
+        }
+    }
 }
 
 /// Loads.
@@ -89,12 +196,40 @@ pub enum LoadKind {
     Lbu,
 }
 
+impl LoadKind {
+    /// The word.
+    pub fn name(self) -> &'static str
+        ensures { result.now ≡ load_name self }
+    {
+        match self {
+            LoadKind::Lw => "lw",
+            LoadKind::Lh => "lh",
+            LoadKind::Lhu => "lhu",
+            LoadKind::Lb => "lb",
+            LoadKind::Lbu => "lbu",
+        }
+    }
+}
+
 /// Stores.
 #[derive(Clone, Copy, Debug, PartialEq, Eq)]
 pub enum StoreKind {
     Sw,
     Sh,
     Sb,
+}
+
+impl StoreKind {
+    /// The word.
+    pub fn name(self) -> &'static str
+        ensures { result.now ≡ store_name self }
+    {
+        match self {
+            StoreKind::Sw => "sw",
+            StoreKind::Sh => "sh",
+            StoreKind::Sb => "sb",
+        }
+    }
 }
 
 /// Branches that compare two registers.
@@ -104,6 +239,18 @@ pub enum BranchTwoKind {
     Bne,
 }
 
+impl BranchTwoKind {
+    /// The word.
+    pub fn name(self) -> &'static str
+        ensures { result.now ≡ branch_two_name self }
+    {
+        match self {
+            BranchTwoKind::Beq => "beq",
+            BranchTwoKind::Bne => "bne",
+        }
+    }
+}
+
 /// Branches that compare a register with zero.
 #[derive(Clone, Copy, Debug, PartialEq, Eq)]
 pub enum BranchOneKind {
@@ -111,6 +258,20 @@ pub enum BranchOneKind {
     Bgtz,
     Bltz,
     Bgez,
+}
+
+impl BranchOneKind {
+    /// The word.
+    pub fn name(self) -> &'static str
+        ensures { result.now ≡ branch_one_name self }
+    {
+        match self {
+            BranchOneKind::Blez => "blez",
+            BranchOneKind::Bgtz => "bgtz",
+            BranchOneKind::Bltz => "bltz",
+            BranchOneKind::Bgez => "bgez",
+        }
+    }
 }
 
 /// One instruction, without marks. The fields stand in the order of the text.
@@ -156,6 +317,53 @@ pub enum Op {
     Release(RegSet),
     /// `halt`: ends the run.
     Halt,
+}
+
+/// An operand, as it stands in the text.
+#[derive(Clone, Copy, Debug, PartialEq, Eq)]
+pub enum InstructionOperand {
+    /// A general register.
+    Register(Gpr),
+    /// A shift amount.
+    Amount(Amount),
+    /// A signed number of 16 bits.
+    Signed(i16),
+    /// A number of 16 bits that is not signed.
+    Unsigned(u16),
+    /// A signed offset, and the register that it is added to.
+    Offset(i16, Gpr),
+    /// The place of an instruction.
+    Place(Place),
+    /// Some registers.
+    Registers(RegSet),
+}
+
+/// The operands of an instruction, three at most.
+#[derive(Clone, Copy, Debug, PartialEq, Eq)]
+pub enum OperandList {
+    /// None.
+    Nothing,
+    /// One.
+    One([InstructionOperand; 1]),
+    /// Two.
+    Two([InstructionOperand; 2]),
+    /// Three.
+    Three([InstructionOperand; 3]),
+}
+
+impl OperandList {
+    /// The operands, in the order of the text.
+    #[inline]
+    pub fn as_slice(&self) -> &[InstructionOperand]
+        ensures { result.now ≡ listed self.now }
+    {
+        match self {
+            OperandList::Nothing => &[],
+            OperandList::One(operands) => operands,
+            OperandList::Two(operands) => operands,
+            OperandList::Three(operands) => operands,
+        }
+    }
 }
 
 /// The register that a move from HI or LO reads.
@@ -220,7 +428,86 @@ fn general_word(register: Gpr, r: Reg, word: u32) -> Option<u32>
     }
 }
 
+/// A register and another operand.
+#[inline]
+fn register_and(first: Gpr, second: InstructionOperand) -> OperandList
+    ensures { result ≡ OperandList.Two (InstructionOperand.Register first ∷ second ∷ []) }
+{
+    OperandList::Two([InstructionOperand::Register(first), second])
+}
+
+/// Two registers and another operand.
+#[inline]
+fn two_registers_and(first: Gpr, second: Gpr, third: InstructionOperand) -> OperandList
+    ensures { result ≡ OperandList.Three (InstructionOperand.Register first ∷ InstructionOperand.Register second ∷ third ∷ []) }
+{
+    OperandList::Three([
+        InstructionOperand::Register(first),
+        InstructionOperand::Register(second),
+        third,
+    ])
+}
+
 impl Op {
+    /// The word that begins the instruction's text.
+    pub fn name(&self) -> &'static str
+        ensures { result.now ≡ name_of self.now }
+    {
+        match *self {
+            Op::Three(kind, ..) => kind.name(),
+            Op::ShiftBy(kind, ..) => kind.name(),
+            Op::ShiftVar(kind, ..) => kind.name(),
+            Op::Imm(kind, ..) => kind.name(),
+            Op::Logic(kind, ..) => kind.name(),
+            Op::Lui(..) => "lui",
+            Op::Mult(kind, ..) => kind.name(),
+            Op::MoveFrom(kind, _) => kind.name(),
+            Op::MoveTo(kind, _) => kind.name(),
+            Op::Load(kind, ..) => kind.name(),
+            Op::Store(kind, ..) => kind.name(),
+            Op::BranchTwo(kind, ..) => kind.name(),
+            Op::BranchOne(kind, ..) => kind.name(),
+            Op::Jump(_) => "j",
+            Op::JumpLink(_) => "jal",
+            Op::JumpReg(_) => "jr",
+            Op::JumpLinkReg(..) => "jalr",
+            Op::Out(_) => "out",
+            Op::Release(_) => "release",
+            Op::Halt => "halt",
+        }
+    }
+
+    /// The operands, in the order of the text.
+    #[inline]
+    pub fn operands(&self) -> OperandList
+        ensures { listed result ≡ operands self.now }
+    {
+        match *self {
+            Op::Three(_, a, b, c) | Op::ShiftVar(_, a, b, c) => two_registers_and(
+                a,
+                b,
+                Operand::Register(c),
+            ),
+            Op::ShiftBy(_, rd, rt, n) => two_registers_and(rd, rt, Operand::Amount(n)),
+            Op::Imm(_, rt, rs, n) => two_registers_and(rt, rs, Operand::Signed(n)),
+            Op::Logic(_, rt, rs, n) => two_registers_and(rt, rs, Operand::Unsigned(n)),
+            Op::Lui(rt, n) => register_and(rt, Operand::Unsigned(n)),
+            Op::Mult(_, a, b) | Op::JumpLinkReg(a, b) => register_and(a, Operand::Register(b)),
+            Op::Load(_, rt, base, n) | Op::Store(_, rt, base, n) => register_and(
+                rt,
+                Operand::Offset(n, base),
+            ),
+            Op::BranchTwo(_, rs, rt, to) => two_registers_and(rs, rt, Operand::Place(to)),
+            Op::BranchOne(_, rs, to) => register_and(rs, Operand::Place(to)),
+            Op::Jump(to) | Op::JumpLink(to) => OperandList::One([Operand::Place(to)]),
+            Op::MoveFrom(_, r) | Op::MoveTo(_, r) | Op::JumpReg(r) | Op::Out(r) => OperandList::One(
+                [Operand::Register(r)],
+            ),
+            Op::Release(set) => OperandList::One([Operand::Registers(set)]),
+            Op::Halt => OperandList::Nothing,
+        }
+    }
+
     /// The registers of the operands a and b (MIPS manual); `None` where there is no such operand.
     pub fn sources(&self) -> (Option<Reg>, Option<Reg>)
         ensures first { result.0 ≡ source_a self.now }
