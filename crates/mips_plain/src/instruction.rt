@@ -2,17 +2,18 @@
 //! project's own), and the parts of one that need no memory: its operands, its destinations, the word
 //! that it writes and the address that it goes to. Each `Kind` names the mnemonics of one row.
 
-ghost use Rattle.std.specs.Prelude.{◌≡◌, ℕ, ◌<◌, ◌%◌, ◌^◌, ◌+◌, ◌/◌, ◌==◌, ◌||◌, if◌then◌else◌, [], ◌∷◌};
-ghost use Rattle.mips_plain.specs.Words.{HI, LO, has, address};
-ghost use Rattle.mips_plain.specs.InstructionTable.{three_name, shift_by_name, shift_var_name, imm_name, logic_name, mult_name, move_from_name, move_to_name, load_name, store_name, branch_two_name, branch_one_name, name_of, listed, operands, general, moved_from, moved_to};
+ghost use Rattle.std.specs.Prelude.{◌≡◌, ℕ, ◌<◌, ◌%◌, ◌^◌, ◌+◌, ◌/◌, ◌==◌, ◌||◌, if◌then◌else◌, [], ◌∷◌, map};
+ghost use Rattle.mips_plain.specs.Words.{has};
+ghost use Rattle.mips_plain.specs.InstructionTable.{three_name, shift_by_name, shift_var_name, imm_name, logic_name, mult_name, move_from_name, move_to_name, load_name, store_name, branch_two_name, branch_one_name, word_of, form_of, by_word, mnemonics, mnemonic_named, mnemonic_of, name_of, listed, operands, general};
 ghost use Rattle.mips_plain.specs.Instruction.{source_a, source_b, is_source, waits, dests, alu, taken, turn};
 
 use self::InstructionOperand as Operand;
 use crate::arithmetic::{
-    high, imm, logic, low, product, shift_by, shift_var, takes_one, takes_two, three,
+    imm, logic, moved_register, product, product_word, shift_by, shift_var, takes_one, takes_two,
+    target_register, three,
 };
 use crate::number::{Amount, Gpr, Place, Reg, RegSet};
-use crate::places::address_of;
+use crate::places::{address_of, following};
 
 /// Operations on two registers.
 #[derive(Clone, Copy, Debug, PartialEq, Eq)]
@@ -274,6 +275,236 @@ impl BranchOneKind {
     }
 }
 
+/// The first word of an instruction's text.
+#[derive(Clone, Copy, Debug, PartialEq, Eq)]
+pub enum Mnemonic {
+    /// `addu subu and or xor nor slt sltu`
+    Three(ThreeKind),
+    /// `sll srl sra`
+    ShiftBy(ShiftByKind),
+    /// `sllv srlv srav`
+    ShiftVar(ShiftVarKind),
+    /// `addiu slti sltiu`
+    Imm(ImmKind),
+    /// `andi ori xori`
+    Logic(LogicKind),
+    /// `lui`
+    Lui,
+    /// `mult multu`
+    Mult(MultKind),
+    /// `mfhi mflo`
+    MoveFrom(MoveFromKind),
+    /// `mthi mtlo`
+    MoveTo(MoveToKind),
+    /// `lw lh lhu lb lbu`
+    Load(LoadKind),
+    /// `sw sh sb`
+    Store(StoreKind),
+    /// `beq bne`
+    BranchTwo(BranchTwoKind),
+    /// `blez bgtz bltz bgez`
+    BranchOne(BranchOneKind),
+    /// `j`
+    Jump,
+    /// `jal`
+    JumpLink,
+    /// `jr`
+    JumpReg,
+    /// `jalr`
+    JumpLinkReg,
+    /// `out`
+    Out,
+    /// `release`
+    Release,
+    /// `halt`
+    Halt,
+    /// `nop`
+    Nop,
+    /// `move`
+    Move,
+    /// `li`
+    LoadImmediate,
+    /// `la`
+    LoadAddress,
+}
+
+/// What operands follow a mnemonic: r, rd, rs, rt and base are registers, n is a number, T a place.
+#[derive(Clone, Copy, Debug, PartialEq, Eq)]
+pub enum Form {
+    /// `rd,rs,rt`
+    Three,
+    /// `rd,rt,n`
+    ShiftBy,
+    /// `rd,rt,rs`
+    ShiftVar,
+    /// `rt,rs,n`, where n is signed
+    Signed,
+    /// `rt,rs,n`, where n is not signed
+    Unsigned,
+    /// `rt,n`
+    Upper,
+    /// `rs,rt`
+    Sources,
+    /// `rd`
+    Dest,
+    /// `rs`
+    Source,
+    /// `rt,n(base)`
+    Memory,
+    /// `rs,rt,T`
+    BranchTwo,
+    /// `rs,T`
+    BranchOne,
+    /// `T`
+    Jump,
+    /// `rd,rs`
+    DestSource,
+    /// `r,r,..`
+    Registers,
+    /// No operands.
+    Nothing,
+    /// `rd,n`
+    LoadImmediate,
+    /// `rd,NAME`
+    LoadAddress,
+}
+
+/// Every mnemonic.
+pub const MNEMONICS: [Mnemonic; 52] = [
+    Mnemonic::Three(ThreeKind::Addu),
+    Mnemonic::Three(ThreeKind::Subu),
+    Mnemonic::Three(ThreeKind::And),
+    Mnemonic::Three(ThreeKind::Or),
+    Mnemonic::Three(ThreeKind::Xor),
+    Mnemonic::Three(ThreeKind::Nor),
+    Mnemonic::Three(ThreeKind::Slt),
+    Mnemonic::Three(ThreeKind::Sltu),
+    Mnemonic::ShiftBy(ShiftByKind::Sll),
+    Mnemonic::ShiftBy(ShiftByKind::Srl),
+    Mnemonic::ShiftBy(ShiftByKind::Sra),
+    Mnemonic::ShiftVar(ShiftVarKind::Sllv),
+    Mnemonic::ShiftVar(ShiftVarKind::Srlv),
+    Mnemonic::ShiftVar(ShiftVarKind::Srav),
+    Mnemonic::Imm(ImmKind::Addiu),
+    Mnemonic::Imm(ImmKind::Slti),
+    Mnemonic::Imm(ImmKind::Sltiu),
+    Mnemonic::Logic(LogicKind::Andi),
+    Mnemonic::Logic(LogicKind::Ori),
+    Mnemonic::Logic(LogicKind::Xori),
+    Mnemonic::Lui,
+    Mnemonic::Mult(MultKind::Mult),
+    Mnemonic::Mult(MultKind::Multu),
+    Mnemonic::MoveFrom(MoveFromKind::Mfhi),
+    Mnemonic::MoveFrom(MoveFromKind::Mflo),
+    Mnemonic::MoveTo(MoveToKind::Mthi),
+    Mnemonic::MoveTo(MoveToKind::Mtlo),
+    Mnemonic::Load(LoadKind::Lw),
+    Mnemonic::Load(LoadKind::Lh),
+    Mnemonic::Load(LoadKind::Lhu),
+    Mnemonic::Load(LoadKind::Lb),
+    Mnemonic::Load(LoadKind::Lbu),
+    Mnemonic::Store(StoreKind::Sw),
+    Mnemonic::Store(StoreKind::Sh),
+    Mnemonic::Store(StoreKind::Sb),
+    Mnemonic::BranchTwo(BranchTwoKind::Beq),
+    Mnemonic::BranchTwo(BranchTwoKind::Bne),
+    Mnemonic::BranchOne(BranchOneKind::Blez),
+    Mnemonic::BranchOne(BranchOneKind::Bgtz),
+    Mnemonic::BranchOne(BranchOneKind::Bltz),
+    Mnemonic::BranchOne(BranchOneKind::Bgez),
+    Mnemonic::Jump,
+    Mnemonic::JumpLink,
+    Mnemonic::JumpReg,
+    Mnemonic::JumpLinkReg,
+    Mnemonic::Out,
+    Mnemonic::Release,
+    Mnemonic::Halt,
+    Mnemonic::Nop,
+    Mnemonic::Move,
+    Mnemonic::LoadImmediate,
+    Mnemonic::LoadAddress,
+];
+
+impl Mnemonic {
+    /// The word.
+    #[inline]
+    pub fn word(self) -> &'static str
+        ensures { result.now ≡ word_of self }
+    {
+        match self {
+            Mnemonic::Three(kind) => kind.name(),
+            Mnemonic::ShiftBy(kind) => kind.name(),
+            Mnemonic::ShiftVar(kind) => kind.name(),
+            Mnemonic::Imm(kind) => kind.name(),
+            Mnemonic::Logic(kind) => kind.name(),
+            Mnemonic::Lui => "lui",
+            Mnemonic::Mult(kind) => kind.name(),
+            Mnemonic::MoveFrom(kind) => kind.name(),
+            Mnemonic::MoveTo(kind) => kind.name(),
+            Mnemonic::Load(kind) => kind.name(),
+            Mnemonic::Store(kind) => kind.name(),
+            Mnemonic::BranchTwo(kind) => kind.name(),
+            Mnemonic::BranchOne(kind) => kind.name(),
+            Mnemonic::Jump => "j",
+            Mnemonic::JumpLink => "jal",
+            Mnemonic::JumpReg => "jr",
+            Mnemonic::JumpLinkReg => "jalr",
+            Mnemonic::Out => "out",
+            Mnemonic::Release => "release",
+            Mnemonic::Halt => "halt",
+            Mnemonic::Nop => "nop",
+            Mnemonic::Move => "move",
+            Mnemonic::LoadImmediate => "li",
+            Mnemonic::LoadAddress => "la",
+        }
+    }
+
+    /// What operands follow it.
+    pub fn form(self) -> Form
+        ensures { result ≡ form_of self }
+    {
+        match self {
+            Mnemonic::Three(_) => Form::Three,
+            Mnemonic::ShiftBy(_) => Form::ShiftBy,
+            Mnemonic::ShiftVar(_) => Form::ShiftVar,
+            Mnemonic::Imm(_) => Form::Signed,
+            Mnemonic::Logic(_) => Form::Unsigned,
+            Mnemonic::Lui => Form::Upper,
+            Mnemonic::Mult(_) => Form::Sources,
+            Mnemonic::MoveFrom(_) => Form::Dest,
+            Mnemonic::MoveTo(_) | Mnemonic::JumpReg | Mnemonic::Out => Form::Source,
+            Mnemonic::Load(_) | Mnemonic::Store(_) => Form::Memory,
+            Mnemonic::BranchTwo(_) => Form::BranchTwo,
+            Mnemonic::BranchOne(_) => Form::BranchOne,
+            Mnemonic::Jump | Mnemonic::JumpLink => Form::Jump,
+            Mnemonic::JumpLinkReg | Mnemonic::Move => Form::DestSource,
+            Mnemonic::Release => Form::Registers,
+            Mnemonic::Halt | Mnemonic::Nop => Form::Nothing,
+            Mnemonic::LoadImmediate => Form::LoadImmediate,
+            Mnemonic::LoadAddress => Form::LoadAddress,
+        }
+    }
+
+    /// The mnemonic of this word, if there is one.
+    pub fn named(word: &[u8]) -> Option<Mnemonic>
+        ensures { result ≡ mnemonic_named word.now mnemonics }
+    {
+        named_in(&MNEMONICS, word)
+    }
+}
+
+/// The mnemonic of this word among some.
+fn named_in(mnemonics: &[Mnemonic], word: &[u8]) -> Option<Mnemonic>
+    ensures { result ≡ mnemonic_named word.now (map by_word mnemonics.now) }
+{
+    for mnemonic in mnemonics {
+        if mnemonic.word().as_bytes() == word {
+            return Some(*mnemonic);
+        }
+    }
+    None
+}
+
 /// One instruction, without marks. The fields stand in the order of the text.
 #[derive(Clone, Copy, Debug, PartialEq, Eq)]
 pub enum Op {
@@ -366,36 +597,6 @@ impl OperandList {
     }
 }
 
-/// The register that a move from HI or LO reads.
-#[inline]
-pub(crate) fn moved_register(kind: MoveFromKind) -> Reg
-    ensures { result ≡ moved_from kind }
-{
-    match kind {
-        MoveFromKind::Mfhi => Reg::HI,
-        MoveFromKind::Mflo => Reg::LO,
-    }
-}
-
-/// The register that a move to HI or LO writes.
-#[inline]
-pub(crate) fn target_register(kind: MoveToKind) -> Reg
-    ensures { result ≡ moved_to kind }
-{
-    match kind {
-        MoveToKind::Mthi => Reg::HI,
-        MoveToKind::Mtlo => Reg::LO,
-    }
-}
-
-/// The address of the instruction behind this one.
-#[inline]
-pub(crate) fn following(pc: u32) -> u32
-    ensures { result ≡ (pc + 4) % 2 ^ 32 }
-{
-    pc.wrapping_add(4)
-}
-
 /// A set with a register beside its members, if there is one.
 fn insert_some(set: RegSet, register: Option<Reg>) -> RegSet
     ensures { (r : ℕ) → has result r ≡ (has set r || is_source register r) }
@@ -449,32 +650,41 @@ fn two_registers_and(first: Gpr, second: Gpr, third: InstructionOperand) -> Oper
 }
 
 impl Op {
-    /// The word that begins the instruction's text.
+    /// The mnemonic that the instruction's text begins with.
+    #[inline]
+    pub fn mnemonic(&self) -> Mnemonic
+        ensures { result ≡ mnemonic_of self.now }
+    {
+        match *self {
+            Op::Three(kind, ..) => Mnemonic::Three(kind),
+            Op::ShiftBy(kind, ..) => Mnemonic::ShiftBy(kind),
+            Op::ShiftVar(kind, ..) => Mnemonic::ShiftVar(kind),
+            Op::Imm(kind, ..) => Mnemonic::Imm(kind),
+            Op::Logic(kind, ..) => Mnemonic::Logic(kind),
+            Op::Lui(..) => Mnemonic::Lui,
+            Op::Mult(kind, ..) => Mnemonic::Mult(kind),
+            Op::MoveFrom(kind, _) => Mnemonic::MoveFrom(kind),
+            Op::MoveTo(kind, _) => Mnemonic::MoveTo(kind),
+            Op::Load(kind, ..) => Mnemonic::Load(kind),
+            Op::Store(kind, ..) => Mnemonic::Store(kind),
+            Op::BranchTwo(kind, ..) => Mnemonic::BranchTwo(kind),
+            Op::BranchOne(kind, ..) => Mnemonic::BranchOne(kind),
+            Op::Jump(_) => Mnemonic::Jump,
+            Op::JumpLink(_) => Mnemonic::JumpLink,
+            Op::JumpReg(_) => Mnemonic::JumpReg,
+            Op::JumpLinkReg(..) => Mnemonic::JumpLinkReg,
+            Op::Out(_) => Mnemonic::Out,
+            Op::Release(_) => Mnemonic::Release,
+            Op::Halt => Mnemonic::Halt,
+        }
+    }
+
+    /// Its word.
+    #[inline]
     pub fn name(&self) -> &'static str
         ensures { result.now ≡ name_of self.now }
     {
-        match *self {
-            Op::Three(kind, ..) => kind.name(),
-            Op::ShiftBy(kind, ..) => kind.name(),
-            Op::ShiftVar(kind, ..) => kind.name(),
-            Op::Imm(kind, ..) => kind.name(),
-            Op::Logic(kind, ..) => kind.name(),
-            Op::Lui(..) => "lui",
-            Op::Mult(kind, ..) => kind.name(),
-            Op::MoveFrom(kind, _) => kind.name(),
-            Op::MoveTo(kind, _) => kind.name(),
-            Op::Load(kind, ..) => kind.name(),
-            Op::Store(kind, ..) => kind.name(),
-            Op::BranchTwo(kind, ..) => kind.name(),
-            Op::BranchOne(kind, ..) => kind.name(),
-            Op::Jump(_) => "j",
-            Op::JumpLink(_) => "jal",
-            Op::JumpReg(_) => "jr",
-            Op::JumpLinkReg(..) => "jalr",
-            Op::Out(_) => "out",
-            Op::Release(_) => "release",
-            Op::Halt => "halt",
-        }
+        self.mnemonic().word()
     }
 
     /// The operands, in the order of the text.
@@ -634,18 +844,5 @@ impl Op {
             Op::BranchOne(kind, _, _) => takes_one(kind, a),
             _ => false,
         }
-    }
-}
-
-/// The word of a product for register r: the high half for HI, the low half for LO.
-fn product_word(product: u64, r: Reg) -> Option<u32>
-    ensures { result ≡ (if r == HI || r == LO then Some (if r == HI then product / 2 ^ 32 else product % 2 ^ 32) else None) }
-{
-    if r == Reg::HI {
-        Some(high(product))
-    } else if r == Reg::LO {
-        Some(low(product))
-    } else {
-        None
     }
 }
