@@ -4,7 +4,7 @@ use Rattle.std.proofs.lemmas.List.{map_more}
 use Rattle.std.proofs.lemmas.Bool.{eqb-true, false_from_ne_true}
 use Rattle.canonical_text.specs.CanonicalText.{commas, comma_unless, no_pieces, listed}
 
-commas_more : (x : List ℕ) (xs : List (List ℕ)) (y : List ℕ) → commas (x ∷ (xs ++ y ∷ [])) ≡ commas (x ∷ xs) ++ (44 ∷ y)
+pub commas_more : (x : List ℕ) (xs : List (List ℕ)) (y : List ℕ) → commas (x ∷ (xs ++ y ∷ [])) ≡ commas (x ∷ xs) ++ (44 ∷ y)
 commas_more x [] y = refl
 commas_more x (z ∷ zs) y =
     ap (λ (rest : List ℕ). x ++ (44 ∷ rest)) (commas_more z zs y)

@@ -1,4 +1,5 @@
 pub mod Commas
+pub mod Spelled
 pub mod Members
 pub mod DataLines
 pub mod Parts

@@ -1,190 +1,82 @@
 //! The text of one instruction.
 
-ghost use Rattle.std.specs.Prelude.{◌≡◌, ◌++◌, ◌∷◌, [], OnOk, string_bytes, map, codes};
-ghost use Rattle.std.specs.Fmt.{decimal, signed_decimal};
-ghost use Rattle.canonical_text.specs.CanonicalText.{spelled, register_text, based, place_text, members, op_text, forward_text, stop_text, marked_text};
+ghost use Rattle.std.specs.Prelude.{◌≡◌, ◌++◌, OnOk, string_bytes, map};
+ghost use Rattle.canonical_text.specs.CanonicalText.{spelled, before_operand, operand_text, op_text, forward_text, stop_text, marked_text};
 
 use crate::labels::Labels;
-use crate::mnemonics::*;
 use crate::pieces::{write_place, write_registers};
-use mips_plain::instruction::Op;
-use mips_plain::number::{Amount, Gpr, Place, RegSet};
+use mips_plain::instruction::{InstructionOperand, Op};
 use std::alloc::AllocError;
 use task_descriptor::descriptor::{Marked, Stop};
 
-fn write_one(text: &mut String, name: &str, first: Gpr) -> Result<(), AllocError>
-    ensures { OnOk result (string_bytes text.new ≡ string_bytes text.old ++ spelled name.now (register_text first ∷ [])) }
-{
-    let first = first.get();
-    write!(text, "{name} ${first}")
-}
-
-fn write_two(text: &mut String, name: &str, first: Gpr, second: Gpr) -> Result<(), AllocError>
-    ensures { OnOk result (string_bytes text.new ≡ string_bytes text.old ++ spelled name.now (register_text first ∷ register_text second ∷ [])) }
-{
-    let (first, second) = (first.get(), second.get());
-    write!(text, "{name} ${first},${second}")
-}
-
-fn write_three(
+fn write_operand(
     text: &mut String,
-    name: &str,
-    first: Gpr,
-    second: Gpr,
-    third: Gpr,
-) -> Result<(), AllocError>
-    ensures { OnOk result (string_bytes text.new ≡ string_bytes text.old ++ spelled name.now (register_text first ∷ register_text second ∷ register_text third ∷ [])) }
-{
-    let (first, second, third) = (first.get(), second.get(), third.get());
-    write!(text, "{name} ${first},${second},${third}")
-}
-
-fn write_shift(
-    text: &mut String,
-    name: &str,
-    first: Gpr,
-    second: Gpr,
-    amount: Amount,
-) -> Result<(), AllocError>
-    ensures { OnOk result (string_bytes text.new ≡ string_bytes text.old ++ spelled name.now (register_text first ∷ register_text second ∷ decimal amount ∷ [])) }
-{
-    let (first, second, amount) = (first.get(), second.get(), amount.get());
-    write!(text, "{name} ${first},${second},{amount}")
-}
-
-fn write_signed(
-    text: &mut String,
-    name: &str,
-    first: Gpr,
-    second: Gpr,
-    n: i16,
-) -> Result<(), AllocError>
-    ensures { OnOk result (string_bytes text.new ≡ string_bytes text.old ++ spelled name.now (register_text first ∷ register_text second ∷ signed_decimal n ∷ [])) }
-{
-    let (first, second) = (first.get(), second.get());
-    write!(text, "{name} ${first},${second},{n}")
-}
-
-fn write_unsigned(
-    text: &mut String,
-    name: &str,
-    first: Gpr,
-    second: Gpr,
-    n: u16,
-) -> Result<(), AllocError>
-    ensures { OnOk result (string_bytes text.new ≡ string_bytes text.old ++ spelled name.now (register_text first ∷ register_text second ∷ decimal n ∷ [])) }
-{
-    let (first, second) = (first.get(), second.get());
-    write!(text, "{name} ${first},${second},{n}")
-}
-
-fn write_upper(text: &mut String, first: Gpr, n: u16) -> Result<(), AllocError>
-    ensures { OnOk result (string_bytes text.new ≡ string_bytes text.old ++ spelled (codes "lui") (register_text first ∷ decimal n ∷ [])) }
-{
-    let first = first.get();
-    write!(text, "lui ${first},{n}")
-}
-
-fn write_based(
-    text: &mut String,
-    name: &str,
-    first: Gpr,
-    base: Gpr,
-    n: i16,
-) -> Result<(), AllocError>
-    ensures { OnOk result (string_bytes text.new ≡ string_bytes text.old ++ spelled name.now (register_text first ∷ based n base ∷ [])) }
-{
-    let (first, base) = (first.get(), base.get());
-    write!(text, "{name} ${first},{n}(${base})")
-}
-
-fn write_jump(
-    text: &mut String,
-    name: &str,
     labels: &Labels,
-    place: Place,
+    operand: InstructionOperand,
 ) -> Result<(), AllocError>
-    ensures { OnOk result (string_bytes text.new ≡ string_bytes text.old ++ spelled name.now (place_text labels.now place ∷ [])) }
+    ensures { OnOk result (string_bytes text.new ≡ string_bytes text.old ++ operand_text labels.now operand) }
 {
-    write!(text, "{name} ")?;
-    write_place(text, labels, place)
+    match operand {
+        InstructionOperand::Register(register) => {
+            let number = register.get();
+            write!(text, "${number}")
+        }
+        InstructionOperand::Amount(amount) => {
+            let amount = amount.get();
+            write!(text, "{amount}")
+        }
+        InstructionOperand::Signed(number) => write!(text, "{number}"),
+        InstructionOperand::Unsigned(number) => write!(text, "{number}"),
+        InstructionOperand::Offset(number, base) => {
+            let base = base.get();
+            write!(text, "{number}(${base})")
+        }
+        InstructionOperand::Place(place) => write_place(text, labels, place),
+        InstructionOperand::Registers(set) => {
+            write_registers(text, set)?;
+            Ok(())
+        }
+    }
 }
 
-fn write_branch_one(
-    text: &mut String,
-    name: &str,
-    first: Gpr,
-    labels: &Labels,
-    place: Place,
-) -> Result<(), AllocError>
-    ensures { OnOk result (string_bytes text.new ≡ string_bytes text.old ++ spelled name.now (register_text first ∷ place_text labels.now place ∷ [])) }
+fn before(is_first: bool) -> &'static str
+    ensures { result.now ≡ before_operand is_first }
 {
-    let first = first.get();
-    write!(text, "{name} ${first},")?;
-    write_place(text, labels, place)
+    if is_first { " " } else { "," }
 }
 
-fn write_branch_two(
+fn write_next_operand(
     text: &mut String,
-    name: &str,
-    first: Gpr,
-    second: Gpr,
+    is_first: bool,
     labels: &Labels,
-    place: Place,
+    operand: InstructionOperand,
 ) -> Result<(), AllocError>
-    ensures { OnOk result (string_bytes text.new ≡ string_bytes text.old ++ spelled name.now (register_text first ∷ register_text second ∷ place_text labels.now place ∷ [])) }
+    ensures { OnOk result (string_bytes text.new ≡ string_bytes text.old ++ (before_operand is_first ++ operand_text labels.now operand)) }
 {
-    let (first, second) = (first.get(), second.get());
-    write!(text, "{name} ${first},${second},")?;
-    write_place(text, labels, place)
+    text.push_str(before(is_first))?;
+    write_operand(text, labels, operand)
+}
+
+/// A mnemonic, and the operands behind it.
+fn write_spelled(
+    text: &mut String,
+    labels: &Labels,
+    name: &str,
+    operands: &[InstructionOperand],
+) -> Result<(), AllocError>
+    ensures { OnOk result (string_bytes text.new ≡ string_bytes text.old ++ spelled name.now (map (operand_text labels.now) operands.now)) }
+{
+    text.push_str(name)?;
+    for (index, operand) in operands.iter().enumerate() {
+        write_next_operand(text, index == 0, labels, *operand)?;
+    }
+    Ok(())
 }
 
 fn write_op(text: &mut String, labels: &Labels, op: &Op) -> Result<(), AllocError>
     ensures { OnOk result (string_bytes text.new ≡ string_bytes text.old ++ op_text labels.now op.now) }
 {
-    match *op {
-        Op::Three(kind, rd, rs, rt) => write_three(text, three_name(kind), rd, rs, rt),
-        Op::ShiftBy(kind, rd, rt, amount) => write_shift(text, shift_by_name(kind), rd, rt, amount),
-        Op::ShiftVar(kind, rd, rt, rs) => write_three(text, shift_var_name(kind), rd, rt, rs),
-        Op::Imm(kind, rt, rs, n) => write_signed(text, imm_name(kind), rt, rs, n),
-        Op::Logic(kind, rt, rs, n) => write_unsigned(text, logic_name(kind), rt, rs, n),
-        Op::Lui(rt, n) => write_upper(text, rt, n),
-        Op::Mult(kind, rs, rt) => write_two(text, mult_name(kind), rs, rt),
-        Op::MoveFrom(kind, rd) => write_one(text, move_from_name(kind), rd),
-        Op::MoveTo(kind, rs) => write_one(text, move_to_name(kind), rs),
-        Op::Load(kind, rt, base, n) => write_based(text, load_name(kind), rt, base, n),
-        Op::Store(kind, rt, base, n) => write_based(text, store_name(kind), rt, base, n),
-        Op::BranchTwo(kind, rs, rt, place) => write_branch_two(
-            text,
-            branch_two_name(kind),
-            rs,
-            rt,
-            labels,
-            place,
-        ),
-        Op::BranchOne(kind, rs, place) => write_branch_one(
-            text,
-            branch_one_name(kind),
-            rs,
-            labels,
-            place,
-        ),
-        Op::Jump(place) => write_jump(text, "j", labels, place),
-        Op::JumpLink(place) => write_jump(text, "jal", labels, place),
-        Op::JumpReg(rs) => write_one(text, "jr", rs),
-        Op::JumpLinkReg(rd, rs) => write_two(text, "jalr", rd, rs),
-        Op::Out(rs) => write_one(text, "out", rs),
-        Op::Release(set) => write_release(text, set),
-        Op::Halt => text.push_str("halt"),
-    }
-}
-
-fn write_release(text: &mut String, set: RegSet) -> Result<(), AllocError>
-    ensures { OnOk result (string_bytes text.new ≡ string_bytes text.old ++ spelled (codes "release") (map register_text (members set))) }
-{
-    text.push_str("release ")?;
-    write_registers(text, set)?;
-    Ok(())
+    write_spelled(text, labels, op.name(), op.operands().as_slice())
 }
 
 fn forward_mark(forward: bool) -> &'static str

@@ -3,6 +3,5 @@
 
 mod instructions;
 mod labels;
-mod mnemonics;
 mod pieces;
 pub mod print;

@@ -4,6 +4,8 @@ use Rattle.std.specs.Prelude.{ℕ, ◌+◌, List, [], ◌∷◌, Bool, true, fal
 use Rattle.std.specs.Str.{bytes_eq}
 use Rattle.program_tokens.specs.declared.token.Token.{Token}
 use Rattle.program_tokens.specs.declared.token.Token.TheVariants as token
+use Rattle.mips_plain.specs.declared.instruction.Form.{Form}
+use Rattle.mips_plain.specs.declared.instruction.Form.TheVariants as form
 use Rattle.line_faults.specs.declared.shape.Shape.{Shape}
 use Rattle.line_faults.specs.declared.shape.Shape.TheVariants as shape
 use Rattle.line_faults.specs.declared.form.Kind.{Kind}
@@ -13,46 +15,50 @@ use Rattle.line_faults.specs.declared.form.Step.TheVariants as step
 use Rattle.line_faults.specs.declared.form.Inside.{Inside}
 use Rattle.line_faults.specs.declared.form.Inside.TheVariants as inside
 
+-- the operands of each form of an instruction, step by step
+abbrev pub instruction_form : Form → List Step
+-- `rd,rs,rt`
+instruction_form form.Three = step.One kind.Register ∷ step.One kind.Comma ∷ step.One kind.Register ∷ step.One kind.Comma ∷ step.One kind.Register ∷ []
+-- `rd,rt,n`
+instruction_form form.ShiftBy = step.One kind.Register ∷ step.One kind.Comma ∷ step.One kind.Register ∷ step.One kind.Comma ∷ step.One kind.Number ∷ []
+-- `rd,rt,rs`
+instruction_form form.ShiftVar = step.One kind.Register ∷ step.One kind.Comma ∷ step.One kind.Register ∷ step.One kind.Comma ∷ step.One kind.Register ∷ []
+-- `rt,rs,n`
+instruction_form form.Signed = step.One kind.Register ∷ step.One kind.Comma ∷ step.One kind.Register ∷ step.One kind.Comma ∷ step.One kind.Number ∷ []
+-- `rt,rs,n`
+instruction_form form.Unsigned = step.One kind.Register ∷ step.One kind.Comma ∷ step.One kind.Register ∷ step.One kind.Comma ∷ step.One kind.Number ∷ []
+-- `rt,n`
+instruction_form form.Upper = step.One kind.Register ∷ step.One kind.Comma ∷ step.One kind.Number ∷ []
+-- `rs,rt`
+instruction_form form.Sources = step.One kind.Register ∷ step.One kind.Comma ∷ step.One kind.Register ∷ []
+-- `rd`
+instruction_form form.Dest = step.One kind.Register ∷ []
+-- `rs`
+instruction_form form.Source = step.One kind.Register ∷ []
+-- `rt,n(base)`
+instruction_form form.Memory = step.One kind.Register ∷ step.One kind.Comma ∷ step.One kind.Number ∷ step.One kind.Open ∷ step.One kind.Register ∷ step.One kind.Close ∷ []
+-- `rs,rt,T`
+instruction_form form.BranchTwo = step.One kind.Register ∷ step.One kind.Comma ∷ step.One kind.Register ∷ step.One kind.Comma ∷ step.One kind.Place ∷ []
+-- `rs,T`
+instruction_form form.BranchOne = step.One kind.Register ∷ step.One kind.Comma ∷ step.One kind.Place ∷ []
+-- `T`
+instruction_form form.Jump = step.One kind.Place ∷ []
+-- `rd,rs`
+instruction_form form.DestSource = step.One kind.Register ∷ step.One kind.Comma ∷ step.One kind.Register ∷ []
+-- `r,r,..`
+instruction_form form.Registers = step.List kind.AnyRegister ∷ []
+-- none
+instruction_form form.Nothing = []
+-- `rd,n`
+instruction_form form.LoadImmediate = step.One kind.Register ∷ step.One kind.Comma ∷ step.One kind.Number ∷ []
+-- `rd,NAME`
+instruction_form form.LoadAddress = step.One kind.Register ∷ step.One kind.Comma ∷ step.One kind.Label ∷ []
+
 -- the operands of each shape, step by step
 abbrev pub form_of : Shape → List Step
--- `rd,rs,rt`
-form_of shape.Three = step.One kind.Register ∷ step.One kind.Comma ∷ step.One kind.Register ∷ step.One kind.Comma ∷ step.One kind.Register ∷ []
--- `rd,rt,n`
-form_of shape.ShiftBy = step.One kind.Register ∷ step.One kind.Comma ∷ step.One kind.Register ∷ step.One kind.Comma ∷ step.One kind.Number ∷ []
--- `rd,rt,rs`
-form_of shape.ShiftVar = step.One kind.Register ∷ step.One kind.Comma ∷ step.One kind.Register ∷ step.One kind.Comma ∷ step.One kind.Register ∷ []
--- `rt,rs,n`
-form_of shape.Imm = step.One kind.Register ∷ step.One kind.Comma ∷ step.One kind.Register ∷ step.One kind.Comma ∷ step.One kind.Number ∷ []
--- `rt,rs,n`
-form_of shape.Logic = step.One kind.Register ∷ step.One kind.Comma ∷ step.One kind.Register ∷ step.One kind.Comma ∷ step.One kind.Number ∷ []
--- `rt,n`
-form_of shape.Lui = step.One kind.Register ∷ step.One kind.Comma ∷ step.One kind.Number ∷ []
--- `rs,rt`
-form_of shape.Mult = step.One kind.Register ∷ step.One kind.Comma ∷ step.One kind.Register ∷ []
--- `rd`
-form_of shape.MoveFrom = step.One kind.Register ∷ []
--- `rs`
-form_of shape.One = step.One kind.Register ∷ []
--- `rt,n(base)`
-form_of shape.Memory = step.One kind.Register ∷ step.One kind.Comma ∷ step.One kind.Number ∷ step.One kind.Open ∷ step.One kind.Register ∷ step.One kind.Close ∷ []
--- `rs,rt,T`
-form_of shape.BranchTwo = step.One kind.Register ∷ step.One kind.Comma ∷ step.One kind.Register ∷ step.One kind.Comma ∷ step.One kind.Place ∷ []
--- `rs,T`
-form_of shape.BranchOne = step.One kind.Register ∷ step.One kind.Comma ∷ step.One kind.Place ∷ []
--- `T`
-form_of shape.Jump = step.One kind.Place ∷ []
--- `rd,rs`
-form_of shape.JumpLinkReg = step.One kind.Register ∷ step.One kind.Comma ∷ step.One kind.Register ∷ []
--- `r,r,..`
-form_of shape.Release = step.List kind.AnyRegister ∷ []
+form_of (shape.Instruction f) = instruction_form f
 -- none
 form_of shape.Nothing = []
--- `rd,rs`
-form_of shape.Move = step.One kind.Register ∷ step.One kind.Comma ∷ step.One kind.Register ∷ []
--- `rd,n`
-form_of shape.LoadImmediate = step.One kind.Register ∷ step.One kind.Comma ∷ step.One kind.Number ∷ []
--- `rd,NAME`
-form_of shape.LoadAddress = step.One kind.Register ∷ step.One kind.Comma ∷ step.One kind.Label ∷ []
 -- `NAME`
 form_of shape.Start = step.One kind.Label ∷ []
 -- `NAME create=REGS targets=TS`

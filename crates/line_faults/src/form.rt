@@ -2,9 +2,10 @@
 
 ghost use Rattle.std.specs.Prelude.{◌≡◌, ◌≤◌, length, drop};
 ghost use Rattle.std.specs.Option.{option_map};
-ghost use Rattle.line_faults.specs.Forms.{form_of, is_general, is_word, is_kind, at_step, member_of, next_step, fitting};
+ghost use Rattle.line_faults.specs.Forms.{instruction_form, form_of, is_general, is_word, is_kind, at_step, member_of, next_step, fitting};
 
 use crate::shape::Shape;
+use mips_plain::instruction::Form;
 use program_tokens::token::Token;
 
 /// The kinds of token that operands are made of.
@@ -56,37 +57,37 @@ pub(crate) enum Inside {
     Comma,
 }
 
-/// The operands of a shape, step by step.
-fn form_of(shape: Shape) -> &'static [Step]
-    ensures { result.now ≡ form_of shape }
+/// The operands of a form of an instruction, step by step.
+fn instruction_form(form: Form) -> &'static [Step]
+    ensures { result.now ≡ instruction_form form }
 {
-    match shape {
-        Shape::Three | Shape::ShiftVar => &[
+    match form {
+        Form::Three | Form::ShiftVar => &[
             Step::One(Kind::Register),
             Step::One(Kind::Comma),
             Step::One(Kind::Register),
             Step::One(Kind::Comma),
             Step::One(Kind::Register),
         ],
-        Shape::ShiftBy | Shape::Imm | Shape::Logic => &[
+        Form::ShiftBy | Form::Signed | Form::Unsigned => &[
             Step::One(Kind::Register),
             Step::One(Kind::Comma),
             Step::One(Kind::Register),
             Step::One(Kind::Comma),
             Step::One(Kind::Number),
         ],
-        Shape::Lui | Shape::LoadImmediate => &[
+        Form::Upper | Form::LoadImmediate => &[
             Step::One(Kind::Register),
             Step::One(Kind::Comma),
             Step::One(Kind::Number),
         ],
-        Shape::Mult | Shape::JumpLinkReg | Shape::Move => &[
+        Form::Sources | Form::DestSource => &[
             Step::One(Kind::Register),
             Step::One(Kind::Comma),
             Step::One(Kind::Register),
         ],
-        Shape::MoveFrom | Shape::One => &[Step::One(Kind::Register)],
-        Shape::Memory => &[
+        Form::Dest | Form::Source => &[Step::One(Kind::Register)],
+        Form::Memory => &[
             Step::One(Kind::Register),
             Step::One(Kind::Comma),
             Step::One(Kind::Number),
@@ -94,26 +95,36 @@ fn form_of(shape: Shape) -> &'static [Step]
             Step::One(Kind::Register),
             Step::One(Kind::Close),
         ],
-        Shape::BranchTwo => &[
+        Form::BranchTwo => &[
             Step::One(Kind::Register),
             Step::One(Kind::Comma),
             Step::One(Kind::Register),
             Step::One(Kind::Comma),
             Step::One(Kind::Place),
         ],
-        Shape::BranchOne => &[
+        Form::BranchOne => &[
             Step::One(Kind::Register),
             Step::One(Kind::Comma),
             Step::One(Kind::Place),
         ],
-        Shape::Jump => &[Step::One(Kind::Place)],
-        Shape::Release => &[Step::List(Kind::AnyRegister)],
-        Shape::Nothing => &[],
-        Shape::LoadAddress => &[
+        Form::Jump => &[Step::One(Kind::Place)],
+        Form::Registers => &[Step::List(Kind::AnyRegister)],
+        Form::Nothing => &[],
+        Form::LoadAddress => &[
             Step::One(Kind::Register),
             Step::One(Kind::Comma),
             Step::One(Kind::Label),
         ],
+    }
+}
+
+/// The operands of a shape, step by step.
+fn form_of(shape: Shape) -> &'static [Step]
+    ensures { result.now ≡ form_of shape }
+{
+    match shape {
+        Shape::Instruction(form) => instruction_form(form),
+        Shape::Nothing => &[],
         Shape::Start => &[Step::One(Kind::Label)],
         Shape::Task => &[
             Step::One(Kind::Label),

@@ -1,14 +1,15 @@
 //! What the instructions compute of their operands (MIPS manual), one function for each row of the
 //! instruction table.
 
-ghost use Rattle.std.specs.Prelude.{◌≡◌, ◌<◌, ◌/◌, ◌%◌, ◌^◌};
-ghost use Rattle.mips_plain.specs.InstructionTable.{three_of, shift_by_of, shift_var_of, imm_of, logic_of, product_of, extended, two_taken, one_taken};
+ghost use Rattle.std.specs.Prelude.{◌≡◌, ◌<◌, ◌/◌, ◌%◌, ◌^◌, ◌==◌, ◌||◌, Some, None, if◌then◌else◌};
+ghost use Rattle.mips_plain.specs.Words.{HI, LO};
+ghost use Rattle.mips_plain.specs.InstructionTable.{three_of, shift_by_of, shift_var_of, imm_of, logic_of, product_of, moved_from, moved_to, extended, two_taken, one_taken};
 
 use crate::instruction::{
-    BranchOneKind, BranchTwoKind, ImmKind, LogicKind, MultKind, ShiftByKind, ShiftVarKind,
-    ThreeKind,
+    BranchOneKind, BranchTwoKind, ImmKind, LogicKind, MoveFromKind, MoveToKind, MultKind,
+    ShiftByKind, ShiftVarKind, ThreeKind,
 };
-use crate::number::Amount;
+use crate::number::{Amount, Reg};
 
 /// The word of an operation on two registers.
 #[inline(always)]
@@ -123,5 +124,40 @@ pub(crate) fn takes_one(kind: BranchOneKind, a: u32) -> bool
         BranchOneKind::Bgtz => a.cast_signed() > 0,
         BranchOneKind::Bltz => a.cast_signed() < 0,
         BranchOneKind::Bgez => a.cast_signed() >= 0,
+    }
+}
+
+/// The register that a move from HI or LO reads.
+#[inline]
+pub(crate) fn moved_register(kind: MoveFromKind) -> Reg
+    ensures { result ≡ moved_from kind }
+{
+    match kind {
+        MoveFromKind::Mfhi => Reg::HI,
+        MoveFromKind::Mflo => Reg::LO,
+    }
+}
+
+/// The register that a move to HI or LO writes.
+#[inline]
+pub(crate) fn target_register(kind: MoveToKind) -> Reg
+    ensures { result ≡ moved_to kind }
+{
+    match kind {
+        MoveToKind::Mthi => Reg::HI,
+        MoveToKind::Mtlo => Reg::LO,
+    }
+}
+
+/// The word of a product for register r: the high half for HI, the low half for LO.
+pub(crate) fn product_word(product: u64, r: Reg) -> Option<u32>
+    ensures { result ≡ (if r == HI || r == LO then Some (if r == HI then product / 2 ^ 32 else product % 2 ^ 32) else None) }
+{
+    if r == Reg::HI {
+        Some(high(product))
+    } else if r == Reg::LO {
+        Some(low(product))
+    } else {
+        None
     }
 }

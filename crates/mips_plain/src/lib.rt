@@ -4,8 +4,6 @@
 
 pub mod arithmetic;
 pub(crate) mod decoded;
-pub(crate) mod decoding;
-pub(crate) mod execution;
 pub mod instruction;
 pub mod memory;
 pub mod number;

@@ -31,8 +31,8 @@ use Rattle.program_statements.specs.declared.operand.Operand.{Operand}
 use Rattle.program_statements.specs.declared.operand.Operand.TheVariants as operand
 use Rattle.program_statements.specs.declared.operand.Operands.{Operands}
 use Rattle.program_statements.specs.declared.operand.Operands.TheVariants as operands
-use Rattle.program_statements.specs.declared.mnemonic.Mnemonic.{Mnemonic}
-use Rattle.program_statements.specs.declared.mnemonic.Mnemonic.TheVariants as mnemonic
+use Rattle.mips_plain.specs.declared.instruction.Mnemonic.{Mnemonic}
+use Rattle.mips_plain.specs.declared.instruction.Mnemonic.TheVariants as mnemonic
 use Rattle.program_statements.specs.declared.statement.Target.{Target}
 use Rattle.program_statements.specs.declared.statement.Target.TheVariants as target
 use Rattle.program_statements.specs.declared.statement.Instruction.{Instruction}

@@ -14,14 +14,14 @@ use Rattle.task_descriptor.specs.declared.descriptor.Stop.TheVariants as stop
 use Rattle.mips_plain.specs.declared.instruction.Op.TheVariants as op
 use Rattle.program_statements.specs.Steps.{◌>>=◌}
 use Rattle.program_statements.specs.Ranges.{natural, word, byte}
-use Rattle.program_statements.specs.Mnemonics.{mnemonic_named, mnemonics}
+use Rattle.mips_plain.specs.InstructionTable.{mnemonic_named, mnemonics}
 use Rattle.program_statements.specs.Rows.{as_target, with_operands}
 use Rattle.program_statements.specs.declared.fault.StatementFault.{StatementFault}
 use Rattle.program_statements.specs.declared.fault.StatementFault.TheVariants as fault
 use Rattle.program_statements.specs.declared.operand.Operand.{Operand}
 use Rattle.program_statements.specs.declared.operand.Operand.TheVariants as operand
-use Rattle.program_statements.specs.declared.mnemonic.Mnemonic.{Mnemonic}
-use Rattle.program_statements.specs.declared.mnemonic.Mnemonic.TheVariants as mnemonic
+use Rattle.mips_plain.specs.declared.instruction.Mnemonic.{Mnemonic}
+use Rattle.mips_plain.specs.declared.instruction.Mnemonic.TheVariants as mnemonic
 use Rattle.program_statements.specs.declared.statement.Section.{Section}
 use Rattle.program_statements.specs.declared.statement.Section.TheVariants as section
 use Rattle.program_statements.specs.declared.statement.Target.{Target}

@@ -7,7 +7,6 @@ pub mod fault;
 pub mod line;
 mod list;
 mod marks;
-mod mnemonic;
 mod operand;
 mod range;
 mod row;

@@ -2,17 +2,16 @@
 
 ghost use Rattle.std.specs.Prelude.{◌≡◌};
 ghost use Rattle.program_statements.specs.Steps.{Gives};
-ghost use Rattle.program_statements.specs.Mnemonics.{mnemonic_named, mnemonics};
+ghost use Rattle.mips_plain.specs.InstructionTable.{mnemonic_named, mnemonics};
 ghost use Rattle.program_statements.specs.Statements.{release_of, instruction_of, of_mnemonic, in_code, unmarked, with_marks, statement_of};
 
 use crate::directive::directive_of;
 use crate::fault::{StatementError, StatementFault};
 use crate::list::registers_at;
 use crate::marks::{mark_count, marks_after};
-use crate::mnemonic::{Mnemonic, mnemonic_of};
 use crate::row;
 use crate::statement::{Instruction, Marks, Section, Statement};
-use mips_plain::instruction::Op;
+use mips_plain::instruction::{Mnemonic, Op};
 use program_tokens::token::Token;
 use std::alloc::Global;
 use task_descriptor::name::Name;
@@ -37,6 +36,13 @@ fn instruction_of(mnemonic: Mnemonic, tokens: &[Token]) -> Result<Instruction, S
         return release_of(tokens);
     }
     row::with_operands(mnemonic, tokens)
+}
+
+/// The mnemonic of this name, if there is one.
+fn mnemonic_of(name: &Name) -> Option<Mnemonic>
+    ensures { result ≡ mnemonic_named name.now mnemonics }
+{
+    Mnemonic::named(name.bytes())
 }
 
 /// The instruction of a name with the tokens behind it, in a section.

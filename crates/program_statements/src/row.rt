@@ -4,13 +4,12 @@ ghost use Rattle.std.specs.Prelude.{◌≡◌, ◌<◌};
 ghost use Rattle.program_statements.specs.Rows.{no_operand, one_operand, two_operands, three_operands, as_register, as_number, as_offset, as_label, as_target, three, shift_by, shift_var, imm, logic, lui, mult, move_from, move_to, load, store, branch_two, branch_one, jump, jump_link, jump_reg, out, jump_link_reg, halt, nop, copy, immediate, load_immediate, load_address, row_of, with_operands};
 
 use crate::fault::StatementFault;
-use crate::mnemonic::Mnemonic;
 use crate::operand::{Operand, Operands, operands_of};
 use crate::range::{natural_of, signed_half_of, word_of};
 use crate::statement::{Instruction, Target};
 use mips_plain::instruction::{
-    BranchOneKind, BranchTwoKind, ImmKind, LoadKind, LogicKind, MoveFromKind, MoveToKind, MultKind,
-    Op, ShiftByKind, ShiftVarKind, StoreKind, ThreeKind,
+    BranchOneKind, BranchTwoKind, ImmKind, LoadKind, LogicKind, Mnemonic, MoveFromKind, MoveToKind,
+    MultKind, Op, ShiftByKind, ShiftVarKind, StoreKind, ThreeKind,
 };
 use mips_plain::number::{Amount, Gpr, Place};
 use program_tokens::token::{Number, Token};

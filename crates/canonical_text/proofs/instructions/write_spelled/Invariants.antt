@@ -1,0 +1,8 @@
+-- The name and the operands so far are written.
+use Rattle.std.proofs.Common.{◌≡◌, ◌++◌, take, map, string_bytes}
+use Rattle.canonical_text.specs.CanonicalText.{spelled, operand_text}
+use Rattle.canonical_text.proofs.instructions.write_spelled.Given as goal
+
+abbrev pub invariant-loop-index : goal.invariant-loop-index
+invariant-loop-index l =
+    string_bytes l.text ≡ string_bytes l.fn.text ++ spelled l.name (map (operand_text l.labels) (take l.index l.operands))
