@@ -44,6 +44,15 @@ leading_zero = refl
 pub no_register : script_parse (line (codes "drain 0 $34")) two_names ≡ Err (Line 1)
 no_register = refl
 
+pub register_with_leading_zero : script_parse (line (codes "transfer 1 $08")) two_names ≡ Err (Line 1)
+register_with_leading_zero = refl
+
+pub register_by_name : script_parse (line (codes "transfer 1 $t0")) two_names ≡ Err (Line 1)
+register_by_name = refl
+
+pub carriage_return : script_parse (line (codes "retire" ++ 13 ∷ [])) two_names ≡ Err (Line 1)
+carriage_return = refl
+
 pub no_task : script_parse (line (codes "assign C")) two_names ≡ Err (TaskName 1)
 no_task = refl
 
@@ -55,6 +64,10 @@ two_spaces = refl
 
 pub space_at_end : script_parse (line (codes "retire ")) two_names ≡ Err (Line 1)
 space_at_end = refl
+
+-- an empty line in the middle
+pub empty_line_between : script_parse (line (codes "retire") ++ (line [] ++ line (codes "fault"))) two_names ≡ Err (Line 2)
+empty_line_between = refl
 
 -- the first line with a fault of either kind
 pub first_fault : script_parse (line (codes "retire") ++ (line (codes "assign C") ++ codes "exec")) two_names ≡ Err (TaskName 2)

@@ -6,6 +6,4 @@ mod fault_text;
 pub mod laws;
 pub mod reading;
 mod task_names;
-#[cfg(test)]
-mod tests;
 pub mod writing;
