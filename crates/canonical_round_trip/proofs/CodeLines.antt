@@ -1,10 +1,12 @@
 -- A line of code, with its marks, is read as that instruction.
-use Rattle.std.proofs.Common.{◌≡◌, ℕ, List, [], ◌∷◌, ◌++◌, Bool, true, false, Option, Some, None, Result, Ok, refl, ap, sym, ◌∙◌}
+use Rattle.std.proofs.Common.{◌≡◌, ℕ, List, [], ◌∷◌, ◌++◌, Bool, true, false, Option, Some, None, Result, Ok, map, refl, ap, ◌∙◌}
 use Rattle.std.specs.Prelude.{◌==◌, find, reverse, length}
 use Rattle.std.specs.List.{list_all, list_any}
 use Rattle.std.proofs.lemmas.Bool.{and_parts, and_from, or_from, false≢true}
-use Rattle.mips_plain.specs.declared.instruction.Op.{Op}
-use Rattle.mips_plain.specs.declared.instruction.Op.TheVariants.{BranchTwo, BranchOne, Jump, JumpLink, Release}
+use Rattle.std.proofs.lemmas.List.Folds.{list_all-append}
+use Rattle.mips_plain.specs.InstructionTable.{name_of, operands}
+use Rattle.mips_plain.specs.declared.instruction.InstructionOperand.{InstructionOperand}
+use Rattle.mips_plain.specs.declared.instruction.InstructionOperand.TheVariants.{Place, Registers}
 use Rattle.task_descriptor.specs.Listing.{release_fits}
 use Rattle.task_descriptor.specs.declared.descriptor.Descriptor.{Descriptor}
 use Rattle.task_descriptor.specs.declared.descriptor.Marked.{Marked}
@@ -22,7 +24,7 @@ use Rattle.program_statements.specs.declared.statement.Marks.{Marks}
 use Rattle.program_statements.specs.declared.statement.Instruction.{Instruction}
 use Rattle.program_statements.specs.declared.statement.Statement.{Statement}
 use Rattle.program_statements.specs.declared.statement.Statement.TheVariants as statement
-use Rattle.canonical_round_trip.proofs.Operations.{comma_tokens, register_tokens, place_token_named, op_tokens, mark_tokens}
+use Rattle.canonical_round_trip.proofs.Operations.{comma_tokens, register_tokens, place_token_named, operand_tokens, behind_name, op_tokens, mark_tokens}
 use Rattle.canonical_round_trip.specs.Ranges.{IsInRange}
 use Rattle.canonical_round_trip.proofs.Meanings.{written, op_means}
 use Rattle.canonical_round_trip.proofs.MarkedLines.{marked_statement}
@@ -53,20 +55,17 @@ registers_plain [] = refl
 registers_plain (r ∷ []) = refl
 registers_plain (r ∷ q ∷ rs) = registers_plain (q ∷ rs)
 
--- a name and plain tokens behind it
-pub record IsOperation (tokens : List Token) : Type 0 where
-  pub name : List ℕ
-  pub operands : List Token
-  pub same : tokens ≡ token.Name name ∷ operands
-  pub plain : list_all is_plain operands ≡ true
+operand_plain : (tasks : List Descriptor) (operand : InstructionOperand) → list_all is_plain (operand_tokens tasks operand) ≡ true
+operand_plain tasks (Place place) = and_from _ true (place_plain (find (λ t. t.entry == place) tasks) place) refl
+operand_plain tasks (Registers set) = registers_plain (members set)
+operand_plain tasks _ = refl
 
-pub op_is : (tasks : List Descriptor) (o : Op) → IsOperation (op_tokens tasks o)
-op_is tasks (BranchTwo k rs rt place) = record { name = _; operands = _; same = refl; plain = and_from _ true (place_plain (find (λ t. t.entry == place) tasks) place) refl }
-op_is tasks (BranchOne k rs place) = record { name = _; operands = _; same = refl; plain = and_from _ true (place_plain (find (λ t. t.entry == place) tasks) place) refl }
-op_is tasks (Jump place) = record { name = _; operands = _; same = refl; plain = and_from _ true (place_plain (find (λ t. t.entry == place) tasks) place) refl }
-op_is tasks (JumpLink place) = record { name = _; operands = _; same = refl; plain = and_from _ true (place_plain (find (λ t. t.entry == place) tasks) place) refl }
-op_is tasks (Release set) = record { name = _; operands = _; same = refl; plain = registers_plain (members set) }
-op_is tasks _ = record { name = _; operands = _; same = refl; plain = refl }
+operands_plain : (tasks : List Descriptor) (os : List InstructionOperand) → list_all is_plain (comma_tokens (map (operand_tokens tasks) os)) ≡ true
+operands_plain tasks [] = refl
+operands_plain tasks (o ∷ []) = operand_plain tasks o
+operands_plain tasks (o ∷ p ∷ os) =
+    list_all-append is_plain (operand_tokens tasks o) (token.Comma ∷ comma_tokens (map (operand_tokens tasks) (p ∷ os)))
+    ∙ and_from _ _ (operand_plain tasks o) (operands_plain tasks (p ∷ os))
 
 -- Nothing before it is a label.
 
@@ -138,9 +137,7 @@ code_of name operands i forward s plain means =
 pub code_said : (tasks : List Descriptor) (m : Marked) → IsInRange m.op → release_fits m.op ≡ true
     → (labels_of (op_tokens tasks m.op ++ mark_tokens m.forward m.stop) ≡ []) × (statement_of section.Text (after_labels (op_tokens tasks m.op ++ mark_tokens m.forward m.stop)) ≡ Ok (code_statement tasks m))
 code_said tasks m range fits =
-    let is = op_is tasks m.op in
-    let means = ap (unmarked section.Text) (sym is.same) ∙ op_means tasks m.op range fits in (
-      ap (λ (ts : List Token). labels_of (ts ++ mark_tokens m.forward m.stop)) is.same ∙ (unlabelled is.name is.operands m.forward m.stop is.plain).0,
-      ap (λ (ts : List Token). statement_of section.Text (after_labels (ts ++ mark_tokens m.forward m.stop))) is.same
-          ∙ code_of is.name is.operands (written tasks m.op) m.forward m.stop is.plain means,
+    let plain = operands_plain tasks (operands m.op) in (
+      (unlabelled (name_of m.op) (behind_name tasks m.op) m.forward m.stop plain).0,
+      code_of (name_of m.op) (behind_name tasks m.op) (written tasks m.op) m.forward m.stop plain (op_means tasks m.op range fits),
     )

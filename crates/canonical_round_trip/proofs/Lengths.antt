@@ -1,13 +1,16 @@
 -- A canonical text is shorter than the longest text that is read.
-use Rattle.std.proofs.Common.{◌≡◌, ℕ, suc, ◌+◌, ◌*◌, ◌<◌, ◌≤◌, ◌^◌, List, [], ◌∷◌, ◌++◌, Bool, true, false, Option, Some, None, length, map, arith, refl, ap, subst, ◌∙◌, length-append}
+use Rattle.std.proofs.Common.{◌≡◌, ℕ, suc, ◌+◌, ◌*◌, ◌<◌, ◌≤◌, ◌^◌, List, [], ◌∷◌, ◌++◌, Bool, true, false, Option, Some, None, length, map, arith, refl, ap, ◌∙◌, length-append}
 use Rattle.std.specs.Prelude.{◌==◌, ℤ, pos, negsuc, find, filter, IfSome, codes}
 use Rattle.std.specs.List.{flat_map, AllByRecursion as All}
 use Rattle.std.specs.Fmt.{decimal, signed_decimal}
 use Rattle.std.proofs.lemmas.Bool.{cond_both}
+use Rattle.std.proofs.lemmas.List.Elements.{recursion_from_All}
 use Rattle.std.proofs.lemmas.Fmt.{length-decimal-le}
 use Rattle.mips_plain.specs.Words.{has}
+use Rattle.mips_plain.specs.InstructionTable.{name_of, operands}
+use Rattle.mips_plain.specs.declared.instruction.InstructionOperand.{InstructionOperand}
+use Rattle.mips_plain.specs.declared.instruction.InstructionOperand.TheVariants.{Register, Amount, Signed, Unsigned, Offset, Place, Registers}
 use Rattle.mips_plain.specs.declared.instruction.Op.{Op}
-use Rattle.mips_plain.specs.declared.instruction.Op.TheVariants.{Three, ShiftBy, ShiftVar, Imm, Logic, Lui, Mult, MoveFrom, MoveTo, Load, Store, BranchTwo, BranchOne, Jump, JumpLink, JumpReg, JumpLinkReg, Out, Release, Halt}
 use Rattle.task_descriptor.specs.Names.{is_name}
 use Rattle.task_descriptor.specs.NameFacts.{within_name}
 use Rattle.task_descriptor.specs.Listing.{Listing, registers}
@@ -15,10 +18,11 @@ use Rattle.task_descriptor.specs.declared.descriptor.Descriptor.{Descriptor}
 use Rattle.task_descriptor.specs.declared.descriptor.Marked.{Marked}
 use Rattle.task_descriptor.specs.declared.descriptor.Stop.{Stop}
 use Rattle.task_descriptor.specs.declared.descriptor.Stop.TheVariants as stop
-use Rattle.canonical_text.specs.CanonicalText.{line, commas, listed, spelled, based, register_text, members, place_named, place_text, op_text, forward_text, stop_text, marked_text, label_line, code_line, code_lines, task_line, start_line, hexadecimal, word_line, byte_line, data_lines, section, canonical_text, three_name, shift_by_name, shift_var_name, imm_name, logic_name, mult_name, move_from_name, move_to_name, load_name, store_name, branch_two_name, branch_one_name}
-use Rattle.canonical_round_trip.specs.Ranges.{IsHalf, IsInRange}
+use Rattle.canonical_text.specs.CanonicalText.{line, commas, listed, spelled, based, register_text, members, place_named, place_text, operand_text, op_text, forward_text, stop_text, marked_text, label_line, code_line, code_lines, task_line, start_line, hexadecimal, word_line, byte_line, data_lines, section, canonical_text}
+use Rattle.canonical_round_trip.specs.Ranges.{IsHalf, IsOperandInRange, IsInRange}
 use Rattle.canonical_round_trip.proofs.Numerals.{length-hexadecimal}
-use Rattle.canonical_round_trip.proofs.Operations.{found_passes, members_below, three_named, shift_by_named, shift_var_named, imm_named, logic_named, mult_named, move_from_named, move_to_named, load_named, store_named, branch_two_named, branch_one_named}
+use Rattle.canonical_round_trip.proofs.Operations.{found_passes, members_below}
+use Rattle.canonical_round_trip.proofs.Meanings.{is_named, few_operands}
 use Rattle.canonical_round_trip.proofs.TextItems.{IsSpellable}
 
 -- Pieces.
@@ -61,21 +65,15 @@ length-places : (tasks : List Descriptor) (places : List ℕ) → All (λ t. is_
 length-places tasks [] named h = tt
 length-places tasks (place ∷ places) named h = (length-place tasks place named h.0, length-places tasks places named h.1)
 
-length-general : (r : ℕ) → r < 32 → length (register_text r) ≤ 32
-length-general r below = omega (arith, length-register r (omega arith))
-
 length-based : (n : ℤ) (base : ℕ) → IsHalf n → base < 32 → length (based n base) ≤ 32
 length-based n base half below =
     omega (arith, length-half n half, length-register base (omega arith), length-append (signed_decimal n) (40 ∷ (register_text base ++ 41 ∷ [])), length-append (register_text base) (41 ∷ []))
 
-length-signed : (n : ℤ) → IsHalf n → length (signed_decimal n) ≤ 32
-length-signed n half = omega (arith, length-half n half)
-
-length-spelled : (most count : ℕ) (name : List ℕ) (operands : List (List ℕ)) → is_name name ≡ true → All (λ piece. length piece ≤ most) operands → length operands ≡ count
-    → length (spelled name operands) ≤ 33 + (most + 1) * count
-length-spelled most count name operands named h counted =
-    subst (λ n. length (spelled name operands) ≤ 33 + (most + 1) * n) counted
-    (omega (arith, within_name name named, length-commas most operands h, length-append name (32 ∷ commas operands)))
+length-spelled : (most : ℕ) (name : List ℕ) (operands : List (List ℕ)) → is_name name ≡ true → All (λ piece. length piece ≤ most) operands
+    → length (spelled name operands) ≤ 33 + (most + 1) * length operands
+length-spelled most name [] named h = omega (arith, within_name name named)
+length-spelled most name (a ∷ operands) named h =
+    omega (arith, within_name name named, length-commas most (a ∷ operands) h, length-append name (32 ∷ commas (a ∷ operands)))
 
 length-filter : {X : Type 0} (test : X → Bool) (xs : List X) → length (filter test xs) ≤ length xs
 length-filter test [] = omega arith
@@ -92,30 +90,30 @@ length-members set = omega (arith, length-mapped register_text (members set), le
 
 -- Lines.
 
-shorter : (n m : ℕ) → n ≤ m → m ≤ 169 → n ≤ 169
-shorter n m first second = omega arith
+length-operand : (tasks : List Descriptor) (o : InstructionOperand) → All (λ t. is_name t.name ≡ true) tasks → IsOperandInRange o → length (operand_text tasks o) ≤ 136
+length-operand tasks (Register r) t h = omega (arith, length-register r (omega arith))
+length-operand tasks (Amount n) t h = omega (arith, length-number n (omega arith))
+length-operand tasks (Signed n) t h = omega (arith, length-half n h)
+length-operand tasks (Unsigned n) t h = omega (arith, length-number n h)
+length-operand tasks (Offset n base) t h = omega (arith, length-based n base h.0 h.1)
+length-operand tasks (Place place) t h = omega (arith, length-place tasks place t h)
+length-operand tasks (Registers set) t h =
+    omega (arith, length-members set, length-commas 3 (map register_text (members set)) (length-registers (members set) (members_below set)))
 
-length-op : (tasks : List Descriptor) (o : Op) → All (λ t. is_name t.name ≡ true) tasks → IsInRange o → length (op_text tasks o) ≤ 169
-length-op tasks (Three k rd rs rt) t h = shorter _ 132 (length-spelled 32 3 (three_name k) (register_text rd ∷ register_text rs ∷ register_text rt ∷ []) (three_named k) (length-general rd h.0, (length-general rs h.1, (length-general rt h.2, tt))) refl) (omega arith)
-length-op tasks (ShiftBy k rd rt n) t h = let small : n < 2 ^ 16 = omega arith in shorter _ 132 (length-spelled 32 3 (shift_by_name k) (register_text rd ∷ register_text rt ∷ decimal n ∷ []) (shift_by_named k) (length-general rd h.0, (length-general rt h.1, (length-number n small, tt))) refl) (omega arith)
-length-op tasks (ShiftVar k rd rt rs) t h = shorter _ 132 (length-spelled 32 3 (shift_var_name k) (register_text rd ∷ register_text rt ∷ register_text rs ∷ []) (shift_var_named k) (length-general rd h.0, (length-general rt h.1, (length-general rs h.2, tt))) refl) (omega arith)
-length-op tasks (Imm k rt rs n) t h = shorter _ 132 (length-spelled 32 3 (imm_name k) (register_text rt ∷ register_text rs ∷ signed_decimal n ∷ []) (imm_named k) (length-general rt h.0, (length-general rs h.1, (length-signed n h.2, tt))) refl) (omega arith)
-length-op tasks (Logic k rt rs n) t h = shorter _ 132 (length-spelled 32 3 (logic_name k) (register_text rt ∷ register_text rs ∷ decimal n ∷ []) (logic_named k) (length-general rt h.0, (length-general rs h.1, (length-number n h.2, tt))) refl) (omega arith)
-length-op tasks (Lui rt n) t h = shorter _ 99 (length-spelled 32 2 (codes "lui") (register_text rt ∷ decimal n ∷ []) refl (length-general rt h.0, (length-number n h.1, tt)) refl) (omega arith)
-length-op tasks (Mult k rs rt) t h = shorter _ 99 (length-spelled 32 2 (mult_name k) (register_text rs ∷ register_text rt ∷ []) (mult_named k) (length-general rs h.0, (length-general rt h.1, tt)) refl) (omega arith)
-length-op tasks (MoveFrom k rd) t h = shorter _ 66 (length-spelled 32 1 (move_from_name k) (register_text rd ∷ []) (move_from_named k) (length-general rd h, tt) refl) (omega arith)
-length-op tasks (MoveTo k rs) t h = shorter _ 66 (length-spelled 32 1 (move_to_name k) (register_text rs ∷ []) (move_to_named k) (length-general rs h, tt) refl) (omega arith)
-length-op tasks (Load k rt base n) t h = shorter _ 99 (length-spelled 32 2 (load_name k) (register_text rt ∷ based n base ∷ []) (load_named k) (length-general rt h.0, (length-based n base h.2 h.1, tt)) refl) (omega arith)
-length-op tasks (Store k rt base n) t h = shorter _ 99 (length-spelled 32 2 (store_name k) (register_text rt ∷ based n base ∷ []) (store_named k) (length-general rt h.0, (length-based n base h.2 h.1, tt)) refl) (omega arith)
-length-op tasks (BranchTwo k rs rt place) t h = shorter _ 132 (length-spelled 32 3 (branch_two_name k) (register_text rs ∷ register_text rt ∷ place_text tasks place ∷ []) (branch_two_named k) (length-general rs h.0, (length-general rt h.1, (length-place tasks place t h.2, tt))) refl) (omega arith)
-length-op tasks (BranchOne k rs place) t h = shorter _ 99 (length-spelled 32 2 (branch_one_name k) (register_text rs ∷ place_text tasks place ∷ []) (branch_one_named k) (length-general rs h.0, (length-place tasks place t h.1, tt)) refl) (omega arith)
-length-op tasks (Jump place) t h = shorter _ 66 (length-spelled 32 1 (codes "j") (place_text tasks place ∷ []) refl (length-place tasks place t h, tt) refl) (omega arith)
-length-op tasks (JumpLink place) t h = shorter _ 66 (length-spelled 32 1 (codes "jal") (place_text tasks place ∷ []) refl (length-place tasks place t h, tt) refl) (omega arith)
-length-op tasks (JumpReg rs) t h = shorter _ 66 (length-spelled 32 1 (codes "jr") (register_text rs ∷ []) refl (length-general rs h, tt) refl) (omega arith)
-length-op tasks (JumpLinkReg rd rs) t h = shorter _ 99 (length-spelled 32 2 (codes "jalr") (register_text rd ∷ register_text rs ∷ []) refl (length-general rd h.0, (length-general rs h.1, tt)) refl) (omega arith)
-length-op tasks (Out rs) t h = shorter _ 66 (length-spelled 32 1 (codes "out") (register_text rs ∷ []) refl (length-general rs h, tt) refl) (omega arith)
-length-op tasks (Release set) t h = omega (arith, length-members set, length-spelled 3 (length (map register_text (members set))) (codes "release") (map register_text (members set)) refl (length-registers (members set) (members_below set)) refl)
-length-op tasks Halt t h = omega arith
+length-operands : (tasks : List Descriptor) (os : List InstructionOperand) → All (λ t. is_name t.name ≡ true) tasks → All IsOperandInRange os
+    → All (λ piece. length piece ≤ 136) (map (operand_text tasks) os)
+length-operands tasks [] t h = tt
+length-operands tasks (o ∷ os) t h = (length-operand tasks o t h.0, length-operands tasks os t h.1)
+
+length-op : (tasks : List Descriptor) (o : Op) → All (λ t. is_name t.name ≡ true) tasks → IsInRange o → length (op_text tasks o) ≤ 444
+length-op tasks o t h =
+    let each = length-operands tasks (operands o) t (recursion_from_All IsOperandInRange (operands o) h) in
+    omega (
+      arith,
+      few_operands o,
+      length-mapped (operand_text tasks) (operands o),
+      length-spelled 136 (name_of o) (map (operand_text tasks) (operands o)) (is_named o) each,
+    )
 
 length-marks : (forward : Bool) (s : Stop) → length (forward_text forward ++ stop_text s) ≤ 7
 length-marks false stop.None = omega arith
@@ -134,7 +132,7 @@ length-label : (at : Option Descriptor) → IfSome at (λ t. is_name t.name ≡ 
 length-label None named = omega arith
 length-label (Some t) named = omega (arith, within_name t.name named, length-line (t.name ++ 58 ∷ []), length-append t.name (58 ∷ []))
 
-length-code_line : (tasks : List Descriptor) (index : ℕ) (m : Marked) → All (λ t. is_name t.name ≡ true) tasks → IsInRange m.op → length (code_line tasks index m) ≤ 211
+length-code_line : (tasks : List Descriptor) (index : ℕ) (m : Marked) → All (λ t. is_name t.name ≡ true) tasks → IsInRange m.op → length (code_line tasks index m) ≤ 486
 length-code_line tasks index m named h =
     let at = find (λ t. t.entry == index) tasks in
     let label = length-label at (found_passes (λ t. is_name t.name ≡ true) (λ t. t.entry == index) tasks named) in
@@ -149,7 +147,7 @@ length-code_line tasks index m named h =
     )
 
 length-code : (tasks : List Descriptor) (index : ℕ) (code : List Marked) → All (λ t. is_name t.name ≡ true) tasks → All (λ m. IsInRange m.op) code
-    → length (code_lines tasks index code) ≤ 211 * length code
+    → length (code_lines tasks index code) ≤ 486 * length code
 length-code tasks index [] named h = omega arith
 length-code tasks index (m ∷ code) named h =
     omega (arith, length-code_line tasks index m named h.0, length-code tasks (index + 1) code named h.1, length-append (code_line tasks index m) (code_lines tasks (index + 1) code))

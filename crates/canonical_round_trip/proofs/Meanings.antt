@@ -1,8 +1,11 @@
 -- The tokens of an instruction mean that instruction.
 use Rattle.std.proofs.Common.{◌≡◌, ℕ, ◌<◌, ◌≤◌, ◌^◌, List, [], ◌∷◌, Bool, true, false, cond, Option, Some, None, Result, Ok, Err, arith, refl, ap, sym, ◌∙◌}
-use Rattle.std.specs.Prelude.{◌==◌, ◌||◌, ℤ, pos, negsuc, find, filter, codes, nat_lt, nat_le}
-use Rattle.std.specs.List.{list_any}
+use Rattle.std.specs.Prelude.{◌==◌, ◌||◌, ℤ, pos, negsuc, length, find, filter, nat_lt, nat_le}
+use Rattle.std.specs.List.{list_any, list_all, AllByRecursion}
+use Rattle.std.specs.Str.{bytes_eq}
 use Rattle.std.proofs.lemmas.Bool.{lt-ltb, le-leb, cond-true, false≢true, and_parts}
+use Rattle.std.proofs.lemmas.List.Elements.{recursion_from_All}
+use Rattle.std.proofs.lemmas.Slice.Eq.{bytes_eq-Decides}
 use Rattle.mips_plain.specs.declared.instruction.ThreeKind.{ThreeKind}
 use Rattle.mips_plain.specs.declared.instruction.ThreeKind.TheVariants.{Addu}
 use Rattle.mips_plain.specs.declared.instruction.ShiftByKind.{ShiftByKind}
@@ -29,19 +32,22 @@ use Rattle.mips_plain.specs.declared.instruction.BranchOneKind.{BranchOneKind}
 use Rattle.mips_plain.specs.declared.instruction.BranchOneKind.TheVariants.{Blez}
 use Rattle.mips_plain.specs.declared.instruction.Op.{Op}
 use Rattle.mips_plain.specs.declared.instruction.Op.TheVariants.{Three, ShiftBy, ShiftVar, Imm, Logic, Lui, Mult, MoveFrom, MoveTo, Load, Store, BranchTwo, BranchOne, Jump, JumpLink, JumpReg, JumpLinkReg, Out, Release, Halt}
+use Rattle.task_descriptor.specs.Names.{is_name}
 use Rattle.task_descriptor.specs.declared.descriptor.Descriptor.{Descriptor}
 use Rattle.program_tokens.specs.declared.token.Token.{Token}
 use Rattle.program_tokens.specs.declared.token.Token.TheVariants as token
 use Rattle.program_tokens.specs.declared.token.Number.TheVariants.{Small}
-use Rattle.canonical_text.specs.CanonicalText.{members, three_name, shift_by_name, shift_var_name, imm_name, logic_name, mult_name, move_from_name, move_to_name, load_name, store_name, branch_two_name, branch_one_name}
+use Rattle.canonical_text.specs.CanonicalText.{members}
+use Rattle.mips_plain.specs.InstructionTable.{mnemonic_named, mnemonics, mnemonic_of, word_of, name_of, operands, three_name, shift_by_name, shift_var_name, imm_name, logic_name, mult_name, move_from_name, move_to_name, load_name, store_name, branch_two_name, branch_one_name}
+use Rattle.annotated_asm.specs.Tables.{Names}
+use Rattle.annotated_asm.specs.Resolve.{is_known_target, is_known_instruction, target_place, spelled}
 use Rattle.program_statements.specs.Steps.{◌>>=◌}
 use Rattle.program_statements.specs.Operands.{operands_of, operand_at, base_at, after_one, after_two}
-use Rattle.program_statements.specs.Mnemonics.{mnemonic_named, mnemonics}
 use Rattle.program_statements.specs.Rows.{three, shift_by, shift_var, imm, logic, lui, mult as mult_of, move_from, move_to, load, store, branch_two, branch_one, jump, jump_link, jump_reg, jump_link_reg, out, halt}
 use Rattle.program_statements.specs.Statements.{registers_at, release_of, unmarked, of_mnemonic, no_marks, instruction_of}
 use Rattle.program_statements.specs.declared.fault.StatementFault.{StatementFault}
-use Rattle.program_statements.specs.declared.mnemonic.Mnemonic.{Mnemonic}
-use Rattle.program_statements.specs.declared.mnemonic.Mnemonic.TheVariants as mnemonic
+use Rattle.mips_plain.specs.declared.instruction.Mnemonic.{Mnemonic}
+use Rattle.mips_plain.specs.declared.instruction.Mnemonic.TheVariants as mnemonic
 use Rattle.program_statements.specs.declared.statement.Section.TheVariants as section
 use Rattle.program_statements.specs.declared.statement.Target.{Target}
 use Rattle.program_statements.specs.declared.statement.Target.TheVariants as target
@@ -55,8 +61,8 @@ use Rattle.std.proofs.lemmas.List.{append-nil}
 use Rattle.mips_plain.specs.Words.{has}
 use Rattle.task_descriptor.specs.Listing.{release_fits, registers}
 use Rattle.canonical_round_trip.proofs.SetTexts.{members_back, registers_back}
-use Rattle.canonical_round_trip.specs.Ranges.{IsHalf, IsInRange}
-use Rattle.canonical_round_trip.proofs.Operations.{comma_tokens, register_tokens, place_token_named, reg, num, base_tokens, op_tokens}
+use Rattle.canonical_round_trip.specs.Ranges.{IsHalf, IsOperandInRange, IsInRange}
+use Rattle.canonical_round_trip.proofs.Operations.{comma_tokens, register_tokens, place_token_named, reg, num, base_tokens, behind_name, op_tokens}
 
 -- a place by name where a task begins there
 abbrev pub target_named : Option Descriptor → ℕ → Target
@@ -73,6 +79,24 @@ written tasks (BranchOne k rs place) = instruction.BranchOne k rs (target_of tas
 written tasks (Jump place) = instruction.Jump (target_of tasks place)
 written tasks (JumpLink place) = instruction.JumpLink (target_of tasks place)
 written tasks o = instruction.One o
+
+-- its targets are known where those of its places are
+pub written_known : (labels : Names) (tasks : List Descriptor) (o : Op) → ((place : ℕ) → is_known_target labels (target_of tasks place) ≡ true)
+    → is_known_instruction labels (written tasks o) ≡ true
+written_known labels tasks (BranchTwo k rs rt place) known = known place
+written_known labels tasks (BranchOne k rs place) known = known place
+written_known labels tasks (Jump place) known = known place
+written_known labels tasks (JumpLink place) known = known place
+written_known labels tasks _ known = refl
+
+-- it is that instruction again, where its places are found again
+pub written_back : (labels : Names) (tasks : List Descriptor) (n : ℕ) (o : Op) → ((place : ℕ) → target_place labels n (target_of tasks place) ≡ Ok place)
+    → spelled labels n (written tasks o) ≡ Ok (o ∷ [])
+written_back labels tasks n (BranchTwo k rs rt place) found = ap (λ read. read >>= λ place. Ok (BranchTwo k rs rt place ∷ [])) (found place)
+written_back labels tasks n (BranchOne k rs place) found = ap (λ read. read >>= λ place. Ok (BranchOne k rs place ∷ [])) (found place)
+written_back labels tasks n (Jump place) found = ap (λ read. read >>= λ place. Ok (Jump place ∷ [])) (found place)
+written_back labels tasks n (JumpLink place) found = ap (λ read. read >>= λ place. Ok (JumpLink place ∷ [])) (found place)
+written_back labels tasks n _ found = refl
 
 -- Names.
 
@@ -124,11 +148,41 @@ branch_one_found : (k : BranchOneKind) → mnemonic_named (branch_one_name k) mn
 branch_one_found Blez = refl
 branch_one_found _ = refl
 
--- an instruction's name gives its row
-from_row : (name : List ℕ) (m : Mnemonic) (operands : List Token) (i : Instruction) → mnemonic_named name mnemonics ≡ Some m
-    → instruction_of m operands ≡ Ok i → unmarked section.Text (token.Name name ∷ operands) ≡ Ok (statement.Code i no_marks)
-from_row name m operands i found row =
-    ap (λ (o : Option Mnemonic). of_mnemonic o operands) found ∙ ap (λ (r : Result Instruction StatementFault). r >>= λ i. Ok (statement.Code i no_marks)) row
+word_found : (m : Mnemonic) → mnemonic_named (word_of m) mnemonics ≡ Some m
+word_found (mnemonic.Three k) = three_found k
+word_found (mnemonic.ShiftBy k) = shift_by_found k
+word_found (mnemonic.ShiftVar k) = shift_var_found k
+word_found (mnemonic.Imm k) = imm_found k
+word_found (mnemonic.Logic k) = logic_found k
+word_found (mnemonic.Mult k) = mult_found k
+word_found (mnemonic.MoveFrom k) = move_from_found k
+word_found (mnemonic.MoveTo k) = move_to_found k
+word_found (mnemonic.Load k) = load_found k
+word_found (mnemonic.Store k) = store_found k
+word_found (mnemonic.BranchTwo k) = branch_two_found k
+word_found (mnemonic.BranchOne k) = branch_one_found k
+word_found _ = refl
+
+name_found : (o : Op) → mnemonic_named (name_of o) mnemonics ≡ Some (mnemonic_of o)
+name_found o = word_found (mnemonic_of o)
+
+-- a word of a table of names is a name
+named_in : (name : List ℕ) (m : Mnemonic) (table : List (List ℕ × Mnemonic)) → list_all (λ (row : List ℕ × Mnemonic). is_name row.0) table ≡ true
+    → mnemonic_named name table ≡ Some m → is_name name ≡ true
+named_in name m [] all found = absurd cc
+named_in name m (row ∷ rows) all found =
+    let parts = and_parts (is_name row.0) (list_all (λ (row : List ℕ × Mnemonic). is_name row.0) rows) all in
+    (elim (bytes_eq row.0 name) as (λ b. bytes_eq row.0 name ≡ b → cond b (Some row.1) (mnemonic_named name rows) ≡ Some m → is_name name ≡ true) [
+      | true ↦ λ same _. ap is_name (sym ((bytes_eq-Decides row.0 name).0 same)) ∙ parts.0
+      | false ↦ λ _ behind. named_in name m rows parts.1 behind
+    ]) refl found
+
+pub is_named : (o : Op) → is_name (name_of o) ≡ true
+is_named o = named_in (name_of o) (mnemonic_of o) mnemonics refl (name_found o)
+
+pub few_operands : (o : Op) → length (operands o) ≤ 3
+few_operands Halt = omega arith
+few_operands _ = omega arith
 
 -- Operands in range.
 
@@ -249,27 +303,38 @@ half : (n : ℤ) → IsHalf n → signed_half (Small n) ≡ Ok n
 half (pos n) h = cond-true (nat_lt n (2 ^ 15)) (Ok (pos n)) (Err fault.Number) (lt-ltb n (2 ^ 15) h)
 half (negsuc n) h = cond-true (nat_lt n (2 ^ 15)) (Ok (negsuc n)) (Err fault.Number) (lt-ltb n (2 ^ 15) h)
 
-abbrev Means : List Descriptor → Op → Type 0
-Means tasks o = unmarked section.Text (op_tokens tasks o) ≡ Ok (statement.Code (written tasks o) no_marks)
+-- the operands, all in range, are those of the instruction
+operands_mean : (tasks : List Descriptor) (o : Op) → AllByRecursion IsOperandInRange (operands o) → release_fits o ≡ true
+    → instruction_of (mnemonic_of o) (behind_name tasks o) ≡ Ok (written tasks o)
+operands_mean tasks (Three k rd rs rt) h f = three_row k rd rs rt (below rd h.0) (below rs h.1.0) (below rt h.1.1.0)
+operands_mean tasks (ShiftBy k rd rt n) h f = shift_by_row k rd rt n (below rd h.0) (below rt h.1.0) (at_most 31 n (omega (arith, h.1.1.0)))
+operands_mean tasks (ShiftVar k rd rt rs) h f = shift_var_row k rd rt rs (below rd h.0) (below rt h.1.0) (below rs h.1.1.0)
+operands_mean tasks (Imm k rt rs n) h f = imm_row k rt rs n (below rt h.0) (below rs h.1.0) (half n h.1.1.0)
+operands_mean tasks (Logic k rt rs n) h f = logic_row k rt rs n (below rt h.0) (below rs h.1.0) (at_most 65535 n (omega (arith, h.1.1.0)))
+operands_mean tasks (Lui rt n) h f = lui_row rt n (below rt h.0) (at_most 65535 n (omega (arith, h.1.0)))
+operands_mean tasks (Mult k rs rt) h f = mult_row k rs rt (below rs h.0) (below rt h.1.0)
+operands_mean tasks (MoveFrom k rd) h f = move_from_row k rd (below rd h.0)
+operands_mean tasks (MoveTo k rs) h f = move_to_row k rs (below rs h.0)
+operands_mean tasks (Load k rt base n) h f = load_row k rt base n (below rt h.0) (below base h.1.0.1) (half n h.1.0.0)
+operands_mean tasks (Store k rt base n) h f = store_row k rt base n (below rt h.0) (below base h.1.0.1) (half n h.1.0.0)
+operands_mean tasks (BranchTwo k rs rt place) h f = branch_two_row k rs rt (find (λ t. t.entry == place) tasks) place (below rs h.0) (below rt h.1.0) (at_most 4096 place h.1.1.0)
+operands_mean tasks (BranchOne k rs place) h f = branch_one_row k rs (find (λ t. t.entry == place) tasks) place (below rs h.0) (at_most 4096 place h.1.0)
+operands_mean tasks (Jump place) h f = jump_row (find (λ t. t.entry == place) tasks) place (at_most 4096 place h.0)
+operands_mean tasks (JumpLink place) h f = jump_link_row (find (λ t. t.entry == place) tasks) place (at_most 4096 place h.0)
+operands_mean tasks (JumpReg rs) h f = jump_reg_row rs (below rs h.0)
+operands_mean tasks (JumpLinkReg rd rs) h f = jump_link_reg_row rd rs (below rd h.0) (below rs h.1.0)
+operands_mean tasks (Out rs) h f = out_row rs (below rs h.0)
+operands_mean tasks (Release set) h f = release_row (members set) set (some_member set f) (members_back set h.0)
+operands_mean tasks Halt h f = halt_row
 
-pub op_means : (tasks : List Descriptor) (o : Op) → IsInRange o → release_fits o ≡ true → Means tasks o
-op_means tasks (Three k rd rs rt) h f = from_row (three_name k) _ _ _ (three_found k) (three_row k rd rs rt (below rd h.0) (below rs h.1) (below rt h.2))
-op_means tasks (ShiftBy k rd rt n) h f = from_row (shift_by_name k) _ _ _ (shift_by_found k) (shift_by_row k rd rt n (below rd h.0) (below rt h.1) (at_most 31 n (omega arith)))
-op_means tasks (ShiftVar k rd rt rs) h f = from_row (shift_var_name k) _ _ _ (shift_var_found k) (shift_var_row k rd rt rs (below rd h.0) (below rt h.1) (below rs h.2))
-op_means tasks (Imm k rt rs n) h f = from_row (imm_name k) _ _ _ (imm_found k) (imm_row k rt rs n (below rt h.0) (below rs h.1) (half n h.2))
-op_means tasks (Logic k rt rs n) h f = from_row (logic_name k) _ _ _ (logic_found k) (logic_row k rt rs n (below rt h.0) (below rs h.1) (at_most 65535 n (omega arith)))
-op_means tasks (Lui rt n) h f = from_row (codes "lui") _ _ _ refl (lui_row rt n (below rt h.0) (at_most 65535 n (omega arith)))
-op_means tasks (Mult k rs rt) h f = from_row (mult_name k) _ _ _ (mult_found k) (mult_row k rs rt (below rs h.0) (below rt h.1))
-op_means tasks (MoveFrom k rd) h f = from_row (move_from_name k) _ _ _ (move_from_found k) (move_from_row k rd (below rd h))
-op_means tasks (MoveTo k rs) h f = from_row (move_to_name k) _ _ _ (move_to_found k) (move_to_row k rs (below rs h))
-op_means tasks (Load k rt base n) h f = from_row (load_name k) _ _ _ (load_found k) (load_row k rt base n (below rt h.0) (below base h.1) (half n h.2))
-op_means tasks (Store k rt base n) h f = from_row (store_name k) _ _ _ (store_found k) (store_row k rt base n (below rt h.0) (below base h.1) (half n h.2))
-op_means tasks (BranchTwo k rs rt place) h f = from_row (branch_two_name k) _ _ _ (branch_two_found k) (branch_two_row k rs rt (find (λ t. t.entry == place) tasks) place (below rs h.0) (below rt h.1) (at_most 4096 place h.2))
-op_means tasks (BranchOne k rs place) h f = from_row (branch_one_name k) _ _ _ (branch_one_found k) (branch_one_row k rs (find (λ t. t.entry == place) tasks) place (below rs h.0) (at_most 4096 place h.1))
-op_means tasks (Jump place) h f = from_row (codes "j") _ _ _ refl (jump_row (find (λ t. t.entry == place) tasks) place (at_most 4096 place h))
-op_means tasks (JumpLink place) h f = from_row (codes "jal") _ _ _ refl (jump_link_row (find (λ t. t.entry == place) tasks) place (at_most 4096 place h))
-op_means tasks (JumpReg rs) h f = from_row (codes "jr") _ _ _ refl (jump_reg_row rs (below rs h))
-op_means tasks (JumpLinkReg rd rs) h f = from_row (codes "jalr") _ _ _ refl (jump_link_reg_row rd rs (below rd h.0) (below rs h.1))
-op_means tasks (Out rs) h f = from_row (codes "out") _ _ _ refl (out_row rs (below rs h))
-op_means tasks (Release set) h f = from_row (codes "release") _ _ _ refl (release_row (members set) set (some_member set f) (members_back set h))
-op_means tasks Halt h f = from_row (codes "halt") _ _ _ refl halt_row
+-- an instruction's name gives its row
+from_row : (name : List ℕ) (m : Mnemonic) (operands : List Token) (i : Instruction) → mnemonic_named name mnemonics ≡ Some m
+    → instruction_of m operands ≡ Ok i → unmarked section.Text (token.Name name ∷ operands) ≡ Ok (statement.Code i no_marks)
+from_row name m operands i found row =
+    ap (λ (o : Option Mnemonic). of_mnemonic o operands) found ∙ ap (λ (r : Result Instruction StatementFault). r >>= λ i. Ok (statement.Code i no_marks)) row
+
+pub op_means : (tasks : List Descriptor) (o : Op) → IsInRange o → release_fits o ≡ true
+    → unmarked section.Text (op_tokens tasks o) ≡ Ok (statement.Code (written tasks o) no_marks)
+op_means tasks o h f =
+    from_row (name_of o) (mnemonic_of o) (behind_name tasks o) (written tasks o) (name_found o)
+    (operands_mean tasks o (recursion_from_All IsOperandInRange (operands o) h) f)

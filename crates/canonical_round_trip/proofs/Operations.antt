@@ -1,37 +1,15 @@
 -- An instruction's text is read back as the tokens of its name and operands.
-use Rattle.std.proofs.Common.{◌≡◌, ℕ, ◌<◌, ◌≤◌, ◌^◌, List, [], ◌∷◌, ◌++◌, Bool, true, false, Option, Some, None, map, arith, refl, sym}
+use Rattle.std.proofs.Common.{◌≡◌, ℕ, ◌<◌, ◌≤◌, List, [], ◌∷◌, ◌++◌, Bool, true, false, Option, Some, None, map, arith, refl, sym}
 use Rattle.std.specs.Prelude.{◌==◌, ℤ, pos, find, filter, IfSome, codes, nat_lt}
 use Rattle.std.specs.List.{AllByRecursion as All}
 use Rattle.std.proofs.lemmas.Bool.{cond_both, ltb-true}
 use Rattle.std.proofs.lemmas.List.Sums.{AllPass-from_list_all}
 use Rattle.std.proofs.lemmas.List.Elements.{recursion_from_All}
 use Rattle.mips_plain.specs.Words.{has}
-use Rattle.mips_plain.specs.declared.instruction.ThreeKind.{ThreeKind}
-use Rattle.mips_plain.specs.declared.instruction.ThreeKind.TheVariants.{Addu}
-use Rattle.mips_plain.specs.declared.instruction.ShiftByKind.{ShiftByKind}
-use Rattle.mips_plain.specs.declared.instruction.ShiftByKind.TheVariants.{Sll}
-use Rattle.mips_plain.specs.declared.instruction.ShiftVarKind.{ShiftVarKind}
-use Rattle.mips_plain.specs.declared.instruction.ShiftVarKind.TheVariants.{Sllv}
-use Rattle.mips_plain.specs.declared.instruction.ImmKind.{ImmKind}
-use Rattle.mips_plain.specs.declared.instruction.ImmKind.TheVariants.{Addiu}
-use Rattle.mips_plain.specs.declared.instruction.LogicKind.{LogicKind}
-use Rattle.mips_plain.specs.declared.instruction.LogicKind.TheVariants.{Andi}
-use Rattle.mips_plain.specs.declared.instruction.MultKind.{MultKind}
-use Rattle.mips_plain.specs.declared.instruction.MultKind.TheVariants as mult
-use Rattle.mips_plain.specs.declared.instruction.MoveFromKind.{MoveFromKind}
-use Rattle.mips_plain.specs.declared.instruction.MoveFromKind.TheVariants.{Mfhi}
-use Rattle.mips_plain.specs.declared.instruction.MoveToKind.{MoveToKind}
-use Rattle.mips_plain.specs.declared.instruction.MoveToKind.TheVariants.{Mthi}
-use Rattle.mips_plain.specs.declared.instruction.LoadKind.{LoadKind}
-use Rattle.mips_plain.specs.declared.instruction.LoadKind.TheVariants.{Lw}
-use Rattle.mips_plain.specs.declared.instruction.StoreKind.{StoreKind}
-use Rattle.mips_plain.specs.declared.instruction.StoreKind.TheVariants.{Sw}
-use Rattle.mips_plain.specs.declared.instruction.BranchTwoKind.{BranchTwoKind}
-use Rattle.mips_plain.specs.declared.instruction.BranchTwoKind.TheVariants.{Beq}
-use Rattle.mips_plain.specs.declared.instruction.BranchOneKind.{BranchOneKind}
-use Rattle.mips_plain.specs.declared.instruction.BranchOneKind.TheVariants.{Blez}
+use Rattle.mips_plain.specs.InstructionTable.{name_of, operands}
+use Rattle.mips_plain.specs.declared.instruction.InstructionOperand.{InstructionOperand}
+use Rattle.mips_plain.specs.declared.instruction.InstructionOperand.TheVariants.{Register, Amount, Signed, Unsigned, Offset, Place, Registers}
 use Rattle.mips_plain.specs.declared.instruction.Op.{Op}
-use Rattle.mips_plain.specs.declared.instruction.Op.TheVariants.{Three, ShiftBy, ShiftVar, Imm, Logic, Lui, Mult, MoveFrom, MoveTo, Load, Store, BranchTwo, BranchOne, Jump, JumpLink, JumpReg, JumpLinkReg, Out, Release, Halt}
 use Rattle.task_descriptor.specs.Names.{is_name}
 use Rattle.task_descriptor.specs.Listing.{registers}
 use Rattle.task_descriptor.specs.declared.descriptor.Descriptor.{Descriptor}
@@ -42,8 +20,8 @@ use Rattle.program_tokens.specs.declared.token.Token.{Token}
 use Rattle.program_tokens.specs.declared.token.Token.TheVariants as token
 use Rattle.program_tokens.specs.declared.token.Mark.TheVariants as mark
 use Rattle.program_tokens.specs.declared.token.Number.TheVariants.{Small}
-use Rattle.canonical_text.specs.CanonicalText.{commas, spelled, based, register_text, members, place_named, place_text, op_text, forward_text, stop_text, three_name, shift_by_name, shift_var_name, imm_name, logic_name, mult_name, move_from_name, move_to_name, load_name, store_name, branch_two_name, branch_one_name}
-use Rattle.canonical_round_trip.specs.Ranges.{IsHalf, IsInRange}
+use Rattle.canonical_text.specs.CanonicalText.{commas, spelled, based, register_text, members, place_named, place_text, operand_text, op_text, forward_text, stop_text}
+use Rattle.canonical_round_trip.specs.Ranges.{IsHalf, IsOperandInRange, IsInRange}
 use Rattle.canonical_round_trip.proofs.Spelling.{Reads, nothing, blank, joined, mark_stops, token as one_token}
 use Rattle.canonical_round_trip.proofs.Pieces.{name_reads, register_reads, decimal_reads, signed_reads, index_reads, comma, opened, closed}
 use Rattle.std.proofs.lemmas.List.{append-nil}
@@ -65,9 +43,10 @@ commas_read done = nothing
 commas_read (more r done) = r
 commas_read (more r (more q others)) = joined 44 refl r (comma (commas_read (more q others)))
 
-spelled_reads : (name : List ℕ) {operands : List (List ℕ)} {tokens : List (List Token)} → is_name name ≡ true → ReadEach operands tokens
-    → Reads (spelled name operands) (token.Name name ∷ comma_tokens tokens)
-spelled_reads name named each = joined 32 refl (name_reads name named) (blank (commas_read each))
+spelled_reads : (name : List ℕ) {texts : List (List ℕ)} {tokens : List (List Token)} → is_name name ≡ true → ReadEach texts tokens
+    → Reads (spelled name texts) (token.Name name ∷ comma_tokens tokens)
+spelled_reads name named done = name_reads name named
+spelled_reads name named (more r others) = joined 32 refl (name_reads name named) (blank (commas_read (more r others)))
 
 -- Places.
 
@@ -120,56 +99,6 @@ pub members_below : (set : ℕ) → All (λ r. r < 34) (members set)
 unfolding members
 members_below set = filter_keeps (λ r. r < 34) (has set) registers (recursion_from_All (λ r. r < 34) registers (λ k d below. ltb-true _ 34 (AllPass-from_list_all (λ r. nat_lt r 34) registers refl k d below)))
 
--- Names of instructions.
-
-pub three_named : (k : ThreeKind) → is_name (three_name k) ≡ true
-three_named Addu = refl
-three_named _ = refl
-
-pub shift_by_named : (k : ShiftByKind) → is_name (shift_by_name k) ≡ true
-shift_by_named Sll = refl
-shift_by_named _ = refl
-
-pub shift_var_named : (k : ShiftVarKind) → is_name (shift_var_name k) ≡ true
-shift_var_named Sllv = refl
-shift_var_named _ = refl
-
-pub imm_named : (k : ImmKind) → is_name (imm_name k) ≡ true
-imm_named Addiu = refl
-imm_named _ = refl
-
-pub logic_named : (k : LogicKind) → is_name (logic_name k) ≡ true
-logic_named Andi = refl
-logic_named _ = refl
-
-pub mult_named : (k : MultKind) → is_name (mult_name k) ≡ true
-mult_named mult.Mult = refl
-mult_named _ = refl
-
-pub move_from_named : (k : MoveFromKind) → is_name (move_from_name k) ≡ true
-move_from_named Mfhi = refl
-move_from_named _ = refl
-
-pub move_to_named : (k : MoveToKind) → is_name (move_to_name k) ≡ true
-move_to_named Mthi = refl
-move_to_named _ = refl
-
-pub load_named : (k : LoadKind) → is_name (load_name k) ≡ true
-load_named Lw = refl
-load_named _ = refl
-
-pub store_named : (k : StoreKind) → is_name (store_name k) ≡ true
-store_named Sw = refl
-store_named _ = refl
-
-pub branch_two_named : (k : BranchTwoKind) → is_name (branch_two_name k) ≡ true
-branch_two_named Beq = refl
-branch_two_named _ = refl
-
-pub branch_one_named : (k : BranchOneKind) → is_name (branch_one_name k) ≡ true
-branch_one_named Blez = refl
-branch_one_named _ = refl
-
 -- Instructions.
 
 abbrev pub reg : ℕ → List Token
@@ -181,52 +110,41 @@ num n = token.Number (Small n) ∷ []
 abbrev pub base_tokens : ℤ → ℕ → List Token
 base_tokens n base = token.Number (Small n) ∷ token.Open ∷ token.Register base ∷ token.Close ∷ []
 
-abbrev pub named : List ℕ → List (List Token) → List Token
-named name operands = token.Name name ∷ comma_tokens operands
+abbrev pub operand_tokens : List Descriptor → InstructionOperand → List Token
+operand_tokens tasks (Register r) = reg r
+operand_tokens tasks (Amount n) = num (pos n)
+operand_tokens tasks (Signed n) = num n
+operand_tokens tasks (Unsigned n) = num (pos n)
+operand_tokens tasks (Offset n base) = base_tokens n base
+operand_tokens tasks (Place place) = place_token tasks place ∷ []
+operand_tokens tasks (Registers set) = comma_tokens (register_tokens (members set))
+
+operand_reads : (tasks : List Descriptor) (operand : InstructionOperand) → All (λ t. is_name t.name ≡ true) tasks → IsOperandInRange operand
+    → Reads (operand_text tasks operand) (operand_tokens tasks operand)
+operand_reads tasks (Register r) t h = general_reads r h
+operand_reads tasks (Amount n) t h = decimal_reads n (omega arith)
+operand_reads tasks (Signed n) t h = signed_reads n h
+operand_reads tasks (Unsigned n) t h = decimal_reads n (omega arith)
+operand_reads tasks (Offset n base) t h = based_reads n base h.0 h.1
+operand_reads tasks (Place place) t h = place_reads tasks place t h
+operand_reads tasks (Registers set) t h = commas_read (registers_read (members set) (members_below set))
+
+operands_read : (tasks : List Descriptor) (os : List InstructionOperand) → All (λ t. is_name t.name ≡ true) tasks → All IsOperandInRange os
+    → ReadEach (map (operand_text tasks) os) (map (operand_tokens tasks) os)
+operands_read tasks [] t h = done
+operands_read tasks (o ∷ os) t h = more (operand_reads tasks o t h.0) (operands_read tasks os t h.1)
+
+-- the tokens behind the name
+abbrev pub behind_name : List Descriptor → Op → List Token
+behind_name tasks o = comma_tokens (map (operand_tokens tasks) (operands o))
 
 abbrev pub op_tokens : List Descriptor → Op → List Token
-op_tokens tasks (Three k rd rs rt) = named (three_name k) (reg rd ∷ reg rs ∷ reg rt ∷ [])
-op_tokens tasks (ShiftBy k rd rt amount) = named (shift_by_name k) (reg rd ∷ reg rt ∷ num (pos amount) ∷ [])
-op_tokens tasks (ShiftVar k rd rt rs) = named (shift_var_name k) (reg rd ∷ reg rt ∷ reg rs ∷ [])
-op_tokens tasks (Imm k rt rs n) = named (imm_name k) (reg rt ∷ reg rs ∷ num n ∷ [])
-op_tokens tasks (Logic k rt rs n) = named (logic_name k) (reg rt ∷ reg rs ∷ num (pos n) ∷ [])
-op_tokens tasks (Lui rt n) = named (codes "lui") (reg rt ∷ num (pos n) ∷ [])
-op_tokens tasks (Mult k rs rt) = named (mult_name k) (reg rs ∷ reg rt ∷ [])
-op_tokens tasks (MoveFrom k rd) = named (move_from_name k) (reg rd ∷ [])
-op_tokens tasks (MoveTo k rs) = named (move_to_name k) (reg rs ∷ [])
-op_tokens tasks (Load k rt base n) = named (load_name k) (reg rt ∷ base_tokens n base ∷ [])
-op_tokens tasks (Store k rt base n) = named (store_name k) (reg rt ∷ base_tokens n base ∷ [])
-op_tokens tasks (BranchTwo k rs rt place) = named (branch_two_name k) (reg rs ∷ reg rt ∷ (place_token tasks place ∷ []) ∷ [])
-op_tokens tasks (BranchOne k rs place) = named (branch_one_name k) (reg rs ∷ (place_token tasks place ∷ []) ∷ [])
-op_tokens tasks (Jump place) = named (codes "j") ((place_token tasks place ∷ []) ∷ [])
-op_tokens tasks (JumpLink place) = named (codes "jal") ((place_token tasks place ∷ []) ∷ [])
-op_tokens tasks (JumpReg rs) = named (codes "jr") (reg rs ∷ [])
-op_tokens tasks (JumpLinkReg rd rs) = named (codes "jalr") (reg rd ∷ reg rs ∷ [])
-op_tokens tasks (Out rs) = named (codes "out") (reg rs ∷ [])
-op_tokens tasks (Release set) = named (codes "release") (register_tokens (members set))
-op_tokens tasks Halt = token.Name (codes "halt") ∷ []
+op_tokens tasks o = token.Name (name_of o) ∷ behind_name tasks o
 
-pub op_reads : (tasks : List Descriptor) (o : Op) → All (λ t. is_name t.name ≡ true) tasks → IsInRange o → Reads (op_text tasks o) (op_tokens tasks o)
-op_reads tasks (Three k rd rs rt) t h = spelled_reads (three_name k) (three_named k) (more (general_reads rd h.0) (more (general_reads rs h.1) (more (general_reads rt h.2) done)))
-op_reads tasks (ShiftBy k rd rt amount) t h = let small : amount < 2 ^ 40 = omega arith in spelled_reads (shift_by_name k) (shift_by_named k) (more (general_reads rd h.0) (more (general_reads rt h.1) (more (decimal_reads amount small) done)))
-op_reads tasks (ShiftVar k rd rt rs) t h = spelled_reads (shift_var_name k) (shift_var_named k) (more (general_reads rd h.0) (more (general_reads rt h.1) (more (general_reads rs h.2) done)))
-op_reads tasks (Imm k rt rs n) t h = spelled_reads (imm_name k) (imm_named k) (more (general_reads rt h.0) (more (general_reads rs h.1) (more (signed_reads n h.2) done)))
-op_reads tasks (Logic k rt rs n) t h = let small : n < 2 ^ 40 = omega arith in spelled_reads (logic_name k) (logic_named k) (more (general_reads rt h.0) (more (general_reads rs h.1) (more (decimal_reads n small) done)))
-op_reads tasks (Lui rt n) t h = let small : n < 2 ^ 40 = omega arith in spelled_reads (codes "lui") refl (more (general_reads rt h.0) (more (decimal_reads n small) done))
-op_reads tasks (Mult k rs rt) t h = spelled_reads (mult_name k) (mult_named k) (more (general_reads rs h.0) (more (general_reads rt h.1) done))
-op_reads tasks (MoveFrom k rd) t h = spelled_reads (move_from_name k) (move_from_named k) (more (general_reads rd h) done)
-op_reads tasks (MoveTo k rs) t h = spelled_reads (move_to_name k) (move_to_named k) (more (general_reads rs h) done)
-op_reads tasks (Load k rt base n) t h = spelled_reads (load_name k) (load_named k) (more (general_reads rt h.0) (more (based_reads n base h.2 h.1) done))
-op_reads tasks (Store k rt base n) t h = spelled_reads (store_name k) (store_named k) (more (general_reads rt h.0) (more (based_reads n base h.2 h.1) done))
-op_reads tasks (BranchTwo k rs rt place) t h = spelled_reads (branch_two_name k) (branch_two_named k) (more (general_reads rs h.0) (more (general_reads rt h.1) (more (place_reads tasks place t h.2) done)))
-op_reads tasks (BranchOne k rs place) t h = spelled_reads (branch_one_name k) (branch_one_named k) (more (general_reads rs h.0) (more (place_reads tasks place t h.1) done))
-op_reads tasks (Jump place) t h = spelled_reads (codes "j") refl (more (place_reads tasks place t h) done)
-op_reads tasks (JumpLink place) t h = spelled_reads (codes "jal") refl (more (place_reads tasks place t h) done)
-op_reads tasks (JumpReg rs) t h = spelled_reads (codes "jr") refl (more (general_reads rs h) done)
-op_reads tasks (JumpLinkReg rd rs) t h = spelled_reads (codes "jalr") refl (more (general_reads rd h.0) (more (general_reads rs h.1) done))
-op_reads tasks (Out rs) t h = spelled_reads (codes "out") refl (more (general_reads rs h) done)
-op_reads tasks (Release set) t h = spelled_reads (codes "release") refl (registers_read (members set) (members_below set))
-op_reads tasks Halt t h = name_reads (codes "halt") refl
+pub op_reads : (tasks : List Descriptor) (o : Op) → All (λ t. is_name t.name ≡ true) tasks → is_name (name_of o) ≡ true → IsInRange o
+    → Reads (op_text tasks o) (op_tokens tasks o)
+op_reads tasks o t named h =
+    spelled_reads (name_of o) named (operands_read tasks (operands o) t (recursion_from_All IsOperandInRange (operands o) h))
 
 -- Marks.
 

@@ -5,7 +5,6 @@ use Rattle.std.specs.List.{list_all, AllByRecursion as All}
 use Rattle.std.proofs.lemmas.Bool.{and_from, cond-true, eqb-true, le-leb}
 use Rattle.std.proofs.lemmas.List.{append-nil}
 use Rattle.mips_plain.specs.declared.instruction.Op.{Op}
-use Rattle.mips_plain.specs.declared.instruction.Op.TheVariants.{BranchTwo, BranchOne, Jump, JumpLink}
 use Rattle.task_descriptor.specs.Listing.{Listing}
 use Rattle.task_descriptor.specs.declared.descriptor.Descriptor.{Descriptor}
 use Rattle.task_descriptor.specs.declared.descriptor.Marked.{Marked}
@@ -20,7 +19,7 @@ use Rattle.program_statements.specs.declared.statement.Section.TheVariants as se
 use Rattle.program_statements.specs.declared.statement.Statement.TheVariants as statement
 use Rattle.task_descriptor.specs.declared.program.BuildFault.TheVariants.{TooMany}
 use Rattle.canonical_round_trip.proofs.Operations.{found_passes}
-use Rattle.canonical_round_trip.proofs.Meanings.{target_named, target_of, written}
+use Rattle.canonical_round_trip.proofs.Meanings.{target_named, target_of, written, written_known, written_back}
 use Rattle.canonical_round_trip.proofs.SourceItems.{item, start_items, behind_one, task_statement, task_items, behind_tasks, label_items, code_statement, code_items, behind_code, byte_items, data_items, section_items, behind_section, section_behind, items}
 
 -- each task's name is the label at its entry
@@ -74,11 +73,7 @@ tasks_known labels tasks n (t ∷ ts) h others =
     (and_from _ _ (ap is_some others.0.0) (places_known labels tasks t.targets h)) (tasks_known labels tasks (n + 1) ts h others.1)
 
 instruction_known : (labels : Names) (tasks : List Descriptor) (o : Op) → AreLabelled labels tasks → is_known_instruction labels (written tasks o) ≡ true
-instruction_known labels tasks (BranchTwo k rs rt place) h = place_known labels tasks place h
-instruction_known labels tasks (BranchOne k rs place) h = place_known labels tasks place h
-instruction_known labels tasks (Jump place) h = place_known labels tasks place h
-instruction_known labels tasks (JumpLink place) h = place_known labels tasks place h
-instruction_known labels tasks _ h = refl
+instruction_known labels tasks o h = written_known labels tasks o (λ place. place_known labels tasks place h)
 
 line_known : (labels : Names) (tasks : List Descriptor) (n : ℕ) (at : Option Descriptor) (m : Marked) (rest : List Item) → AreLabelled labels tasks → known labels rest ≡ Ok tt
     → known labels ((label_items n at ++ (item (behind_one n at) section.Text (code_statement tasks m) ∷ [])) ++ rest) ≡ Ok tt
@@ -148,11 +143,7 @@ places_back labels tasks n (place ∷ places) h =
     ∙ ap (λ read. read >>= λ others. Ok (place ∷ others)) (places_back labels tasks n places h)
 
 code_back : (labels : Names) (tasks : List Descriptor) (n : ℕ) (o : Op) → AreLabelled labels tasks → spelled labels n (written tasks o) ≡ Ok (o ∷ [])
-code_back labels tasks n (BranchTwo k rs rt place) h = ap (λ read. read >>= λ place. Ok (BranchTwo k rs rt place ∷ [])) (place_back labels tasks n place h)
-code_back labels tasks n (BranchOne k rs place) h = ap (λ read. read >>= λ place. Ok (BranchOne k rs place ∷ [])) (place_back labels tasks n place h)
-code_back labels tasks n (Jump place) h = ap (λ read. read >>= λ place. Ok (Jump place ∷ [])) (place_back labels tasks n place h)
-code_back labels tasks n (JumpLink place) h = ap (λ read. read >>= λ place. Ok (JumpLink place ∷ [])) (place_back labels tasks n place h)
-code_back labels tasks n _ h = refl
+code_back labels tasks n o h = written_back labels tasks n o (λ place. place_back labels tasks n place h)
 
 -- The parts.
 

@@ -15,6 +15,7 @@ use Rattle.program_statements.specs.declared.statement.Statement.TheVariants as 
 use Rattle.canonical_round_trip.proofs.Spelling.{blank, nothing, joined as joined_texts}
 use Rattle.canonical_round_trip.proofs.Pieces.{name_reads, colon}
 use Rattle.canonical_round_trip.proofs.Operations.{found_passes, op_reads, marks_read}
+use Rattle.canonical_round_trip.proofs.Meanings.{is_named}
 use Rattle.canonical_round_trip.specs.Ranges.{IsInRange}
 use Rattle.canonical_round_trip.proofs.CodeLines.{code_said}
 use Rattle.canonical_round_trip.proofs.TaskLines.{task_line_is, task_reads, task_said}
@@ -67,7 +68,7 @@ instruction_chunk : (tasks : List Descriptor) (n : ℕ) (m : Marked) → All (λ
 instruction_chunk tasks n m all range fits =
     let said = code_said tasks m range fits in
     subst (λ (names : List (List ℕ)). Chunk n section.Text (line (marked_text tasks m)) (n + 1) section.Text (map (label_item n section.Text) names ++ (item n section.Text (code_statement tasks m) ∷ []))) said.0
-    (line_chunk n section.Text (code_statement tasks m) (marks_read m.forward m.stop (op_reads tasks m.op all range)) said.1)
+    (line_chunk n section.Text (code_statement tasks m) (marks_read m.forward m.stop (op_reads tasks m.op all (is_named m.op) range)) said.1)
 
 code_chunks : (tasks : List Descriptor) (n index : ℕ) (code : List Marked) → All (λ t. is_name t.name ≡ true) tasks
     → All (λ m. IsInRange m.op) code → All (λ m. release_fits m.op ≡ true) code

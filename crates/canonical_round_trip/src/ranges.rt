@@ -3,9 +3,9 @@
 
 ghost use Rattle.std.specs.Prelude.{◌<◌, ◌≤◌, ◌^◌};
 ghost use Rattle.std.specs.List.{All};
-ghost use Rattle.canonical_round_trip.specs.Ranges.{IsHalf, IsInRange, IsTaskInRange};
+ghost use Rattle.canonical_round_trip.specs.Ranges.{IsHalf, IsOperandInRange, IsInRange, IsTaskInRange};
 
-use mips_plain::instruction::Op;
+use mips_plain::instruction::{InstructionOperand, Op};
 use mips_plain::number::{Amount, Gpr, Place, RegSet};
 use task_descriptor::descriptor::{Descriptor, Marked};
 
@@ -13,20 +13,6 @@ fn general(register: Gpr)
     ensures { register < 32 }
 {
     let _ = register.get();
-}
-
-fn two(first: Gpr, second: Gpr)
-    ensures { (first < 32) × (second < 32) }
-{
-    general(first);
-    general(second);
-}
-
-fn three(first: Gpr, second: Gpr, third: Gpr)
-    ensures { (first < 32) × (second < 32) × (third < 32) }
-{
-    two(first, second);
-    general(third);
 }
 
 fn shift(amount: Amount)
@@ -59,73 +45,39 @@ fn unsigned(number: u16)
     let _ = number;
 }
 
-fn shifted(first: Gpr, second: Gpr, amount: Amount)
-    ensures { (first < 32) × (second < 32) × (amount < 32) }
+fn offset(number: i16, base: Gpr)
+    ensures { IsHalf number × (base < 32) }
 {
-    two(first, second);
-    shift(amount);
-}
-
-fn with_signed(first: Gpr, second: Gpr, number: i16)
-    ensures { (first < 32) × (second < 32) × IsHalf number }
-{
-    two(first, second);
     signed(number);
+    general(base);
 }
 
-fn with_unsigned(first: Gpr, second: Gpr, number: u16)
-    ensures { (first < 32) × (second < 32) × (number < 2 ^ 16) }
+fn operand_in_range(operand: InstructionOperand)
+    ensures { IsOperandInRange operand }
 {
-    two(first, second);
-    unsigned(number);
+    match operand {
+        InstructionOperand::Register(register) => general(register),
+        InstructionOperand::Amount(amount) => shift(amount),
+        InstructionOperand::Signed(number) => signed(number),
+        InstructionOperand::Unsigned(number) => unsigned(number),
+        InstructionOperand::Offset(number, base) => offset(number, base),
+        InstructionOperand::Place(place) => within(place),
+        InstructionOperand::Registers(set) => registers(set),
+    }
 }
 
-fn upper(register: Gpr, number: u16)
-    ensures { (register < 32) × (number < 2 ^ 16) }
+fn operands_in_range(operands: &[InstructionOperand])
+    ensures { All IsOperandInRange operands.now }
 {
-    general(register);
-    unsigned(number);
+    for operand in operands {
+        operand_in_range(*operand);
+    }
 }
 
-fn branch_two(first: Gpr, second: Gpr, place: Place)
-    ensures { (first < 32) × (second < 32) × (place ≤ 4096) }
-{
-    two(first, second);
-    within(place);
-}
-
-fn branch_one(register: Gpr, place: Place)
-    ensures { (register < 32) × (place ≤ 4096) }
-{
-    general(register);
-    within(place);
-}
-
-fn operands(op: &Op)
+fn op_in_range(op: &Op)
     ensures { IsInRange op.now }
 {
-    match *op {
-        Op::Three(_, rd, rs, rt) => three(rd, rs, rt),
-        Op::ShiftBy(_, rd, rt, amount) => shifted(rd, rt, amount),
-        Op::ShiftVar(_, rd, rt, rs) => three(rd, rt, rs),
-        Op::Imm(_, rt, rs, n) => with_signed(rt, rs, n),
-        Op::Logic(_, rt, rs, n) => with_unsigned(rt, rs, n),
-        Op::Lui(rt, n) => upper(rt, n),
-        Op::Mult(_, rs, rt) => two(rs, rt),
-        Op::MoveFrom(_, rd) => general(rd),
-        Op::MoveTo(_, rs) => general(rs),
-        Op::Load(_, rt, base, n) => with_signed(rt, base, n),
-        Op::Store(_, rt, base, n) => with_signed(rt, base, n),
-        Op::BranchTwo(_, rs, rt, place) => branch_two(rs, rt, place),
-        Op::BranchOne(_, rs, place) => branch_one(rs, place),
-        Op::Jump(place) => within(place),
-        Op::JumpLink(place) => within(place),
-        Op::JumpReg(rs) => general(rs),
-        Op::JumpLinkReg(rd, rs) => two(rd, rs),
-        Op::Out(rs) => general(rs),
-        Op::Release(set) => registers(set),
-        Op::Halt => (),
-    }
+    operands_in_range(op.operands().as_slice());
 }
 
 /// Each instruction's numbers.
@@ -133,7 +85,7 @@ pub(crate) fn code_in_range(code: &[Marked])
     ensures { All (λ m. IsInRange m.op) code.now }
 {
     for marked in code {
-        operands(&marked.op);
+        op_in_range(&marked.op);
     }
 }
 
