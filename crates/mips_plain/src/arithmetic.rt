@@ -1,7 +1,7 @@
 //! What the instructions compute of their operands (MIPS manual), one function for each row of the
 //! instruction table.
 
-ghost use Rattle.std.specs.Prelude.{◌≡◌, ◌<◌, ◌/◌, ◌%◌, ◌^◌, ◌==◌, ◌||◌, Some, None, if◌then◌else◌};
+ghost use Rattle.std.specs.Prelude.{◌≡◌, ◌<◌, ◌/◌, ◌%◌, ◌^◌, ◌==◌, ◌||◌, if◌then◌else◌};
 ghost use Rattle.mips_plain.specs.Words.{HI, LO};
 ghost use Rattle.mips_plain.specs.InstructionTable.{three_of, shift_by_of, shift_var_of, imm_of, logic_of, product_of, moved_from, moved_to, extended, two_taken, one_taken};
 

@@ -1,8 +1,9 @@
 //! The instructions (MIPS manual, the integer instructions; `out`, `release` and `halt` are this
-//! project's own), and the parts of one that need no memory: its operands, its destinations, the word
-//! that it writes and the address that it goes to. Each `Kind` names the mnemonics of one row.
+//! project's own): how each is written, and the parts of one that need no memory: its operands, its
+//! destinations, the word that it writes and the address that it goes to. Each `Kind` names the mnemonics
+//! of one row.
 
-ghost use Rattle.std.specs.Prelude.{◌≡◌, ℕ, ◌<◌, ◌%◌, ◌^◌, ◌+◌, ◌/◌, ◌==◌, ◌||◌, if◌then◌else◌, [], ◌∷◌, map};
+ghost use Rattle.std.specs.Prelude.{◌≡◌, ℕ, ◌||◌, if◌then◌else◌, [], ◌∷◌, map};
 ghost use Rattle.mips_plain.specs.Words.{has};
 ghost use Rattle.mips_plain.specs.InstructionTable.{three_name, shift_by_name, shift_var_name, imm_name, logic_name, mult_name, move_from_name, move_to_name, load_name, store_name, branch_two_name, branch_one_name, word_of, form_of, by_word, mnemonics, mnemonic_named, mnemonic_of, name_of, listed, operands, general};
 ghost use Rattle.mips_plain.specs.Instruction.{source_a, source_b, is_source, waits, dests, alu, taken, turn};

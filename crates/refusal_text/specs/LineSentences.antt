@@ -16,7 +16,7 @@ use Rattle.annotated_asm.specs.declared.fault.AsmFault.TheVariants.{NotAscii, To
 use Rattle.source_excerpt.specs.Excerpt.{shown_byte}
 use Rattle.line_faults.specs.declared.shape.Shape.{Shape}
 use Rattle.line_faults.specs.declared.shape.Shape.TheVariants.{Nothing}
-use Rattle.line_faults.specs.Shapes.{shapes, near_statement, shape_in, form_text, range_text}
+use Rattle.line_faults.specs.Shapes.{near_statement, shape_of as shape_named, form_text, range_text}
 use Rattle.line_faults.specs.Bytes.{span, bytes_at, byte_at, byte_span, token_span, token_help}
 use Rattle.line_faults.specs.Meant.{label_tokens, span_at, is_early, operand_span, number_index, is_directive, mark_index}
 
@@ -35,7 +35,7 @@ abbrev pub word_of : (line : List ℕ) → List Token → List Span → List ℕ
 word_of line tokens spans = bytes_at line (span_at spans (label_tokens tokens))
 
 unfoldable pub shape_of : (word : List ℕ) → Shape
-shape_of word = unwrap_or (shape_in word shapes) Nothing
+shape_of word = unwrap_or (shape_named word) Nothing
 
 -- the first number out of its range
 unfoldable pub number_span : Shape → List Token → List Span → Span
@@ -114,7 +114,7 @@ near_help here None = section_help here
 near_help here (Some near) = codes "did you mean " ++ (near ++ codes "?")
 
 unfoldable pub begins_statement : (word : List ℕ) → Bool
-begins_statement word = is_some (shape_in word shapes)
+begins_statement word = is_some (shape_named word)
 
 unfoldable pub near_word : (word : List ℕ) → Option (List ℕ)
 near_word word = near_statement word

@@ -1,5 +1,4 @@
 pub mod RegisterTests
 pub mod NameText
 pub mod SameLists
-pub mod SameInstructions
 pub mod Duplicates
