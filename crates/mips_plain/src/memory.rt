@@ -355,21 +355,20 @@ pub(crate) fn effective_address(a: u32, n: i16) -> u32
     a.wrapping_add(i32::from(n).cast_unsigned())
 }
 
-impl Op {
-    /// The word of an aligned load that lies whole in read-only data, with the operand a, else `None`.
-    /// `fixed` are the bytes that read-only data begins with; it is zero behind them.
-    pub fn fixed_load(&self, a: u32, fixed: &[u8]) -> Option<u32>
-        ensures { result ≡ fixed_load self.now a (byte_of fixed.now) }
-    {
-        let Op::Load(kind, _, _, n) = *self else {
-            return None;
-        };
-        let at = effective_address(a, n);
-        Some(loaded!(
-            kind,
-            fixed_word(fixed, fixed_offset(4, at)?),
-            fixed_half(fixed, fixed_offset(2, at)?),
-            fixed_byte(fixed, fixed_offset(1, at)?)
-        ))
-    }
+/// The word of an aligned load that lies whole in read-only data, with the operand a, else `None`; also
+/// `None` for an instruction that is no load. `fixed` are the bytes that read-only data begins with; it is
+/// zero behind them.
+pub fn fixed_load(op: &Op, a: u32, fixed: &[u8]) -> Option<u32>
+    ensures { result ≡ fixed_load op.now a (byte_of fixed.now) }
+{
+    let Op::Load(kind, _, _, n) = *op else {
+        return None;
+    };
+    let at = effective_address(a, n);
+    Some(loaded!(
+        kind,
+        fixed_word(fixed, fixed_offset(4, at)?),
+        fixed_half(fixed, fixed_offset(2, at)?),
+        fixed_byte(fixed, fixed_offset(1, at)?)
+    ))
 }

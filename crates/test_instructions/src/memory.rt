@@ -2,7 +2,7 @@
 
 use crate::numbers::gpr;
 use mips_plain::instruction::{LoadKind, Op, StoreKind};
-use mips_plain::memory::{Memory, MemoryFault};
+use mips_plain::memory::{Memory, MemoryFault, fixed_load};
 use mips_plain::outcome::Trap;
 use std::alloc::Global;
 use std::process::Abort;
@@ -21,8 +21,12 @@ fn load(rt: &impl Abort, memory: &Memory, kind: LoadKind, address: u32) -> Resul
 }
 
 // What a load of read-only data gives, if it is one.
-fn fixed_load(rt: &impl Abort, kind: LoadKind, address: u32, fixed: &[u8]) -> Option<u32> {
-    Op::Load(kind, gpr(rt, 8), gpr(rt, 9), 0).fixed_load(address, fixed)
+fn loaded_from_fixed(rt: &impl Abort, kind: LoadKind, address: u32, fixed: &[u8]) -> Option<u32> {
+    fixed_load(
+        &Op::Load(kind, gpr(rt, 8), gpr(rt, 9), 0),
+        address,
+        fixed,
+    )
 }
 
 fn store(
@@ -74,7 +78,7 @@ fn loads_of_read_only_data(rt: HostRuntime) {
 // Asserts what a load of read-only data gives.
 fn expect_fixed(rt: &impl Abort, kind: LoadKind, address: u32, fixed: &[u8], answer: Option<u32>) {
     assert_eq!(rt;
-        fixed_load(rt, kind, address, fixed),
+        loaded_from_fixed(rt, kind, address, fixed),
         answer,
         "{address:#x}"
     );

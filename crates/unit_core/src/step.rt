@@ -20,6 +20,7 @@ ghost use Rattle.unit_core.specs.declared.wait.Wait.TheVariants as wait;
 use crate::wait::Wait;
 use machine_events::event::Spot;
 use mips_plain::instruction::Op;
+use mips_plain::memory::fixed_load;
 use mips_plain::number::{Gpr, Reg, RegSet};
 use mips_plain::outcome::Read;
 use register_ring::held::RegisterWords;
@@ -132,7 +133,7 @@ fn load_by_operation(op: &Op, a: u32, fixed: &[u8]) -> Result<Option<u32>, Wait>
     ensures refused { IfErr result (λ why. (why ≡ wait.NotHead) × (may_run_ahead op.now a ≡ false)) }
 {
     match *op {
-        Op::Load(..) => match op.fixed_load(a, fixed) {
+        Op::Load(..) => match fixed_load(op, a, fixed) {
             Some(word) => Ok(Some(word)),
             None => Err(Wait::NotHead),
         },

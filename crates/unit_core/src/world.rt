@@ -2,7 +2,7 @@
 
 use machine_events::event::Standing;
 use mips_plain::instruction::Op;
-use mips_plain::memory::Memory;
+use mips_plain::memory::{Memory, fixed_load};
 use mips_plain::outcome::OutOfMemory;
 use std::alloc::Global;
 use std::marker::Model;
@@ -122,7 +122,7 @@ impl World {
         ensures output { self.new.output ≡ self.old.output }
         ensures contents { self.new.contents ≡ self.old.contents }
     {
-        if let Some(word) = op.fixed_load(a, fixed) {
+        if let Some(word) = fixed_load(op, a, fixed) {
             return Some(word);
         }
         match self.memory.load(op, address) {
