@@ -1,7 +1,7 @@
 //! Reading a file whole, up to a limit.
 ghost use Rattle.std.specs.Prelude.{◌≡◌, ◌≤◌, ◌+◌, ℕ, List, Some, IfOk, take, vec_len};
 
-use std::alloc::Global;
+use std::alloc::{AllocError, Global};
 use std::io::{ErrorKind, Read};
 use thiserror::Error;
 
@@ -42,7 +42,7 @@ pub fn fetch<R: Read>(alloc: Global, reader: &mut R, most: u64) -> Result<Vec<u8
             Ok(0) => break,
             Ok(count) => all
                 .extend_from_slice(&chunk[..count])
-                .map_err(|_| FetchFault::OutOfMemory)?,
+                .map_err(|_: AllocError| FetchFault::OutOfMemory)?,
             Err(error) => {
                 let kind = error.kind();
                 if kind != ErrorKind::Interrupted || interruptions == MOST_INTERRUPTIONS {
