@@ -1,6 +1,6 @@
 //! The program that items are, their names resolved.
 
-ghost use Rattle.std.specs.Prelude.{◌≡◌, ◌++◌, ◌/◌, ◌%◌, ◌^◌, List, [], ◌∷◌, replicate, is_some, OnOk, IfErr};
+ghost use Rattle.std.specs.Prelude.{◌≡◌, ◌++◌, ◌/◌, ◌%◌, ◌^◌, List, [], ◌∷◌, replicate, is_some, OnOk};
 ghost use Rattle.mips_plain.specs.declared.instruction.Op.TheVariants.{Lui, Logic};
 ghost use Rattle.std.specs.List.{list_all};
 ghost use Rattle.task_descriptor.specs.Listing.{Listing, listing_of};
@@ -13,7 +13,9 @@ use crate::fault::AsmFault;
 use crate::item::Item;
 use crate::table::{Symbol, Table};
 use mips_plain::instruction::{LogicKind, Op};
+use mips_plain::memory::{DATA_START, FIXED_START};
 use mips_plain::number::{Gpr, Place};
+use mips_plain::places::address_of;
 use program_statements::statement::{
     Instruction, Marks, Section, Statement, Target, Targets, Task,
 };
@@ -143,6 +145,7 @@ fn limit(section: Section) -> u64
 }
 
 /// The address of a label.
+#[tactic(auto, unfolding(mips_plain::specs::Words::address))]
 fn label_address(line: u32, symbol: Option<Symbol>) -> Result<u32, AsmFault>
     ensures { result ≡ label_address line symbol }
 {
@@ -154,9 +157,9 @@ fn label_address(line: u32, symbol: Option<Symbol>) -> Result<u32, AsmFault>
     }
     let offset = symbol.offset as u32;
     match symbol.section {
-        Section::Text => Ok(0x0040_0000 + 4 * offset),
-        Section::Data => Ok(0x1001_0000 + offset),
-        Section::Rodata => Ok(0x1000_0000 + offset),
+        Section::Text => Ok(address_of(offset)),
+        Section::Data => Ok(DATA_START + offset),
+        Section::Rodata => Ok(FIXED_START + offset),
     }
 }
 
@@ -237,9 +240,8 @@ fn descriptor_of(
 }
 
 /// Adds bytes to the data of a section.
-fn add_data(parts: &mut Parts, section: Section, bytes: &[u8]) -> Result<(), AsmFault>
-    ensures ok { OnOk result (listing_of parts.new ≡ with_data (listing_of parts.old) section bytes.now) }
-    ensures err { IfErr result (λ fault. fault ≡ AsmFault.OutOfMemory) }
+fn add_data(parts: &mut Parts, section: Section, bytes: &[u8]) -> Result<(), AllocError>
+    ensures { OnOk result (listing_of parts.new ≡ with_data (listing_of parts.old) section bytes.now) }
 {
     match section {
         Section::Text => {}
@@ -258,9 +260,8 @@ fn append_zeros(bytes: &mut Vec<u8>, size: u32) -> Result<(), AllocError>
 }
 
 /// Adds zeros to the data of a section.
-fn add_zeros(parts: &mut Parts, section: Section, size: u32) -> Result<(), AsmFault>
-    ensures ok { OnOk result (listing_of parts.new ≡ with_data (listing_of parts.old) section (replicate size 0)) }
-    ensures err { IfErr result (λ fault. fault ≡ AsmFault.OutOfMemory) }
+fn add_zeros(parts: &mut Parts, section: Section, size: u32) -> Result<(), AllocError>
+    ensures { OnOk result (listing_of parts.new ≡ with_data (listing_of parts.old) section (replicate size 0)) }
 {
     match section {
         Section::Text => {}
@@ -271,25 +272,20 @@ fn add_zeros(parts: &mut Parts, section: Section, size: u32) -> Result<(), AsmFa
 }
 
 /// Adds an instruction with its marks.
-fn push_marked(code: &mut Vec<Marked>, op: Op, marks: Marks) -> Result<(), AsmFault>
-    ensures ok { OnOk result (code.new.items ≡ code.old.items ++ marked op marks ∷ []) }
-    ensures err { IfErr result (λ fault. fault ≡ AsmFault.OutOfMemory) }
+fn push_marked(code: &mut Vec<Marked>, op: Op, marks: Marks) -> Result<(), AllocError>
+    ensures { OnOk result (code.new.items ≡ code.old.items ++ marked op marks ∷ []) }
 {
-    let pushed = code.push(Marked {
+    code.push(Marked {
         op,
         forward: marks.forward,
         stop: marks.stop,
-    });
-    match pushed {
-        Ok(()) => Ok(()),
-        Err(_) => Err(AsmFault::OutOfMemory),
-    }
+    })?;
+    Ok(())
 }
 
 /// Adds instructions; the marks stand on the last.
-fn add_code(parts: &mut Parts, marks: Marks, code: Expansion) -> Result<(), AsmFault>
-    ensures ok { OnOk result (listing_of parts.new ≡ with_code (listing_of parts.old) (all_marked marks (ops_of code))) }
-    ensures err { IfErr result (λ fault. fault ≡ AsmFault.OutOfMemory) }
+fn add_code(parts: &mut Parts, marks: Marks, code: Expansion) -> Result<(), AllocError>
+    ensures { OnOk result (listing_of parts.new ≡ with_code (listing_of parts.old) (all_marked marks (ops_of code))) }
 {
     match code {
         Expansion::One(only) => push_marked(&mut parts.code, only, marks),

@@ -39,13 +39,10 @@ pub fn verdict_shared<G: CheckGate, R: Threads + Sync>(
     if workers == 0 || workers > MOST_WORKERS {
         return Err(ShareFault::Workers);
     }
-    let found = found_by(rt, alloc, &Survey::new(program), cert, workers, gate);
-    match found {
-        Ok(findings) => Ok(Verdict {
-            findings: Findings::new(findings),
-        }),
-        Err(_) => Err(ShareFault::OutOfMemory),
-    }
+    let found = found_by(rt, alloc, &Survey::new(program), cert, workers, gate)?;
+    Ok(Verdict {
+        findings: Findings::new(found),
+    })
 }
 
 /// Whether the rules find nothing, by several workers: for every number of workers and every gate the

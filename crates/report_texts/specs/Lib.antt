@@ -1,5 +1,6 @@
 pub mod OutputTexts
 pub mod SeqText
+pub mod PrintText
 pub mod VerdictTexts
 pub mod JudgedTexts
 pub mod CheckText

@@ -6,7 +6,7 @@ use crate::report::{Report, refused_program};
 use annotated_asm::assembler::assemble;
 use annotated_asm::fault::AsmFault;
 use annotator::certify::certify;
-use annotator::propose::propose;
+use annotator::propose::{AnnotateFault, propose};
 use canonical_text::print::print;
 use jobs::job::Emit;
 use marks_in_text::fault::MarksFault;
@@ -49,7 +49,7 @@ fn proposal(alloc: Global, program: Program) -> Result<Vec<u8>, AllocError>
 {
     match propose(alloc, program) {
         Ok((proposed, _)) => print(alloc, &proposed),
-        Err(_) => Err(AllocError),
+        Err((_, AnnotateFault::OutOfMemory)) => Err(AllocError),
     }
 }
 
@@ -59,7 +59,7 @@ fn certificate_of_proposal(alloc: Global, program: Program) -> Result<Vec<u8>, A
 {
     match propose(alloc, program) {
         Ok((proposed, cert)) => write(alloc, &cert, &proposed),
-        Err(_) => Err(AllocError),
+        Err((_, AnnotateFault::OutOfMemory)) => Err(AllocError),
     }
 }
 
@@ -77,7 +77,7 @@ fn marked(alloc: Global, text: &[u8], program: Program) -> Result<Report, AllocE
 {
     match propose(alloc, program) {
         Ok((proposed, _)) => marks_report(alloc, text, &proposed),
-        Err(_) => Err(AllocError),
+        Err((_, AnnotateFault::OutOfMemory)) => Err(AllocError),
     }
 }
 

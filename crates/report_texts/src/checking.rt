@@ -20,6 +20,7 @@ use jobs::ranges::Workers;
 use mask_certificate::certificate::Cert;
 use mask_certificate::fault::CertFault;
 use parallel_check::checking::verdict_shared;
+use parallel_check::fault::ShareFault;
 use parallel_check::gate::Open;
 use parallel_check::reading::{ReadAhead, is_shared_out};
 use std::alloc::{AllocError, Global};
@@ -150,6 +151,7 @@ fn check_marks<R: Threads + Sync>(
     match verdict_shared(rt, alloc, program, cert, workers.get(), &Open) {
         Ok(verdict) if verdict.findings.as_slice().is_empty() => accepted_program(alloc, program),
         Ok(verdict) => found_program(alloc, program, verdict.findings.as_slice()),
-        Err(_) => Err(AllocError),
+        Err(ShareFault::OutOfMemory) => Err(AllocError),
+        Err(ShareFault::Workers) => unreachable!(),
     }
 }

@@ -1,4 +1,4 @@
-//! What `seq`, `annotate` and `check` write, and the judgement of a program and its certificate that `run`,
+//! What `seq`, `print`, `annotate` and `check` write, and the judgement of a program and its certificate that `run`,
 //! `replay` and `curve` begin with.
 #![tactic(auto)]
 
@@ -6,6 +6,7 @@ pub mod annotating;
 pub mod checking;
 pub mod judging;
 pub mod plain_text;
+pub mod printing;
 pub mod report;
 pub mod sequential;
 pub mod verdict_text;

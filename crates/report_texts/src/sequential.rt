@@ -7,6 +7,7 @@ use crate::report::{Report, refused_program};
 use annotated_asm::assembler::assemble;
 use annotated_asm::fault::AsmFault;
 use jobs::ranges::Budget;
+use mips_plain::outcome::OutOfMemory;
 use std::alloc::{AllocError, Global};
 use task_descriptor::program::Program;
 
@@ -25,10 +26,10 @@ pub fn seq(alloc: Global, budget: Budget, text: &[u8]) -> Result<Report, AllocEr
 fn run(alloc: Global, budget: Budget, program: &Program) -> Result<Report, AllocError>
     ensures { IfOk result (λ report. report ≡ run_report budget program.now) }
 {
-    let mut machine = program.plain(alloc).map_err(|_| AllocError)?;
+    let mut machine = program.plain(alloc).map_err(|_: OutOfMemory| AllocError)?;
     machine
         .run(u64::from(budget.get()))
-        .map_err(|_| AllocError)?;
+        .map_err(|_: OutOfMemory| AllocError)?;
     let mut text = String::new(alloc);
     write_words(&mut text, machine.output())?;
     let outcome = machine.outcome();

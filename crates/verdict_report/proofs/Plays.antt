@@ -1,6 +1,6 @@
 -- A machine in the middle of a script: it is what `play` says of the events so far, and its history is
 -- what was allowed of them. An event more is one step of the fold.
-use Rattle.std.proofs.Common.{◌≡◌, ℕ, suc, ◌+◌, ◌<◌, List, [], ◌∷◌, ◌++◌, inl, inr, length, take, get_or, Option, Some, None, Result, Ok, Err, OnOk, OnErr, refl, sym, ap, ◌∙◌, subst, arith, add-one, length-append, length-take-le}
+use Rattle.std.proofs.Common.{◌≡◌, ℕ, suc, ◌+◌, ◌<◌, List, [], ◌∷◌, ◌++◌, inl, inr, length, take, get_or, Option, Some, None, Result, Ok, Err, OnOk, OnErr, refl, sym, ap, ◌∙◌, arith, add-one, length-append, length-take-le}
 use Rattle.std.specs.List.{enumerate_from}
 use Rattle.std.specs.Prelude.{flat_map}
 use Rattle.std.proofs.lemmas.List.{flat_map_more, take_more}

@@ -1,14 +1,11 @@
 -- What a job writes of its texts, and the status (own choice).
-use Rattle.std.specs.Prelude.{◌≡◌, ℕ, Bool, List, Option, Result, Ok, Err}
+use Rattle.std.specs.Prelude.{◌≡◌, ℕ, Bool, List, Option}
 use Rattle.std.specs.Io.KnownBytes.{Appends}
 use Rattle.std.specs.Option.{option_map}
 use Rattle.std.specs.String.{string_bytes}
-use Rattle.task_descriptor.specs.Listing.{Listing}
-use Rattle.annotated_asm.specs.declared.fault.AsmFault.{AsmFault}
-use Rattle.annotated_asm.specs.ProgramText.{parse}
-use Rattle.canonical_text.specs.CanonicalText.{canonical_text}
-use Rattle.report_texts.specs.OutputTexts.{Report, program_refused}
+use Rattle.report_texts.specs.OutputTexts.{Report}
 use Rattle.report_texts.specs.SeqText.{seq_text}
+use Rattle.report_texts.specs.PrintText.{print_text}
 use Rattle.report_texts.specs.CheckText.{check_text}
 use Rattle.verdict_report.specs.ReplayText.{replay_text}
 use Rattle.verdict_report.specs.RunText.{IsRunText}
@@ -22,14 +19,6 @@ use Rattle.jobs.specs.declared.job.Format.TheVariants.{Text, Sarif}
 use Rattle.jobs.specs.declared.job.Job.{Job}
 use Rattle.jobs.specs.declared.job.Job.TheVariants.{Seq, Print, Annotate, Explain, Check, Replay, Run, Curve}
 use Rattle.jobs.specs.declared.job.Texts.{Texts}
-
-abbrev pub print_read : Result Listing AsmFault → Report
-print_read (Ok p) = record { bytes = canonical_text p; status = 0 }
-print_read (Err fault) = program_refused fault
-
--- what `print` writes of a program text
-abbrev pub print_text : List ℕ → Report
-print_text text = print_read (parse text)
 
 -- what `explain` writes in a format
 abbrev pub IsExplainedIn : Format → (name : List ℕ) → (file : Option (List ℕ)) → (warnings : Bool) → (text certificate : List ℕ) → Report → Type 0

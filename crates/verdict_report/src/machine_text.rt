@@ -17,7 +17,6 @@ use machine_events::event::{Event, Standing};
 use mark_checker::accept::Accepted;
 use report_texts::plain_text::write_words;
 use run_picture::drawing::draw;
-use run_picture::events::single_events;
 use sequencer::machine::Machine;
 use std::alloc::{AllocError, Global};
 use task_descriptor::program::Program;
@@ -104,21 +103,6 @@ pub fn trace_of(
     Ok(text.into_bytes())
 }
 
-/// The trace of the history of a machine of so many units, which runs this program.
-pub fn trace_of_history(
-    alloc: Global,
-    units: Units,
-    machine: &Machine<'_>,
-    accepted: &Accepted,
-    program_text: &[u8],
-) -> Result<Vec<u8>, AllocError>
-    ensures { IfOk result (λ bytes. bytes.items
-        ≡ trace_text accepted.now.program (places_of program_text.now) units machine.now.history (state machine.now)) }
-{
-    let events = single_events(alloc, machine.history())?;
-    trace_of(alloc, units, machine, accepted, program_text, &events)
-}
-
 /// The same as the trace of some events, in JSON: an object on each line.
 pub fn lines_of(
     alloc: Global,
@@ -133,21 +117,6 @@ pub fn lines_of(
 {
     let text = lines(alloc, accepted, units.get(), program_text, events, machine)?;
     Ok(text.into_bytes())
-}
-
-/// The same as the trace of the history of a machine, in JSON: an object on each line.
-pub fn lines_of_history(
-    alloc: Global,
-    units: Units,
-    machine: &Machine<'_>,
-    accepted: &Accepted,
-    program_text: &[u8],
-) -> Result<Vec<u8>, AllocError>
-    ensures { IfOk result (λ bytes. bytes.items
-        ≡ json_text accepted.now.program (places_of program_text.now) units machine.now.history (state machine.now)) }
-{
-    let events = single_events(alloc, machine.history())?;
-    lines_of(alloc, units, machine, accepted, program_text, &events)
 }
 
 /// The status of a run that stands so.

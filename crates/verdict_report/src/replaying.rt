@@ -1,6 +1,7 @@
 //! The job `replay`.
 ghost use Rattle.std.specs.Prelude.{◌≡◌, ◌++◌, List, [], ◌∷◌, Result, IfOk};
 ghost use Rattle.machine_model.specs.Answer.{play, play_event};
+ghost use Rattle.machine_model.specs.Machine.{opening};
 ghost use Rattle.machine_events.specs.declared.event.Refused.{Refused};
 ghost use Rattle.sequencer.specs.Machines.{SameRing, state, units_of};
 ghost use Rattle.report_texts.specs.CertificateTexts.{OfCertificate};
@@ -21,7 +22,7 @@ use machine_model::laws::next_is_after;
 use mark_checker::accept::Accepted;
 use report_texts::judging::{Judged, judge};
 use report_texts::report::Report;
-use sequencer::machine::Machine;
+use sequencer::machine::{Machine, MachineFault};
 use std::alloc::{AllocError, Global};
 
 /// What `replay` writes of a program text, the text of its certificate and the text of a script, on a
@@ -99,12 +100,30 @@ fn replay_events(
 ) -> Result<Report, AllocError>
     ensures { IfOk result (λ report. report ≡ events_report emit units text.now accepted.now.program events.now) }
 {
-    let mut machine = Machine::new(alloc, accepted, units.get()).map_err(|_| AllocError)?;
+    let mut machine = machine_of(alloc, units, accepted)?;
     let answers = play_events(alloc, &mut machine, events)?;
     let bytes = bytes_of(
         alloc, units, emit, text, accepted, &machine, &answers, events,
     )?;
     Ok(Report::new(bytes, standing_status_of(machine.outcome())))
+}
+
+// A machine of so many units at the start of an accepted program.
+fn machine_of<'a>(
+    alloc: Global,
+    units: Units,
+    accepted: &'a Accepted,
+) -> Result<Machine<'a>, AllocError>
+    ensures accepted { IfOk result (λ machine. machine.accepted ≡ accepted.now) }
+    ensures capacity { IfOk result (λ machine. units_of machine ≡ units) }
+    ensures history { IfOk result (λ machine. machine.history ≡ []) }
+    ensures opening { IfOk result (λ machine. state machine ≡ opening accepted.now.program) }
+{
+    match Machine::new(alloc, accepted, units.get()) {
+        Ok(machine) => Ok(machine),
+        Err(MachineFault::OutOfMemory) => Err(AllocError),
+        Err(MachineFault::Units) => unreachable!(),
+    }
 }
 
 // The answers, and how the machine then stands.

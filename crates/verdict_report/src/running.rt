@@ -12,7 +12,7 @@ ghost use Rattle.event_script.specs.ScriptText.{script_text};
 
 use crate::fault::ServeFault;
 use crate::machine_text::{
-    lines_of_history, picture_of, standing_status_of, summary_of, trace_of_history, write_machine,
+    lines_of, picture_of, standing_status_of, summary_of, trace_of, write_machine,
 };
 use crate::ran::{Extent, Ran};
 use crate::scheduled::run_scheduled;
@@ -23,6 +23,7 @@ use mark_checker::accept::Accepted;
 use report_texts::judging::{Judged, judge};
 use report_texts::plain_text::write_words;
 use report_texts::report::Report;
+use run_picture::events::single_events;
 use std::alloc::{AllocError, Global};
 use std::sync::Wait;
 use std::thread::Threads;
@@ -93,8 +94,14 @@ fn report_of_run(
         RunEmit::Script => script(alloc, ran, accepted)?,
         RunEmit::Summary => summary(alloc, units, ran, accepted)?,
         RunEmit::Picture => picture_of(alloc, units, &ran.machine, accepted.program())?,
-        RunEmit::Trace => trace_of_history(alloc, units, &ran.machine, accepted, text)?,
-        RunEmit::Json => lines_of_history(alloc, units, &ran.machine, accepted, text)?,
+        RunEmit::Trace => {
+            let events = single_events(alloc, ran.machine.history())?;
+            trace_of(alloc, units, &ran.machine, accepted, text, &events)?
+        }
+        RunEmit::Json => {
+            let events = single_events(alloc, ran.machine.history())?;
+            lines_of(alloc, units, &ran.machine, accepted, text, &events)?
+        }
     };
     Ok(Report::new(bytes, ending_status_of(ran)))
 }

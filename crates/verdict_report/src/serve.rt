@@ -3,21 +3,20 @@ ghost use Rattle.std.specs.Prelude.{◌≡◌, ◌≢◌, Err, IfOk, OnOk, OnErr
 ghost use Rattle.std.specs.Io.KnownBytes.{Appends, Keeps};
 ghost use Rattle.std.specs.Option.{option_map};
 ghost use Rattle.std.specs.String.{string_bytes};
-ghost use Rattle.verdict_report.specs.JobTexts.{IsDone, IsExplainedIn, IsReportOf, print_text};
+ghost use Rattle.verdict_report.specs.JobTexts.{IsDone, IsExplainedIn, IsReportOf};
 
 use crate::curving::curve;
 use crate::fault::ServeFault;
 use crate::ran::Extent;
 use crate::replaying::replay;
 use crate::running::run;
-use annotated_asm::assembler::assemble;
-use annotated_asm::fault::AsmFault;
 use explain_report::explaining::explain;
 use explain_report::logging::explain_log;
 use jobs::job::{Format, Job, Texts};
 use report_texts::annotating::annotate;
 use report_texts::checking::check;
-use report_texts::report::{Report, refused_program};
+use report_texts::printing::print;
+use report_texts::report::Report;
 use report_texts::sequential::seq;
 use std::alloc::{AllocError, Global};
 use std::io::Write;
@@ -117,17 +116,6 @@ fn explain_in(
     match format {
         Format::Text => explain(alloc, name, file, warnings, texts),
         Format::Sarif => explain_log(alloc, name, file, warnings, texts),
-    }
-}
-
-// What `print` writes of a program text.
-fn print(alloc: Global, text: &[u8]) -> Result<Report, AllocError>
-    ensures { IfOk result (λ report. report ≡ print_text text.now) }
-{
-    match assemble(alloc, text) {
-        Ok(program) => Ok(Report::new(canonical_text::print::print(alloc, &program)?, 0)),
-        Err(AsmFault::OutOfMemory) => Err(AllocError),
-        Err(fault) => refused_program(alloc, fault),
     }
 }
 

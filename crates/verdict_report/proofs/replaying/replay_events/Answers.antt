@@ -2,7 +2,6 @@
 use Rattle.std.proofs.Common.{rules, ◌≡◌, ◌∙◌, ap, List, Result}
 use Rattle.machine_model.specs.Answer.{Played, play}
 use Rattle.machine_events.specs.declared.event.Refused.{Refused}
-use Rattle.mark_checker.specs.Places.{Checked}
 use Rattle.sequencer.specs.Machines.{units_of}
 use Rattle.verdict_report.specs.MachineText.{standing_status}
 use Rattle.verdict_report.specs.Playing.{played_so_far}
@@ -24,4 +23,4 @@ returns c =
     let status = c.standing_status_of.ensures
     ∙ ap standing_status c.outcome.ensures.value
     ∙ ap (λ (x : Played). standing_status x.state.outcome) played in
-    c.new-2.ensures ∙ (λ j. record { bytes = bytes j; status = status j })
+    c.new.ensures ∙ (λ j. record { bytes = bytes j; status = status j })
