@@ -522,7 +522,7 @@ class SharedCase(Case):
     """A `check` whose certificate several workers fetch; right is what one worker answers."""
 
     def __init__(self, bench, workers, certificate):
-        data = TOP / "crates" / "test_shared_check" / "data"
+        data = TOP / "crates" / "test_program" / "data"
         files = [str(data / "large.s"), str(certificate or data / "large.cert2")]
         super().__init__(bench, ["check", "--workers", "1", *files])
         self.words, self.workers = ["check", "--workers", str(workers), *files], workers
@@ -537,7 +537,7 @@ class SharedCase(Case):
 def shared_cases(bench):
     """A certificate with findings, for each number of workers; and one whose last line is a fault."""
     broken = bench.folder / "broken.cert2"
-    broken.write_bytes((TOP / "crates" / "test_shared_check" / "data" / "large.cert2").read_bytes()[:-2] + b"x\n")
+    broken.write_bytes((TOP / "crates" / "test_program" / "data" / "large.cert2").read_bytes()[:-2] + b"x\n")
     return [SharedCase(bench, workers, None) for workers in (2, 3, 4, 16)] + [SharedCase(bench, 4, broken)]
 
 

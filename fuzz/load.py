@@ -150,7 +150,7 @@ STACKS = (1280, 1536, 2048, 4096)  # KiB; below 1,200 some jobs have too little 
 # where the stack has grown before, by so many bytes, so that the limit meets the heap and the threads alone.
 SPACE, SPACE_BEHIND_STACK, STACK = (4000, 200000), (9000, 200000), "1500000"
 TOP = pathlib.Path(__file__).resolve().parent.parent
-LARGE = TOP / "crates" / "test_shared_check" / "data"
+LARGE = TOP / "crates" / "test_program" / "data"
 CORES = sorted(os.sched_getaffinity(0))
 
 

@@ -224,7 +224,7 @@ def scripts():
 
 def made(folder):
     """A program of long tasks, and a certificate that is large enough to be shared out."""
-    long, large = folder / "long tasks", TOP / "crates" / "test_shared_check" / "data"
+    long, large = folder / "long tasks", TOP / "crates" / "test_program" / "data"
     yield from of_example(long, ["finish", "Burst::run", "apply_burst"], units=4)
     for workers in (1, 2, 4):
         yield from of_example(long, ["run_workers"], units=4, workers=workers)

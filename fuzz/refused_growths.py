@@ -50,7 +50,7 @@ OTHER_TRACE = b"another trace than that of its events"
 TRACES = ("trace", "json")
 EXAMPLES = TOP / "examples"
 # A certificate that is long enough to be fetched, read and checked by several threads.
-SHARED = TOP / "crates" / "test_shared_check" / "data"
+SHARED = TOP / "crates" / "test_program" / "data"
 REFUSED = {
     "program.s": "A: addu $1,$2\n",
     "no-task.s": "halt\n",

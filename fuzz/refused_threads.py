@@ -119,7 +119,7 @@ def runs(program, examples, folder, times, end=float("inf")):
     source, shim, counted = folder / "refuse.c", folder / "refuse.so", folder / "counted"
     source.write_text(SHIM)
     subprocess.run(["cc", "-O1", "-shared", "-fPIC", "-o", shim, source, "-ldl"], check=True)
-    data = TOP / "crates" / "test_shared_check" / "data"
+    data = TOP / "crates" / "test_program" / "data"
     shared = [str(data / "large.s"), str(data / "large.cert2")]
     for words, needed in [*check_cases(shared), *run_cases(examples), *check_cases(large_files(folder))]:
         usual = run(program, words, shim, 0, False, counted)

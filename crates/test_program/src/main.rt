@@ -1,0 +1,76 @@
+//! The program on several command lines in turn. Behind the words of each stands what it writes to standard output
+//! and to standard error, and its status: findings; a check by three workers, who fetch and read a certificate of
+//! 317,709 bytes, where each of 48 tasks may write $8 and does not say so; the three files of `replay`; a program
+//! text on standard input; a missing file; wrong words; and help. At last the program does what the words of this
+//! process ask for, on the two streams of the process and with its status: a file is missing, so it writes nothing
+//! to standard output.
+#![tactic(auto)]
+
+use program_edge::answer::answer;
+use program_edge::asked::asked_by;
+use program_edge::named_files::SystemFiles;
+use program_edge::program::run;
+use std::alloc::{AllocError, Global};
+use std::io;
+use std::io::{Input, Write};
+use std::os::unix::fs::FileExt;
+use std::process::ExitCode;
+use std::rt::Files;
+use std::sync::Wait;
+use std::thread::Threads;
+
+const LINES: [&str; 10] = [
+    "check five-findings.s five-findings.cert2",
+    "check --workers 3 large.s large.cert2",
+    "replay --units 2 count.s count.cert2 count.events",
+    "check - count.cert2",
+    "explain missing.s",
+    "check - -",
+    "annotate --emit all count.s",
+    "print",
+    "print --help",
+    "--version",
+];
+
+fn main(rt: HostRuntime) -> ExitCode {
+    for &line in &LINES {
+        if show(&rt, line, &mut rt.stdout()).is_err() {
+            return ExitCode::FAILURE;
+        }
+    }
+    ExitCode::from(run(&rt, &mut rt.stdout(), &mut rt.stderr()))
+}
+
+// The program on these words: what it writes to its two streams, and its status.
+fn show<R: Files + Input + AllocGlobal + Threads + Wait + Sync, O: Write>(
+    rt: &R,
+    line: &str,
+    output: &mut O,
+) -> io::Result<()>
+where
+    R::File: FileExt + Sync,
+    R::Reader: Sync,
+{
+    let alloc = rt.alloc();
+    writeln!(output, "$ multiscalar {line}")?;
+    let words = words_of(alloc, line)?;
+    let files = SystemFiles::new(rt);
+    let mut errors = Vec::new(alloc);
+    let asked = asked_by(alloc, words.as_slice());
+    let ending = answer(rt, alloc, asked, &files, output, &mut errors);
+    if !errors.is_empty() {
+        writeln!(output, "standard error:")?;
+        output.write_all(errors.as_slice())?;
+    }
+    writeln!(output, "status {}", ending.status)
+}
+
+// The words of a command line, the name of the program first.
+fn words_of(alloc: Global, line: &str) -> Result<Vec<String>, AllocError> {
+    let mut words = Vec::new(alloc);
+    words.push(String::from_str(alloc, "multiscalar")?)?;
+    for word in line.split(' ') {
+        words.push(String::from_str(alloc, word)?)?;
+    }
+    Ok(words)
+}
