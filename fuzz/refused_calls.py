@@ -30,7 +30,7 @@ HERE = pathlib.Path(__file__).resolve().parent
 TOP = HERE.parent
 EXAMPLES = TOP / "examples"
 NAME = "calls_of_libraries"
-BELOW = ("mips_plain task_descriptor annotated_asm source_map refusal_text canonical_text canonical_round_trip task_graph "
+BELOW = ("mips_instructions mips_plain task_descriptor annotated_asm source_map refusal_text canonical_text canonical_round_trip task_graph "
          "mask_certificate mark_checker annotator finding_paths certificate_remarks diagnostic_text machine_events unit_core sequencer "
          "parallel_check threaded_runner synchronous_runner event_script text_pieces shared_fetch jobs command_line verdict_report "
          "task_lives run_summary run_picture event_trace event_json speed_curve curve_picture marks_in_text costly_marks warning_text sarif_log log_entries")

@@ -3,8 +3,8 @@ use Rattle.std.specs.Prelude.{◌≡◌, ℕ, Bool, true, false, ◌&&◌, List,
 use Rattle.std.specs.List.{list_all}
 use Rattle.std.proofs.Common.{refl, ap, ◌∙◌}
 use Rattle.std.proofs.lemmas.Bool.{false≢true}
-use Rattle.mips_plain.specs.declared.instruction.Op.TheVariants as op
-use Rattle.mips_plain.specs.declared.instruction.LogicKind.TheVariants.{Ori}
+use Rattle.mips_instructions.specs.declared.instruction.Op.TheVariants as op
+use Rattle.mips_instructions.specs.declared.instruction.LogicKind.TheVariants.{Ori}
 use Rattle.task_descriptor.specs.Listing.{Listing, build_fault}
 use Rattle.task_descriptor.specs.declared.program.BuildFault.TheVariants.{TooMany}
 use Rattle.task_descriptor.specs.declared.descriptor.Descriptor.{Descriptor}

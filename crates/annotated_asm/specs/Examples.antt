@@ -1,10 +1,10 @@
 -- Worked examples, computed by the checker: what some texts spell, and the first faults of others.
 use Rattle.std.specs.Prelude.{◌≡◌, ℕ, pos, true, false, List, [], ◌∷◌, ◌++◌, Ok, Err, codes, refl}
 use Rattle.std.specs.List.{flat_map}
-use Rattle.mips_plain.specs.declared.instruction.Op.TheVariants.{Three, Imm, BranchTwo, Out, Halt}
-use Rattle.mips_plain.specs.declared.instruction.ThreeKind.TheVariants.{Addu}
-use Rattle.mips_plain.specs.declared.instruction.ImmKind.TheVariants.{Addiu, Slti}
-use Rattle.mips_plain.specs.declared.instruction.BranchTwoKind.TheVariants.{Bne}
+use Rattle.mips_instructions.specs.declared.instruction.Op.TheVariants.{Three, Imm, BranchTwo, Out, Halt}
+use Rattle.mips_instructions.specs.declared.instruction.ThreeKind.TheVariants.{Addu}
+use Rattle.mips_instructions.specs.declared.instruction.ImmKind.TheVariants.{Addiu, Slti}
+use Rattle.mips_instructions.specs.declared.instruction.BranchTwoKind.TheVariants.{Bne}
 use Rattle.task_descriptor.specs.Listing.{Listing}
 use Rattle.task_descriptor.specs.declared.descriptor.Stop.TheVariants as stop
 use Rattle.task_descriptor.specs.declared.program.BuildFault.TheVariants.{NoTask}

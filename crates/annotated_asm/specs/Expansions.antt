@@ -1,6 +1,6 @@
 -- The instructions of the machine that an instruction of the text is, as a list.
 use Rattle.std.specs.Prelude.{List, [], ◌∷◌}
-use Rattle.mips_plain.specs.declared.instruction.Op.{Op}
+use Rattle.mips_instructions.specs.declared.instruction.Op.{Op}
 use Rattle.annotated_asm.specs.declared.resolve.Expansion.{Expansion}
 use Rattle.annotated_asm.specs.declared.resolve.Expansion.TheVariants.{One, Two}
 

@@ -1,9 +1,9 @@
 -- The program that items are, their names resolved (own format).
 use Rattle.std.specs.Prelude.{ℕ, ◌+◌, ◌*◌, ◌/◌, ◌%◌, ◌^◌, Bool, true, ◌&&◌, List, [], ◌∷◌, ◌++◌, replicate, Option, Some, None, is_some, Result, Ok, Err, nat_le, if◌then◌else◌}
 use Rattle.std.specs.List.{list_all}
-use Rattle.mips_plain.specs.declared.instruction.Op.{Op}
-use Rattle.mips_plain.specs.declared.instruction.Op.TheVariants as op
-use Rattle.mips_plain.specs.declared.instruction.LogicKind.TheVariants.{Ori}
+use Rattle.mips_instructions.specs.declared.instruction.Op.{Op}
+use Rattle.mips_instructions.specs.declared.instruction.Op.TheVariants as op
+use Rattle.mips_instructions.specs.declared.instruction.LogicKind.TheVariants.{Ori}
 use Rattle.task_descriptor.specs.Listing.{Listing}
 use Rattle.task_descriptor.specs.declared.descriptor.Marked.{Marked}
 use Rattle.task_descriptor.specs.declared.descriptor.Descriptor.{Descriptor}

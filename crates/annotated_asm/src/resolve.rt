@@ -1,7 +1,7 @@
 //! The program that items are, their names resolved.
 
 ghost use Rattle.std.specs.Prelude.{◌≡◌, ◌++◌, ◌/◌, ◌%◌, ◌^◌, List, [], ◌∷◌, replicate, is_some, OnOk};
-ghost use Rattle.mips_plain.specs.declared.instruction.Op.TheVariants.{Lui, Logic};
+ghost use Rattle.mips_instructions.specs.declared.instruction.Op.TheVariants.{Lui, Logic};
 ghost use Rattle.std.specs.List.{list_all};
 ghost use Rattle.task_descriptor.specs.Listing.{Listing, listing_of};
 ghost use Rattle.annotated_asm.specs.Steps.{Answers};
@@ -12,10 +12,10 @@ ghost use Rattle.annotated_asm.specs.Expansions.{ops_of};
 use crate::fault::AsmFault;
 use crate::item::Item;
 use crate::table::{Symbol, Table};
-use mips_plain::instruction::{LogicKind, Op};
+use mips_instructions::instruction::{LogicKind, Op};
+use mips_instructions::number::{Gpr, Place};
+use mips_instructions::places::address_of;
 use mips_plain::memory::{DATA_START, FIXED_START};
-use mips_plain::number::{Gpr, Place};
-use mips_plain::places::address_of;
 use program_statements::statement::{
     Instruction, Marks, Section, Statement, Target, Targets, Task,
 };
@@ -145,7 +145,7 @@ fn limit(section: Section) -> u64
 }
 
 /// The address of a label.
-#[tactic(auto, unfolding(mips_plain::specs::Words::address))]
+#[tactic(auto, unfolding(mips_instructions::specs::Words::address))]
 fn label_address(line: u32, symbol: Option<Symbol>) -> Result<u32, AsmFault>
     ensures { result ≡ label_address line symbol }
 {

@@ -7,8 +7,8 @@ use Rattle.std.specs.List.Sorted.{IsStrictlyIncreasing}
 use Rattle.std.proofs.Math.Nat.{suc-add}
 use Rattle.std.proofs.lemmas.Bool.{or_cases, or_left, or_right, or_from, cases_Bool, cases_eq, ltb-true, ltb-false, lt-leb, eqb-true, eq-eqb, eqb-false, ne_eqb, cond-true, cond-false, and_parts}
 use Rattle.std.proofs.lemmas.List.{length-map}
-use Rattle.mips_plain.specs.Words.{has}
-use Rattle.mips_plain.specs.Instruction.{dests, released}
+use Rattle.mips_instructions.specs.Words.{has}
+use Rattle.mips_instructions.specs.Instruction.{dests, released}
 use Rattle.task_descriptor.specs.Listing.{Listing, IsWellFormed}
 use Rattle.task_descriptor.specs.declared.descriptor.Marked.{Marked}
 use Rattle.task_descriptor.specs.declared.descriptor.Descriptor.{Descriptor}

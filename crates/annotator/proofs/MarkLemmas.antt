@@ -8,9 +8,9 @@ use Rattle.std.proofs.lemmas.List.{get_or-map, length-map, map-append, take_more
 use Rattle.std.proofs.lemmas.List.Elements.{Contains-append_left, Contains-push, Contains-push_cases, Contains-get_or}
 use Rattle.std.proofs.lemmas.Map.Made.{Contains-tail}
 use Rattle.std.proofs.lemmas.Option.{slice_get_within, slice_get_read}
-use Rattle.mips_plain.specs.Words.{has}
-use Rattle.mips_plain.specs.Instruction.{dests, released}
-use Rattle.mips_plain.specs.declared.instruction.Op.{Op}
+use Rattle.mips_instructions.specs.Words.{has}
+use Rattle.mips_instructions.specs.Instruction.{dests, released}
+use Rattle.mips_instructions.specs.declared.instruction.Op.{Op}
 use Rattle.task_descriptor.specs.Listing.{Listing, IsWellFormed, has_destination, is_bad_mark, registers}
 use Rattle.task_descriptor.specs.WellFormed.{passes}
 use Rattle.task_descriptor.specs.declared.descriptor.Marked.{Marked}

@@ -8,11 +8,11 @@ use Rattle.std.proofs.lemmas.Bool.{or_cases, or_parts, or_from, cond-false, case
 use Rattle.std.proofs.lemmas.List.Quantifiers.{position-Some}
 use Rattle.std.proofs.lemmas.List.Sums.{fails_before_first}
 use Rattle.std.proofs.lemmas.Option.{slice_get_within, slice_get-get_or, get_or_from_slice_get}
-use Rattle.mips_plain.specs.Words.{has}
-use Rattle.mips_plain.specs.Instruction.{dests, released}
-use Rattle.mips_plain.proofs.RowLemmas.{zero_not_dest}
-use Rattle.mips_plain.specs.declared.instruction.Op.{Op}
-use Rattle.mips_plain.specs.declared.instruction.Op.TheVariants.{Release}
+use Rattle.mips_instructions.specs.Words.{has}
+use Rattle.mips_instructions.specs.Instruction.{dests, released}
+use Rattle.mips_instructions.proofs.RowLemmas.{zero_not_dest}
+use Rattle.mips_instructions.specs.declared.instruction.Op.{Op}
+use Rattle.mips_instructions.specs.declared.instruction.Op.TheVariants.{Release}
 use Rattle.task_descriptor.specs.Listing.{Listing, IsWellFormed, is_too_many, has_no_task, has_bad_entry, collide, has_duplicate, has_bad_mask, is_bad_mark, has_destination, stop_fits, release_fits, starts_at_no_entry, mark_fault, registers, build_fault}
 use Rattle.task_descriptor.specs.WellFormed.{passes}
 use Rattle.task_descriptor.specs.declared.descriptor.Marked.{Marked}

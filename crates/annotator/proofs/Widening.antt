@@ -6,8 +6,8 @@ use Rattle.std.proofs.lemmas.List.{get_or-set_same, get_or-set_other, length-set
 use Rattle.std.proofs.lemmas.List.Elements.{Contains-append_left, Contains-push, Contains-push_cases}
 use Rattle.std.proofs.lemmas.List.Sums.{sum_by-set}
 use Rattle.std.proofs.lemmas.Nat.{and_le_r}
-use Rattle.mips_plain.specs.Words.{has}
-use Rattle.mips_plain.proofs.SetLemmas.{subset_iff}
+use Rattle.mips_instructions.specs.Words.{has}
+use Rattle.mips_instructions.proofs.SetLemmas.{subset_iff}
 use Rattle.annotator.specs.Spreading.{may, room_of, left_to_do, Widened}
 
 -- a set that another contains is the lesser number

@@ -2,12 +2,12 @@
 use Rattle.std.specs.Prelude.{◌≡◌, ℕ, ◌<◌, ◌+◌, ◌↔◌, pos, Bool, true, false, List, [], ◌∷◌, length, slice_get, slice_index_or, zero, suc, Option, Some, None, IsSome, is_some, nat_eq}
 use Rattle.std.proofs.Common.{refl, sym, ◌∙◌, ap, subst, arith, lit<}
 use Rattle.std.proofs.lemmas.Bool.{cond-false, ne_eqb}
-use Rattle.mips_plain.specs.Words.{has}
-use Rattle.mips_plain.specs.Instruction.{dests}
-use Rattle.mips_plain.proofs.SetLemmas.{has-empty}
-use Rattle.mips_plain.specs.declared.instruction.ThreeKind.TheVariants.{Addu}
-use Rattle.mips_plain.specs.declared.instruction.ImmKind.TheVariants.{Addiu}
-use Rattle.mips_plain.specs.declared.instruction.Op.TheVariants.{Three, Imm, Jump}
+use Rattle.mips_instructions.specs.Words.{has}
+use Rattle.mips_instructions.specs.Instruction.{dests}
+use Rattle.mips_instructions.proofs.SetLemmas.{has-empty}
+use Rattle.mips_instructions.specs.declared.instruction.ThreeKind.TheVariants.{Addu}
+use Rattle.mips_instructions.specs.declared.instruction.ImmKind.TheVariants.{Addiu}
+use Rattle.mips_instructions.specs.declared.instruction.Op.TheVariants.{Three, Imm, Jump}
 use Rattle.task_descriptor.specs.Listing.{Listing}
 use Rattle.task_descriptor.specs.declared.descriptor.Marked.{Marked}
 use Rattle.task_graph.specs.Edges.{Edge, edge, Path, stay, onward, MayWrite}

@@ -4,7 +4,7 @@
 -- own; they refine the create mask of Sohi, Breach, Vijaykumar, "Multiscalar Processors", ISCA 1995,
 -- section 2.2.
 use Rattle.std.specs.Prelude.{◌≡◌, ℕ, ◌↔◌, true, List, length, slice_get, Option, Some, IsSome}
-use Rattle.mips_plain.specs.Words.{has}
+use Rattle.mips_instructions.specs.Words.{has}
 use Rattle.task_descriptor.specs.Listing.{Listing}
 use Rattle.task_descriptor.specs.declared.descriptor.Descriptor.{Descriptor}
 use Rattle.task_graph.specs.Edges.{MayWrite}

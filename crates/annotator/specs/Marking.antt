@@ -1,6 +1,6 @@
 -- What the code keeps while it finds the marks to propose, and puts them in.
 use Rattle.std.specs.Prelude.{◌≡◌, ℕ, ◌↔◌, ◌<◌, ◌⊎◌, Bool, true, false, List, [], ◌∷◌, map, length, slice_get, slice_index, slice_index_or, Some, Contains}
-use Rattle.mips_plain.specs.Words.{has}
+use Rattle.mips_instructions.specs.Words.{has}
 use Rattle.task_descriptor.specs.Listing.{Listing, has_destination}
 use Rattle.task_descriptor.specs.declared.descriptor.Marked.{Marked}
 use Rattle.task_descriptor.specs.declared.descriptor.Descriptor.{Descriptor}

@@ -4,9 +4,9 @@
 -- 1995, section 2.2: the registers that a task may produce, and the last update of a register. What is
 -- proposed from the code and the other marks is this project's own.
 use Rattle.std.specs.Prelude.{◌≡◌, ℕ, ◌↔◌, Bool, true, false, ◌||◌, List, length, slice_get, Some}
-use Rattle.mips_plain.specs.Words.{has}
-use Rattle.mips_plain.specs.Instruction.{dests, released}
-use Rattle.mips_plain.specs.declared.instruction.Op.{Op}
+use Rattle.mips_instructions.specs.Words.{has}
+use Rattle.mips_instructions.specs.Instruction.{dests, released}
+use Rattle.mips_instructions.specs.declared.instruction.Op.{Op}
 use Rattle.task_descriptor.specs.Listing.{Listing, has_destination}
 use Rattle.task_descriptor.specs.declared.descriptor.Marked.{Marked}
 use Rattle.task_descriptor.specs.declared.descriptor.Descriptor.{Descriptor}

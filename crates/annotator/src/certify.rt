@@ -8,7 +8,7 @@ ghost use Rattle.annotator.specs.Spreading.{AreExact};
 
 use crate::masks::least_masks;
 use mask_certificate::certificate::Cert;
-use mips_plain::number::RegSet;
+use mips_instructions::number::RegSet;
 use std::alloc::{AllocError, Global};
 use task_descriptor::program::Program;
 use task_graph::members::members;

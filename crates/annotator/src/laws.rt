@@ -1,7 +1,7 @@
 //! Laws: each function does nothing, and its contract is a theorem about the definitions alone.
 
 ghost use Rattle.std.specs.Prelude.{◌≡◌, ◌↔◌, ℕ, true, Some, List, slice_get};
-ghost use Rattle.mips_plain.specs.Words.{has};
+ghost use Rattle.mips_instructions.specs.Words.{has};
 ghost use Rattle.task_descriptor.specs.Listing.{Listing, IsWellFormed};
 ghost use Rattle.task_descriptor.specs.declared.descriptor.Descriptor.{Descriptor};
 ghost use Rattle.task_graph.specs.Soundness.{Sound};

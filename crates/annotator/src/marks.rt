@@ -2,7 +2,7 @@
 
 ghost use Rattle.std.specs.Prelude.{◌≡◌, ℕ, ◌<◌, ◌||◌, ◌↔◌, true, length, IfOk, Some, slice_get, slice_index};
 ghost use Rattle.std.specs.List.{All};
-ghost use Rattle.mips_plain.specs.Words.{has};
+ghost use Rattle.mips_instructions.specs.Words.{has};
 ghost use Rattle.task_descriptor.specs.Listing.{IsWellFormed};
 ghost use Rattle.mark_checker.specs.CheckerSteps.{holds_at};
 ghost use Rattle.annotator.specs.Least.{IsLeast};
@@ -11,7 +11,7 @@ ghost use Rattle.annotator.specs.Marking.{WrittenBehind, indices_of, AreMarked, 
 
 use crate::updates::{produced_at, writes_last};
 use mask_certificate::certificate::Cert;
-use mips_plain::number::RegSet;
+use mips_instructions::number::RegSet;
 use std::alloc::{AllocError, Global};
 use task_descriptor::program::Program;
 use task_graph::edges::next_inside;

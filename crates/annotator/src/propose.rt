@@ -10,7 +10,7 @@ use crate::certify::certificate;
 use crate::marks::{create_masks, forward_bits, members_of_any};
 use crate::masks::least_masks;
 use mask_certificate::certificate::Cert;
-use mips_plain::number::RegSet;
+use mips_instructions::number::RegSet;
 use std::alloc::{AllocError, Global};
 use task_descriptor::descriptor::{Descriptor, Marked};
 use task_descriptor::program::Program;

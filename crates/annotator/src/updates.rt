@@ -2,13 +2,13 @@
 
 ghost use Rattle.std.specs.Prelude.{◌≡◌, ℕ, ◌<◌, ◌↔◌, true, length};
 ghost use Rattle.std.specs.List.{All};
-ghost use Rattle.mips_plain.specs.Words.{has};
+ghost use Rattle.mips_instructions.specs.Words.{has};
 ghost use Rattle.task_descriptor.specs.Listing.{Listing};
 ghost use Rattle.annotator.specs.Proposed.{produces as produces_of, WritesLast};
 ghost use Rattle.annotator.specs.Marking.{WrittenBehind, indices_of, ProducedAt};
 
-use mips_plain::instruction::Op;
-use mips_plain::number::RegSet;
+use mips_instructions::instruction::Op;
+use mips_instructions::number::RegSet;
 use task_descriptor::descriptor::Marked;
 use task_descriptor::marks::has_member;
 

@@ -4,9 +4,9 @@ use Rattle.std.specs.Prelude.{◌==◌, find, reverse, length}
 use Rattle.std.specs.List.{list_all, list_any}
 use Rattle.std.proofs.lemmas.Bool.{and_parts, and_from, or_from, false≢true}
 use Rattle.std.proofs.lemmas.List.Folds.{list_all-append}
-use Rattle.mips_plain.specs.InstructionTable.{name_of, operands}
-use Rattle.mips_plain.specs.declared.instruction.InstructionOperand.{InstructionOperand}
-use Rattle.mips_plain.specs.declared.instruction.InstructionOperand.TheVariants.{Place, Registers}
+use Rattle.mips_instructions.specs.InstructionTable.{name_of, operands}
+use Rattle.mips_instructions.specs.declared.instruction.InstructionOperand.{InstructionOperand}
+use Rattle.mips_instructions.specs.declared.instruction.InstructionOperand.TheVariants.{Place, Registers}
 use Rattle.task_descriptor.specs.Listing.{release_fits}
 use Rattle.task_descriptor.specs.declared.descriptor.Descriptor.{Descriptor}
 use Rattle.task_descriptor.specs.declared.descriptor.Marked.{Marked}

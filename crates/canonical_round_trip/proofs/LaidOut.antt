@@ -6,8 +6,8 @@ use Rattle.std.specs.List.{list_any, AllByRecursion as All}
 use Rattle.std.specs.Str.{bytes_eq}
 use Rattle.std.proofs.lemmas.Bool.{or_parts, or_from, cond-false, eqb-true, le-ltb}
 use Rattle.std.proofs.lemmas.List.{append-nil}
-use Rattle.mips_plain.specs.declared.instruction.Op.{Op}
-use Rattle.mips_plain.specs.declared.instruction.Op.TheVariants.{Halt}
+use Rattle.mips_instructions.specs.declared.instruction.Op.{Op}
+use Rattle.mips_instructions.specs.declared.instruction.Op.TheVariants.{Halt}
 use Rattle.task_descriptor.specs.Listing.{Listing, collide, has_duplicate}
 use Rattle.task_descriptor.specs.declared.descriptor.Descriptor.{Descriptor}
 use Rattle.task_descriptor.specs.declared.descriptor.Marked.{Marked}

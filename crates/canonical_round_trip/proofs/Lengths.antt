@@ -6,11 +6,11 @@ use Rattle.std.specs.Fmt.{decimal, signed_decimal}
 use Rattle.std.proofs.lemmas.Bool.{cond_both}
 use Rattle.std.proofs.lemmas.List.Elements.{recursion_from_All}
 use Rattle.std.proofs.lemmas.Fmt.{length-decimal-le}
-use Rattle.mips_plain.specs.Words.{has}
-use Rattle.mips_plain.specs.InstructionTable.{name_of, operands}
-use Rattle.mips_plain.specs.declared.instruction.InstructionOperand.{InstructionOperand}
-use Rattle.mips_plain.specs.declared.instruction.InstructionOperand.TheVariants.{Register, Amount, Signed, Unsigned, Offset, Place, Registers}
-use Rattle.mips_plain.specs.declared.instruction.Op.{Op}
+use Rattle.mips_instructions.specs.Words.{has}
+use Rattle.mips_instructions.specs.InstructionTable.{name_of, operands}
+use Rattle.mips_instructions.specs.declared.instruction.InstructionOperand.{InstructionOperand}
+use Rattle.mips_instructions.specs.declared.instruction.InstructionOperand.TheVariants.{Register, Amount, Signed, Unsigned, Offset, Place, Registers}
+use Rattle.mips_instructions.specs.declared.instruction.Op.{Op}
 use Rattle.task_descriptor.specs.Names.{is_name}
 use Rattle.task_descriptor.specs.NameFacts.{within_name}
 use Rattle.task_descriptor.specs.Listing.{Listing, registers}

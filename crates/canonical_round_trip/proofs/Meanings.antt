@@ -6,39 +6,39 @@ use Rattle.std.specs.Str.{bytes_eq}
 use Rattle.std.proofs.lemmas.Bool.{lt-ltb, le-leb, cond-true, false≢true, and_parts}
 use Rattle.std.proofs.lemmas.List.Elements.{recursion_from_All}
 use Rattle.std.proofs.lemmas.Slice.Eq.{bytes_eq-Decides}
-use Rattle.mips_plain.specs.declared.instruction.ThreeKind.{ThreeKind}
-use Rattle.mips_plain.specs.declared.instruction.ThreeKind.TheVariants.{Addu}
-use Rattle.mips_plain.specs.declared.instruction.ShiftByKind.{ShiftByKind}
-use Rattle.mips_plain.specs.declared.instruction.ShiftByKind.TheVariants.{Sll}
-use Rattle.mips_plain.specs.declared.instruction.ShiftVarKind.{ShiftVarKind}
-use Rattle.mips_plain.specs.declared.instruction.ShiftVarKind.TheVariants.{Sllv}
-use Rattle.mips_plain.specs.declared.instruction.ImmKind.{ImmKind}
-use Rattle.mips_plain.specs.declared.instruction.ImmKind.TheVariants.{Addiu}
-use Rattle.mips_plain.specs.declared.instruction.LogicKind.{LogicKind}
-use Rattle.mips_plain.specs.declared.instruction.LogicKind.TheVariants.{Andi}
-use Rattle.mips_plain.specs.declared.instruction.MultKind.{MultKind}
-use Rattle.mips_plain.specs.declared.instruction.MultKind.TheVariants as mult
-use Rattle.mips_plain.specs.declared.instruction.MoveFromKind.{MoveFromKind}
-use Rattle.mips_plain.specs.declared.instruction.MoveFromKind.TheVariants.{Mfhi}
-use Rattle.mips_plain.specs.declared.instruction.MoveToKind.{MoveToKind}
-use Rattle.mips_plain.specs.declared.instruction.MoveToKind.TheVariants.{Mthi}
-use Rattle.mips_plain.specs.declared.instruction.LoadKind.{LoadKind}
-use Rattle.mips_plain.specs.declared.instruction.LoadKind.TheVariants.{Lw}
-use Rattle.mips_plain.specs.declared.instruction.StoreKind.{StoreKind}
-use Rattle.mips_plain.specs.declared.instruction.StoreKind.TheVariants.{Sw}
-use Rattle.mips_plain.specs.declared.instruction.BranchTwoKind.{BranchTwoKind}
-use Rattle.mips_plain.specs.declared.instruction.BranchTwoKind.TheVariants.{Beq}
-use Rattle.mips_plain.specs.declared.instruction.BranchOneKind.{BranchOneKind}
-use Rattle.mips_plain.specs.declared.instruction.BranchOneKind.TheVariants.{Blez}
-use Rattle.mips_plain.specs.declared.instruction.Op.{Op}
-use Rattle.mips_plain.specs.declared.instruction.Op.TheVariants.{Three, ShiftBy, ShiftVar, Imm, Logic, Lui, Mult, MoveFrom, MoveTo, Load, Store, BranchTwo, BranchOne, Jump, JumpLink, JumpReg, JumpLinkReg, Out, Release, Halt}
+use Rattle.mips_instructions.specs.declared.instruction.ThreeKind.{ThreeKind}
+use Rattle.mips_instructions.specs.declared.instruction.ThreeKind.TheVariants.{Addu}
+use Rattle.mips_instructions.specs.declared.instruction.ShiftByKind.{ShiftByKind}
+use Rattle.mips_instructions.specs.declared.instruction.ShiftByKind.TheVariants.{Sll}
+use Rattle.mips_instructions.specs.declared.instruction.ShiftVarKind.{ShiftVarKind}
+use Rattle.mips_instructions.specs.declared.instruction.ShiftVarKind.TheVariants.{Sllv}
+use Rattle.mips_instructions.specs.declared.instruction.ImmKind.{ImmKind}
+use Rattle.mips_instructions.specs.declared.instruction.ImmKind.TheVariants.{Addiu}
+use Rattle.mips_instructions.specs.declared.instruction.LogicKind.{LogicKind}
+use Rattle.mips_instructions.specs.declared.instruction.LogicKind.TheVariants.{Andi}
+use Rattle.mips_instructions.specs.declared.instruction.MultKind.{MultKind}
+use Rattle.mips_instructions.specs.declared.instruction.MultKind.TheVariants as mult
+use Rattle.mips_instructions.specs.declared.instruction.MoveFromKind.{MoveFromKind}
+use Rattle.mips_instructions.specs.declared.instruction.MoveFromKind.TheVariants.{Mfhi}
+use Rattle.mips_instructions.specs.declared.instruction.MoveToKind.{MoveToKind}
+use Rattle.mips_instructions.specs.declared.instruction.MoveToKind.TheVariants.{Mthi}
+use Rattle.mips_instructions.specs.declared.instruction.LoadKind.{LoadKind}
+use Rattle.mips_instructions.specs.declared.instruction.LoadKind.TheVariants.{Lw}
+use Rattle.mips_instructions.specs.declared.instruction.StoreKind.{StoreKind}
+use Rattle.mips_instructions.specs.declared.instruction.StoreKind.TheVariants.{Sw}
+use Rattle.mips_instructions.specs.declared.instruction.BranchTwoKind.{BranchTwoKind}
+use Rattle.mips_instructions.specs.declared.instruction.BranchTwoKind.TheVariants.{Beq}
+use Rattle.mips_instructions.specs.declared.instruction.BranchOneKind.{BranchOneKind}
+use Rattle.mips_instructions.specs.declared.instruction.BranchOneKind.TheVariants.{Blez}
+use Rattle.mips_instructions.specs.declared.instruction.Op.{Op}
+use Rattle.mips_instructions.specs.declared.instruction.Op.TheVariants.{Three, ShiftBy, ShiftVar, Imm, Logic, Lui, Mult, MoveFrom, MoveTo, Load, Store, BranchTwo, BranchOne, Jump, JumpLink, JumpReg, JumpLinkReg, Out, Release, Halt}
 use Rattle.task_descriptor.specs.Names.{is_name}
 use Rattle.task_descriptor.specs.declared.descriptor.Descriptor.{Descriptor}
 use Rattle.program_tokens.specs.declared.token.Token.{Token}
 use Rattle.program_tokens.specs.declared.token.Token.TheVariants as token
 use Rattle.program_tokens.specs.declared.token.Number.TheVariants.{Small}
 use Rattle.canonical_text.specs.CanonicalText.{members}
-use Rattle.mips_plain.specs.InstructionTable.{mnemonic_named, mnemonics, mnemonic_of, word_of, name_of, operands, three_name, shift_by_name, shift_var_name, imm_name, logic_name, mult_name, move_from_name, move_to_name, load_name, store_name, branch_two_name, branch_one_name}
+use Rattle.mips_instructions.specs.InstructionTable.{mnemonic_named, mnemonics, mnemonic_of, word_of, name_of, operands, three_name, shift_by_name, shift_var_name, imm_name, logic_name, mult_name, move_from_name, move_to_name, load_name, store_name, branch_two_name, branch_one_name}
 use Rattle.annotated_asm.specs.Tables.{Names}
 use Rattle.annotated_asm.specs.Resolve.{is_known_target, is_known_instruction, target_place, spelled}
 use Rattle.program_statements.specs.Steps.{◌>>=◌}
@@ -46,8 +46,8 @@ use Rattle.program_statements.specs.Operands.{operands_of, operand_at, base_at, 
 use Rattle.program_statements.specs.Rows.{three, shift_by, shift_var, imm, logic, lui, mult as mult_of, move_from, move_to, load, store, branch_two, branch_one, jump, jump_link, jump_reg, jump_link_reg, out, halt}
 use Rattle.program_statements.specs.Statements.{registers_at, release_of, unmarked, of_mnemonic, no_marks, instruction_of}
 use Rattle.program_statements.specs.declared.fault.StatementFault.{StatementFault}
-use Rattle.mips_plain.specs.declared.instruction.Mnemonic.{Mnemonic}
-use Rattle.mips_plain.specs.declared.instruction.Mnemonic.TheVariants as mnemonic
+use Rattle.mips_instructions.specs.declared.instruction.Mnemonic.{Mnemonic}
+use Rattle.mips_instructions.specs.declared.instruction.Mnemonic.TheVariants as mnemonic
 use Rattle.program_statements.specs.declared.statement.Section.TheVariants as section
 use Rattle.program_statements.specs.declared.statement.Target.{Target}
 use Rattle.program_statements.specs.declared.statement.Target.TheVariants as target
@@ -58,7 +58,7 @@ use Rattle.program_statements.specs.Ranges.{signed_half}
 use Rattle.program_statements.specs.Statements.{with_registers, registers_of}
 use Rattle.program_statements.specs.declared.fault.StatementFault.TheVariants as fault
 use Rattle.std.proofs.lemmas.List.{append-nil}
-use Rattle.mips_plain.specs.Words.{has}
+use Rattle.mips_instructions.specs.Words.{has}
 use Rattle.task_descriptor.specs.Listing.{release_fits, registers}
 use Rattle.canonical_round_trip.proofs.SetTexts.{members_back, registers_back}
 use Rattle.canonical_round_trip.specs.Ranges.{IsHalf, IsOperandInRange, IsInRange}

@@ -5,11 +5,11 @@ use Rattle.std.specs.List.{AllByRecursion as All}
 use Rattle.std.proofs.lemmas.Bool.{cond_both, ltb-true}
 use Rattle.std.proofs.lemmas.List.Sums.{AllPass-from_list_all}
 use Rattle.std.proofs.lemmas.List.Elements.{recursion_from_All}
-use Rattle.mips_plain.specs.Words.{has}
-use Rattle.mips_plain.specs.InstructionTable.{name_of, operands}
-use Rattle.mips_plain.specs.declared.instruction.InstructionOperand.{InstructionOperand}
-use Rattle.mips_plain.specs.declared.instruction.InstructionOperand.TheVariants.{Register, Amount, Signed, Unsigned, Offset, Place, Registers}
-use Rattle.mips_plain.specs.declared.instruction.Op.{Op}
+use Rattle.mips_instructions.specs.Words.{has}
+use Rattle.mips_instructions.specs.InstructionTable.{name_of, operands}
+use Rattle.mips_instructions.specs.declared.instruction.InstructionOperand.{InstructionOperand}
+use Rattle.mips_instructions.specs.declared.instruction.InstructionOperand.TheVariants.{Register, Amount, Signed, Unsigned, Offset, Place, Registers}
+use Rattle.mips_instructions.specs.declared.instruction.Op.{Op}
 use Rattle.task_descriptor.specs.Names.{is_name}
 use Rattle.task_descriptor.specs.Listing.{registers}
 use Rattle.task_descriptor.specs.declared.descriptor.Descriptor.{Descriptor}

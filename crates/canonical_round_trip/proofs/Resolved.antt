@@ -4,7 +4,7 @@ use Rattle.std.specs.Prelude.{◌==◌, find, is_some, nat_le, IfSome}
 use Rattle.std.specs.List.{list_all, AllByRecursion as All}
 use Rattle.std.proofs.lemmas.Bool.{and_from, cond-true, eqb-true, le-leb}
 use Rattle.std.proofs.lemmas.List.{append-nil}
-use Rattle.mips_plain.specs.declared.instruction.Op.{Op}
+use Rattle.mips_instructions.specs.declared.instruction.Op.{Op}
 use Rattle.task_descriptor.specs.Listing.{Listing}
 use Rattle.task_descriptor.specs.declared.descriptor.Descriptor.{Descriptor}
 use Rattle.task_descriptor.specs.declared.descriptor.Marked.{Marked}

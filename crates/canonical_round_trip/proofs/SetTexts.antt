@@ -5,8 +5,8 @@ use Rattle.std.specs.List.{list_any, AllByRecursion as All}
 use Rattle.std.proofs.Math.Pow.{pow-lt}
 use Rattle.std.proofs.Math.Bool.{and-true}
 use Rattle.std.proofs.lemmas.Bool.{cases_lt, and_right, false≢true, agree_below_at, eqb-true}
-use Rattle.mips_plain.specs.Words.{has}
-use Rattle.mips_plain.proofs.SetLemmas.{has-insert, has-empty, has-above, same_set}
+use Rattle.mips_instructions.specs.Words.{has}
+use Rattle.mips_instructions.proofs.SetLemmas.{has-insert, has-empty, has-above, same_set}
 use Rattle.task_descriptor.specs.Listing.{registers}
 use Rattle.canonical_text.specs.CanonicalText.{members}
 use Rattle.program_statements.specs.Steps.{◌>>=◌}

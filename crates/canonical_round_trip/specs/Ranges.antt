@@ -1,10 +1,10 @@
 -- The ranges of a program's numbers, and its tasks' names: what their types say of them.
 use Rattle.std.specs.Prelude.{◌≡◌, ◌<◌, ◌≤◌, ◌^◌, ℤ, pos, negsuc, true}
 use Rattle.std.specs.List.{All}
-use Rattle.mips_plain.specs.InstructionTable.{operands}
-use Rattle.mips_plain.specs.declared.instruction.InstructionOperand.{InstructionOperand}
-use Rattle.mips_plain.specs.declared.instruction.InstructionOperand.TheVariants.{Register, Amount, Signed, Unsigned, Offset, Place, Registers}
-use Rattle.mips_plain.specs.declared.instruction.Op.{Op}
+use Rattle.mips_instructions.specs.InstructionTable.{operands}
+use Rattle.mips_instructions.specs.declared.instruction.InstructionOperand.{InstructionOperand}
+use Rattle.mips_instructions.specs.declared.instruction.InstructionOperand.TheVariants.{Register, Amount, Signed, Unsigned, Offset, Place, Registers}
+use Rattle.mips_instructions.specs.declared.instruction.Op.{Op}
 use Rattle.task_descriptor.specs.Names.{is_name}
 use Rattle.task_descriptor.specs.declared.descriptor.Descriptor.{Descriptor}
 

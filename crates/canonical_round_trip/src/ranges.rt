@@ -5,8 +5,8 @@ ghost use Rattle.std.specs.Prelude.{◌<◌, ◌≤◌, ◌^◌};
 ghost use Rattle.std.specs.List.{All};
 ghost use Rattle.canonical_round_trip.specs.Ranges.{IsHalf, IsOperandInRange, IsInRange, IsTaskInRange};
 
-use mips_plain::instruction::{InstructionOperand, Op};
-use mips_plain::number::{Amount, Gpr, Place, RegSet};
+use mips_instructions::instruction::{InstructionOperand, Op};
+use mips_instructions::number::{Amount, Gpr, Place, RegSet};
 use task_descriptor::descriptor::{Descriptor, Marked};
 
 fn general(register: Gpr)

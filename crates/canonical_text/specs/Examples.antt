@@ -2,11 +2,11 @@
 use Rattle.std.specs.Prelude.{◌≡◌, pos, true, false, [], ◌∷◌, ◌++◌, codes}
 use Rattle.std.specs.Fmt.{digits}
 use Rattle.std.proofs.Common.{refl}
-use Rattle.mips_plain.specs.declared.instruction.ThreeKind.TheVariants.{Addu}
-use Rattle.mips_plain.specs.declared.instruction.ImmKind.TheVariants.{Addiu, Slti}
-use Rattle.mips_plain.specs.declared.instruction.LoadKind.TheVariants.{Lw}
-use Rattle.mips_plain.specs.declared.instruction.BranchTwoKind.TheVariants.{Bne}
-use Rattle.mips_plain.specs.declared.instruction.Op.TheVariants.{Three, Imm, Load, BranchTwo, Out, Release, Halt}
+use Rattle.mips_instructions.specs.declared.instruction.ThreeKind.TheVariants.{Addu}
+use Rattle.mips_instructions.specs.declared.instruction.ImmKind.TheVariants.{Addiu, Slti}
+use Rattle.mips_instructions.specs.declared.instruction.LoadKind.TheVariants.{Lw}
+use Rattle.mips_instructions.specs.declared.instruction.BranchTwoKind.TheVariants.{Bne}
+use Rattle.mips_instructions.specs.declared.instruction.Op.TheVariants.{Three, Imm, Load, BranchTwo, Out, Release, Halt}
 use Rattle.task_descriptor.specs.declared.descriptor.Stop.TheVariants as stop
 use Rattle.task_descriptor.specs.Listing.{Listing}
 use Rattle.canonical_text.specs.CanonicalText.{line, members, hexadecimal, canonical_text}

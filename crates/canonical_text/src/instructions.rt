@@ -5,7 +5,7 @@ ghost use Rattle.canonical_text.specs.CanonicalText.{spelled, before_operand, op
 
 use crate::labels::Labels;
 use crate::pieces::{write_place, write_registers};
-use mips_plain::instruction::{InstructionOperand, Op};
+use mips_instructions::instruction::{InstructionOperand, Op};
 use std::alloc::AllocError;
 use task_descriptor::descriptor::{Marked, Stop};
 

@@ -1,12 +1,12 @@
 //! Pieces of a line: registers, places, numbers, with commas between them.
 
 ghost use Rattle.std.specs.Prelude.{◌≡◌, ℕ, ◌++◌, ◌∷◌, ◌<◌, [], false, not, OnOk, IfOk, string_bytes, map, ◌%◌};
-ghost use Rattle.mips_plain.specs.Words.{has};
+ghost use Rattle.mips_instructions.specs.Words.{has};
 ghost use Rattle.std.specs.Fmt.{digit_glyph};
 ghost use Rattle.canonical_text.specs.CanonicalText.{comma_unless as comma_text, no_pieces, commas, listed, members, register_text, place_named, place_text, hexadecimal};
 
 use crate::labels::Labels;
-use mips_plain::number::{Place, Reg, RegSet};
+use mips_instructions::number::{Place, Reg, RegSet};
 use std::alloc::AllocError;
 
 pub(crate) fn write_place(

@@ -7,7 +7,7 @@ ghost use Rattle.canonical_text.specs.CanonicalText.{line, listed, members, regi
 use crate::instructions::write_marked;
 use crate::labels::Labels;
 use crate::pieces::{byte_digits, word_digits, write_places, write_registers};
-use mips_plain::number::{Place, RegSet};
+use mips_instructions::number::{Place, RegSet};
 use std::alloc::{AllocError, Global};
 use task_descriptor::descriptor::{Descriptor, Marked};
 use task_descriptor::program::Program;

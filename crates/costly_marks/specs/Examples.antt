@@ -1,8 +1,8 @@
 -- Worked examples, computed by the check and shown by hand.
 use Rattle.std.specs.Prelude.{◌≡◌, pos, true, false, [], ◌∷◌}
 use Rattle.std.proofs.Common.{refl}
-use Rattle.mips_plain.specs.declared.instruction.ImmKind.TheVariants.{Addiu}
-use Rattle.mips_plain.specs.declared.instruction.Op.TheVariants.{Imm}
+use Rattle.mips_instructions.specs.declared.instruction.ImmKind.TheVariants.{Addiu}
+use Rattle.mips_instructions.specs.declared.instruction.Op.TheVariants.{Imm}
 use Rattle.task_graph.specs.Examples.{count, forwards}
 use Rattle.costly_marks.specs.declared.mark.CostlyMark.TheVariants.{NotForwarded, Unreached}
 use Rattle.costly_marks.specs.Costly.{UnsentPath, stay, onward, has_target}

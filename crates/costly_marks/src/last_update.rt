@@ -1,7 +1,7 @@
 //! Last updates without a forward bit.
 
 ghost use Rattle.std.specs.Prelude.{◌≡◌, ℕ, ◌<◌, ◌↔◌, true, Some, length, IsSome, slice_get};
-ghost use Rattle.mips_plain.specs.Words.{has};
+ghost use Rattle.mips_instructions.specs.Words.{has};
 ghost use Rattle.mask_certificate.specs.Lists.{list_of, mask_at};
 ghost use Rattle.mark_checker.specs.CheckerSteps.{holds_at};
 ghost use Rattle.mark_checker.specs.Rules.{in_mask};
@@ -13,7 +13,7 @@ ghost use Rattle.costly_marks.specs.Steps.{AreReaching};
 use crate::reaching::{is_awaited, some_task_lacks};
 use annotator::updates::writes_last;
 use mask_certificate::certificate::Cert;
-use mips_plain::number::RegSet;
+use mips_instructions::number::RegSet;
 use task_descriptor::program::Program;
 use task_graph::edges::next_inside;
 

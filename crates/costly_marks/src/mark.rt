@@ -1,6 +1,6 @@
 //! The kinds of marks that cost speed.
 
-use mips_plain::number::Reg;
+use mips_instructions::number::Reg;
 
 /// A mark that costs speed, or code that no task reaches (own choice).
 #[derive(Clone, Copy, Debug, PartialEq, Eq)]

@@ -1,8 +1,8 @@
 //! What the instructions of a task write or release.
 
 ghost use Rattle.std.specs.Prelude.{◌≡◌, ℕ, ◌<◌, ◌↔◌, ◌&&◌, true, false, Some, length, slice_get};
-ghost use Rattle.mips_plain.specs.Words.{has};
-ghost use Rattle.mips_plain.specs.Instruction.{released as released_by};
+ghost use Rattle.mips_instructions.specs.Words.{has};
+ghost use Rattle.mips_instructions.specs.Instruction.{released as released_by};
 ghost use Rattle.task_descriptor.specs.declared.descriptor.Descriptor.{Descriptor};
 ghost use Rattle.annotator.specs.Least.{IsLeast};
 ghost use Rattle.annotator.specs.Proposed.{Produces};
@@ -11,8 +11,8 @@ ghost use Rattle.costly_marks.specs.Costly.{IsNeverProduced};
 use crate::reaching::has_target;
 use annotator::updates::produced_at;
 use mask_certificate::certificate::Cert;
-use mips_plain::instruction::Op;
-use mips_plain::number::RegSet;
+use mips_instructions::instruction::Op;
+use mips_instructions::number::RegSet;
 use task_descriptor::program::Program;
 
 /// The registers of a task's create mask that it never produces; none of a task without a target.

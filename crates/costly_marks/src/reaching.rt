@@ -9,7 +9,7 @@ ghost use Rattle.annotator.specs.Marking.{indices_of};
 ghost use Rattle.costly_marks.specs.Steps.{AreNoted, AreReaching, SomeTaskLacks, TaskIsAwaited, TaskLacks};
 
 use mask_certificate::certificate::Cert;
-use mips_plain::number::RegSet;
+use mips_instructions::number::RegSet;
 use std::alloc::{AllocError, Global};
 use task_descriptor::descriptor::Descriptor;
 use task_descriptor::program::Program;

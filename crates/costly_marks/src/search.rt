@@ -12,7 +12,7 @@ use crate::production::{is_release, spare};
 use crate::reaching::{begins_unreached, reaching_tasks};
 use crate::table::{is_sent_before, unsent_table};
 use mask_certificate::certificate::Cert;
-use mips_plain::number::{REGISTERS, Reg};
+use mips_instructions::number::{REGISTERS, Reg};
 use std::alloc::{AllocError, Global};
 use task_descriptor::program::Program;
 

@@ -1,7 +1,7 @@
 //! Where a task comes without having sent a register: a search forward along inner edges.
 
 ghost use Rattle.std.specs.Prelude.{◌≡◌, ℕ, ◌<◌, ◌↔◌, true, false, [], length, replicate, IfOk, OnOk};
-ghost use Rattle.mips_plain.specs.Words.{has};
+ghost use Rattle.mips_instructions.specs.Words.{has};
 ghost use Rattle.task_graph.specs.Edges.{sends as sends_of};
 ghost use Rattle.task_graph.specs.Neighbours.{is_among};
 ghost use Rattle.task_graph.specs.SearchSteps.{is_marked};
@@ -9,7 +9,7 @@ ghost use Rattle.costly_marks.specs.Costly.{ComesUnsent};
 ghost use Rattle.costly_marks.specs.Steps.{FollowsUnsent, IsBegun};
 
 use crate::production::released;
-use mips_plain::number::Reg;
+use mips_instructions::number::Reg;
 use std::alloc::{AllocError, Global};
 use task_descriptor::descriptor::Marked;
 use task_descriptor::program::Program;

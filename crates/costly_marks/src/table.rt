@@ -1,8 +1,8 @@
 //! For each register that is released, the instructions to which some task may come without having sent it.
 
 ghost use Rattle.std.specs.Prelude.{◌≡◌, ℕ, ◌<◌, ◌↔◌, ◌&&◌, true, Some, [], length, IfOk, slice_get, slice_index_or};
-ghost use Rattle.mips_plain.specs.Words.{has};
-ghost use Rattle.mips_plain.specs.Instruction.{released as released_by};
+ghost use Rattle.mips_instructions.specs.Words.{has};
+ghost use Rattle.mips_instructions.specs.Instruction.{released as released_by};
 ghost use Rattle.task_descriptor.specs.declared.descriptor.Marked.{Marked};
 ghost use Rattle.task_graph.specs.SearchSteps.{is_marked};
 ghost use Rattle.costly_marks.specs.Costly.{ComesUnsent, IsSentBefore};
@@ -11,7 +11,7 @@ ghost use Rattle.costly_marks.specs.Steps.{AreReaching, AreUnsent, HasReleased, 
 use crate::production::released;
 use crate::reaching::is_member;
 use crate::sending::unsent;
-use mips_plain::number::{REGISTERS, Reg, RegSet};
+use mips_instructions::number::{REGISTERS, Reg, RegSet};
 use std::alloc::{AllocError, Global};
 use task_descriptor::descriptor::Marked;
 use task_descriptor::program::Program;

@@ -1,7 +1,7 @@
 -- The lists of a `.task` that would be right, as the canonical text of a program writes lists.
 use Rattle.std.specs.Prelude.{ℕ, List, [], ◌∷◌, ◌++◌, ◌==◌, ◌||◌, nat_eq, filter, position, codes, flat_map, slice_get, Option, Some, None}
 use Rattle.std.specs.Fmt.{decimal}
-use Rattle.mips_plain.specs.Words.{has}
+use Rattle.mips_instructions.specs.Words.{has}
 use Rattle.task_descriptor.specs.Listing.{Listing, registers}
 use Rattle.task_descriptor.specs.declared.descriptor.Descriptor.{Descriptor}
 

@@ -4,10 +4,10 @@ ghost use Rattle.std.specs.Prelude.{◌≡◌, [], ◌∷◌, ◌++◌, ◌||◌
 ghost use Rattle.std.specs.List.{flat_map};
 ghost use Rattle.std.specs.Fmt.{decimal};
 ghost use Rattle.std.specs.String.{string_bytes};
-ghost use Rattle.mips_plain.specs.Words.{has};
+ghost use Rattle.mips_instructions.specs.Words.{has};
 ghost use Rattle.diagnostic_text.specs.Lists.{registers_with, registers_text, task_name, name_of, names_at, names_text, create_text, targets_text};
 
-use mips_plain::number::{Place, Reg, RegSet};
+use mips_instructions::number::{Place, Reg, RegSet};
 use std::alloc::{AllocError, Global};
 use task_descriptor::program::Program;
 

@@ -7,7 +7,7 @@ ghost use Rattle.task_graph.specs.Soundness.{is_entry};
 ghost use Rattle.diagnostic_text.specs.Diagnostics.{position_in, first_byte, instruction_stretch, create_in, targets_in, wrong_target, wrong_target_of, target_stretch, stretch_by, line_of, index_in, note_index, note_words};
 
 use mark_checker::finding::{Finding, Rule};
-use mips_plain::number::Place;
+use mips_instructions::number::Place;
 use source_map::position::{Position, SourceMap, Stretch};
 use task_descriptor::program::Program;
 

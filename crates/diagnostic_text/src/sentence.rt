@@ -5,7 +5,7 @@ ghost use Rattle.std.specs.String.{string_bytes};
 ghost use Rattle.diagnostic_text.specs.Sentences.{number_in, lack_text, register_text, exit_text, sentence_text, help_text};
 
 use mark_checker::finding::Rule;
-use mips_plain::number::Reg;
+use mips_instructions::number::Reg;
 use std::alloc::AllocError;
 
 /// The number of a finding's register; 0 where its rule has none.

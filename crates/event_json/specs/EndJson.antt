@@ -3,8 +3,7 @@
 use Rattle.std.specs.Prelude.{ℕ, ◌+◌, ◌*◌, List, [], ◌∷◌, ◌++◌, flat_map, nat_eq, if◌then◌else◌, Option, Some, None, codes}
 use Rattle.std.specs.List.{range_with_len}
 use Rattle.json.specs.Json.{Json}
-use Rattle.mips_plain.specs.Words.{byte_of}
-use Rattle.mips_plain.specs.MemoryMap.{number_at}
+use Rattle.mips_plain.specs.MemoryMap.{byte_of, number_at}
 use Rattle.task_descriptor.specs.Listing.{Listing}
 use Rattle.machine_model.specs.Machine.{State}
 use Rattle.event_trace.specs.Changes.{register_count}

@@ -14,7 +14,7 @@ use event_trace::change::Change;
 use event_trace::unit_change::UnitChange;
 use json_writer::writer::JsonWriter;
 use machine_events::event::Standing;
-use mips_plain::number::Reg;
+use mips_instructions::number::Reg;
 use source_map::position::Position;
 use std::alloc::AllocError;
 use task_descriptor::program::Program;

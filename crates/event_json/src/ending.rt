@@ -2,8 +2,7 @@
 
 ghost use Rattle.std.specs.Prelude.{◌≡◌, ◌++◌, [], ◌∷◌, ◌*◌, ◌<◌, ◌^◌, Some, flat_map, length, OnOk};
 ghost use Rattle.json.specs.Tree.{json_tokens};
-ghost use Rattle.mips_plain.specs.Words.{byte_of};
-ghost use Rattle.mips_plain.specs.MemoryMap.{number_at};
+ghost use Rattle.mips_plain.specs.MemoryMap.{byte_of, number_at};
 ghost use Rattle.sequencer.specs.Machines.{state};
 ghost use Rattle.event_trace.specs.Ending.{head_value};
 ghost use Rattle.event_json.specs.Fields.{address_field, fields_tokens, object_of, register_field, word_field};
@@ -12,8 +11,8 @@ ghost use Rattle.event_json.specs.EndJson.{end_json, memory_field, memory_json, 
 use crate::fields::{write_address_word, write_register_word, write_standing};
 use event_trace::ending::word_at;
 use json_writer::writer::JsonWriter;
+use mips_instructions::number::Reg;
 use mips_plain::memory::DATA_START;
-use mips_plain::number::Reg;
 use sequencer::machine::Machine;
 use std::alloc::AllocError;
 use task_descriptor::program::Program;

@@ -11,7 +11,7 @@ use crate::fields::{write_named, write_register, write_task, write_unit};
 use event_trace::change::Change;
 use json_writer::writer::JsonWriter;
 use machine_events::event::{Event, Refused};
-use mips_plain::number::Reg;
+use mips_instructions::number::Reg;
 use source_map::position::Position;
 use std::alloc::AllocError;
 use task_descriptor::program::Program;

@@ -7,7 +7,7 @@ ghost use Rattle.event_json.specs.Fields.{address_field, exit_fields, fields_tok
 use event_script::writing::task_name;
 use json_writer::writer::JsonWriter;
 use machine_events::event::Standing;
-use mips_plain::number::Reg;
+use mips_instructions::number::Reg;
 use mips_plain::outcome::Trap;
 use source_map::position::Position;
 use std::alloc::AllocError;

@@ -1,13 +1,12 @@
 -- What an event changed, read off the state before it, s, and the state behind it, s' (own choice).
 use Rattle.std.specs.Prelude.{ℕ, suc, List, [], ◌∷◌, ◌++◌, Bool, not, ◌&&◌, ◌%◌, ◌^◌, if◌then◌else◌, flat_map, length, drop, slice_get, is_some, unwrap_or, Option, Some, None}
 use Rattle.std.specs.List.{range_with_len}
-use Rattle.mips_plain.specs.Words.{byte_of}
-use Rattle.mips_plain.specs.Instruction.{dests, reg_a, reg_b}
-use Rattle.mips_plain.specs.InstructionTable.{store_size}
-use Rattle.mips_plain.specs.MemoryMap.{effective}
+use Rattle.mips_plain.specs.MemoryMap.{byte_of, effective}
+use Rattle.mips_instructions.specs.Instruction.{dests, reg_a, reg_b}
+use Rattle.mips_instructions.specs.InstructionTable.{store_size}
 use Rattle.mips_plain.specs.Access.{load_at}
-use Rattle.mips_plain.specs.declared.instruction.Op.{Op}
-use Rattle.mips_plain.specs.declared.instruction.Op.TheVariants.{Load, Store, Out}
+use Rattle.mips_instructions.specs.declared.instruction.Op.{Op}
+use Rattle.mips_instructions.specs.declared.instruction.Op.TheVariants.{Load, Store, Out}
 use Rattle.task_descriptor.specs.Listing.{Listing}
 use Rattle.task_descriptor.specs.declared.descriptor.Marked.{Marked}
 use Rattle.machine_model.specs.Machine.{Active, State}

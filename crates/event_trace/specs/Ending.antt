@@ -4,8 +4,7 @@ use Rattle.std.specs.Prelude.{ℕ, ◌+◌, ◌*◌, List, [], ◌∷◌, ◌++�
 use Rattle.std.specs.List.{range_with_len}
 use Rattle.std.specs.Option.{option_and_then}
 use Rattle.std.specs.Fmt.{decimal}
-use Rattle.mips_plain.specs.Words.{byte_of}
-use Rattle.mips_plain.specs.MemoryMap.{number_at}
+use Rattle.mips_plain.specs.MemoryMap.{byte_of, number_at}
 use Rattle.task_descriptor.specs.Listing.{Listing}
 use Rattle.machine_model.specs.Machine.{State, value}
 use Rattle.event_trace.specs.Changes.{register_count}

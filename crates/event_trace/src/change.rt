@@ -4,7 +4,7 @@ ghost use Rattle.std.specs.Prelude.{◌≡◌, ◌++◌, ◌∷◌, [], OnOk};
 
 use crate::unit_change::UnitChange;
 use machine_events::event::Standing;
-use mips_plain::number::Reg;
+use mips_instructions::number::Reg;
 use std::alloc::AllocError;
 
 /// What an event changed (own choice). A unit is known by its position, which counts from the head of the

@@ -9,7 +9,7 @@ use crate::change::{Change, add};
 use crate::instruction::{add_execution, index_of};
 use crate::unit_change::UnitChange;
 use machine_events::event::{Event, Spot};
-use mips_plain::number::Reg;
+use mips_instructions::number::Reg;
 use sequencer::machine::Machine;
 use std::alloc::{AllocError, Global};
 use task_descriptor::program::Program;

@@ -2,16 +2,15 @@
 
 ghost use Rattle.std.specs.Prelude.{◌≡◌, ◌++◌, [], ◌∷◌, ◌+◌, ◌*◌, ◌<◌, ◌≤◌, ◌^◌, Some, length, codes, slice_index, OnOk};
 ghost use Rattle.std.specs.String.{string_bytes};
-ghost use Rattle.mips_plain.specs.Words.{byte_of};
-ghost use Rattle.mips_plain.specs.MemoryMap.{number_at};
+ghost use Rattle.mips_plain.specs.MemoryMap.{byte_of, number_at};
 ghost use Rattle.sequencer.specs.Machines.{state};
 ghost use Rattle.event_trace.specs.Ending.{end_text, head_value, memory_text, registers_text, value_line, word_line};
 ghost use Rattle.event_trace.specs.TraceText.{ending_text};
 
 use crate::text::{write_address, write_ending, write_register};
 use machine_events::event::Standing;
+use mips_instructions::number::Reg;
 use mips_plain::memory::DATA_START;
-use mips_plain::number::Reg;
 use sequencer::machine::Machine;
 use std::alloc::AllocError;
 use task_descriptor::program::Program;

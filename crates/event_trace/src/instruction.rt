@@ -1,9 +1,8 @@
 //! What an instruction did to its unit.
 
 ghost use Rattle.std.specs.Prelude.{◌≡◌, ◌++◌, ◌%◌, ◌^◌, [], ◌∷◌, unwrap_or, OnOk};
-ghost use Rattle.mips_plain.specs.Words.{byte_of};
-ghost use Rattle.mips_plain.specs.InstructionTable.{store_size};
-ghost use Rattle.mips_plain.specs.MemoryMap.{effective};
+ghost use Rattle.mips_plain.specs.MemoryMap.{byte_of, effective};
+ghost use Rattle.mips_instructions.specs.InstructionTable.{store_size};
 ghost use Rattle.machine_model.specs.Answer.{index_of_place, instruction_at, operand};
 ghost use Rattle.unit_core.specs.Units.{active_of};
 ghost use Rattle.sequencer.specs.Machines.{state};
@@ -13,9 +12,9 @@ use crate::change::{Change, add};
 use crate::registers::{add_sendings, add_writes};
 use crate::unit_change::UnitChange;
 use machine_events::event::{Spot, Standing};
-use mips_plain::instruction::{Op, StoreKind};
+use mips_instructions::instruction::{Op, StoreKind};
+use mips_instructions::number::Reg;
 use mips_plain::memory::Memory;
-use mips_plain::number::Reg;
 use sequencer::machine::Machine;
 use std::alloc::AllocError;
 use task_descriptor::descriptor::Marked;

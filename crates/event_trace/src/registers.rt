@@ -1,14 +1,14 @@
 //! The registers that an instruction wrote, and those that a unit sent.
 
 ghost use Rattle.std.specs.Prelude.{◌≡◌, ◌<◌, ◌++◌, if◌then◌else◌, [], ◌∷◌, unwrap_or, OnOk};
-ghost use Rattle.mips_plain.specs.Words.{has};
+ghost use Rattle.mips_instructions.specs.Words.{has};
 ghost use Rattle.machine_model.specs.Answer.{operand};
 ghost use Rattle.unit_core.specs.Units.{active_of};
 ghost use Rattle.event_trace.specs.Changes.{for_registers};
 ghost use Rattle.event_trace.specs.declared.change.Change.TheVariants.{Wrote, Sent};
 
 use crate::change::{Change, add};
-use mips_plain::number::{Reg, RegSet};
+use mips_instructions::number::{Reg, RegSet};
 use std::alloc::AllocError;
 use unit_core::unit::Unit;
 

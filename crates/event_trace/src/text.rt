@@ -9,7 +9,7 @@ use crate::change::Change;
 use crate::unit_change::UnitChange;
 use event_script::writing::{task_name, write_event};
 use machine_events::event::{Event, Refused, Standing};
-use mips_plain::number::Reg;
+use mips_instructions::number::Reg;
 use source_map::position::Position;
 use std::alloc::AllocError;
 use task_descriptor::program::Program;

@@ -1,6 +1,6 @@
 //! What an event of the machine changed at one unit.
 
-use mips_plain::number::Reg;
+use mips_instructions::number::Reg;
 
 /// What an event changed at one unit.
 #[derive(Clone, Copy, Debug, PartialEq, Eq)]

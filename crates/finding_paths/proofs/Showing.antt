@@ -3,8 +3,8 @@ use Rattle.std.proofs.Common.{◌≡◌, ◌↔◌, ℕ, ◌+◌, ◌<◌, List,
 use Rattle.std.specs.Prelude.{is_some}
 use Rattle.std.proofs.lemmas.Bool.{and_parts, eqb-true, eq-eqb}
 use Rattle.std.proofs.lemmas.Option.{slice_get_within, slice_get_read}
-use Rattle.mips_plain.specs.Words.{has}
-use Rattle.mips_plain.specs.Instruction.{dests, released}
+use Rattle.mips_instructions.specs.Words.{has}
+use Rattle.mips_instructions.specs.Instruction.{dests, released}
 use Rattle.std.specs.declared.alloc.Global.{Global}
 use Rattle.std.specs.declared.vec.Vec.{Vec}
 use Rattle.task_descriptor.specs.Listing.{Listing, IsWellFormed}

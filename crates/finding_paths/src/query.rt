@@ -4,7 +4,7 @@ ghost use Rattle.std.specs.Prelude.{◌≡◌};
 ghost use Rattle.finding_paths.specs.Queries.{to_writer, query_of};
 
 use mark_checker::finding::{Finding, Rule};
-use mips_plain::number::Reg;
+use mips_instructions::number::Reg;
 use witnesses::sought::Sought;
 
 /// A query for a path inside a task.

@@ -4,8 +4,8 @@ use Rattle.std.specs.Prelude.{ℕ, ◌+◌, List, [], ◌∷◌, Bool, true, fal
 use Rattle.std.specs.Str.{bytes_eq}
 use Rattle.program_tokens.specs.declared.token.Token.{Token}
 use Rattle.program_tokens.specs.declared.token.Token.TheVariants as token
-use Rattle.mips_plain.specs.declared.instruction.Form.{Form}
-use Rattle.mips_plain.specs.declared.instruction.Form.TheVariants as form
+use Rattle.mips_instructions.specs.declared.instruction.Form.{Form}
+use Rattle.mips_instructions.specs.declared.instruction.Form.TheVariants as form
 use Rattle.line_faults.specs.declared.shape.Shape.{Shape}
 use Rattle.line_faults.specs.declared.shape.Shape.TheVariants as shape
 use Rattle.line_faults.specs.declared.form.Kind.{Kind}

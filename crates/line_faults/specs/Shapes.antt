@@ -3,9 +3,9 @@
 use Rattle.std.specs.Prelude.{ℕ, ℤ, pos, negsuc, List, [], ◌∷◌, map, codes, Option, Some, None, length, nat_lt, if◌then◌else◌}
 use Rattle.std.specs.Option.{option_or, option_map}
 use Rattle.std.specs.Str.{bytes_eq}
-use Rattle.mips_plain.specs.InstructionTable.{word_of, form_of, every_mnemonic, mnemonics, mnemonic_named}
-use Rattle.mips_plain.specs.declared.instruction.Form.{Form}
-use Rattle.mips_plain.specs.declared.instruction.Form.TheVariants as form
+use Rattle.mips_instructions.specs.InstructionTable.{word_of, form_of, every_mnemonic, mnemonics, mnemonic_named}
+use Rattle.mips_instructions.specs.declared.instruction.Form.{Form}
+use Rattle.mips_instructions.specs.declared.instruction.Form.TheVariants as form
 use Rattle.line_faults.specs.Near.{nearest}
 use Rattle.line_faults.specs.declared.shape.Shape.{Shape}
 use Rattle.line_faults.specs.declared.shape.Shape.TheVariants as shape

@@ -5,7 +5,7 @@ ghost use Rattle.std.specs.Option.{option_map};
 ghost use Rattle.line_faults.specs.Forms.{instruction_form, form_of, is_general, is_word, is_kind, at_step, member_of, next_step, fitting};
 
 use crate::shape::Shape;
-use mips_plain::instruction::Form;
+use mips_instructions::instruction::Form;
 use program_tokens::token::Token;
 
 /// The kinds of token that operands are made of.

@@ -1,12 +1,12 @@
 //! What operands each statement takes.
 
 ghost use Rattle.std.specs.Prelude.{◌≡◌, map, option_map};
-ghost use Rattle.mips_plain.specs.InstructionTable.{word_of};
+ghost use Rattle.mips_instructions.specs.InstructionTable.{word_of};
 ghost use Rattle.line_faults.specs.Shapes.{shape_in, shape_of, near_statement, instruction_text, form_text, range_of, range_text};
 ghost use Rattle.line_faults.specs.Near.{nearest};
 
 use crate::near::is_near;
-use mips_plain::instruction::{Form, MNEMONICS, Mnemonic};
+use mips_instructions::instruction::{Form, MNEMONICS, Mnemonic};
 
 /// What the operands of a statement are.
 #[derive(Clone, Copy, Debug, PartialEq, Eq)]

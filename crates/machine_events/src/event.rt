@@ -1,6 +1,6 @@
 //! The events of the machine, and what is said of a run.
 
-use mips_plain::number::Reg;
+use mips_instructions::number::Reg;
 use mips_plain::outcome::Trap;
 
 /// One atomic step of the machine. A position k counts from the head of the queue, which is 0; a

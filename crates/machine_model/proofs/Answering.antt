@@ -8,8 +8,8 @@ use Rattle.std.proofs.lemmas.Bool.{or_cases, or_left, or_right, not-true, cases_
 use Rattle.std.proofs.lemmas.Nat.Bits.{bit_at-zero}
 use Rattle.std.proofs.Math.ListN.{get_or-eq_default}
 use Rattle.std.proofs.lemmas.Option.{option_and_then_some}
-use Rattle.mips_plain.specs.Words.{has}
-use Rattle.mips_plain.specs.Instruction.{source_a, source_b, reg_a, reg_b, is_source, released, waits}
+use Rattle.mips_instructions.specs.Words.{has}
+use Rattle.mips_instructions.specs.Instruction.{source_a, source_b, reg_a, reg_b, is_source, released, waits}
 use Rattle.mips_plain.specs.Effect.{may_run_ahead}
 use Rattle.task_descriptor.specs.Listing.{Listing, IsWellFormed}
 use Rattle.task_descriptor.specs.WellFormed.{waits_below}

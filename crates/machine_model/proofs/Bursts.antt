@@ -5,8 +5,9 @@ use mathlib.Core.Path.{fun_ext}
 use Rattle.std.specs.Prelude.{slice_get, slice_set, nat_eq, is_some}
 use Rattle.std.specs.Option.{option_or}
 use Rattle.std.proofs.lemmas.Bool.{or_cases, and_parts}
-use Rattle.mips_plain.specs.Words.{address, byte_of}
-use Rattle.mips_plain.specs.Instruction.{reg_a, reg_b, released, dests, taken, turn}
+use Rattle.mips_instructions.specs.Words.{address}
+use Rattle.mips_plain.specs.MemoryMap.{byte_of}
+use Rattle.mips_instructions.specs.Instruction.{reg_a, reg_b, released, dests, taken, turn}
 use Rattle.mips_plain.specs.Effect.{written, memory_after, output_after, outcome_after}
 use Rattle.mips_plain.specs.declared.outcome.Outcome.{Outcome}
 use Rattle.mips_plain.specs.declared.outcome.Outcome.TheVariants.{Running}

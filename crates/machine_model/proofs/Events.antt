@@ -4,7 +4,8 @@ use Rattle.std.proofs.Common.{◌≡◌, ℕ, zero, suc, ◌+◌, ◌<◌, ◌�
 use Rattle.std.proofs.lemmas.Bool.{cond-true}
 use Rattle.std.specs.Prelude.{slice_get, slice_set, nat_eq, IsSome, is_some}
 use Rattle.std.specs.Option.{option_or}
-use Rattle.mips_plain.specs.Words.{address, byte_of}
+use Rattle.mips_instructions.specs.Words.{address}
+use Rattle.mips_plain.specs.MemoryMap.{byte_of}
 use Rattle.mips_plain.specs.Effect.{written, memory_after, output_after, outcome_after}
 use Rattle.mips_plain.specs.declared.outcome.Outcome.TheVariants.{Running}
 use Rattle.task_descriptor.specs.Listing.{Listing}

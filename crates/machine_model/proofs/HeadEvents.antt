@@ -7,8 +7,8 @@ use Rattle.std.specs.Option.{option_map}
 use Rattle.std.proofs.lemmas.Bool.{or_cases, or_left, or_right, cond-true, lt-ltb}
 use Rattle.std.proofs.lemmas.Option.{slice_get_cases, slice_get-get_or}
 use Rattle.std.proofs.lemmas.List.Quantifiers.{position-Some}
-use Rattle.mips_plain.specs.Words.{address}
-use Rattle.mips_plain.specs.Instruction.{reg_a, reg_b}
+use Rattle.mips_instructions.specs.Words.{address}
+use Rattle.mips_instructions.specs.Instruction.{reg_a, reg_b}
 use Rattle.task_descriptor.specs.Listing.{Listing, IsWellFormed}
 use Rattle.task_descriptor.specs.WellFormed.{limits, entry_below, start_is_entry}
 use Rattle.task_descriptor.specs.declared.descriptor.Descriptor.{Descriptor}

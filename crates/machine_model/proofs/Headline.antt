@@ -3,7 +3,8 @@
 use Rattle.std.proofs.Common.{◌≡◌, ℕ, zero, suc, ◌+◌, ◌<◌, ◌≤◌, ◌⊎◌, inl, inr, true, false, List, [], ◌∷◌, ◌++◌, length, Option, Some, refl, sym, ap, ◌∙◌, subst, arith, take, length-append, unwrap_or}
 use Rattle.std.specs.Prelude.{slice_get, slice_set}
 use Rattle.std.specs.List.{AllByRecursion, fold}
-use Rattle.mips_plain.specs.Words.{address, byte_of}
+use Rattle.mips_instructions.specs.Words.{address}
+use Rattle.mips_plain.specs.MemoryMap.{byte_of}
 use Rattle.mips_plain.specs.Effect.{memory_after, output_after, outcome_after, may_run_ahead}
 use Rattle.mips_plain.specs.PlainMachine.{plain, reads}
 use Rattle.mips_plain.specs.declared.outcome.Outcome.{Outcome}

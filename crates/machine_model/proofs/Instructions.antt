@@ -5,15 +5,15 @@ use Rattle.std.specs.Prelude.{slice_get, nat_le, nat_eq, is_some}
 use Rattle.std.specs.Option.{option_map, option_and_then}
 use Rattle.std.proofs.lemmas.Bool.{and_right, cond-false, cond-true, and_from, le-leb, eq-eqb}
 use Rattle.std.proofs.lemmas.Option.{slice_get-map}
-use Rattle.mips_plain.specs.Words.{address, index_of}
-use Rattle.mips_plain.specs.InstructionTable.{load_size, two_taken, one_taken}
-use Rattle.mips_plain.specs.Instruction.{dests, alu, is_register_only, taken, turn}
+use Rattle.mips_instructions.specs.Words.{address, index_of}
+use Rattle.mips_instructions.specs.InstructionTable.{load_size, two_taken, one_taken}
+use Rattle.mips_instructions.specs.Instruction.{dests, alu, is_register_only, taken, turn}
 use Rattle.mips_plain.specs.Effect.{written, loaded, memory_after, output_after, outcome_after, outcome_of_load, may_run_ahead, is_fixed}
 use Rattle.mips_plain.specs.MemoryMap.{Region, Fixed, Ordinary, Nowhere, region, effective}
 use Rattle.mips_plain.specs.PlainMachine.{fetch}
-use Rattle.mips_plain.specs.declared.instruction.LoadKind.{LoadKind}
-use Rattle.mips_plain.specs.declared.instruction.Op.{Op}
-use Rattle.mips_plain.specs.declared.instruction.Op.TheVariants.{Load, Store, BranchTwo, BranchOne, Jump, JumpLink, JumpReg, JumpLinkReg, Out, Halt}
+use Rattle.mips_instructions.specs.declared.instruction.LoadKind.{LoadKind}
+use Rattle.mips_instructions.specs.declared.instruction.Op.{Op}
+use Rattle.mips_instructions.specs.declared.instruction.Op.TheVariants.{Load, Store, BranchTwo, BranchOne, Jump, JumpLink, JumpReg, JumpLinkReg, Out, Halt}
 use Rattle.mips_plain.specs.declared.outcome.Outcome.TheVariants.{Running}
 use Rattle.task_descriptor.specs.Listing.{Listing, input}
 use Rattle.task_descriptor.specs.declared.descriptor.Marked.{Marked}

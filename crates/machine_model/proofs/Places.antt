@@ -1,8 +1,8 @@
 -- A unit goes on over inner edges alone, so it stands where its task reaches; no other event moves it.
 use Rattle.std.proofs.Common.{◌≡◌, ◌<◌, ℕ, zero, suc, Bool, true, false, List, [], ◌∷◌, ◌++◌, length, Option, Some, None, refl, sym, ap, ◌∙◌, subst, take}
 use Rattle.std.specs.Prelude.{slice_get, slice_set}
-use Rattle.mips_plain.specs.Words.{address}
-use Rattle.mips_plain.specs.Instruction.{taken, turn}
+use Rattle.mips_instructions.specs.Words.{address}
+use Rattle.mips_instructions.specs.Instruction.{taken, turn}
 use Rattle.mips_plain.specs.Effect.{outcome_after}
 use Rattle.mips_plain.specs.declared.outcome.Outcome.{Outcome}
 use Rattle.mips_plain.specs.declared.outcome.Outcome.TheVariants.{Running, Halted, Trapped}

@@ -4,11 +4,12 @@ use Rattle.std.proofs.Common.{◌≡◌, ℕ, zero, suc, ◌<◌, ◌≤◌, Boo
 use Rattle.std.specs.Prelude.{slice_get}
 use Rattle.std.proofs.lemmas.Bool.{false_from_ne_true}
 use Rattle.std.proofs.lemmas.Option.{slice_get_within, slice_get-get_or}
-use Rattle.mips_plain.specs.Words.{address, byte_of}
-use Rattle.mips_plain.specs.Instruction.{reg_a, reg_b, dests, taken, turn}
+use Rattle.mips_instructions.specs.Words.{address}
+use Rattle.mips_plain.specs.MemoryMap.{byte_of}
+use Rattle.mips_instructions.specs.Instruction.{reg_a, reg_b, dests, taken, turn}
 use Rattle.mips_plain.specs.Effect.{written, memory_after, output_after, outcome_after}
 use Rattle.mips_plain.specs.PlainMachine.{Input, State as PlainState, plain, reads, fetch, fetched, do_op, step_when, read_at, reads_when, pc_after}
-use Rattle.mips_plain.specs.declared.instruction.Op.{Op}
+use Rattle.mips_instructions.specs.declared.instruction.Op.{Op}
 use Rattle.mips_plain.specs.declared.outcome.Outcome.{Outcome}
 use Rattle.mips_plain.specs.declared.outcome.Outcome.TheVariants.{Running, Halted, Trapped}
 use Rattle.task_descriptor.specs.Listing.{Listing, input}
@@ -17,7 +18,7 @@ use Rattle.task_graph.specs.Edges.{Edge, Path, stay, onward, MayWrite, leaves, i
 use Rattle.task_graph.specs.Soundness.{Sound, SoundTask}
 use Rattle.machine_model.specs.Machine.{task_at, no_task, creates}
 use Rattle.machine_model.specs.Claims.{plain_of, reads_of}
-use Rattle.mips_plain.proofs.RowLemmas.{zero_not_dest}
+use Rattle.mips_instructions.proofs.RowLemmas.{zero_not_dest}
 use Rattle.machine_model.proofs.Instructions.{written_dest, address_back, fetch_marked, Leads, leads_on}
 
 -- One step

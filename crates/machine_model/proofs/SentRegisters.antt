@@ -3,8 +3,9 @@ use Rattle.std.proofs.Common.{◌≡◌, ℕ, inl, inr, Bool, false, cond, Optio
 use Rattle.std.specs.Prelude.{slice_get, nat_eq}
 use Rattle.std.specs.Option.{option_or}
 use Rattle.std.proofs.lemmas.Bool.{false_from_ne_true}
-use Rattle.mips_plain.specs.Words.{address, byte_of}
-use Rattle.mips_plain.specs.Instruction.{dests, taken}
+use Rattle.mips_instructions.specs.Words.{address}
+use Rattle.mips_plain.specs.MemoryMap.{byte_of}
+use Rattle.mips_instructions.specs.Instruction.{dests, taken}
 use Rattle.mips_plain.specs.Effect.{written, outcome_after}
 use Rattle.mips_plain.specs.declared.outcome.Outcome.{Outcome}
 use Rattle.mips_plain.specs.declared.outcome.Outcome.TheVariants.{Running, Halted, Trapped}

@@ -3,8 +3,9 @@
 use Rattle.std.proofs.Common.{◌≡◌, ℕ, suc, ◌+◌, ◌≤◌, Bool, true, false, cond, ◌⊎◌, inl, inr, List, [], ◌∷◌, ◌++◌, length, Option, Some, None, refl, sym, ap, ◌∙◌, subst, arith, unwrap_or, append_assoc, length-append, eqb-true}
 use Rattle.std.specs.Prelude.{nat_eq}
 use Rattle.std.specs.Option.{option_or}
-use Rattle.mips_plain.specs.Words.{address, byte_of}
-use Rattle.mips_plain.specs.Instruction.{reg_a, reg_b, taken, turn}
+use Rattle.mips_instructions.specs.Words.{address}
+use Rattle.mips_plain.specs.MemoryMap.{byte_of}
+use Rattle.mips_instructions.specs.Instruction.{reg_a, reg_b, taken, turn}
 use Rattle.mips_plain.specs.Effect.{written, outcome_after, may_run_ahead}
 use Rattle.mips_plain.specs.PlainMachine.{pc_after}
 use Rattle.mips_plain.specs.declared.outcome.Outcome.{Outcome}

@@ -4,7 +4,7 @@ use Rattle.std.specs.Prelude.{ℕ, zero, suc, List, [], ◌∷◌, ◌++◌, Boo
 use Rattle.std.specs.List.{fold, last_or}
 use Rattle.std.specs.Option.{option_or, option_and_then, unwrap_or}
 use Rattle.std.specs.Prelude.{Result, Ok, Err}
-use Rattle.mips_plain.specs.Instruction.{reg_a, reg_b}
+use Rattle.mips_instructions.specs.Instruction.{reg_a, reg_b}
 use Rattle.task_descriptor.specs.Listing.{Listing}
 use Rattle.task_descriptor.specs.declared.descriptor.Marked.{Marked}
 use Rattle.machine_model.specs.Machine.{Active, State, opening, creates, begins, pass}

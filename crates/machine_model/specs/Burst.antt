@@ -1,7 +1,7 @@
 -- Bursts: instructions of one unit that need nothing but its own registers and read-only data, so that
 -- they may be made away from the machine and handed in later (own).
 use Rattle.std.specs.Prelude.{◌≡◌, ℕ, zero, suc, Bool, true, false, Some}
-use Rattle.mips_plain.specs.Instruction.{dests}
+use Rattle.mips_instructions.specs.Instruction.{dests}
 use Rattle.mips_plain.specs.Effect.{may_run_ahead}
 use Rattle.task_descriptor.specs.Listing.{Listing}
 use Rattle.task_descriptor.specs.declared.descriptor.Marked.{Marked}

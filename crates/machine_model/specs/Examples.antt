@@ -2,17 +2,17 @@
 -- the state that they leave.
 use Rattle.std.specs.Prelude.{◌≡◌, ℕ, pos, negsuc, List, [], ◌∷◌, true, false, slice_get, Option, Some, None, Result, Ok, Err}
 use Rattle.std.proofs.Common.{refl}
-use Rattle.mips_plain.specs.Words.{address, index_of}
+use Rattle.mips_instructions.specs.Words.{address, index_of}
 use Rattle.mips_plain.specs.MemoryMap.{region, effective}
-use Rattle.mips_plain.specs.declared.instruction.ThreeKind.TheVariants.{Addu}
-use Rattle.mips_plain.specs.declared.instruction.ImmKind.TheVariants.{Addiu, Slti}
-use Rattle.mips_plain.specs.declared.instruction.LogicKind.TheVariants.{Ori}
-use Rattle.mips_plain.specs.declared.instruction.LoadKind.TheVariants.{Lw}
-use Rattle.mips_plain.specs.declared.instruction.MultKind.TheVariants.{Multu}
-use Rattle.mips_plain.specs.declared.instruction.MoveFromKind.TheVariants.{Mfhi, Mflo}
-use Rattle.mips_plain.specs.declared.instruction.BranchTwoKind.TheVariants.{Bne}
-use Rattle.mips_plain.specs.declared.instruction.Op.{Op}
-use Rattle.mips_plain.specs.declared.instruction.Op.TheVariants.{Three, Imm, Logic, Lui, Load, Mult, MoveFrom, BranchTwo, JumpReg, Out, Halt}
+use Rattle.mips_instructions.specs.declared.instruction.ThreeKind.TheVariants.{Addu}
+use Rattle.mips_instructions.specs.declared.instruction.ImmKind.TheVariants.{Addiu, Slti}
+use Rattle.mips_instructions.specs.declared.instruction.LogicKind.TheVariants.{Ori}
+use Rattle.mips_instructions.specs.declared.instruction.LoadKind.TheVariants.{Lw}
+use Rattle.mips_instructions.specs.declared.instruction.MultKind.TheVariants.{Multu}
+use Rattle.mips_instructions.specs.declared.instruction.MoveFromKind.TheVariants.{Mfhi, Mflo}
+use Rattle.mips_instructions.specs.declared.instruction.BranchTwoKind.TheVariants.{Bne}
+use Rattle.mips_instructions.specs.declared.instruction.Op.{Op}
+use Rattle.mips_instructions.specs.declared.instruction.Op.TheVariants.{Three, Imm, Logic, Lui, Load, Mult, MoveFrom, BranchTwo, JumpReg, Out, Halt}
 use Rattle.task_descriptor.specs.Listing.{Listing}
 use Rattle.task_descriptor.specs.declared.descriptor.Descriptor.{Descriptor}
 use Rattle.task_descriptor.specs.declared.descriptor.Marked.{Marked}

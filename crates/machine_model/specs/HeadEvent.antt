@@ -2,7 +2,7 @@
 -- unit of the ring an event belongs to.
 use Rattle.std.specs.Prelude.{ℕ, zero, suc, ◌+◌, ◌-◌, ◌%◌, List, [], ◌∷◌, not, nat_eq, if◌then◌else◌, drop, is_none, position, Option, Some, None}
 use Rattle.std.specs.Option.{option_map}
-use Rattle.mips_plain.specs.Words.{address}
+use Rattle.mips_instructions.specs.Words.{address}
 use Rattle.task_descriptor.specs.Listing.{Listing}
 use Rattle.machine_model.specs.Machine.{Active, State, creates}
 use Rattle.machine_model.specs.Step.{is_listed, next_begins}

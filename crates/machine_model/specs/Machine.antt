@@ -2,7 +2,8 @@
 -- sections 2 and 3): a queue of units from head to tail, and beside it what has retired.
 use Rattle.std.specs.Prelude.{ℕ, List, [], Bool, nat_eq, if◌then◌else◌, slice_index_or, Option, Some}
 use Rattle.std.specs.Option.{option_or}
-use Rattle.mips_plain.specs.Words.{has, address, byte_of}
+use Rattle.mips_instructions.specs.Words.{has, address}
+use Rattle.mips_plain.specs.MemoryMap.{byte_of}
 use Rattle.mips_plain.specs.declared.outcome.Read.{Read}
 use Rattle.task_descriptor.specs.Listing.{Listing}
 use Rattle.task_descriptor.specs.declared.descriptor.Descriptor.{Descriptor}

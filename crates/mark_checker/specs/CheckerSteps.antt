@@ -1,7 +1,7 @@
 -- Helper vocabulary of the checker's own functions: what its flags and sets stand for, and how far it has
 -- come in a list. No contract of a public function cites a word of this file.
 use Rattle.std.specs.Prelude.{◌≡◌, ℕ, nat_eq, nat_lt, if◌then◌else◌, Bool, true, false, List, ◌++◌, Option, Some, None}
-use Rattle.mips_plain.specs.Words.{has}
+use Rattle.mips_instructions.specs.Words.{has}
 use Rattle.mark_checker.specs.declared.place.Faults.{Faults}
 use Rattle.mark_checker.specs.declared.finding.Rule.TheVariants.{EntryWithoutMask, NextWithoutMask, LacksDestination, LacksNext, ExceedsCreate, ForwardedInNext, ReleasedInNext, SentNotCreated, ExitNotListed, FallsOff, IndirectGoesOn, TargetNotEntry}
 use Rattle.mark_checker.specs.declared.finding.Finding.{Finding}

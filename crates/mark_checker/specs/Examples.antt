@@ -1,10 +1,10 @@
 -- Worked examples of the rules, computed by the check.
 use Rattle.std.specs.Prelude.{◌≡◌, ℕ, [], ◌∷◌, pos, Some, None}
 use Rattle.std.proofs.Common.{refl}
-use Rattle.mips_plain.specs.declared.instruction.ThreeKind.TheVariants.{Addu}
-use Rattle.mips_plain.specs.declared.instruction.ImmKind.TheVariants.{Addiu, Slti}
-use Rattle.mips_plain.specs.declared.instruction.BranchTwoKind.TheVariants.{Bne}
-use Rattle.mips_plain.specs.declared.instruction.Op.TheVariants.{Three, Imm, BranchTwo, JumpReg, Release, Out, Halt}
+use Rattle.mips_instructions.specs.declared.instruction.ThreeKind.TheVariants.{Addu}
+use Rattle.mips_instructions.specs.declared.instruction.ImmKind.TheVariants.{Addiu, Slti}
+use Rattle.mips_instructions.specs.declared.instruction.BranchTwoKind.TheVariants.{Bne}
+use Rattle.mips_instructions.specs.declared.instruction.Op.TheVariants.{Three, Imm, BranchTwo, JumpReg, Release, Out, Halt}
 use Rattle.task_descriptor.specs.Listing.{Listing}
 use Rattle.task_graph.specs.Examples.{count, bare, forwards, stops, forwards_stops}
 use Rattle.mark_checker.specs.declared.finding.Rule.{Rule}

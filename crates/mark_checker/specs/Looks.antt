@@ -2,8 +2,8 @@
 -- tasks. No contract of a public function cites a word of this file.
 use Rattle.std.specs.Prelude.{◌≡◌, ℕ, ◌≤◌, Bool, true, false, not, ◌&&◌, ◌||◌, nat_lt, nat_le, is_none, List, length, slice_get, get_or, Some}
 use Rattle.std.specs.List.{list_any}
-use Rattle.mips_plain.specs.Words.{has}
-use Rattle.mips_plain.specs.Instruction.{dests}
+use Rattle.mips_instructions.specs.Words.{has}
+use Rattle.mips_instructions.specs.Instruction.{dests}
 use Rattle.task_descriptor.specs.Listing.{Listing}
 use Rattle.task_descriptor.specs.declared.descriptor.Marked.{Marked}
 use Rattle.task_graph.specs.Edges.{ends_of, sends, is_indirect}

@@ -1,12 +1,12 @@
 -- What it means that a place is right, and what an accepted program and its certificate keep.
 use Rattle.std.specs.Prelude.{◌≡◌, ℕ, ◌<◌, length, true, false, List, [], ◌∷◌, slice_get, Option, Some}
-use Rattle.mips_plain.specs.Words.{has}
+use Rattle.mips_instructions.specs.Words.{has}
 use Rattle.task_descriptor.specs.Listing.{Listing}
 use Rattle.task_descriptor.specs.declared.descriptor.Marked.{Marked}
 use Rattle.task_descriptor.specs.declared.descriptor.Descriptor.{Descriptor}
 use Rattle.mask_certificate.specs.Lists.{mask_at, list_of}
 use Rattle.mark_checker.specs.Rules.{Conditions, conditions, places, all_rules}
-use Rattle.mips_plain.specs.Instruction.{dests}
+use Rattle.mips_instructions.specs.Instruction.{dests}
 use Rattle.task_graph.specs.Edges.{Edge, Path, sends}
 use Rattle.task_graph.specs.Soundness.{Sound}
 

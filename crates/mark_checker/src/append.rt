@@ -1,13 +1,13 @@
 //! Findings put into a list, in the order of the rules.
 
 ghost use Rattle.std.specs.Prelude.{◌≡◌, ◌<◌, ◌++◌, true, false, OnOk, MatchOption};
-ghost use Rattle.mips_plain.specs.Words.{has};
+ghost use Rattle.mips_instructions.specs.Words.{has};
 ghost use Rattle.mark_checker.specs.Rules.{once, each, found};
 ghost use Rattle.mark_checker.specs.CheckerSteps.{told, first_rules, last_rules};
 
 use crate::finding::{Finding, Rule};
 use crate::place::Faults;
-use mips_plain::number::{Reg, RegSet};
+use mips_instructions::number::{Reg, RegSet};
 use std::alloc::AllocError;
 
 /// Appends the findings of one place.

@@ -12,7 +12,7 @@ use crate::quiet::is_quiet;
 use crate::survey::Survey;
 use mask_certificate::certificate::Cert;
 use mask_certificate::masks::Masks;
-use mips_plain::number::RegSet;
+use mips_instructions::number::RegSet;
 use std::alloc::{AllocError, Global};
 use task_descriptor::descriptor::Descriptor;
 use task_descriptor::program::Program;

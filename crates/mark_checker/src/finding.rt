@@ -1,6 +1,6 @@
 //! Findings: what the rules say against a program and its certificate.
 
-use mips_plain::number::Reg;
+use mips_instructions::number::Reg;
 use std::marker::Model;
 
 /// The twelve rules (the create mask, forward, release and stop marks are those of Sohi, Breach,

@@ -2,7 +2,7 @@
 //! a program; what is left for each entry of a list is to compare a few sets.
 
 use crate::place::{forwarded_by, goes_on_indirectly, released_by};
-use mips_plain::number::RegSet;
+use mips_instructions::number::RegSet;
 use task_descriptor::descriptor::Marked;
 use task_descriptor::program::Program;
 use task_graph::edges::{Next, exits_of, next_inside};

@@ -2,8 +2,8 @@
 
 use crate::survey::Survey;
 use mask_certificate::masks::Masks;
-use mips_plain::instruction::Op;
-use mips_plain::number::RegSet;
+use mips_instructions::instruction::Op;
+use mips_instructions::number::RegSet;
 use task_descriptor::descriptor::{Descriptor, Marked, Stop};
 use task_descriptor::program::Program;
 use task_graph::edges::{Next, exits_of, next_inside};
@@ -48,8 +48,8 @@ pub(crate) struct Ahead {
 
 ghost use Rattle.std.specs.Prelude.{◌≡◌, ℕ, ◌<◌, ◌≤◌, ◌↔◌, true, false, not, ◌&&◌, ◌||◌, length, Some, None, slice_get, is_none, nat_eq, nat_lt, nat_le};
 ghost use Rattle.std.specs.List.{list_any};
-ghost use Rattle.mips_plain.specs.Words.{has};
-ghost use Rattle.mips_plain.specs.Instruction.{dests, released};
+ghost use Rattle.mips_instructions.specs.Words.{has};
+ghost use Rattle.mips_instructions.specs.Instruction.{dests, released};
 ghost use Rattle.task_graph.specs.Edges.{ends_of, sends, is_indirect};
 ghost use Rattle.task_graph.specs.Soundness.{is_target, is_entry};
 ghost use Rattle.mask_certificate.specs.Lists.{mask_at};

@@ -10,7 +10,7 @@ use crate::look::Look;
 use crate::place::{ahead_at, common, is_nobody};
 use crate::survey::Survey;
 use mask_certificate::masks::Masks;
-use mips_plain::number::RegSet;
+use mips_instructions::number::RegSet;
 use task_descriptor::descriptor::Descriptor;
 
 /// Whether it is plain from the survey that no rule finds anything at an entry of a task's list. `false`

@@ -1,7 +1,7 @@
 //! What the rules look at in a program, found out once for all its tasks.
 
 use crate::look::{Look, looks_of};
-use mips_plain::number::Place;
+use mips_instructions::number::Place;
 use std::marker::Model;
 use task_descriptor::program::Program;
 

@@ -6,7 +6,7 @@ ghost use Rattle.canonical_text.specs.CanonicalText.{listed, members, register_t
 ghost use Rattle.marks_in_text.specs.MarkedText.{behind_token as behind, replaced, stop_count, with_forward, is_forward, forward_number, without_forward, code_line, list_size, separator, with_create, task_line};
 
 use canonical_text::print::write_create;
-use mips_plain::number::RegSet;
+use mips_instructions::number::RegSet;
 use program_statements::statement::{Marks, Target, Task};
 use program_tokens::span::Span;
 use program_tokens::token::{Mark, Token};

@@ -8,7 +8,7 @@ ghost use Rattle.marks_in_text.specs.MarkedText.{forward_of, create_of, statemen
 use crate::editing::{write_code_line, write_task_line};
 use annotated_asm::fault::AsmFault;
 use annotated_asm::line::{instruction_count, section_after, statement_at, tokens_of};
-use mips_plain::number::RegSet;
+use mips_instructions::number::RegSet;
 use program_statements::statement::{Section, Statement};
 use program_tokens::line::first_line;
 use program_tokens::span::{Span, read_spans};

@@ -7,9 +7,9 @@ use Rattle.std.proofs.lemmas.Bool.{false≢true}
 use Rattle.program_tokens.specs.declared.token.Token.{Token}
 use Rattle.program_tokens.specs.declared.token.Token.TheVariants as token
 use Rattle.program_statements.specs.Steps.{◌>>=◌}
-use Rattle.mips_plain.specs.InstructionTable.{mnemonic_named, mnemonics}
+use Rattle.mips_instructions.specs.InstructionTable.{mnemonic_named, mnemonics}
 use Rattle.program_statements.specs.Statements.{is_mark, mark_count, no_marks, marks_after, unmarked, with_marks, statement_of, in_code, of_mnemonic, instruction_of}
-use Rattle.mips_plain.specs.declared.instruction.Mnemonic.{Mnemonic}
+use Rattle.mips_instructions.specs.declared.instruction.Mnemonic.{Mnemonic}
 use Rattle.program_statements.specs.declared.statement.Section.{Section}
 use Rattle.program_statements.specs.declared.statement.Section.TheVariants as section
 use Rattle.program_statements.specs.declared.statement.Instruction.{Instruction}

@@ -8,12 +8,12 @@ use Rattle.program_tokens.specs.declared.token.Token.{Token}
 use Rattle.program_tokens.specs.declared.token.Token.TheVariants as token
 use Rattle.program_tokens.specs.declared.token.Directive.TheVariants as directive
 use Rattle.program_statements.specs.Steps.{◌>>=◌}
-use Rattle.mips_plain.specs.InstructionTable.{mnemonic_named, mnemonics}
+use Rattle.mips_instructions.specs.InstructionTable.{mnemonic_named, mnemonics}
 use Rattle.program_statements.specs.Rows.{as_target}
 use Rattle.program_statements.specs.Statements.{mark_count, no_marks, unmarked, with_marks, marks_after, statement_of, in_code, of_mnemonic, instruction_of, registers_of, registers_at, with_registers, places_of, targets_of, create_at, targets_at, after_word, name_at, task_of}
 use Rattle.program_statements.specs.declared.fault.StatementFault.{StatementFault}
 use Rattle.program_statements.specs.declared.fault.StatementFault.TheVariants as fault
-use Rattle.mips_plain.specs.declared.instruction.Mnemonic.{Mnemonic}
+use Rattle.mips_instructions.specs.declared.instruction.Mnemonic.{Mnemonic}
 use Rattle.program_statements.specs.declared.operand.Operand.{Operand}
 use Rattle.program_statements.specs.declared.operand.Operand.TheVariants as operand
 use Rattle.program_statements.specs.declared.statement.Section.{Section}

@@ -3,7 +3,7 @@
 use crate::certificate::is_right;
 use crate::fault::Spelling;
 use crate::reading::list_of;
-use mips_plain::number::RegSet;
+use mips_instructions::number::RegSet;
 use std::alloc::{AllocError, Global};
 use std::marker::Model;
 

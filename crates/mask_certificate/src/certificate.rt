@@ -1,6 +1,6 @@
 //! Certificates as lists.
 
-use mips_plain::number::RegSet;
+use mips_instructions::number::RegSet;
 use std::marker::Model;
 use thiserror::Error;
 

@@ -4,7 +4,7 @@ use crate::block::Block;
 use crate::fault::Spelling;
 use crate::part::Part;
 use crate::reading::list_at;
-use mips_plain::number::RegSet;
+use mips_instructions::number::RegSet;
 use std::alloc::{AllocError, Global};
 use std::marker::Model;
 use std::vec::IntoIter;

@@ -1,6 +1,6 @@
 //! The masks of one list, each found by its index in one step.
 
-use mips_plain::number::RegSet;
+use mips_instructions::number::RegSet;
 use std::marker::Model;
 
 /// The list of a task with the position of each entry at its index, so that a mask is found without a

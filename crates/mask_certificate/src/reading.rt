@@ -17,7 +17,7 @@ use crate::certificate::{Cert, is_right};
 use crate::fault::{CertFault, Spelling};
 use crate::left::Left;
 use crate::part::Part;
-use mips_plain::number::RegSet;
+use mips_instructions::number::RegSet;
 use std::alloc::{AllocError, Global};
 use task_descriptor::descriptor::Descriptor;
 use task_descriptor::name::Name;

@@ -9,7 +9,7 @@ ghost use Rattle.mask_certificate.specs.CertificateReading.{names_of};
 
 use crate::certificate::Cert;
 use crate::fault::Spelling;
-use mips_plain::number::RegSet;
+use mips_instructions::number::RegSet;
 use std::alloc::{AllocError, Global};
 use task_descriptor::program::Program;
 

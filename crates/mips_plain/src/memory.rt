@@ -2,16 +2,15 @@
 //! 0x10000000, and right behind it 65,536 bytes of data memory; little-endian.
 
 ghost use Rattle.std.specs.Prelude.{ℕ, ◌≡◌, ◌+◌, ◌-◌, ◌<◌, ◌≤◌, ◌⊎◌, ◌↔◌, ◌++◌, length, take, drop, replicate, vec_len, Ok, Err, Some, IfOk, IfErr, IfSome, OnErr, IsTrue};
-ghost use Rattle.mips_plain.specs.Words.{byte_of};
-ghost use Rattle.mips_plain.specs.InstructionTable.{load_size, extended, store_size};
-ghost use Rattle.mips_plain.specs.MemoryMap.{region, effective, number_at, put};
+ghost use Rattle.mips_plain.specs.MemoryMap.{byte_of, region, effective, number_at, put};
+ghost use Rattle.mips_instructions.specs.InstructionTable.{load_size, extended, store_size};
 ghost use Rattle.mips_plain.specs.Effect.{loaded, stored, outcome_of_load, outcome_of_store, fixed_load};
 ghost use Rattle.mips_plain.specs.Access.{is_load, is_store, load_at, store_at, outcome_at, spot_of, offset_of, offset_in_fixed, number_in, outcome_of_result};
-ghost use Rattle.mips_plain.specs.declared.instruction.LoadKind.TheVariants.{Lh, Lb};
+ghost use Rattle.mips_instructions.specs.declared.instruction.LoadKind.TheVariants.{Lh, Lb};
 ghost use Rattle.mips_plain.specs.declared.outcome.Outcome.TheVariants.{Trapped};
 
-use crate::instruction::{LoadKind, Op, StoreKind};
 use crate::outcome::Trap;
+use mips_instructions::instruction::{LoadKind, Op, StoreKind};
 use std::alloc::{AllocError, Global};
 use std::marker::Model;
 use thiserror::Error;

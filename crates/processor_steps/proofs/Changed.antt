@@ -5,7 +5,7 @@ use Rattle.std.specs.Option.{option_and_then}
 use Rattle.std.proofs.lemmas.Bool.{cases_eq, cases_lt}
 use Rattle.std.proofs.lemmas.List.{take-map, map-append}
 use Rattle.std.proofs.Math.Path.{fun_ext}
-use Rattle.mips_plain.specs.Words.{has}
+use Rattle.mips_instructions.specs.Words.{has}
 use Rattle.mips_plain.specs.declared.outcome.Read.{Read}
 use Rattle.task_descriptor.specs.Listing.{Listing}
 use Rattle.mark_checker.specs.Places.{Checked}

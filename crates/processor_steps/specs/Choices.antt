@@ -2,7 +2,7 @@
 -- may follow.
 use Rattle.std.specs.Prelude.{ℕ, List, [], slice_get, length, ◌%◌, if◌then◌else◌, Option, Some, None}
 use Rattle.std.specs.Option.{option_and_then}
-use Rattle.mips_plain.specs.Words.{address}
+use Rattle.mips_instructions.specs.Words.{address}
 use Rattle.task_descriptor.specs.Listing.{Listing}
 use Rattle.machine_model.specs.Machine.{Active, task_at}
 use Rattle.machine_model.specs.Step.{is_listed}

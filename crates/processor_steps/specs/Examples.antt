@@ -2,7 +2,7 @@
 -- which task may come behind its tail.
 use Rattle.std.specs.Prelude.{◌≡◌, false, [], ◌∷◌, ◌++◌, replicate, slice_get, Some, None, Ok, Err}
 use Rattle.std.proofs.Common.{refl, arith, inl, inr}
-use Rattle.mips_plain.specs.Words.{address}
+use Rattle.mips_instructions.specs.Words.{address}
 use Rattle.machine_model.specs.Machine.{Active}
 use Rattle.machine_model.specs.Refusals.{least}
 use Rattle.machine_model.specs.Answer.{refusal, later_refusal}

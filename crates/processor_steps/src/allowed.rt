@@ -18,7 +18,7 @@ ghost use Rattle.unit_core.specs.Units.{active_of};
 use crate::listing::{begins, created, is_listed, may_follow};
 use crate::processor::{MOST_EVENTS, Processor};
 use machine_events::event::{Refused, Spot};
-use mips_plain::number::Reg;
+use mips_instructions::number::Reg;
 use register_ring::members::next_member;
 use task_descriptor::program::Program;
 use unit_core::unit::Unit;

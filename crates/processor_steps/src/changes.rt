@@ -16,7 +16,7 @@ use crate::processor::Processor;
 use crate::queue::Queue;
 use machine_events::event::{Commit, Standing};
 use mark_checker::accept::Accepted;
-use mips_plain::number::{Reg, RegSet};
+use mips_instructions::number::{Reg, RegSet};
 use mips_plain::outcome::OutOfMemory;
 use register_ring::members::next_member;
 use register_ring::port::Port;
@@ -153,7 +153,7 @@ impl Processor {
 }
 
 ghost use Rattle.std.specs.Prelude.{◌++◌, ◌∷◌, [], if◌then◌else◌, unwrap_or};
-ghost use Rattle.mips_plain.specs.Words.{has};
+ghost use Rattle.mips_instructions.specs.Words.{has};
 
 /// The head goes, and what it read is kept, and its commit; nothing where there is no room for both.
 fn keep(

@@ -13,7 +13,7 @@ use crate::allowed::unsent;
 use crate::listing::{is_listed, targets, task_beginning};
 use crate::processor::Processor;
 use machine_events::event::{Event, Spot};
-use mips_plain::number::Place;
+use mips_instructions::number::Place;
 use task_descriptor::program::Program;
 use unit_core::unit::Unit;
 

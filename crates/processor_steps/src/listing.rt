@@ -1,19 +1,19 @@
 //! What the machine looks up of its program: where a task begins, what it produces, what it lists.
 
 ghost use Rattle.std.specs.Prelude.{◌≡◌, ◌<◌, length, nat_eq, position, IfSome};
-ghost use Rattle.mips_plain.specs.Words.{address};
+ghost use Rattle.mips_instructions.specs.Words.{address};
 ghost use Rattle.task_graph.specs.Soundness.{is_target as is_target_of};
 ghost use Rattle.machine_model.specs.Machine.{task_at, begins as begins_at};
 ghost use Rattle.machine_model.specs.Step.{is_listed as is_listed_at, follows_at};
 ghost use Rattle.machine_model.specs.HeadEvent.{task_beginning as task_beginning_at};
 
 use machine_events::event::Spot;
-use mips_plain::number::{Place, RegSet};
-use mips_plain::places::CODE_START;
+use mips_instructions::number::{Place, RegSet};
+use mips_instructions::places::CODE_START;
 use task_descriptor::descriptor::Descriptor;
 use task_descriptor::program::Program;
 
-#[tactic(auto, unfolding(mips_plain::specs::Words::address))]
+#[tactic(auto, unfolding(mips_instructions::specs::Words::address))]
 /// The address at which a task begins; that of index 0 for a number beyond the tasks.
 #[inline]
 pub(crate) fn begins(program: &Program, task: u32) -> u32

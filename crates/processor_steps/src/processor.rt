@@ -3,8 +3,8 @@
 
 use crate::queue::Queue;
 use machine_events::event::Commit;
+use mips_instructions::number::REGISTERS;
 use mips_plain::memory::Memory;
-use mips_plain::number::REGISTERS;
 use mips_plain::outcome::OutOfMemory;
 use std::alloc::Global;
 use std::marker::Model;
@@ -56,7 +56,7 @@ impl Model for Processor {
 impl Processor {
     ghost use Rattle.std.specs.Prelude.{◌≡◌, ℕ, ◌≤◌, length, slice_get, IfOk};
     ghost use Rattle.std.specs.Option.{option_copied, option_map};
-    ghost use Rattle.mips_plain.specs.Words.{byte_of};
+    ghost use Rattle.mips_plain.specs.MemoryMap.{byte_of};
     ghost use Rattle.machine_model.specs.Machine.{opening};
     ghost use Rattle.unit_core.specs.Units.{active_of};
     ghost use Rattle.processor_steps.specs.Processors.{state_of, position_with as position_with_serial};

@@ -5,7 +5,7 @@ use crate::listing::created;
 use circular_buffer::HeapCircularBuffer;
 use machine_events::event::Refused;
 use mark_checker::accept::Accepted;
-use mips_plain::number::{Reg, RegSet};
+use mips_instructions::number::{Reg, RegSet};
 use mips_plain::outcome::OutOfMemory;
 use std::alloc::{AllocError, Global};
 use std::marker::Model;
@@ -37,7 +37,7 @@ impl Queue {
     ghost use Rattle.std.specs.Prelude.{◌≡◌, ℕ, ◌<◌, ◌≤◌, ◌↔◌, IsTrue, [], ◌∷◌, ◌++◌, None, Some, length, take, drop, nat_eq, slice_get, slice_set, slice_index, true, false, IfOk, IfErr, OnOk, OnErr};
     ghost use Rattle.std.specs.Option.{option_copied, option_map};
     ghost use Rattle.std.specs.List.{last_or};
-    ghost use Rattle.mips_plain.specs.Words.{has};
+    ghost use Rattle.mips_instructions.specs.Words.{has};
     ghost use Rattle.machine_model.specs.Machine.{Active};
     ghost use Rattle.machine_model.specs.Refusals.{for_some};
     ghost use Rattle.machine_model.specs.Unit.{exec_refusal as refusal_of, drain_refusal, after_drain, put, operand};
@@ -279,7 +279,7 @@ impl Queue {
 }
 
 ghost use Rattle.std.specs.Prelude.{◌≡◌, ℕ, map};
-ghost use Rattle.mips_plain.specs.Words.{has};
+ghost use Rattle.mips_instructions.specs.Words.{has};
 ghost use Rattle.machine_model.specs.Step.{is_reserved};
 ghost use Rattle.unit_core.specs.Units.{active_of};
 ghost use Rattle.unit_core.specs.UnitStep.{refused_by as refused_by_wait};

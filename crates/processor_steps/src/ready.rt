@@ -2,7 +2,7 @@
 
 ghost use Rattle.std.specs.Prelude.{◌≡◌, ℕ, ◌<◌, ◌↔◌, ◌&&◌, false, None, Some, IsTrue, slice_get, is_none, is_some};
 ghost use Rattle.std.specs.Option.{option_map};
-ghost use Rattle.mips_plain.specs.Words.{has};
+ghost use Rattle.mips_instructions.specs.Words.{has};
 ghost use Rattle.machine_model.specs.Machine.{Active, creates, pass, value};
 ghost use Rattle.machine_model.specs.Unit.{exec_refusal, exit_of};
 ghost use Rattle.machine_model.specs.Answer.{refusal};
@@ -15,7 +15,7 @@ use crate::listing::created;
 use crate::processor::Processor;
 use machine_events::event::Spot;
 use mark_checker::accept::Accepted;
-use mips_plain::number::{Reg, RegSet};
+use mips_instructions::number::{Reg, RegSet};
 use register_ring::members::next_member;
 use task_descriptor::program::Program;
 use unit_core::unit::Unit;

@@ -15,7 +15,7 @@ use crate::processor::{MOST_EVENTS, Processor};
 use machine_events::event::{Event, Refused};
 use machine_model::laws::bursts_are_events;
 use mark_checker::accept::Accepted;
-use mips_plain::number::Reg;
+use mips_instructions::number::Reg;
 use std::alloc::Global;
 use task_descriptor::program::Program;
 

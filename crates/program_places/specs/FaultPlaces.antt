@@ -3,7 +3,7 @@ use Rattle.std.specs.Prelude.{ℕ, ◌+◌, ◌-◌, ◌^◌, min, List, [], ◌
 use Rattle.std.specs.Option.{option_map}
 use Rattle.std.specs.List.{filter_map}
 use Rattle.std.specs.Str.{bytes_eq}
-use Rattle.mips_plain.specs.Words.{has}
+use Rattle.mips_instructions.specs.Words.{has}
 use Rattle.program_statements.specs.declared.statement.Section.TheVariants as section
 use Rattle.task_descriptor.specs.declared.program.BuildFault.{BuildFault}
 use Rattle.task_descriptor.specs.declared.program.BuildFault.TheVariants as build

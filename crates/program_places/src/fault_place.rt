@@ -3,13 +3,13 @@
 ghost use Rattle.std.specs.Prelude.{◌≡◌, ◌≤◌, ◌<◌, ◌+◌, ◌^◌, length, map, take, drop, take_while, find, nat_lt, nat_le, ◌==◌, IfOk};
 ghost use Rattle.std.specs.Option.{option_copied};
 ghost use Rattle.std.specs.List.{filter_map};
-ghost use Rattle.mips_plain.specs.Words.{has};
+ghost use Rattle.mips_instructions.specs.Words.{has};
 ghost use Rattle.program_places.specs.FaultPlaces.{token_behind, defines_same, defined_at, again, first_again, items_before, again_on, is_label, task_entry, task_entries, entry_again, first_entry_again, code_count, first_beyond, creates_zero, first_bad_mask, is_start, is_code, first_instruction, start_place, limit_passed, item_passing, first_passing, build_place, fault_place};
 
 use crate::item::{Amounts, PlacedItem, Said, TokenPlace};
 use crate::reading::{placed_items, with_said};
 use annotated_asm::fault::AsmFault;
-use mips_plain::number::RegSet;
+use mips_instructions::number::RegSet;
 use program_statements::statement::Section;
 use std::alloc::{AllocError, Global};
 use task_descriptor::name::Name;

@@ -1,6 +1,6 @@
 //! What the labels and the statements of a program text say of the program as a whole, and where they stand.
 
-use mips_plain::number::RegSet;
+use mips_instructions::number::RegSet;
 use program_statements::statement::Section;
 use task_descriptor::name::Name;
 

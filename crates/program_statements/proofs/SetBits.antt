@@ -2,8 +2,8 @@
 use Rattle.std.proofs.Common.{◌≡◌, ℕ, ◌*◌, ◌%◌, ◌^◌, ◌<◌, ◌==◌, ◌||◌, sym, subst, ◌∙◌, arith}
 use Rattle.std.specs.Prelude.{bit_or}
 use Rattle.std.proofs.Math.Pow.{pow-lt}
-use Rattle.mips_plain.specs.Words.{has}
-use Rattle.mips_plain.proofs.SetLemmas.{has-insert, same_set}
+use Rattle.mips_instructions.specs.Words.{has}
+use Rattle.mips_instructions.proofs.SetLemmas.{has-insert, same_set}
 
 one_bit : (k : ℕ) → k < 34 → 1 * 2 ^ k % 2 ^ 64 ≡ 2 ^ k
 one_bit k below = let h : 2 ^ k < 2 ^ 34 = pow-lt below in omega arith

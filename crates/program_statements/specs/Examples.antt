@@ -1,10 +1,10 @@
 -- Worked examples of the statements, computed by the checker: the tokens of a line, and what they say.
 use Rattle.std.specs.Prelude.{◌≡◌, pos, negsuc, true, [], ◌∷◌, Ok, Err, codes, refl}
-use Rattle.mips_plain.specs.declared.instruction.Op.TheVariants.{Imm, ShiftBy, Logic, Load, Release}
-use Rattle.mips_plain.specs.declared.instruction.ImmKind.TheVariants.{Addiu}
-use Rattle.mips_plain.specs.declared.instruction.ShiftByKind.TheVariants.{Sll}
-use Rattle.mips_plain.specs.declared.instruction.LogicKind.TheVariants.{Ori}
-use Rattle.mips_plain.specs.declared.instruction.LoadKind.TheVariants.{Lw}
+use Rattle.mips_instructions.specs.declared.instruction.Op.TheVariants.{Imm, ShiftBy, Logic, Load, Release}
+use Rattle.mips_instructions.specs.declared.instruction.ImmKind.TheVariants.{Addiu}
+use Rattle.mips_instructions.specs.declared.instruction.ShiftByKind.TheVariants.{Sll}
+use Rattle.mips_instructions.specs.declared.instruction.LogicKind.TheVariants.{Ori}
+use Rattle.mips_instructions.specs.declared.instruction.LoadKind.TheVariants.{Lw}
 use Rattle.task_descriptor.specs.declared.descriptor.Stop.TheVariants as stop
 use Rattle.program_tokens.specs.declared.token.Token.TheVariants.{Name, Register, Number, Index, Directive, Mark, Comma, Open, Close, Equals, Minus}
 use Rattle.program_tokens.specs.declared.token.Number.TheVariants.{Small}

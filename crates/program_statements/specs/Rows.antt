@@ -4,23 +4,23 @@
 use Rattle.std.specs.Prelude.{ℕ, ◌-◌, ◌/◌, ◌%◌, ◌^◌, pos, List, Result, Ok, Err, nat_lt, nat_le, if◌then◌else◌}
 use Rattle.std.specs.Int.{w32, cast_signed}
 use Rattle.program_tokens.specs.declared.token.Number.{Number}
-use Rattle.mips_plain.specs.declared.instruction.ThreeKind.{ThreeKind}
-use Rattle.mips_plain.specs.declared.instruction.ThreeKind.TheVariants.{Addu}
-use Rattle.mips_plain.specs.declared.instruction.ShiftByKind.{ShiftByKind}
-use Rattle.mips_plain.specs.declared.instruction.ShiftByKind.TheVariants.{Sll}
-use Rattle.mips_plain.specs.declared.instruction.ShiftVarKind.{ShiftVarKind}
-use Rattle.mips_plain.specs.declared.instruction.ImmKind.{ImmKind}
-use Rattle.mips_plain.specs.declared.instruction.ImmKind.TheVariants.{Addiu}
-use Rattle.mips_plain.specs.declared.instruction.LogicKind.{LogicKind}
-use Rattle.mips_plain.specs.declared.instruction.LogicKind.TheVariants.{Ori}
-use Rattle.mips_plain.specs.declared.instruction.MultKind.{MultKind}
-use Rattle.mips_plain.specs.declared.instruction.MoveFromKind.{MoveFromKind}
-use Rattle.mips_plain.specs.declared.instruction.MoveToKind.{MoveToKind}
-use Rattle.mips_plain.specs.declared.instruction.LoadKind.{LoadKind}
-use Rattle.mips_plain.specs.declared.instruction.StoreKind.{StoreKind}
-use Rattle.mips_plain.specs.declared.instruction.BranchTwoKind.{BranchTwoKind}
-use Rattle.mips_plain.specs.declared.instruction.BranchOneKind.{BranchOneKind}
-use Rattle.mips_plain.specs.declared.instruction.Op.TheVariants as op
+use Rattle.mips_instructions.specs.declared.instruction.ThreeKind.{ThreeKind}
+use Rattle.mips_instructions.specs.declared.instruction.ThreeKind.TheVariants.{Addu}
+use Rattle.mips_instructions.specs.declared.instruction.ShiftByKind.{ShiftByKind}
+use Rattle.mips_instructions.specs.declared.instruction.ShiftByKind.TheVariants.{Sll}
+use Rattle.mips_instructions.specs.declared.instruction.ShiftVarKind.{ShiftVarKind}
+use Rattle.mips_instructions.specs.declared.instruction.ImmKind.{ImmKind}
+use Rattle.mips_instructions.specs.declared.instruction.ImmKind.TheVariants.{Addiu}
+use Rattle.mips_instructions.specs.declared.instruction.LogicKind.{LogicKind}
+use Rattle.mips_instructions.specs.declared.instruction.LogicKind.TheVariants.{Ori}
+use Rattle.mips_instructions.specs.declared.instruction.MultKind.{MultKind}
+use Rattle.mips_instructions.specs.declared.instruction.MoveFromKind.{MoveFromKind}
+use Rattle.mips_instructions.specs.declared.instruction.MoveToKind.{MoveToKind}
+use Rattle.mips_instructions.specs.declared.instruction.LoadKind.{LoadKind}
+use Rattle.mips_instructions.specs.declared.instruction.StoreKind.{StoreKind}
+use Rattle.mips_instructions.specs.declared.instruction.BranchTwoKind.{BranchTwoKind}
+use Rattle.mips_instructions.specs.declared.instruction.BranchOneKind.{BranchOneKind}
+use Rattle.mips_instructions.specs.declared.instruction.Op.TheVariants as op
 use Rattle.program_statements.specs.Steps.{◌>>=◌}
 use Rattle.program_tokens.specs.declared.token.Token.{Token}
 use Rattle.program_statements.specs.Operands.{operands_of}
@@ -31,8 +31,8 @@ use Rattle.program_statements.specs.declared.operand.Operand.{Operand}
 use Rattle.program_statements.specs.declared.operand.Operand.TheVariants as operand
 use Rattle.program_statements.specs.declared.operand.Operands.{Operands}
 use Rattle.program_statements.specs.declared.operand.Operands.TheVariants as operands
-use Rattle.mips_plain.specs.declared.instruction.Mnemonic.{Mnemonic}
-use Rattle.mips_plain.specs.declared.instruction.Mnemonic.TheVariants as mnemonic
+use Rattle.mips_instructions.specs.declared.instruction.Mnemonic.{Mnemonic}
+use Rattle.mips_instructions.specs.declared.instruction.Mnemonic.TheVariants as mnemonic
 use Rattle.program_statements.specs.declared.statement.Target.{Target}
 use Rattle.program_statements.specs.declared.statement.Target.TheVariants as target
 use Rattle.program_statements.specs.declared.statement.Instruction.{Instruction}

@@ -11,17 +11,17 @@ use Rattle.program_tokens.specs.declared.token.Directive.TheVariants as directiv
 use Rattle.program_tokens.specs.declared.token.Mark.TheVariants as mark
 use Rattle.task_descriptor.specs.declared.descriptor.Stop.{Stop}
 use Rattle.task_descriptor.specs.declared.descriptor.Stop.TheVariants as stop
-use Rattle.mips_plain.specs.declared.instruction.Op.TheVariants as op
+use Rattle.mips_instructions.specs.declared.instruction.Op.TheVariants as op
 use Rattle.program_statements.specs.Steps.{◌>>=◌}
 use Rattle.program_statements.specs.Ranges.{natural, word, byte}
-use Rattle.mips_plain.specs.InstructionTable.{mnemonic_named, mnemonics}
+use Rattle.mips_instructions.specs.InstructionTable.{mnemonic_named, mnemonics}
 use Rattle.program_statements.specs.Rows.{as_target, with_operands}
 use Rattle.program_statements.specs.declared.fault.StatementFault.{StatementFault}
 use Rattle.program_statements.specs.declared.fault.StatementFault.TheVariants as fault
 use Rattle.program_statements.specs.declared.operand.Operand.{Operand}
 use Rattle.program_statements.specs.declared.operand.Operand.TheVariants as operand
-use Rattle.mips_plain.specs.declared.instruction.Mnemonic.{Mnemonic}
-use Rattle.mips_plain.specs.declared.instruction.Mnemonic.TheVariants as mnemonic
+use Rattle.mips_instructions.specs.declared.instruction.Mnemonic.{Mnemonic}
+use Rattle.mips_instructions.specs.declared.instruction.Mnemonic.TheVariants as mnemonic
 use Rattle.program_statements.specs.declared.statement.Section.{Section}
 use Rattle.program_statements.specs.declared.statement.Section.TheVariants as section
 use Rattle.program_statements.specs.declared.statement.Target.{Target}

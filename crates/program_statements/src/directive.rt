@@ -9,7 +9,7 @@ use crate::list::{bytes_of, numbers_of, places_of, registers_at, targets_of, wor
 use crate::operand::Operand;
 use crate::range::natural_of;
 use crate::statement::{Section, Statement, Task};
-use mips_plain::number::RegSet;
+use mips_instructions::number::RegSet;
 use program_tokens::token::{Directive, Token};
 use std::alloc::Global;
 use task_descriptor::name::Name;

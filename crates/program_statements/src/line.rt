@@ -2,7 +2,7 @@
 
 ghost use Rattle.std.specs.Prelude.{◌≡◌};
 ghost use Rattle.program_statements.specs.Steps.{Gives};
-ghost use Rattle.mips_plain.specs.InstructionTable.{mnemonic_named, mnemonics};
+ghost use Rattle.mips_instructions.specs.InstructionTable.{mnemonic_named, mnemonics};
 ghost use Rattle.program_statements.specs.Statements.{release_of, instruction_of, of_mnemonic, in_code, unmarked, with_marks, statement_of};
 
 use crate::directive::directive_of;
@@ -11,7 +11,7 @@ use crate::list::registers_at;
 use crate::marks::{mark_count, marks_after};
 use crate::row;
 use crate::statement::{Instruction, Marks, Section, Statement};
-use mips_plain::instruction::{Mnemonic, Op};
+use mips_instructions::instruction::{Mnemonic, Op};
 use program_tokens::token::Token;
 use std::alloc::Global;
 use task_descriptor::name::Name;

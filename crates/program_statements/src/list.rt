@@ -9,7 +9,7 @@ use crate::operand::Operand;
 use crate::range::{byte_of, word_of};
 use crate::row::as_target;
 use crate::statement::{Blob, Targets};
-use mips_plain::number::{Reg, RegSet};
+use mips_instructions::number::{Reg, RegSet};
 use program_tokens::token::{Number, Token};
 use smallvec::SmallVec;
 use std::alloc::Global;

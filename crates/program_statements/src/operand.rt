@@ -6,7 +6,7 @@ ghost use Rattle.program_statements.specs.Steps.{Shows};
 ghost use Rattle.program_statements.specs.Operands.{general, base_at, operand_at, after_one, after_two, operands_of};
 
 use crate::fault::StatementFault;
-use mips_plain::number::{Gpr, Reg};
+use mips_instructions::number::{Gpr, Reg};
 use program_tokens::token::{Number, Token};
 use task_descriptor::name::Name;
 

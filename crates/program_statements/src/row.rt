@@ -7,11 +7,11 @@ use crate::fault::StatementFault;
 use crate::operand::{Operand, Operands, operands_of};
 use crate::range::{natural_of, signed_half_of, word_of};
 use crate::statement::{Instruction, Target};
-use mips_plain::instruction::{
+use mips_instructions::instruction::{
     BranchOneKind, BranchTwoKind, ImmKind, LoadKind, LogicKind, Mnemonic, MoveFromKind, MoveToKind,
     MultKind, Op, ShiftByKind, ShiftVarKind, StoreKind, ThreeKind,
 };
-use mips_plain::number::{Amount, Gpr, Place};
+use mips_instructions::number::{Amount, Gpr, Place};
 use program_tokens::token::{Number, Token};
 use task_descriptor::name::Name;
 

@@ -1,7 +1,7 @@
 //! The statements of a program text, as they stand before names are resolved.
 
-use mips_plain::instruction::{BranchOneKind, BranchTwoKind, Op};
-use mips_plain::number::{Gpr, Place, RegSet};
+use mips_instructions::instruction::{BranchOneKind, BranchTwoKind, Op};
+use mips_instructions::number::{Gpr, Place, RegSet};
 use smallvec::SmallVec;
 use std::alloc::AllocError;
 use std::marker::Model;

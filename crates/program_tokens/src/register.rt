@@ -6,7 +6,7 @@ ghost use Rattle.std.specs.Str.{bytes_eq};
 ghost use Rattle.program_tokens.specs.Registers.{register_named, register_numbered, has_leading_zero, register_of};
 
 use crate::number::{begins_with_digit, number_in};
-use mips_plain::number::Reg;
+use mips_instructions::number::Reg;
 
 /// The names of the registers 1 to 33, in this order (MIPS manual; `hi` and `lo`: own choice). That of
 /// register 0, `zero`, is longer.

@@ -3,7 +3,7 @@
 ghost use Rattle.std.specs.Prelude.{◌≡◌};
 ghost use Rattle.program_tokens.specs.declared.token.TokenFault.TheVariants.{OutOfMemory};
 
-use mips_plain::number::Reg;
+use mips_instructions::number::Reg;
 use std::alloc::AllocFailed;
 use task_descriptor::name::Name;
 use thiserror::Error;

@@ -8,8 +8,8 @@ use Rattle.std.proofs.lemmas.Bool.{cases_lt, cond-true, ne_eqb, eq-eqb, eqb-true
 use Rattle.std.proofs.lemmas.List.{get_or_past}
 use Rattle.std.proofs.lemmas.Nat.{or_lt}
 use Rattle.std.proofs.lemmas.Nat.Bits.{bit_at_above}
-use Rattle.mips_plain.proofs.SetLemmas.{has-insert, same_set}
-use Rattle.mips_plain.specs.Words.{has}
+use Rattle.mips_instructions.proofs.SetLemmas.{has-insert, same_set}
+use Rattle.mips_instructions.specs.Words.{has}
 use Rattle.machine_model.specs.Burst.{AllIn}
 use Rattle.register_ring.specs.Held.{Held, pairs}
 use Rattle.register_ring.proofs.PortLemmas.{has_none}

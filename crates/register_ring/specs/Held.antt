@@ -2,7 +2,7 @@
 -- kept as the set of the registers that have one beside a word for each register (own).
 use Rattle.std.specs.Prelude.{ℕ, List, nat_eq, if◌then◌else◌, slice_index, Some, None}
 use Rattle.std.specs.Option.{option_or}
-use Rattle.mips_plain.specs.Words.{has}
+use Rattle.mips_instructions.specs.Words.{has}
 use Rattle.machine_model.specs.Machine.{Words}
 
 pub record Held : Type 0 where

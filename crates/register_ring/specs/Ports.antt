@@ -2,7 +2,7 @@
 -- the registers that arrived from before it, and those that it sent on.
 use Rattle.std.specs.Prelude.{ℕ, List, nat_lt, if◌then◌else◌, slice_index, Some, None}
 use Rattle.std.specs.Option.{option_or}
-use Rattle.mips_plain.specs.Words.{has}
+use Rattle.mips_instructions.specs.Words.{has}
 use Rattle.machine_model.specs.Machine.{Words}
 use Rattle.register_ring.specs.Held.{Held, pairs}
 

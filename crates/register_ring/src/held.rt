@@ -1,7 +1,7 @@
 //! Words for some of the registers.
 
 use crate::members::next_member;
-use mips_plain::number::{REGISTERS, Reg, RegSet};
+use mips_instructions::number::{REGISTERS, Reg, RegSet};
 use std::marker::Model;
 
 /// Words for some of the registers, at most one for each: a mask with an array.
@@ -24,7 +24,7 @@ impl Model for RegisterWords {
 impl RegisterWords {
     ghost use Rattle.std.specs.Prelude.{◌≡◌, ℕ, ◌<◌, ◌^◌, IsTrue, ◌↔◌, if◌then◌else◌, slice_index, Some, None};
     ghost use Rattle.std.specs.Option.{option_or};
-    ghost use Rattle.mips_plain.specs.Words.{has};
+    ghost use Rattle.mips_instructions.specs.Words.{has};
     ghost use Rattle.machine_model.specs.Unit.{put};
     ghost use Rattle.machine_model.specs.Burst.{AllIn};
     ghost use Rattle.register_ring.specs.Held.{pairs, no_pairs};
@@ -110,7 +110,7 @@ impl RegisterWords {
 }
 
 ghost use Rattle.std.specs.Prelude.{◌≡◌, ℕ, ◌<◌, true, not, ◌==◌, if◌then◌else◌, slice_index, IsTrue};
-ghost use Rattle.mips_plain.specs.Words.{has};
+ghost use Rattle.mips_instructions.specs.Words.{has};
 
 /// The set of all registers.
 #[inline]

@@ -2,14 +2,14 @@
 
 ghost use Rattle.std.specs.Prelude.{◌≡◌, ℕ, ◌<◌, ◌↔◌, None, IsSome, IsTrue, is_some, MatchResult};
 ghost use Rattle.std.specs.List.{list_any};
-ghost use Rattle.mips_plain.specs.Words.{has};
+ghost use Rattle.mips_instructions.specs.Words.{has};
 ghost use Rattle.machine_model.specs.Unit.{put};
 ghost use Rattle.machine_model.specs.Burst.{AllIn};
 ghost use Rattle.register_ring.specs.Held.{no_pairs, put_first};
 ghost use Rattle.register_ring.specs.Ports.{arrived_of, sent_of, arrived_fresh, filled_with, passed};
 
 use crate::held::RegisterWords;
-use mips_plain::number::{Reg, RegSet};
+use mips_instructions::number::{Reg, RegSet};
 use std::marker::Model;
 
 /// A register that has arrived doesn't arrive again.

@@ -7,7 +7,7 @@ ghost use Rattle.std.specs.List.{flat_map};
 use crate::report::Report;
 use mark_checker::finding::Finding;
 use mask_certificate::fault::CertFault;
-use mips_plain::number::Reg;
+use mips_instructions::number::Reg;
 use std::alloc::{AllocError, Global};
 use task_descriptor::program::Program;
 

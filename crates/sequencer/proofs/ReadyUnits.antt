@@ -3,7 +3,7 @@
 use Rattle.std.proofs.Common.{◌≡◌, ℕ, Bool, true, false, Option, Some, None, Ok, refl, ap, ◌∙◌}
 use Rattle.std.specs.Prelude.{◌||◌, nat_eq, slice_get}
 use Rattle.std.specs.Option.{option_or}
-use Rattle.mips_plain.specs.Instruction.{reg_a}
+use Rattle.mips_instructions.specs.Instruction.{reg_a}
 use Rattle.mips_plain.specs.Effect.{may_run_ahead}
 use Rattle.task_descriptor.specs.Listing.{Listing}
 use Rattle.task_descriptor.specs.declared.descriptor.Marked.{Marked}

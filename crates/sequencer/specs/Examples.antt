@@ -2,7 +2,7 @@
 -- belongs to, and how many instructions some events executed.
 use Rattle.std.specs.Prelude.{◌≡◌, [], ◌∷◌, Some, None}
 use Rattle.std.proofs.Common.{refl}
-use Rattle.mips_plain.specs.Words.{address, index_of}
+use Rattle.mips_instructions.specs.Words.{address, index_of}
 use Rattle.mips_plain.specs.MemoryMap.{region, effective}
 use Rattle.machine_model.specs.Machine.{State, opening}
 use Rattle.machine_model.specs.Refusals.{least}

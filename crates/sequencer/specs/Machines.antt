@@ -1,6 +1,6 @@
 -- The machine as contracts see it: its processor with the events that it is the replay of.
 use Rattle.std.specs.Prelude.{◌≡◌, ℕ, ◌<◌, ◌≤◌, ◌⊎◌, List, [], ◌∷◌, ◌++◌, length, true, Result, Ok, Err}
-use Rattle.mips_plain.specs.Words.{byte_of}
+use Rattle.mips_plain.specs.MemoryMap.{byte_of}
 use Rattle.mark_checker.specs.Places.{Checked}
 use Rattle.machine_model.specs.Machine.{State}
 use Rattle.machine_model.specs.Step.{Next}

@@ -5,8 +5,8 @@ use crate::laws::accepted_replays;
 use accepted_laws::laws::{accepted_headline, accepted_never_stuck};
 use machine_events::event::{Commit, Event, EventRun, Refused, Standing};
 use mark_checker::accept::Accepted;
+use mips_instructions::number::{Place, Reg};
 use mips_plain::memory::Memory;
-use mips_plain::number::{Place, Reg};
 use processor_steps::processor::{MOST_EVENTS, Processor};
 use std::alloc::Global;
 use std::marker::Model;
@@ -65,7 +65,7 @@ impl<'a> Machine<'a> {
     ghost use Rattle.machine_events.specs.declared.event.Standing.TheVariants as standing;
     ghost use Rattle.machine_model.specs.Replay.{Replays, ReplaysFrom};
     ghost use Rattle.machine_model.specs.Claims.{Claims, EndsLike, count_c, count_h};
-    ghost use Rattle.mips_plain.specs.Words.{byte_of};
+    ghost use Rattle.mips_plain.specs.MemoryMap.{byte_of};
     ghost use Rattle.processor_steps.specs.Processors.{ProcessorView, Keeps, Steps, ArePlaced, executed_by, state_of};
     ghost use Rattle.sequencer.specs.Machines.{IsMachine, state, units_of, answer_to, IsAnswered, Applies, SameRing};
     ghost use Rattle.sequencer.specs.Choices.{choices_of, choice_of, MayFollow};

@@ -1,7 +1,7 @@
 //! Which target the sequencer follows behind a running tail (Sohi, Breach, Vijaykumar, ISCA 1995,
 //! section 2.1: it predicts the next task; how, is the caller's choice).
 
-use mips_plain::number::Place;
+use mips_instructions::number::Place;
 use std::marker::Model;
 
 /// Chooses among the targets of a running tail.

@@ -2,7 +2,7 @@
 
 use crate::machine::Machine;
 use machine_events::event::Spot;
-use mips_plain::number::Reg;
+use mips_instructions::number::Reg;
 
 impl<'a> Machine<'a> {
     ghost use Rattle.std.specs.Prelude.{◌≡◌, ◌↔◌, ◌<◌, false, None, Some, Ok, IsTrue, slice_get, length};

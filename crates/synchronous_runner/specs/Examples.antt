@@ -2,7 +2,7 @@
 -- units, what the predictors answer, and which events are of different units.
 use Rattle.std.specs.Prelude.{◌≡◌, ◌<◌, [], ◌∷◌, false}
 use Rattle.std.proofs.Common.{refl, arith, lit<}
-use Rattle.mips_plain.specs.Words.{address, index_of}
+use Rattle.mips_instructions.specs.Words.{address, index_of}
 use Rattle.mips_plain.specs.MemoryMap.{region, effective}
 use Rattle.machine_model.specs.Refusals.{least}
 use Rattle.machine_model.specs.Examples.{count}

@@ -1,7 +1,7 @@
 //! What the predictors answer.
 
 use crate::predictor::Predictor;
-use mips_plain::number::Place;
+use mips_instructions::number::Place;
 use sequencer::predict::{First, Last, Predict};
 
 impl Predict for Predictor {

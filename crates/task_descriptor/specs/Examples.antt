@@ -1,9 +1,9 @@
 -- Worked examples, computed by the checker: a program that is well formed, and the first refusal of others.
 use Rattle.std.specs.Prelude.{◌≡◌, pos, true, false, [], ◌∷◌, Some, None, codes}
 use Rattle.std.proofs.Common.{refl}
-use Rattle.mips_plain.specs.declared.instruction.Op.TheVariants.{Imm, BranchTwo, Halt}
-use Rattle.mips_plain.specs.declared.instruction.ImmKind.TheVariants.{Addiu}
-use Rattle.mips_plain.specs.declared.instruction.BranchTwoKind.TheVariants.{Bne}
+use Rattle.mips_instructions.specs.declared.instruction.Op.TheVariants.{Imm, BranchTwo, Halt}
+use Rattle.mips_instructions.specs.declared.instruction.ImmKind.TheVariants.{Addiu}
+use Rattle.mips_instructions.specs.declared.instruction.BranchTwoKind.TheVariants.{Bne}
 use Rattle.task_descriptor.specs.declared.descriptor.Stop.TheVariants as stop
 use Rattle.task_descriptor.specs.declared.descriptor.Marked.{Marked}
 use Rattle.task_descriptor.specs.declared.descriptor.Descriptor.{Descriptor}

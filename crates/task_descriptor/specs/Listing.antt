@@ -3,11 +3,11 @@
 use Rattle.std.specs.Prelude.{◌≡◌, ◌<◌, ℕ, zero, suc, ◌++◌, Bool, true, false, not, ◌&&◌, ◌||◌, ◌==◌, nat_lt, nat_le, if◌then◌else◌, Option, Some, None, List, [], ◌∷◌, map, length, position}
 use Rattle.std.specs.List.{list_any, All}
 use Rattle.std.specs.Str.{bytes_eq}
-use Rattle.mips_plain.specs.Words.{has, index_of}
-use Rattle.mips_plain.specs.Instruction.{dests, waits}
+use Rattle.mips_instructions.specs.Words.{has, index_of}
+use Rattle.mips_instructions.specs.Instruction.{dests, waits}
 use Rattle.mips_plain.specs.PlainMachine.{Input}
-use Rattle.mips_plain.specs.declared.instruction.Op.{Op}
-use Rattle.mips_plain.specs.declared.instruction.Op.TheVariants.{BranchTwo, BranchOne, Release, Halt}
+use Rattle.mips_instructions.specs.declared.instruction.Op.{Op}
+use Rattle.mips_instructions.specs.declared.instruction.Op.TheVariants.{BranchTwo, BranchOne, Release, Halt}
 use Rattle.task_descriptor.specs.Names.{is_name}
 use Rattle.task_descriptor.specs.declared.descriptor.Stop.{Stop}
 use Rattle.task_descriptor.specs.declared.descriptor.Stop.TheVariants.{None as Never, Always, Taken, NotTaken}

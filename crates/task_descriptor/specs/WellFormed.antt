@@ -5,8 +5,8 @@ use Rattle.std.proofs.Common.{refl, arith, ap, sym, ◌∙◌, subst}
 use Rattle.std.proofs.lemmas.Bool.{or_parts, ltb-false, leb-false}
 use Rattle.std.proofs.lemmas.List.Elements.{All-get_or}
 use Rattle.std.proofs.lemmas.Option.{get_or_from_slice_get, slice_get_within}
-use Rattle.mips_plain.specs.Instruction.{waits, dests}
-use Rattle.mips_plain.specs.Words.{has}
+use Rattle.mips_instructions.specs.Instruction.{waits, dests}
+use Rattle.mips_instructions.specs.Words.{has}
 use Rattle.task_descriptor.specs.Names.{is_name}
 use Rattle.task_descriptor.specs.Listing.{Listing, OfRegisters, NamesRegisters, IsWellFormed, is_too_many, has_no_task, has_bad_entry, has_duplicate, has_bad_mask, mark_fault, is_bad_mark, starts_at_no_entry}
 use Rattle.task_descriptor.specs.declared.descriptor.Descriptor.{Descriptor}

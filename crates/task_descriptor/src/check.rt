@@ -7,7 +7,7 @@ ghost use Rattle.task_descriptor.specs.Listing.{build_fault, listing_of, is_too_
 use crate::descriptor::Descriptor;
 use crate::marks::{bad_mark, has_bad_mask};
 use crate::program::{BuildFault, MOST_BYTES, MOST_TARGETS, MOST_TASKS, Parts};
-use mips_plain::number::{MOST_INSTRUCTIONS, Place};
+use mips_instructions::number::{MOST_INSTRUCTIONS, Place};
 use std::alloc::{AllocError, Global};
 use std::collections::HashSet;
 

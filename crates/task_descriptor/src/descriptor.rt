@@ -3,8 +3,8 @@
 
 use crate::name::Name;
 use crate::places::Places;
-use mips_plain::instruction::Op;
-use mips_plain::number::{Place, RegSet};
+use mips_instructions::instruction::Op;
+use mips_instructions::number::{Place, RegSet};
 
 /// Where a task ends: the stop bits of an instruction.
 #[derive(Clone, Copy, Debug, PartialEq, Eq)]

@@ -2,12 +2,12 @@
 
 ghost use Rattle.std.specs.Prelude.{◌≡◌, ℕ, Some, position};
 ghost use Rattle.std.specs.List.{list_any};
-ghost use Rattle.mips_plain.specs.Words.{has};
+ghost use Rattle.mips_instructions.specs.Words.{has};
 ghost use Rattle.task_descriptor.specs.Listing.{registers, has_destination as has_destination_of, is_conditional as is_conditional_of, stop_fits as stop_fits_of, release_fits as release_fits_of, is_bad_mark as is_bad_mark_of, has_bad_mask as has_bad_mask_of};
 
 use crate::descriptor::{Descriptor, Marked, Stop};
-use mips_plain::instruction::Op;
-use mips_plain::number::RegSet;
+use mips_instructions::instruction::Op;
+use mips_instructions::number::RegSet;
 
 pub(crate) fn bad_mark(code: &[Marked]) -> Option<usize>
     ensures { result ≡ position is_bad_mark_of code.now }

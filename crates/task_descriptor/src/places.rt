@@ -1,6 +1,6 @@
 //! Lists of places in the code.
 
-use mips_plain::number::Place;
+use mips_instructions::number::Place;
 use std::marker::Model;
 
 /// A list of places, as a descriptor's targets.

@@ -4,10 +4,10 @@ use crate::check::fault_of;
 use crate::descriptor::{Descriptor, Marked};
 use crate::registers::name_registers;
 use crate::same::{are_same_tasks, is_same_code};
-use mips_plain::instruction::Op;
-use mips_plain::number::Place;
+use mips_instructions::instruction::Op;
+use mips_instructions::number::Place;
+use mips_instructions::places::{CODE_START, address_of};
 use mips_plain::outcome::OutOfMemory;
-use mips_plain::places::{CODE_START, address_of};
 use mips_plain::plain::Plain;
 use std::alloc::{AllocError, Global};
 use std::marker::Model;
@@ -89,7 +89,7 @@ impl Model for Program {
 
 impl Program {
     ghost use Rattle.std.specs.Prelude.{◌≡◌, ◌↔◌, ◌+◌, ◌*◌, ◌<◌, Some, IsTrue, IfOk, MatchResult, map, position, ◌==◌, option_copied, slice_get};
-    ghost use Rattle.mips_plain.specs.Words.{address};
+    ghost use Rattle.mips_instructions.specs.Words.{address};
     ghost use Rattle.mips_plain.specs.PlainView.{IsAfter};
     ghost use Rattle.task_descriptor.specs.Listing.{Listing, IsWellFormed, build_fault, listing_of, instruction_at, input};
 
@@ -239,7 +239,7 @@ impl Program {
 }
 
 ghost use Rattle.std.specs.Prelude.{◌≡◌, ◌==◌, ◌<◌, length, position, map, IfSome, IfOk};
-ghost use Rattle.mips_plain.specs.Words.{index_of as index_of_address};
+ghost use Rattle.mips_instructions.specs.Words.{index_of as index_of_address};
 
 fn unmarked(alloc: Global, code: &[Marked]) -> Result<Vec<Op>, AllocError>
     ensures { IfOk result (λ ops. ops.items ≡ map (λ m. m.op) code.now) }
@@ -251,7 +251,7 @@ fn unmarked(alloc: Global, code: &[Marked]) -> Result<Vec<Op>, AllocError>
     Ok(ops)
 }
 
-#[tactic(auto, unfolding(mips_plain::specs::Words::index_of))]
+#[tactic(auto, unfolding(mips_instructions::specs::Words::index_of))]
 fn index_of(address: u32) -> Option<u32>
     ensures { result ≡ index_of_address address }
 {

@@ -3,14 +3,14 @@
 
 ghost use Rattle.std.specs.Prelude.{◌≡◌, true};
 ghost use Rattle.std.specs.List.{All};
-ghost use Rattle.mips_plain.specs.Words.{has};
+ghost use Rattle.mips_instructions.specs.Words.{has};
 ghost use Rattle.task_descriptor.specs.Names.{is_name};
 ghost use Rattle.task_descriptor.specs.Listing.{listing_of, OfRegisters, NamesRegisters, IsInRange};
 
 use crate::descriptor::{Descriptor, Marked};
 use crate::name::Name;
 use crate::program::Parts;
-use mips_plain::number::RegSet;
+use mips_instructions::number::RegSet;
 
 /// Each register that the parts name is below 34, and each task's name is a name.
 pub(crate) fn name_registers(parts: &Parts)

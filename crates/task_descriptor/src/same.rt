@@ -4,8 +4,8 @@ ghost use Rattle.std.specs.Prelude.{◌≡◌, ◌↔◌, IsTrue};
 
 use crate::descriptor::{Descriptor, Marked};
 use crate::name::Name;
-use mips_plain::instruction::Op;
-use mips_plain::number::Place;
+use mips_instructions::instruction::Op;
+use mips_instructions::number::Place;
 
 /// Whether the instructions and their marks are the same.
 pub(crate) fn is_same_code(code: &[Marked], other: &[Marked]) -> bool

@@ -6,9 +6,9 @@
 use Rattle.std.specs.Prelude.{◌≡◌, ℕ, ◌+◌, ◌<◌, Bool, true, false, not, ◌||◌, ◌&&◌, if◌then◌else◌, nat_eq, List, ◌++◌, length, slice_get, Option, Some, None}
 use Rattle.std.specs.Bool.{beq}
 use Rattle.std.specs.Option.{option_to_list}
-use Rattle.mips_plain.specs.InstructionTable.{Next, Following, Branch, ToPlace, ToAddress, Stay, row}
-use Rattle.mips_plain.specs.Instruction.{dests, released}
-use Rattle.mips_plain.specs.declared.instruction.Op.{Op}
+use Rattle.mips_instructions.specs.InstructionTable.{Next, Following, Branch, ToPlace, ToAddress, Stay, row}
+use Rattle.mips_instructions.specs.Instruction.{dests, released}
+use Rattle.mips_instructions.specs.declared.instruction.Op.{Op}
 use Rattle.task_descriptor.specs.Listing.{Listing}
 use Rattle.task_descriptor.specs.declared.descriptor.Marked.{Marked}
 use Rattle.task_descriptor.specs.declared.descriptor.Stop.{Stop}

@@ -2,17 +2,17 @@
 -- shown and refuted by hand.
 use Rattle.std.specs.Prelude.{◌≡◌, ℕ, ◌<◌, pos, Bool, true, false, List, [], ◌∷◌, slice_get, zero, suc, Some}
 use Rattle.std.proofs.Common.{refl, subst, sym, lit<}
-use Rattle.mips_plain.specs.declared.instruction.ThreeKind.TheVariants.{Addu}
-use Rattle.mips_plain.specs.declared.instruction.ImmKind.TheVariants.{Addiu, Slti}
-use Rattle.mips_plain.specs.declared.instruction.BranchTwoKind.TheVariants.{Bne}
-use Rattle.mips_plain.specs.declared.instruction.Op.{Op}
-use Rattle.mips_plain.specs.declared.instruction.Op.TheVariants.{Three, Imm, BranchTwo, Jump, Out, Halt}
+use Rattle.mips_instructions.specs.declared.instruction.ThreeKind.TheVariants.{Addu}
+use Rattle.mips_instructions.specs.declared.instruction.ImmKind.TheVariants.{Addiu, Slti}
+use Rattle.mips_instructions.specs.declared.instruction.BranchTwoKind.TheVariants.{Bne}
+use Rattle.mips_instructions.specs.declared.instruction.Op.{Op}
+use Rattle.mips_instructions.specs.declared.instruction.Op.TheVariants.{Three, Imm, BranchTwo, Jump, Out, Halt}
 use Rattle.task_descriptor.specs.Listing.{Listing}
 use Rattle.task_descriptor.specs.declared.descriptor.Marked.{Marked}
 use Rattle.task_descriptor.specs.declared.descriptor.Descriptor.{Descriptor}
 use Rattle.task_descriptor.specs.declared.descriptor.Stop.TheVariants as stop
 use Rattle.task_graph.specs.Edges.{Edge, edge, leaves, ends_of, Path, stay, onward, MayWrite, sends, is_indirect}
-use Rattle.mips_plain.specs.Instruction.{dests}
+use Rattle.mips_instructions.specs.Instruction.{dests}
 use Rattle.task_graph.specs.Soundness.{SoundTask, Sound}
 
 -- an instruction without a mark, with the forward bit, with stop always, and with both

@@ -3,7 +3,7 @@
 //! Where an instruction leads is the MIPS manual's (without delay slots). The stop marks are those of
 //! Sohi, Breach, Vijaykumar, "Multiscalar Processors", ISCA 1995, section 2.2.
 
-use mips_plain::instruction::Op;
+use mips_instructions::instruction::Op;
 use task_descriptor::descriptor::{Marked, Stop};
 use task_descriptor::program::Program;
 

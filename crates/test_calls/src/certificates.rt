@@ -6,7 +6,7 @@ use mask_certificate::certificate::{Cert, ListFault};
 use mask_certificate::fault::CertFault;
 use mask_certificate::reading::read;
 use mask_certificate::writing::write;
-use mips_plain::number::RegSet;
+use mips_instructions::number::RegSet;
 use std::alloc::Global;
 use std::process::Abort;
 use task_descriptor::program::Program;

@@ -5,7 +5,7 @@ use mark_checker::accept::{Accepted, accepts};
 use mark_checker::check::{check_task, verdict};
 use mark_checker::finding::{Finding, Findings, Rule};
 use mask_certificate::certificate::Cert;
-use mips_plain::number::Reg;
+use mips_instructions::number::Reg;
 use std::alloc::Global;
 use std::process::Abort;
 use task_descriptor::program::Program;

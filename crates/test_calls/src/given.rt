@@ -3,7 +3,7 @@
 use annotated_asm::assembler::assemble;
 use mask_certificate::certificate::Cert;
 use mask_certificate::reading::read;
-use mips_plain::number::RegSet;
+use mips_instructions::number::RegSet;
 use std::alloc::{AllocError, Global};
 use std::process::Abort;
 use task_descriptor::program::Program;

@@ -6,7 +6,7 @@ use annotated_asm::assembler::assemble;
 use annotator::certify::certify;
 use costly_marks::mark::CostlyMark;
 use costly_marks::search::costly_marks;
-use mips_plain::number::Reg;
+use mips_instructions::number::Reg;
 use std::alloc::Global;
 use std::process::Abort;
 use warning_text::warnings::warnings;

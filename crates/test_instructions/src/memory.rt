@@ -1,7 +1,7 @@
 //! Loads and stores: the bytes of words and halves, the traps, and read-only data.
 
 use crate::numbers::gpr;
-use mips_plain::instruction::{LoadKind, Op, StoreKind};
+use mips_instructions::instruction::{LoadKind, Op, StoreKind};
 use mips_plain::memory::{Memory, MemoryFault, fixed_load};
 use mips_plain::outcome::Trap;
 use std::alloc::Global;
@@ -22,11 +22,7 @@ fn load(rt: &impl Abort, memory: &Memory, kind: LoadKind, address: u32) -> Resul
 
 // What a load of read-only data gives, if it is one.
 fn loaded_from_fixed(rt: &impl Abort, kind: LoadKind, address: u32, fixed: &[u8]) -> Option<u32> {
-    fixed_load(
-        &Op::Load(kind, gpr(rt, 8), gpr(rt, 9), 0),
-        address,
-        fixed,
-    )
+    fixed_load(&Op::Load(kind, gpr(rt, 8), gpr(rt, 9), 0), address, fixed)
 }
 
 fn store(

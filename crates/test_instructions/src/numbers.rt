@@ -1,6 +1,6 @@
 //! Registers and places by their numbers, and the numbers of registers and amounts.
 
-use mips_plain::number::{Amount, Gpr, Place, Reg, RegSet};
+use mips_instructions::number::{Amount, Gpr, Place, Reg, RegSet};
 use std::process::Abort;
 
 pub(crate) fn gpr(rt: &impl Abort, number: u8) -> Gpr {

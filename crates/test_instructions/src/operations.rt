@@ -2,11 +2,11 @@
 //! any size, outside this program.
 
 use crate::numbers::{gpr, place, reg};
-use mips_plain::instruction::{
+use mips_instructions::instruction::{
     BranchOneKind, BranchTwoKind, ImmKind, LogicKind, MoveFromKind, MoveToKind, MultKind, Op,
     ShiftByKind, ShiftVarKind, ThreeKind,
 };
-use mips_plain::number::Amount;
+use mips_instructions::number::Amount;
 use std::process::Abort;
 
 /// The address of each instruction.

@@ -2,8 +2,10 @@
 
 use crate::memory::zeros;
 use crate::numbers::{gpr, place, reg};
-use mips_plain::instruction::{BranchTwoKind, ImmKind, MoveFromKind, MoveToKind, Op, ThreeKind};
-use mips_plain::number::{Reg, RegSet};
+use mips_instructions::instruction::{
+    BranchTwoKind, ImmKind, MoveFromKind, MoveToKind, Op, ThreeKind,
+};
+use mips_instructions::number::{Reg, RegSet};
 use mips_plain::outcome::{OutOfMemory, Outcome, Trap};
 use mips_plain::plain::{Plain, PlainFault};
 use std::alloc::Global;

@@ -4,7 +4,7 @@ use annotated_asm::assembler::assemble;
 use mark_checker::check::{check_task, verdict};
 use mark_checker::finding::{Finding, Rule};
 use mask_certificate::reading::read;
-use mips_plain::number::Reg;
+use mips_instructions::number::Reg;
 use task_graph::members::members;
 use test_programs::acceptance::accepted;
 use test_programs::certificates::{COUNT_CERTIFICATE, COUNT_CERTIFICATE_LACKING};

@@ -3,7 +3,7 @@
 use crate::scripts::{COUNT_TAKEN_AGAIN, COUNT_WAITS, READ_AHEAD_BEGUN, events_of};
 use event_script::reading::read as read_script;
 use mark_checker::accept::Accepted;
-use mips_plain::number::Reg;
+use mips_instructions::number::Reg;
 use sequencer::machine::Machine;
 use std::alloc::Global;
 use std::process::Abort;

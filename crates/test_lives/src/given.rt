@@ -4,7 +4,7 @@ ghost use Rattle.std.specs.Prelude.{◌≡◌};
 
 use machine_events::event::Event;
 use mark_checker::accept::Accepted;
-use mips_plain::number::Reg;
+use mips_instructions::number::Reg;
 use sequencer::machine::Machine;
 use std::alloc::Global;
 use std::process::Abort;

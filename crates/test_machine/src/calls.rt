@@ -1,6 +1,6 @@
 //! The numbers of units, the program of a machine, and the predictors.
 
-use mips_plain::number::Place;
+use mips_instructions::number::Place;
 use sequencer::machine::{Machine, MachineFault};
 use sequencer::predict::{First, Last, Listed, Predict};
 use std::process::Abort;

@@ -2,8 +2,8 @@
 
 use crate::given::{Told, register};
 use machine_events::event::{Commit, Standing};
-use mips_plain::instruction::{LoadKind, Op};
-use mips_plain::number::Gpr;
+use mips_instructions::instruction::{LoadKind, Op};
+use mips_instructions::number::Gpr;
 use mips_plain::outcome::Read;
 use sequencer::machine::Machine;
 use std::process::Abort;

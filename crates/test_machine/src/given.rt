@@ -1,7 +1,7 @@
 //! Registers, and events as a table can name them.
 
 use machine_events::event::Event;
-use mips_plain::number::Reg;
+use mips_instructions::number::Reg;
 use std::process::Abort;
 
 pub(crate) fn register(rt: &impl Abort, number: u8) -> Reg {

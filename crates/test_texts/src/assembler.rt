@@ -4,7 +4,7 @@ use crate::count::assembled;
 use crate::numbers::gpr;
 use annotated_asm::assembler::assemble;
 use annotated_asm::fault::AsmFault;
-use mips_plain::instruction::{ImmKind, LogicKind, Op};
+use mips_instructions::instruction::{ImmKind, LogicKind, Op};
 use std::process::Abort;
 use task_descriptor::program::Program;
 

@@ -2,8 +2,8 @@
 
 use crate::count::{COUNT, assembled};
 use crate::numbers::{place, reg};
-use mips_plain::instruction::Op;
-use mips_plain::number::RegSet;
+use mips_instructions::instruction::Op;
+use mips_instructions::number::RegSet;
 use std::alloc::Global;
 use std::process::Abort;
 use task_descriptor::descriptor::{Descriptor, Marked, Stop};

@@ -1,6 +1,6 @@
 //! Registers and places by their numbers.
 
-use mips_plain::number::{Gpr, Place, Reg};
+use mips_instructions::number::{Gpr, Place, Reg};
 use std::process::Abort;
 
 pub(crate) fn gpr(rt: &impl Abort, number: u8) -> Gpr {

@@ -2,7 +2,7 @@
 //! own.
 
 use crate::numbers::{gpr, place};
-use mips_plain::instruction::BranchTwoKind;
+use mips_instructions::instruction::BranchTwoKind;
 use program_statements::fault::{StatementError, StatementFault};
 use program_statements::line::statement_of;
 use program_statements::statement::{Instruction, Marks, Section, Statement, Target};

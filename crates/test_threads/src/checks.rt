@@ -3,7 +3,7 @@
 use crate::given::Bench;
 use mark_checker::finding::{Finding, Rule};
 use mask_certificate::certificate::Cert;
-use mips_plain::number::Reg;
+use mips_instructions::number::Reg;
 use parallel_check::checking::{accepts_shared, verdict_shared};
 use parallel_check::fault::ShareFault;
 use parallel_check::gate::Open;

@@ -3,7 +3,7 @@
 use crate::given::Bench;
 use machine_events::event::Standing;
 use mark_checker::accept::Accepted;
-use mips_plain::number::Place;
+use mips_instructions::number::Place;
 use sequencer::predict::{First, Last, Listed, Predict};
 use std::alloc::Global;
 use std::process::Abort;

@@ -6,7 +6,7 @@ use event_json::lines::lines;
 use event_trace::trace::trace;
 use machine_events::event::Event;
 use mark_checker::accept::Accepted;
-use mips_plain::number::Reg;
+use mips_instructions::number::Reg;
 use sequencer::machine::Machine;
 use std::alloc::Global;
 use std::process::Abort;

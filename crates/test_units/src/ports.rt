@@ -1,6 +1,6 @@
 //! The worked example of the port: the same calls on a plain form of it, two arrays of options.
 
-use mips_plain::number::{Reg, RegSet};
+use mips_instructions::number::{Reg, RegSet};
 use register_ring::held::RegisterWords;
 use register_ring::members::next_member;
 use register_ring::port::{AlreadyThere, Port};

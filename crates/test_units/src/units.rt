@@ -3,8 +3,8 @@
 use crate::programs::{count, release};
 use machine_events::event::Spot;
 use mark_checker::accept::Accepted;
+use mips_instructions::number::{Reg, RegSet};
 use mips_plain::memory::Memory;
-use mips_plain::number::{Reg, RegSet};
 use register_ring::port::{AlreadyThere, Port};
 use std::alloc::Global;
 use std::marker::Model;

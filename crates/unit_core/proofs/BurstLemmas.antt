@@ -7,14 +7,15 @@ use Rattle.std.proofs.lemmas.Bool.{cond-true, le-leb, eq-eqb, and_from}
 use Rattle.std.proofs.lemmas.List.{append-nil}
 use Rattle.std.proofs.lemmas.List.Sums.{fold_push}
 use Rattle.std.specs.Option.{option_map}
-use Rattle.mips_plain.specs.Words.{address, byte_of, index_of}
+use Rattle.mips_instructions.specs.Words.{address, index_of}
+use Rattle.mips_plain.specs.MemoryMap.{byte_of}
 use Rattle.mips_plain.specs.Access.{is_load}
 use Rattle.mips_plain.specs.Effect.{written, outcome_after}
 use Rattle.mips_plain.specs.declared.outcome.Outcome.{Outcome}
 use Rattle.mips_plain.specs.declared.outcome.Outcome.TheVariants.{Running, Halted, Trapped}
 use Rattle.mips_plain.specs.declared.outcome.Read.{Read}
-use Rattle.mips_plain.specs.declared.instruction.Op.{Op}
-use Rattle.mips_plain.specs.declared.instruction.Op.TheVariants.{Load}
+use Rattle.mips_instructions.specs.declared.instruction.Op.{Op}
+use Rattle.mips_instructions.specs.declared.instruction.Op.TheVariants.{Load}
 use Rattle.task_descriptor.specs.Listing.{Listing}
 use Rattle.task_descriptor.specs.declared.descriptor.Marked.{Marked}
 use Rattle.machine_model.specs.Machine.{Active}

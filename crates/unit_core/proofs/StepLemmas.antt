@@ -4,9 +4,9 @@ use Rattle.std.specs.Option.{option_or}
 use Rattle.std.proofs.Common.{refl, sym, ap, ◌∙◌, arith, inl, inr}
 use Rattle.std.proofs.Math.Path.{fun_ext}
 use Rattle.std.proofs.lemmas.Bool.{cond-true, cond-false, eq-eqb, ne_eqb, eqb-true, cases_lt, cases_eq, false≢true}
-use Rattle.mips_plain.specs.Instruction.{alu, dests, is_register_only, computed}
-use Rattle.mips_plain.specs.InstructionTable.{general}
-use Rattle.mips_plain.specs.declared.instruction.Op.{Op}
+use Rattle.mips_instructions.specs.Instruction.{alu, dests, is_register_only, computed}
+use Rattle.mips_instructions.specs.InstructionTable.{general}
+use Rattle.mips_instructions.specs.declared.instruction.Op.{Op}
 use Rattle.machine_model.specs.Machine.{Words}
 use Rattle.machine_model.specs.Unit.{put, with_own, sent_with}
 use Rattle.register_ring.specs.Held.{put_first}

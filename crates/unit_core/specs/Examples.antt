@@ -5,10 +5,10 @@ use Rattle.std.specs.List.{range_with_len}
 use Rattle.std.proofs.Common.{refl, ap, arith}
 use Rattle.std.proofs.lemmas.Bool.Decides.{nat_tests}
 use Rattle.mips_plain.specs.MemoryMap.{region, effective}
-use Rattle.mips_plain.specs.declared.instruction.ThreeKind.TheVariants.{Addu}
-use Rattle.mips_plain.specs.declared.instruction.LoadKind.TheVariants.{Lw}
-use Rattle.mips_plain.specs.declared.instruction.StoreKind.TheVariants.{Sw}
-use Rattle.mips_plain.specs.declared.instruction.Op.TheVariants.{Three, Load, Store, Release, Out, Halt}
+use Rattle.mips_instructions.specs.declared.instruction.ThreeKind.TheVariants.{Addu}
+use Rattle.mips_instructions.specs.declared.instruction.LoadKind.TheVariants.{Lw}
+use Rattle.mips_instructions.specs.declared.instruction.StoreKind.TheVariants.{Sw}
+use Rattle.mips_instructions.specs.declared.instruction.Op.TheVariants.{Three, Load, Store, Release, Out, Halt}
 use Rattle.task_descriptor.specs.Listing.{Listing}
 use Rattle.mark_checker.specs.Places.{Checked}
 use Rattle.machine_model.specs.Machine.{Active, value}

@@ -2,7 +2,7 @@
 //! unit takes the burst over.
 
 ghost use Rattle.std.specs.Prelude.{◌≡◌, ℕ, ◌<◌, ◌≤◌, [], IfOk, IfErr, OnOk, OnErr, IsTrue, ◌↔◌, is_some};
-ghost use Rattle.mips_plain.specs.Words.{has};
+ghost use Rattle.mips_instructions.specs.Words.{has};
 ghost use Rattle.unit_core.specs.Units.{active_of, unlogged, IsPlaced};
 ghost use Rattle.unit_core.specs.Bursts.{HasMore, IsMade, IsOf, Makes, SendsLast, carried_on, stretch_of};
 
@@ -10,7 +10,7 @@ use crate::state::UnitState;
 use crate::stretch::{Stretch, has_same_task};
 use crate::unit::Unit;
 use mark_checker::accept::Accepted;
-use mips_plain::number::RegSet;
+use mips_instructions::number::RegSet;
 use mips_plain::outcome::OutOfMemory;
 use std::alloc::Global;
 use std::marker::Model;

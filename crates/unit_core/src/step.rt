@@ -2,8 +2,9 @@
 
 ghost use Rattle.std.specs.Prelude.{◌≡◌, ℕ, ◌+◌, ◌%◌, ◌^◌, ◌<◌, ◌&&◌, true, false, None, Some, IfOk, IfErr};
 ghost use Rattle.std.specs.Option.{option_or};
-ghost use Rattle.mips_plain.specs.Words.{has, address, byte_of};
-ghost use Rattle.mips_plain.specs.Instruction.{dests as dests_of, released, taken, turn};
+ghost use Rattle.mips_instructions.specs.Words.{has, address};
+ghost use Rattle.mips_plain.specs.MemoryMap.{byte_of};
+ghost use Rattle.mips_instructions.specs.Instruction.{dests as dests_of, released, taken, turn};
 ghost use Rattle.mips_plain.specs.Access.{is_load as is_load_of};
 ghost use Rattle.mips_plain.specs.Effect.{may_run_ahead};
 ghost use Rattle.task_graph.specs.Edges.{edge, leaves, sends};
@@ -12,16 +13,16 @@ ghost use Rattle.machine_model.specs.Burst.{no_memory};
 ghost use Rattle.register_ring.specs.Held.{pairs};
 ghost use Rattle.machine_model.specs.Machine.{value, value_in};
 ghost use Rattle.register_ring.specs.Ports.{arrived_of, sent_of};
-ghost use Rattle.mips_plain.specs.InstructionTable.{general};
+ghost use Rattle.mips_instructions.specs.InstructionTable.{general};
 ghost use Rattle.unit_core.specs.ExecParts.{in_general, loads, writes, replaced};
 ghost use Rattle.unit_core.specs.Effects.{Does};
 ghost use Rattle.unit_core.specs.declared.wait.Wait.TheVariants as wait;
 
 use crate::wait::Wait;
 use machine_events::event::Spot;
-use mips_plain::instruction::Op;
+use mips_instructions::instruction::Op;
+use mips_instructions::number::{Gpr, Reg, RegSet};
 use mips_plain::memory::fixed_load;
-use mips_plain::number::{Gpr, Reg, RegSet};
 use mips_plain::outcome::Read;
 use register_ring::held::RegisterWords;
 use register_ring::members::next_member;

@@ -1,13 +1,13 @@
 //! The part of a program that a burst depends on.
 
 ghost use Rattle.std.specs.Prelude.{◌≡◌, ℕ, ◌+◌, ◌^◌, ◌<◌, ◌≤◌, ◌||◌, ◌↔◌, Bool, min, max, slice_get, unwrap_or, IsTrue};
-ghost use Rattle.mips_plain.specs.Words.{index_of};
+ghost use Rattle.mips_instructions.specs.Words.{index_of};
 ghost use Rattle.unit_core.specs.Bursts.{is_load_at as is_load_of};
 
 use crate::read_log::ReadLog;
 use crate::step::is_load;
+use mips_instructions::places::CODE_START;
 use mips_plain::outcome::Read;
-use mips_plain::places::CODE_START;
 use task_descriptor::descriptor::Marked;
 use task_descriptor::program::Program;
 use task_descriptor::same::{is_same_instruction, is_same_task};
@@ -89,7 +89,7 @@ impl Stretch {
 
 /// The index of the instruction with an address, 0 where there is none.
 #[inline]
-#[tactic(auto, unfolding(mips_plain::specs::Words::index_of))]
+#[tactic(auto, unfolding(mips_instructions::specs::Words::index_of))]
 fn index_at(pc: u32) -> u32
     ensures index { result ≡ unwrap_or (index_of pc) 0 }
     ensures range { result < 2 ^ 31 }

@@ -1,6 +1,6 @@
 //! Why a unit does not execute, or does not send.
 
-use mips_plain::number::Reg;
+use mips_instructions::number::Reg;
 use mips_plain::outcome::OutOfMemory;
 use std::alloc::AllocError;
 use thiserror::Error;

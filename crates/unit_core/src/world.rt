@@ -1,7 +1,7 @@
 //! What the head's instructions change beside the head.
 
 use machine_events::event::Standing;
-use mips_plain::instruction::Op;
+use mips_instructions::instruction::Op;
 use mips_plain::memory::{Memory, fixed_load};
 use mips_plain::outcome::OutOfMemory;
 use std::alloc::Global;
@@ -25,7 +25,7 @@ impl Model for World {
 
 impl World {
     ghost use Rattle.std.specs.Prelude.{◌≡◌, [], IsTrue, ◌↔◌, IfOk, OnOk, OnErr};
-    ghost use Rattle.mips_plain.specs.Words.{byte_of};
+    ghost use Rattle.mips_plain.specs.MemoryMap.{byte_of};
     ghost use Rattle.mips_plain.specs.Access.{is_load};
     ghost use Rattle.mips_plain.specs.Effect.{memory_after, output_after, outcome_after};
     ghost use Rattle.machine_model.specs.Step.{stands};

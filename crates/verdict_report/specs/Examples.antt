@@ -3,7 +3,7 @@
 use Rattle.std.specs.Prelude.{◌≡◌, ℕ, List, [], ◌∷◌, ◌++◌, Result, codes, flat_map}
 use Rattle.std.specs.Fmt.{digits}
 use Rattle.std.proofs.Common.{refl, ap}
-use Rattle.mips_plain.specs.Words.{address, index_of}
+use Rattle.mips_instructions.specs.Words.{address, index_of}
 use Rattle.mips_plain.specs.MemoryMap.{region, effective}
 use Rattle.mips_plain.specs.PlainMachine.{plain, reads, fetch}
 use Rattle.task_descriptor.specs.Listing.{Listing}

@@ -3,7 +3,7 @@
 -- Inner edges and paths are those of the task (the stop marks of Sohi, Breach, Vijaykumar,
 -- "Multiscalar Processors", ISCA 1995, section 2.2, say where it ends); witnesses are own choice.
 use Rattle.std.specs.Prelude.{◌≡◌, ℕ, Bool, true, false, nat_eq, List, [], ◌∷◌, ◌++◌, length, ◌≤◌, slice_get, Option, Some, None}
-use Rattle.mips_plain.specs.Instruction.{dests}
+use Rattle.mips_instructions.specs.Instruction.{dests}
 use Rattle.task_descriptor.specs.Listing.{Listing}
 use Rattle.task_descriptor.specs.declared.descriptor.Marked.{Marked}
 use Rattle.task_graph.specs.Edges.{Edge, Path, stay, onward}

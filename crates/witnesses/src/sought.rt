@@ -1,6 +1,6 @@
 //! What a path is looked for to.
 
-use mips_plain::number::Reg;
+use mips_instructions::number::Reg;
 
 /// The instruction that a path is to come to (own choice).
 #[derive(Clone, Copy, Debug, PartialEq, Eq)]

@@ -1,5 +1,5 @@
 use Rattle.std.proofs.Common.{◌≡◌, ◌↔◌, true, ℕ, take}
-use Rattle.mips_plain.specs.Words.{has}
+use Rattle.mips_instructions.specs.Words.{has}
 use Rattle.annotator.specs.Marking.{indices_of, ProducedAt}
 use Rattle.annotator.proofs.updates.produced_at.Given as goal
 

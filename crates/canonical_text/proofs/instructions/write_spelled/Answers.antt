@@ -1,6 +1,6 @@
 -- An operand is one piece more.
 use Rattle.std.proofs.Common.{◌++◌, ◌∙◌, ap, nat_eq, arith, string_bytes}
-use Rattle.mips_plain.specs.declared.instruction.InstructionOperand.{InstructionOperand}
+use Rattle.mips_instructions.specs.declared.instruction.InstructionOperand.{InstructionOperand}
 use Rattle.canonical_text.specs.CanonicalText.{operand_text, before_operand}
 use Rattle.canonical_text.proofs.Spelled.{one_more_operand}
 use Rattle.canonical_text.proofs.instructions.write_spelled.Goals as goal

@@ -1,6 +1,6 @@
 -- What the instructions of the task's list produce.
 use Rattle.std.proofs.Common.{◌≡◌, ◌↔◌, true, List, length, ap, subst}
-use Rattle.mips_plain.specs.Words.{has}
+use Rattle.mips_instructions.specs.Words.{has}
 use Rattle.task_descriptor.specs.declared.descriptor.Marked.{Marked}
 use Rattle.annotator.specs.Marking.{indices_of, ProducedAt}
 use Rattle.annotator.proofs.MarkLemmas.{entries_inside}

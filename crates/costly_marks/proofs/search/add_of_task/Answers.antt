@@ -1,6 +1,6 @@
 -- One register more.
 use Rattle.std.proofs.Common.{◌≡◌, ◌↔◌, ◌∷◌, [], ℕ, Bool, true, sym, ◌∙◌, subst, arith}
-use Rattle.mips_plain.specs.Words.{has}
+use Rattle.mips_instructions.specs.Words.{has}
 use Rattle.task_descriptor.specs.Listing.{Listing}
 use Rattle.costly_marks.specs.declared.mark.CostlyMark.TheVariants.{NeverProduced}
 use Rattle.costly_marks.specs.Costly.{IsNeverProduced}

@@ -2,7 +2,7 @@
 use Rattle.std.proofs.Common.{◌≡◌, ◌∷◌, [], ℕ, true, false, Some, List, slice_get, get_or, sym, ◌∙◌, subst, arith}
 use Rattle.costly_marks.specs.declared.mark.CostlyMark.TheVariants.{SentBefore}
 use Rattle.std.proofs.lemmas.Option.{slice_get-get_or}
-use Rattle.mips_plain.specs.Instruction.{released}
+use Rattle.mips_instructions.specs.Instruction.{released}
 use Rattle.task_descriptor.specs.Listing.{Listing}
 use Rattle.task_descriptor.specs.declared.descriptor.Marked.{Marked}
 use Rattle.costly_marks.specs.Costly.{IsSentBefore}

@@ -2,7 +2,7 @@
 use Rattle.std.proofs.Common.{◌≡◌, ℕ, ◌+◌, ◌∷◌, [], ◌++◌, List, Bool, filter, ap, ◌∙◌, sym, refl, arith, add-one, if◌then◌else◌}
 use Rattle.std.specs.Prelude.{◌||◌, nat_eq}
 use Rattle.std.proofs.lemmas.List.Elements.{filter-append}
-use Rattle.mips_plain.specs.Words.{has}
+use Rattle.mips_instructions.specs.Words.{has}
 use Rattle.task_descriptor.specs.Listing.{numbers_below}
 use Rattle.diagnostic_text.specs.Lists.{registers_with}
 use Rattle.diagnostic_text.proofs.list.registers_with.Goals as goal

@@ -1,7 +1,7 @@
 -- The registers below the number that belong to the list.
 use Rattle.std.proofs.Common.{◌≡◌, filter}
 use Rattle.std.specs.Prelude.{◌||◌, nat_eq}
-use Rattle.mips_plain.specs.Words.{has}
+use Rattle.mips_instructions.specs.Words.{has}
 use Rattle.task_descriptor.specs.Listing.{numbers_below}
 use Rattle.diagnostic_text.proofs.list.registers_with.Given as goal
 

@@ -3,8 +3,7 @@ use Rattle.std.proofs.Common.{◌≡◌, ◌*◌, ◌++◌}
 use Rattle.std.specs.Prelude.{flat_map}
 use Rattle.std.specs.List.{range_with_len}
 use Rattle.json.specs.Tree.{json_tokens}
-use Rattle.mips_plain.specs.Words.{byte_of}
-use Rattle.mips_plain.specs.MemoryMap.{number_at}
+use Rattle.mips_plain.specs.MemoryMap.{byte_of, number_at}
 use Rattle.event_json.specs.EndJson.{word_json}
 use Rattle.event_json.proofs.ending.write_each_word.Given as goal
 

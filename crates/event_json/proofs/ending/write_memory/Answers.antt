@@ -1,6 +1,6 @@
 -- A list with its values.
 use Rattle.std.specs.Prelude.{codes}
-use Rattle.mips_plain.specs.Words.{byte_of}
+use Rattle.mips_plain.specs.MemoryMap.{byte_of}
 use Rattle.event_json.specs.EndJson.{memory_json}
 use Rattle.event_json.proofs.Tokens.{list_written}
 use Rattle.event_json.proofs.ending.write_memory.Goals as goal

@@ -2,7 +2,7 @@
 use Rattle.std.proofs.Common.{ℕ, List, ◌∷◌, [], ◌++◌, ◌∙◌, ap}
 use Rattle.std.specs.Prelude.{codes}
 use Rattle.std.specs.String.{string_bytes}
-use Rattle.mips_plain.specs.Words.{byte_of}
+use Rattle.mips_plain.specs.MemoryMap.{byte_of}
 use Rattle.machine_events.specs.declared.event.Standing.{Standing}
 use Rattle.sequencer.specs.Machines.{state}
 use Rattle.event_trace.specs.TraceText.{ending_text}

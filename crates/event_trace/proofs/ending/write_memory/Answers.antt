@@ -1,8 +1,7 @@
 -- One word more.
 use Rattle.std.proofs.Common.{ℕ, ◌*◌, List, ◌++◌, ◌∙◌, ap, arith}
 use Rattle.std.specs.String.{string_bytes}
-use Rattle.mips_plain.specs.Words.{byte_of}
-use Rattle.mips_plain.specs.MemoryMap.{number_at}
+use Rattle.mips_plain.specs.MemoryMap.{byte_of, number_at}
 use Rattle.event_trace.specs.Ending.{word_line}
 use Rattle.event_trace.proofs.Parts.{range_more, for_each_word}
 use Rattle.event_trace.proofs.ending.write_memory.Goals as goal

@@ -3,8 +3,7 @@ use Rattle.std.proofs.Common.{◌≡◌, ◌*◌, ◌++◌}
 use Rattle.std.specs.Prelude.{flat_map}
 use Rattle.std.specs.List.{range_with_len}
 use Rattle.std.specs.String.{string_bytes}
-use Rattle.mips_plain.specs.Words.{byte_of}
-use Rattle.mips_plain.specs.MemoryMap.{number_at}
+use Rattle.mips_plain.specs.MemoryMap.{byte_of, number_at}
 use Rattle.event_trace.specs.Ending.{word_line}
 use Rattle.event_trace.proofs.ending.write_memory.Given as goal
 

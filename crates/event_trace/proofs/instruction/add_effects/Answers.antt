@@ -1,8 +1,9 @@
 -- Four parts, one after the other; sets that have the same registers give the same changes.
 use Rattle.std.proofs.Common.{◌≡◌, ℕ, List, [], ◌∷◌, ◌++◌, Option, Bool, ◌∙◌, ap}
 use Rattle.std.specs.Prelude.{◌&&◌, not, is_some, unwrap_or}
-use Rattle.mips_plain.specs.Words.{has, byte_of}
-use Rattle.mips_plain.specs.Instruction.{dests, reg_a, reg_b}
+use Rattle.mips_instructions.specs.Words.{has}
+use Rattle.mips_plain.specs.MemoryMap.{byte_of}
+use Rattle.mips_instructions.specs.Instruction.{dests, reg_a, reg_b}
 use Rattle.machine_events.specs.declared.event.Spot.{Spot}
 use Rattle.machine_model.specs.Answer.{operand}
 use Rattle.unit_core.specs.Units.{active_of}

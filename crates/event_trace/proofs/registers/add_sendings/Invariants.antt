@@ -2,7 +2,7 @@
 use Rattle.std.proofs.Common.{◌≡◌, [], ◌∷◌, ◌++◌}
 use Rattle.std.specs.Prelude.{flat_map, if◌then◌else◌, unwrap_or}
 use Rattle.std.specs.List.{range_with_len}
-use Rattle.mips_plain.specs.Words.{has}
+use Rattle.mips_instructions.specs.Words.{has}
 use Rattle.unit_core.specs.Units.{active_of}
 use Rattle.event_trace.specs.declared.change.Change.TheVariants.{Sent}
 use Rattle.event_trace.proofs.registers.add_sendings.Given as goal

@@ -1,7 +1,7 @@
 -- One register more.
 use Rattle.std.proofs.Common.{ℕ, List, [], ◌∷◌, ◌++◌, ◌∙◌, ap, arith}
 use Rattle.std.specs.Prelude.{if◌then◌else◌}
-use Rattle.mips_plain.specs.Words.{has}
+use Rattle.mips_instructions.specs.Words.{has}
 use Rattle.machine_model.specs.Answer.{operand}
 use Rattle.unit_core.specs.Units.{active_of}
 use Rattle.event_trace.specs.declared.change.Change.{Change}

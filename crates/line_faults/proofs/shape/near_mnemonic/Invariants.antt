@@ -1,6 +1,6 @@
 -- A near word is sought among the mnemonics that are left.
 use Rattle.std.proofs.Common.{◌≡◌, drop, map}
-use Rattle.mips_plain.specs.InstructionTable.{word_of}
+use Rattle.mips_instructions.specs.InstructionTable.{word_of}
 use Rattle.line_faults.specs.Near.{nearest}
 use Rattle.line_faults.proofs.shape.near_mnemonic.Given as goal
 

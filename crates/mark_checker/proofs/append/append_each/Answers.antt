@@ -1,5 +1,5 @@
 use Rattle.std.proofs.Common.{◌≡◌, ◌+◌, ◌++◌, ◌∷◌, [], ℕ, List, Some, sym, ◌∙◌, ap, append_assoc, arith}
-use Rattle.mips_plain.specs.Words.{has}
+use Rattle.mips_instructions.specs.Words.{has}
 use Rattle.mark_checker.specs.declared.finding.Finding.{Finding}
 use Rattle.mark_checker.proofs.PlaceLists.{up_to, one_more, none_more, each_is}
 use Rattle.mark_checker.proofs.append.append_each.Goals as goal

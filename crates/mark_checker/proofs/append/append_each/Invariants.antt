@@ -1,5 +1,5 @@
 use Rattle.std.proofs.Common.{◌≡◌, ◌++◌}
-use Rattle.mips_plain.specs.Words.{has}
+use Rattle.mips_instructions.specs.Words.{has}
 use Rattle.mark_checker.proofs.PlaceLists.{up_to}
 use Rattle.mark_checker.proofs.append.append_each.Given as goal
 

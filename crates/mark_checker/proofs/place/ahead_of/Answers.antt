@@ -2,7 +2,7 @@ use Rattle.std.proofs.Common.{◌≡◌, Bool, ℕ, ◌||◌, ◌∙◌, ap, sym
 use Rattle.std.specs.Prelude.{is_none}
 use Rattle.mask_certificate.specs.Lists.{mask_at}
 use Rattle.mark_checker.specs.Rules.{in_mask}
-use Rattle.mips_plain.specs.Words.{has}
+use Rattle.mips_instructions.specs.Words.{has}
 use Rattle.mark_checker.specs.CheckerSteps.{holds_at}
 use Rattle.mark_checker.proofs.Ahead.{any_inside}
 use Rattle.mark_checker.proofs.place.ahead_of.Goals as goal

@@ -1,6 +1,6 @@
 use Rattle.std.proofs.Common.{ℕ, Bool, not, ◌&&◌, ap, ◌∙◌}
 use Rattle.std.specs.Prelude.{is_none}
-use Rattle.mips_plain.specs.Words.{has}
+use Rattle.mips_instructions.specs.Words.{has}
 use Rattle.machine_model.specs.Machine.{creates}
 use Rattle.unit_core.specs.Units.{active_of}
 use Rattle.processor_steps.proofs.Leasts.{not_some, least_is}

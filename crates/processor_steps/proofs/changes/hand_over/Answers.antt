@@ -1,6 +1,6 @@
 use Rattle.std.proofs.Common.{◌≡◌, ℕ, ◌<◌, Option, sym, ap, ◌∙◌, arith, length, length-set, unwrap_or, true}
 use Rattle.std.specs.Prelude.{slice_index, slice_set}
-use Rattle.mips_plain.specs.Words.{has}
+use Rattle.mips_instructions.specs.Words.{has}
 use Rattle.unit_core.specs.Units.{active_of}
 use Rattle.processor_steps.proofs.Changed.{handed_more, rest_more, handed_all}
 use Rattle.processor_steps.proofs.changes.hand_over.Goals as goal

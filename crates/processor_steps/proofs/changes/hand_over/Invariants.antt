@@ -1,7 +1,7 @@
 -- below the number that the loop looks from all is handed over, and nothing from it on
 use Rattle.std.proofs.Common.{◌≡◌, ℕ, ◌-◌, ◌<◌, ◌≤◌, length}
 use Rattle.std.specs.Prelude.{slice_index}
-use Rattle.mips_plain.specs.Words.{has}
+use Rattle.mips_instructions.specs.Words.{has}
 use Rattle.unit_core.specs.Units.{active_of}
 use Rattle.processor_steps.proofs.Changed.{handed}
 use Rattle.processor_steps.proofs.changes.hand_over.Given as goal

@@ -1,6 +1,6 @@
 use Rattle.std.proofs.Common.{◌<◌, ℕ, Bool, ◌||◌, length, take, sym, ap, ◌∙◌, arith}
 use Rattle.std.specs.Prelude.{map}
-use Rattle.mips_plain.specs.Words.{has}
+use Rattle.mips_instructions.specs.Words.{has}
 use Rattle.machine_model.specs.Machine.{creates}
 use Rattle.machine_model.specs.Step.{is_reserved}
 use Rattle.unit_core.specs.Units.{active_of}

@@ -1,7 +1,7 @@
 -- the masks of the units that the loop has gone over
 use Rattle.std.proofs.Common.{◌≡◌, ℕ, take}
 use Rattle.std.specs.Prelude.{map}
-use Rattle.mips_plain.specs.Words.{has}
+use Rattle.mips_instructions.specs.Words.{has}
 use Rattle.machine_model.specs.Step.{is_reserved}
 use Rattle.unit_core.specs.Units.{active_of}
 use Rattle.processor_steps.proofs.queue.created_by.Given as goal

@@ -1,6 +1,6 @@
 -- The mnemonic of the name's bytes.
 use Rattle.std.proofs.Common.{ℕ, List, ap, ◌∙◌}
-use Rattle.mips_plain.specs.InstructionTable.{mnemonic_named, mnemonics}
+use Rattle.mips_instructions.specs.InstructionTable.{mnemonic_named, mnemonics}
 use Rattle.program_statements.proofs.line.mnemonic_of.Goals as goal
 
 pub returns : goal.returns

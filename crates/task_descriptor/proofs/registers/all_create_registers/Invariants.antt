@@ -1,7 +1,7 @@
 -- The tasks so far.
 use Rattle.std.proofs.Common.{take}
 use Rattle.std.specs.List.{All}
-use Rattle.mips_plain.specs.Words.{has}
+use Rattle.mips_instructions.specs.Words.{has}
 use Rattle.task_descriptor.specs.Listing.{OfRegisters}
 use Rattle.task_descriptor.proofs.registers.all_create_registers.Given as goal
 

@@ -1,7 +1,7 @@
 -- The three parts of it.
 use Rattle.std.proofs.Common.{◌≡◌, true, subst}
 use Rattle.std.specs.List.{All}
-use Rattle.mips_plain.specs.Words.{has}
+use Rattle.mips_instructions.specs.Words.{has}
 use Rattle.task_descriptor.specs.Names.{is_name}
 use Rattle.task_descriptor.specs.Listing.{OfRegisters, NamesRegisters}
 use Rattle.task_descriptor.specs.declared.descriptor.Descriptor.{Descriptor}

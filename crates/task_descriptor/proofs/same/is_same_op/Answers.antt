@@ -4,9 +4,9 @@ use Rattle.std.specs.Prelude.{ℤ}
 use Rattle.std.proofs.lemmas.Bool.{and_parts}
 use Rattle.std.proofs.lemmas.Bool.Decides.{Decides-int_eq}
 use denote.Enum.Bare.{same_true}
-use Rattle.mips_plain.specs.declared.instruction.Op.{Op}
-use Rattle.mips_plain.specs.declared.instruction.Op.TheVariants.{Halt}
-use Rattle.mips_plain.specs.contracts.instruction.OpPartialEq.TheImpl as op
+use Rattle.mips_instructions.specs.declared.instruction.Op.{Op}
+use Rattle.mips_instructions.specs.declared.instruction.Op.TheVariants.{Halt}
+use Rattle.mips_instructions.specs.contracts.instruction.OpPartialEq.TheImpl as op
 use Rattle.task_descriptor.proofs.same.is_same_op.Goals as goal
 
 same_int : (a b : ℤ) → int_eq a b ≡ true → a ≡ b

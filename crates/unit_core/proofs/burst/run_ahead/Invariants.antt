@@ -1,5 +1,5 @@
 use Rattle.std.specs.Prelude.{◌≡◌, ℕ, ◌≤◌, is_some}
-use Rattle.mips_plain.specs.Words.{has}
+use Rattle.mips_instructions.specs.Words.{has}
 use Rattle.unit_core.specs.Units.{active_of, IsPlaced}
 use Rattle.unit_core.specs.Bursts.{Makes, SendsLast, stretch_of}
 use Rattle.unit_core.proofs.burst.run_ahead.Given as goal

@@ -1,7 +1,7 @@
 -- What was sent stays as it was, so it makes no difference that those registers are left out.
 use Rattle.std.specs.Prelude.{◌≡◌, ℕ, Bool, not, ◌&&◌, is_some}
 use Rattle.std.proofs.Common.{ap, ◌∙◌}
-use Rattle.mips_plain.specs.Words.{has}
+use Rattle.mips_instructions.specs.Words.{has}
 use Rattle.machine_model.specs.Machine.{value_in}
 use Rattle.register_ring.specs.Held.{pairs}
 use Rattle.register_ring.specs.Ports.{arrived_of, sent_of}

@@ -1,7 +1,7 @@
 use Rattle.std.specs.Prelude.{◌≡◌, ℕ, ◌+◌, true, Option}
 use Rattle.std.specs.Option.{option_or}
 use Rattle.std.proofs.Common.{ap, sym, ◌∙◌, subst, arith}
-use Rattle.mips_plain.specs.Instruction.{dests}
+use Rattle.mips_instructions.specs.Instruction.{dests}
 use Rattle.register_ring.specs.Held.{pairs}
 use Rattle.machine_model.specs.Unit.{with_own}
 use Rattle.unit_core.specs.ExecParts.{writes}

@@ -1,6 +1,6 @@
 use Rattle.std.specs.Prelude.{Bool, ◌&&◌}
 use Rattle.std.proofs.Common.{◌≡◌, ℕ, ap, sym, ◌∙◌}
-use Rattle.mips_plain.specs.InstructionTable.{general}
+use Rattle.mips_instructions.specs.InstructionTable.{general}
 use Rattle.machine_model.specs.Unit.{put, sent_with}
 use Rattle.register_ring.specs.Held.{pairs, put_first}
 use Rattle.register_ring.specs.Ports.{sent_of}

@@ -2,7 +2,8 @@ use Rattle.std.proofs.Common.{◌≡◌, ℕ, zero, suc, List, refl, ap, ◌∙�
 use Rattle.std.specs.Prelude.{map, slice_index, replicate}
 use Rattle.std.proofs.Math.Path.{fun_ext}
 use Rattle.mips_plain.specs.Contents.{Contents}
-use Rattle.mips_plain.specs.Words.{address, byte_of}
+use Rattle.mips_instructions.specs.Words.{address}
+use Rattle.mips_plain.specs.MemoryMap.{byte_of}
 use Rattle.unit_core.specs.Units.{UnitView, active_of}
 use Rattle.processor_steps.proofs.processor.Processor.new.Goals as goal
 

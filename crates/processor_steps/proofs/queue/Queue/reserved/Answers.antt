@@ -1,6 +1,6 @@
 use Rattle.std.proofs.Common.{Bool, ◌||◌, List, sym, ap, ◌∙◌}
 use Rattle.std.specs.Prelude.{map}
-use Rattle.mips_plain.specs.Words.{has}
+use Rattle.mips_instructions.specs.Words.{has}
 use Rattle.machine_model.specs.Step.{is_reserved}
 use Rattle.unit_core.specs.Units.{UnitView, active_of}
 use Rattle.processor_steps.specs.Processors.{QueueView, actives}

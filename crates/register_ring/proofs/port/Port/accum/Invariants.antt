@@ -1,6 +1,6 @@
 use Rattle.std.specs.Prelude.{◌≡◌, ℕ, take}
 use Rattle.std.specs.List.{list_any}
-use Rattle.mips_plain.specs.Words.{has}
+use Rattle.mips_instructions.specs.Words.{has}
 use Rattle.register_ring.proofs.port.Port.accum.Given as goal
 
 -- the registers of the masks so far

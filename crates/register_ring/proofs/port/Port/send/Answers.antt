@@ -1,6 +1,6 @@
 use Rattle.std.specs.Prelude.{◌≡◌, false}
 use Rattle.std.proofs.Common.{ap, sym, ◌∙◌}
-use Rattle.mips_plain.specs.Words.{has}
+use Rattle.mips_instructions.specs.Words.{has}
 use Rattle.register_ring.specs.Held.{pairs, put_first}
 use Rattle.register_ring.specs.Ports.{sent_of}
 use Rattle.register_ring.proofs.PortLemmas.{put_is_first, no_pair}

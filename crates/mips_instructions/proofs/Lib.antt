@@ -1,0 +1,4 @@
+pub mod SetLemmas
+pub mod ProductLemmas
+pub mod SpareLemmas
+pub mod RowLemmas

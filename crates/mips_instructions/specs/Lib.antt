@@ -1,0 +1,4 @@
+pub mod Words
+pub mod InstructionTable
+pub mod Instruction
+pub mod Spare
