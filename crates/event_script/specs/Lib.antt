@@ -1,4 +1,5 @@
 pub mod EventScript
 pub mod ScriptText
 pub mod FaultText
+pub mod NameKeys
 pub mod Examples

@@ -4,6 +4,7 @@
 pub mod fault;
 mod fault_text;
 pub mod laws;
+mod name_key;
 pub mod reading;
 mod task_names;
 pub mod writing;

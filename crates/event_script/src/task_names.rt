@@ -1,5 +1,6 @@
 //! The numbers of tasks, by their names.
 
+use crate::name_key::NameKey;
 use indexmap::IndexSet;
 use std::alloc::{AllocError, Global};
 use std::marker::Model;
@@ -11,7 +12,7 @@ use task_descriptor::name::Name;
 #[derive(Drop)]
 pub(crate) struct TaskNames {
     // Texts, not names: a text is hashed up to 16 bytes at a time, and compared as bytes.
-    names: IndexSet<String>,
+    names: IndexSet<String, NameKey>,
 }
 
 impl Model for TaskNames {
@@ -33,7 +34,7 @@ impl TaskNames {
         requires { has_duplicate tasks.now ≡ false }
         ensures { IfOk result (λ names. names ≡ names_in tasks.now) }
     {
-        let mut names = IndexSet::new(alloc);
+        let mut names = IndexSet::with_hasher(alloc, NameKey::of(tasks));
         for task in tasks {
             names.insert(String::from_str(alloc, task.name.as_str())?)?;
         }
