@@ -68,8 +68,7 @@ __attribute__((constructor)) static void start(void) {
 // With SERVE=IN OUT the process does not go on to `main`. A child does for each run that is asked for from IN: its faults, what
 // standard input is, TARGET, MORE, whether calls are counted, and the words. How the child ended, and its microseconds, go to OUT. What it
 // writes comes into the files that are standard output and standard error, which are emptied before.
-static char asked[1 << 20];
-static int (*real_main)(int, char **, char **);
+static char asked[1 << 20], *asked_words[1 << 13];
 static void need(int is_so) { if (!is_so) syscall(SYS_exit_group, 126); }
 static void take(int in, void *into, long size) {
     for (long got, at = 0; at < size; at += got) {
@@ -77,23 +76,19 @@ static void take(int in, void *into, long size) {
         if (got <= 0) syscall(SYS_exit_group, 0);
     }
 }
-static int go_on(char *name, long size) {
-    static char *words[1 << 13];
+static int go_on(long size) {
     char *fields[5], *at = asked;
+    int count = 1;
     for (int k = 0; k < 5; k++, at += strlen(at) + 1) fields[k] = at;
+    for (; at < asked + size; at += strlen(at) + 1) asked_words[count++] = at;
     if (*fields[1]) need(dup2(open(fields[1], O_RDONLY), 0) == 0);
     setenv("TARGET", fields[2], 1);
     setenv("MORE", fields[3], 1);
     if (!*fields[4]) unsetenv("COUNTS");
-    int count = 0;
-    for (words[count++] = name; at < asked + size; at += strlen(at) + 1) words[count++] = at;
     begin(fields[0]);
-    return real_main(count, words, environ);
+    return count;
 }
-static int serve(int count, char **words, char **env) {
-    int in, out;
-    if (!getenv("SERVE")) return real_main(count, words, env);
-    need(sscanf(getenv("SERVE"), "%d %d", &in, &out) == 2);
+static int serve(int in, int out) {
     for (long size;;) {
         take(in, &size, sizeof size);
         need(size < (long)sizeof asked);
@@ -103,7 +98,7 @@ static int serve(int count, char **words, char **env) {
         if (child == 0) {
             close(in);
             close(out);
-            return go_on(words[0], size);
+            return go_on(size);
         }
         int status;
         struct rusage used;
@@ -114,8 +109,13 @@ static int serve(int count, char **words, char **env) {
 }
 int __libc_start_main(int (*program)(int, char **, char **), int count, char **words, void (*first)(void), void (*last)(void), void (*end)(void), void *stack) {
     int (*real)(int (*)(int, char **, char **), int, char **, void (*)(void), void (*)(void), void (*)(void), void *) = dlsym(RTLD_NEXT, "__libc_start_main");
-    real_main = program;
-    return real(serve, count, words, first, last, end, stack);
+    int in, out;
+    if (getenv("SERVE") && sscanf(getenv("SERVE"), "%d %d", &in, &out) == 2) {
+        asked_words[0] = words[0];
+        count = serve(in, out);
+        words = asked_words;
+    }
+    return real(program, count, words, first, last, end, stack);
 }
 static unsigned long number(int kind) { return ready ? __atomic_add_fetch(&calls[kind], 1, __ATOMIC_SEQ_CST) : 0; }
 static int drawn(const struct fault *f, unsigned long call) {

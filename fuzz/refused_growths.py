@@ -203,7 +203,7 @@ class Case:
         self.emit = words[-1] if self.is_run and words[-2] == "--emit" else None
         self.files = [word for word in words if "/" in word]
         self.reason = ": out of memory" if words[0] == "explain" else ""
-        runs = [bench.run(words) for _ in range(5 if self.shares else 1)]
+        runs = [bench.forked(words, counts=True) for _ in range(5 if self.shares else 1)]
         self.growths = max(ended.counts[GROW] for ended in runs)
         self.told = runs[0].told
         self.right = self.shown(runs[0])
