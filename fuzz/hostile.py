@@ -641,7 +641,7 @@ WORST = [
     ("marks in the text, between comments", "annotate --emit marks", 150000, lambda n: HEAD + "# !f\n" * n, None, None),
     ("a loop that does not end", "seq --budget {n}", 250000, lambda n: ".task B create=- targets=-\nB: lui $11,4097\nA: mult $8,$9\nlw $10,0($11)\nsw $8,0($11)\nbne $8,$9,A\nj A\n", None, None),
     ("labels that have one hash without a key", "print", 30000, lambda n: "".join(f"{ALIKE.format(k)}:" for k in range(n)) + HEAD, None, None),
-    ("events by the name of the last task, whose hash all tasks have", "replay", 25000, lambda n: many_tasks(1024, name=ALIKE), keep, lambda n: f"assign {ALIKE.format(1023)}\n".encode() * n),
+    ("events by the name of the last task, whose hash all tasks have", "replay", 2000, lambda n: many_tasks(1024, name=ALIKE), keep, lambda n: f"assign {ALIKE.format(1023)}\n".encode() * n),
 ]
 
 
