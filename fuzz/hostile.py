@@ -8,7 +8,7 @@ fuzzer that entry/build.sh makes, named by --fuzzer or HOSTILE_FUZZER, and is le
 until it has made so many, however long that takes, and --keep names the folder that keeps what it finds. `model`: each case
 that the fuzzer kept (--kept or HOSTILE_KEPT) is given to PROGRAM, and bytes and status are compared with model.py, and with
 the rules of the command line below; all kept cases are, however long it takes, on all cores. Without kept cases, those of
-entry/seeds.py are, until the minutes are over. `time`: inputs that are worst for
+entry/seeds.py are, until the minutes are over. Under pypy3 the model takes half the time or less. `time`: inputs that are worst for
 time, each at sizes n, 2n and 4n: four times the size may take eight times as long at most, and none more than a
 second. Where the answer grows more than the input does, as that of `explain` with its paths, its bytes are the size. Needs python3. It is no part of the tests.
 """
@@ -459,7 +459,7 @@ def compared(program, kept, minutes, seed):
     cases = [p.read_bytes() for folder in kept.split(os.pathsep) for p in sorted(pathlib.Path(folder).iterdir())] if kept else list(seeds.cases(2000, seed))
     end = float("inf") if kept else time.monotonic() + 60 * minutes
     random.Random(seed).shuffle(cases)
-    many = len(os.sched_getaffinity(0))
+    many = int(subprocess.run(["nproc"], capture_output=True, check=True).stdout)  # pypy3 cannot say how many cores it may use
     parts = [(program, end, cases[k::8 * many]) for k in range(8 * many)]
     done, answers, differences, worst = 0, collections.Counter(), [], 0.0
     with multiprocessing.Pool(many) as pool:
