@@ -8,7 +8,7 @@ fuzzer that entry/build.sh makes, named by --fuzzer or HOSTILE_FUZZER, and is le
 until it has made so many, however long that takes, and --keep names the folder that keeps what it finds. `model`: each case
 that the fuzzer kept (--kept or HOSTILE_KEPT) is given to PROGRAM, and bytes and status are compared with model.py, and with
 the rules of the command line below; all kept cases are, however long it takes, on all cores. Without kept cases, those of
-entry/seeds.py are, until the minutes are over. Under pypy3 the model takes half the time or less. `time`: inputs that are worst for
+entry/seeds.py are, until the minutes are over. `time`: inputs that are worst for
 time, each at sizes n, 2n and 4n: four times the size may take eight times as long at most, and none more than a
 second. Where the answer grows more than the input does, as that of `explain` with its paths, its bytes are the size. Needs python3. It is no part of the tests.
 """
