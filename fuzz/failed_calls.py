@@ -195,8 +195,8 @@ class Part:
         text = f"{what}: {ended.out[:60]} {ended.told[:60]}, wanted {[w if w is None or isinstance(w, int) else w[:60] for w in wanted]}"
         self.row.seen(answer, words, text, not is_right)
 
-    def run(self, case, what, wanted, *faults_of, **more):
-        self.expect(case.words, f"{what} {''.join(faults_of)}", self.bench.run(case.words, *faults_of, **more), wanted)
+    def run(self, case, what, wanted, *faults_of):
+        self.expect(case.words, f"{what} {''.join(faults_of)}", self.bench.forked(case.words, *faults_of, counts=True), wanted)
 
 
 def short_reads(part, every, draw):
@@ -237,7 +237,7 @@ def prefix_answer(case, which, size, more=b""):
     with open(case.files[which], "rb") as file:
         path.write_bytes(file.read()[:size] + more)
     words = case.with_file(which, path)
-    ended = case.bench.run(words)
+    ended = case.bench.forked(words)
     return ended.status, unnamed(words, ended.out), None
 
 
@@ -264,7 +264,7 @@ def changed_while_read(how, more):
             value = draw.randint(0, len(text)) if how == "t" else draw.choice((1, 500))
             wanted = prefix_answer(case, file - 1, max(had, value) if how == "t" else len(text), more.encode() * value if how == "a" else b"")
             changed = fault(READ, 1, EVERY, "s", 100), fault(READ, n, n, how, value)
-            ended = part.bench.run(case.with_file(file - 1, copy), *changed, TARGET=str(copy), MORE=more)
+            ended = part.bench.forked(case.with_file(file - 1, copy), *changed, counts=True, target=str(copy), more=more)
             part.expect(case.words, f"file {file} before read {n}, {how} {value}", ended, wanted)
     return runs
 
@@ -543,7 +543,7 @@ def shared_cases(bench):
 
 def with_preads(part, case, wanted, *faults_of):
     """A run of which positioned reads are known to have been made."""
-    ended = part.bench.run(case.words, *faults_of)
+    ended = part.bench.forked(case.words, *faults_of, counts=True)
     if ended.counts and not ended.counts[PREAD]:
         part.row.differences.append(f"no positioned reads: {' '.join(case.words)}")
     part.expect(case.words, "".join(faults_of), ended, wanted)
@@ -582,7 +582,7 @@ def early_pread(part, every, draw):
     jobs = [(case, n, size) for case in shared_cases(part.bench) for n in range(1, 90) for size in told_sizes(case)]
     for case, n, size in part.each(jobs, draw):
         which = fault(PREAD, 1, EVERY, "s", 4096), fault(PREAD, n, n, "z"), fault(SIZE, 1, EVERY, "l", size)
-        ended = part.bench.run(case.words, *which)
+        ended = part.bench.forked(case.words, *which, counts=True)
         offset = ended.preads[n - 1][0] if ended.preads and n <= len(ended.preads) else 0
         wanted = prefix_answer(case, 1, offset) if offset >= case.behind(size) else case.right[:3]
         part.expect(case.words, f"at {offset} {''.join(which)}", ended, wanted)
@@ -604,7 +604,7 @@ def changed_before_pread(how, more):
             copy.write_bytes(case.text)
             value = draw.randint(draw.choice((0, case.behind(size) - 9)), len(case.text)) if how == "t" else draw.choice((1, 500))
             which = fault(PREAD, 1, EVERY, "s", 4096), fault(PREAD, n, n, how, value), fault(SIZE, 1, EVERY, "l", size)
-            ended = part.bench.run(case.with_file(1, copy), *which, TARGET=str(copy), MORE=more)
+            ended = part.bench.forked(case.with_file(1, copy), *which, counts=True, target=str(copy), more=more)
             if not ended.preads or n > len(ended.preads):
                 wanted = case.right[:3]
             elif how == "t":

@@ -7,6 +7,8 @@ the middle of them. Needs cc and a program that is linked with the C library of 
 import collections
 import os
 import pathlib
+import resource
+import select
 import subprocess
 import tempfile
 
@@ -29,8 +31,10 @@ SOURCE = r"""
 #include <stdio.h>
 #include <stdlib.h>
 #include <string.h>
+#include <sys/resource.h>
 #include <sys/stat.h>
 #include <sys/syscall.h>
+#include <sys/wait.h>
 #include <unistd.h>
 enum { GROW, OPEN, READ, WRITE, TELL, PREAD, SIZE, KINDS };
 // Calls of a kind from one number to another, and of these one in some, by a seed: what becomes of them.
@@ -46,9 +50,7 @@ static void grow_stack(size_t size) {
     volatile char room[size];
     for (size_t at = size; at > 4096; at -= 4096) room[at - 1] = 0;
 }
-__attribute__((constructor)) static void start(void) {
-    const char *text = getenv("FAULTS");
-    grow_stack(getenv("STACK") ? strtoul(getenv("STACK"), NULL, 10) : 1);
+static void begin(const char *text) {
     int used;
     struct fault f;
     while (text && count < 8 && sscanf(text, " %d %lu %lu %lu %lu %c %ld;%n",
@@ -57,6 +59,63 @@ __attribute__((constructor)) static void start(void) {
         text += used;
     }
     ready = 1;
+}
+__attribute__((constructor)) static void start(void) {
+    grow_stack(getenv("STACK") ? strtoul(getenv("STACK"), NULL, 10) : 1);
+    if (!getenv("SERVE")) begin(getenv("FAULTS"));
+}
+
+// With SERVE=IN OUT the process does not go on to `main`. A child does for each run that is asked for from IN: its faults, what
+// standard input is, TARGET, MORE, whether calls are counted, and the words. How the child ended, and its microseconds, go to OUT. What it
+// writes comes into the files that are standard output and standard error, which are emptied before.
+static char asked[1 << 20], *asked_words[1 << 13];
+static void need(int is_so) { if (!is_so) syscall(SYS_exit_group, 126); }
+static void take(int in, void *into, long size) {
+    for (long got, at = 0; at < size; at += got) {
+        got = syscall(SYS_read, in, (char *)into + at, size - at);
+        if (got <= 0) syscall(SYS_exit_group, 0);
+    }
+}
+static int go_on(long size) {
+    char *fields[5], *at = asked;
+    int count = 1;
+    for (int k = 0; k < 5; k++, at += strlen(at) + 1) fields[k] = at;
+    for (; at < asked + size; at += strlen(at) + 1) asked_words[count++] = at;
+    if (*fields[1]) need(dup2(open(fields[1], O_RDONLY), 0) == 0);
+    setenv("TARGET", fields[2], 1);
+    setenv("MORE", fields[3], 1);
+    if (!*fields[4]) unsetenv("COUNTS");
+    begin(fields[0]);
+    return count;
+}
+static int serve(int in, int out) {
+    for (long size;;) {
+        take(in, &size, sizeof size);
+        need(size < (long)sizeof asked);
+        take(in, asked, size);
+        for (int file = 1; file <= 2; file++) need(!ftruncate(file, 0) && !lseek(file, 0, SEEK_SET));
+        pid_t child = fork();
+        if (child == 0) {
+            close(in);
+            close(out);
+            return go_on(size);
+        }
+        int status;
+        struct rusage used;
+        need(child > 0 && wait4(child, &status, 0, &used) == child);
+        long told[2] = {status, (used.ru_utime.tv_sec + used.ru_stime.tv_sec) * 1000000 + used.ru_utime.tv_usec + used.ru_stime.tv_usec};
+        need(syscall(SYS_write, out, told, sizeof told) == sizeof told);
+    }
+}
+int __libc_start_main(int (*program)(int, char **, char **), int count, char **words, void (*first)(void), void (*last)(void), void (*end)(void), void *stack) {
+    int (*real)(int (*)(int, char **, char **), int, char **, void (*)(void), void (*)(void), void (*)(void), void *) = dlsym(RTLD_NEXT, "__libc_start_main");
+    int in, out;
+    if (getenv("SERVE") && sscanf(getenv("SERVE"), "%d %d", &in, &out) == 2) {
+        asked_words[0] = words[0];
+        count = serve(in, out);
+        words = asked_words;
+    }
+    return real(program, count, words, first, last, end, stack);
 }
 static unsigned long number(int kind) { return ready ? __atomic_add_fetch(&calls[kind], 1, __ATOMIC_SEQ_CST) : 0; }
 static int drawn(const struct fault *f, unsigned long call) {
@@ -184,11 +243,54 @@ def fault(kind, first, last, how, value=0, one_in=0, seed=0):
     return f"{kind} {first} {last} {one_in} {seed} {how} {value};"
 
 
-class Bench:
-    """The program with the library before it, and a folder for what is made."""
+def seconds_of_children():
+    used = resource.getrusage(resource.RUSAGE_CHILDREN)
+    return used.ru_utime + used.ru_stime
 
-    def __init__(self, program):
-        self.program = str(pathlib.Path(program).resolve())
+
+class Forks:
+    """A process of the program that has begun and waits before `main`. Each run is a child of it, and so need not wait for the loader; none
+    has the memory of another."""
+
+    def __init__(self, bench, folder):
+        self.files = [os.memfd_create(name) for name in ("out", "told")]
+        in_child, self.asks = os.pipe()
+        self.answers, out_child = os.pipe()
+        self.process = subprocess.Popen([bench.program], cwd=folder, stdin=subprocess.DEVNULL, stdout=self.files[0], stderr=self.files[1],
+                                        env=bench.environment(SERVE=f"{in_child} {out_child}"), pass_fds=(in_child, out_child))
+        os.close(in_child)
+        os.close(out_child)
+
+    def stop(self):
+        for file in (self.asks, self.answers, *self.files):
+            os.close(file)
+        self.process.wait()
+
+    def run(self, *asked):
+        """The status, the seconds of the processor, and what was written."""
+        text = b"".join(os.fsencode(it) + b"\0" for it in asked)
+        text = len(text).to_bytes(8, "little") + text
+        while text:
+            text = text[os.write(self.asks, text):]
+        if not select.select([self.answers], [], [], ending.EVERY)[0]:
+            ending.until(self.process, self.wait)
+        told = os.read(self.answers, 16)
+        written = (os.pread(file, os.fstat(file).st_size, 0) for file in self.files)
+        return os.waitstatus_to_exitcode(int.from_bytes(told[:4], "little")), int.from_bytes(told[8:], "little") / 1e6, *written
+
+    def wait(self, timeout):
+        if not select.select([self.answers], [], [], timeout)[0]:
+            raise subprocess.TimeoutExpired(self.process.args, timeout)
+
+
+class Bench:
+    """The program with the library before it, and a folder for what is made. `folder` is where forked runs are."""
+
+    def __init__(self, program, folder=None):
+        self.program, self.where, self.forks = str(pathlib.Path(program).resolve()), folder, None
+        with open(self.program, "rb") as file:
+            # one that is linked statically has no loader, and so not this library
+            self.may_fork = b"/ld-linux" in file.read(4096)
         self.made = tempfile.TemporaryDirectory(prefix="multiscalar-faults-")
         self.folder = pathlib.Path(self.made.name)
         self.folder.chmod(0o755)
@@ -200,6 +302,8 @@ class Bench:
         return self
 
     def __exit__(self, *_):
+        if self.forks:
+            self.forks.stop()
         self.made.cleanup()
 
     def environment(self, *faults, **more):
@@ -210,11 +314,30 @@ class Bench:
         before it begins. A run that does not end has status None."""
         self.counts.unlink(missing_ok=True)
         try:
-            done = ending.run([self.program, *words], stdin=given, capture_output=True,
+            done = ending.run([self.program, *words], stdin=given, capture_output=True, cwd=self.where,
                               env=self.environment(*faults, **more), close_fds=False, preexec_fn=limit)
         except subprocess.TimeoutExpired:
             return Ended(None, b"", b"did not end", None, None)
         return Ended(done.returncode, done.stdout, done.stderr, *self.counted())
+
+    def forked(self, words, *faults, counts=False, given="", target="", more=""):
+        """As `run`, by a fork of a process that has begun. `given` is the path of standard input; calls are counted with `counts`."""
+        if not self.may_fork:
+            before = seconds_of_children()
+            with open(given or os.devnull, "rb") as file:
+                ended = self.run(words, *faults, given=file, TARGET=target, MORE=more)
+            self.seconds = seconds_of_children() - before
+            return ended
+        self.forks = self.forks or Forks(self, self.where)
+        if counts:
+            self.counts.unlink(missing_ok=True)
+        try:
+            status, self.seconds, out, told = self.forks.run("".join(faults), given, target, more, "counts" if counts else "", *words)
+        except subprocess.TimeoutExpired:
+            self.forks.stop()
+            self.forks = None
+            return Ended(None, b"", b"did not end", None, None)
+        return Ended(status, out, told, *(self.counted() if counts else (None, None, None)))
 
     def counted(self):
         if not self.counts.exists():

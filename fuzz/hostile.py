@@ -19,7 +19,6 @@ import os
 import pathlib
 import random
 import re
-import resource
 import shutil
 import subprocess
 import sys
@@ -31,8 +30,8 @@ HERE = pathlib.Path(__file__).resolve().parent
 sys.path.insert(0, str(HERE / "entry"))
 import costly_marks
 import curve
-import ending
 import explain
+import faults
 import marks
 import picture
 import sarif
@@ -400,22 +399,22 @@ class Runner:
     """Runs the program in a folder that holds the three texts. `worst` is the longest time, as a part of what is allowed."""
 
     def __init__(self, program, folder):
-        self.program, self.folder, self.worst = program, folder, 0.0
+        self.bench, self.folder, self.worst, self.seconds = faults.Bench(program, folder), folder, 0.0, 0.0
+
+    def __enter__(self):
+        return self
+
+    def __exit__(self, *how):
+        self.bench.__exit__(*how)
 
     def __call__(self, words, texts):
         for name, text in zip("pcs", texts):
             (self.folder / name).write_bytes(text)
-        before = resource.getrusage(resource.RUSAGE_CHILDREN)
-        try:
-            with open(self.folder / "p", "rb") as program:
-                done = ending.run([self.program, *words], cwd=self.folder, stdin=program, capture_output=True)
-        except subprocess.TimeoutExpired:
-            return None, b"", b""
-        finally:
-            after = resource.getrusage(resource.RUSAGE_CHILDREN)
-            self.seconds = after.ru_utime + after.ru_stime - before.ru_utime - before.ru_stime
-        self.worst = max(self.worst, self.seconds / allowed_seconds([os.fsencode(w) for w in words], done.stdout))
-        return done.returncode, done.stdout, done.stderr
+        ended = self.bench.forked(words, given=str(self.folder / "p"))
+        if ended.status is not None:
+            self.seconds = self.bench.seconds
+            self.worst = max(self.worst, self.seconds / allowed_seconds([os.fsencode(w) for w in words], ended.out))
+        return ended[:3]
 
 
 def difference(runner, words, texts):
@@ -438,21 +437,21 @@ def compare(program, end, cases):
     compared, answers, differences = 0, collections.Counter(), []
     learn(program)
     with tempfile.TemporaryDirectory() as name:
-        runner = Runner(program, pathlib.Path(name))
-        for case in cases:
-            if time.monotonic() > end:
-                break
-            calls, texts = jobs_of(case)
-            for words in calls:
-                try:
-                    seen, fault = difference(runner, words, texts)
-                except Exception:
-                    seen, fault = "the model failed", traceback.format_exc().strip().splitlines()[-1]
-                answers[seen] += 1
-                if fault:
-                    differences.append(f"case {case.hex() if len(case) < 200 else case[:60].hex() + '..'}: {fault}")
-            compared += 1
-        return compared, answers, differences, runner.worst
+        with Runner(program, pathlib.Path(name)) as runner:
+            for case in cases:
+                if time.monotonic() > end:
+                    break
+                calls, texts = jobs_of(case)
+                for words in calls:
+                    try:
+                        seen, fault = difference(runner, words, texts)
+                    except Exception:
+                        seen, fault = "the model failed", traceback.format_exc().strip().splitlines()[-1]
+                    answers[seen] += 1
+                    if fault:
+                        differences.append(f"case {case.hex() if len(case) < 200 else case[:60].hex() + '..'}: {fault}")
+                compared += 1
+            return compared, answers, differences, runner.worst
 
 
 def compared(program, kept, minutes, seed):
@@ -460,7 +459,7 @@ def compared(program, kept, minutes, seed):
     cases = [p.read_bytes() for folder in kept.split(os.pathsep) for p in sorted(pathlib.Path(folder).iterdir())] if kept else list(seeds.cases(2000, seed))
     end = float("inf") if kept else time.monotonic() + 60 * minutes
     random.Random(seed).shuffle(cases)
-    many = len(os.sched_getaffinity(0))
+    many = int(subprocess.run(["nproc"], capture_output=True, check=True).stdout)  # pypy3 cannot say how many cores it may use
     parts = [(program, end, cases[k::8 * many]) for k in range(8 * many)]
     done, answers, differences, worst = 0, collections.Counter(), [], 0.0
     with multiprocessing.Pool(many) as pool:
@@ -543,9 +542,14 @@ def backwards(count):
     return f".task A create={ALL} targets=A\n" + "\n".join(lines) + "\n"
 
 
-def many_tasks(count, targets=1):
-    names = [f"T{k}" for k in range(count)]
-    return "".join(f".task {n} create=$8 targets={','.join(names[(k + 1 + j) % count] for j in range(targets))}\n" for k, n in enumerate(names)) + "".join(f"{n}: addiu $8,$8,1 !f !s\n" for n in names[:-1]) + f"{names[-1]}: j T0 !s\n"
+# With the standard library's FoldHasher from its own seed, all names of 32 letters that begin so have one hash: its state behind the
+# first 16 letters is the 8 letters that follow, and so the next factor is zero, whatever the last 8 letters are.
+ALIKE = "XhORumEyUXRDkdbRzxW4OGOA{:08}"
+
+
+def many_tasks(count, targets=1, name="T{}"):
+    names = [name.format(k) for k in range(count)]
+    return "".join(f".task {n} create=$8 targets={','.join(names[(k + 1 + j) % count] for j in range(targets))}\n" for k, n in enumerate(names)) + "".join(f"{n}: addiu $8,$8,1 !f !s\n" for n in names[:-1]) + f"{names[-1]}: j {names[0]} !s\n"
 
 
 def keep(runner, text, n):
@@ -636,21 +640,14 @@ WORST = [
     ("marks in the text, blanks before them", "annotate --emit marks", 1000, lambda n: ".task A create=$8 targets=A\nA: " + ("addiu $8,$8,1" + " " * 1000 + "!f\n") * n + "j A !s\n", None, None),
     ("marks in the text, between comments", "annotate --emit marks", 150000, lambda n: HEAD + "# !f\n" * n, None, None),
     ("a loop that does not end", "seq --budget {n}", 250000, lambda n: ".task B create=- targets=-\nB: lui $11,4097\nA: mult $8,$9\nlw $10,0($11)\nsw $8,0($11)\nbne $8,$9,A\nj A\n", None, None),
-    ("labels that collide", "print", 8192, None, None, None),
+    ("labels that have one hash without a key", "print", 30000, lambda n: "".join(f"{ALIKE.format(k)}:" for k in range(n)) + HEAD, None, None),
+    ("events by the name of the last task, whose hash all tasks have", "replay", 2000, lambda n: many_tasks(1024, name=ALIKE), keep, lambda n: f"assign {ALIKE.format(1023)}\n".encode() * n),
 ]
 
 
-def colliding(folder, count):
-    """Labels that a table without a key puts into one group (entry/collide.c), or None without a compiler."""
-    made = folder / "collide"
-    if not made.exists() and subprocess.run(["cc", "-O2", "-o", str(made), str(HERE / "entry" / "collide.c")], capture_output=True).returncode:
-        return None
-    return subprocess.run([str(made), str(count), "14"], capture_output=True, text=True).stdout.split()
-
-
-def texts_of(runner, n, text, certificate, script, found):
+def texts_of(runner, n, text, certificate, script):
     """The texts of an input of size n."""
-    given = [(text(n) if text else "".join(f"{it}:" for it in found[:n]) + HEAD).encode("latin-1")]
+    given = [text(n).encode("latin-1")]
     if certificate:
         given.append(certificate(runner, given[0], n))
     if script:
@@ -662,20 +659,15 @@ def timed(program, minutes, seed, only=""):
     """Inputs that are worst for time: the time at n, 2n and 4n, the least of three."""
     end = time.monotonic() + 60 * minutes
     tried, answers, differences = 0, collections.Counter(), []
-    with tempfile.TemporaryDirectory() as name:
-        folder = pathlib.Path(name)
-        runner = Runner(program, folder)
+    with tempfile.TemporaryDirectory() as name, Runner(program, pathlib.Path(name)) as runner:
         begins = min((runner(["print", "p"], [HEAD.encode()]), runner.seconds)[1] for _ in range(5))
         for title, job, size, text, certificate, script in random.Random(seed).sample(WORST, len(WORST)):
             if time.monotonic() > end or only not in title:
                 continue
-            found = colliding(folder, 4 * size) if text is None else None
-            if text is None and found is None:
-                continue
             took, sizes, first, slow = [1e9] * 3, [1] * 3, b"", 0
             for _ in range(3):  # again where other work may have made it slow
                 for k, n in enumerate((size, 2 * size, 4 * size)):
-                    given = texts_of(runner, n, text, certificate, script, found)
+                    given = texts_of(runner, n, text, certificate, script)
                     words = [*job.replace("{n}", str(n)).split(), *"pcs"[:len(given)]]
                     for _ in range(3):
                         status, out, told = runner(words, given)
@@ -692,7 +684,8 @@ def timed(program, minutes, seed, only=""):
             answers["beyond" if is_slow else "at most twice linear"] += 1
             if is_slow:
                 differences.append(f"{said} s at n = {size}, 2n and 4n: {slow:.1f} times linear")
-    return "inputs that are worst for time, at n, 2n and 4n", tried, dict(answers), differences
+    inputs = sum(answers.values())
+    return f"{inputs} inputs that are worst for time{'' if inputs == len(WORST) else f' (of {len(WORST)})'}, at n, 2n and 4n", tried, dict(answers), differences
 
 
 def run(program, minutes, seed, only="", kept=None, fuzzer=None, cases=None):

@@ -203,7 +203,7 @@ class Case:
         self.emit = words[-1] if self.is_run and words[-2] == "--emit" else None
         self.files = [word for word in words if "/" in word]
         self.reason = ": out of memory" if words[0] == "explain" else ""
-        runs = [bench.run(words) for _ in range(5 if self.shares else 1)]
+        runs = [bench.forked(words, counts=True) for _ in range(5 if self.shares else 1)]
         self.growths = max(ended.counts[GROW] for ended in runs)
         self.told = runs[0].told
         self.right = self.shown(runs[0])
@@ -295,15 +295,23 @@ def at_limits(cases, draw):
     return jobs
 
 
-def perform(name, jobs, draw, end):
-    """The runs of a part in a drawn order until the time is up, as a row."""
+def make(row, jobs, end=float("inf")):
+    """Makes these runs, until the time is up; it is quick where those of a case follow one another."""
+    for case, faults_of in jobs:
+        if time.monotonic() > end:
+            break
+        case.judge(row, case.bench.forked(case.words, faults_of), f"faults {faults_of}")
+
+
+def perform(name, jobs, draw, end, at_once):
+    """The runs of a part in a drawn order until the time is up, as a row; so many at once, in the order of their cases."""
     draw.shuffle(jobs)
     row = Row(name)
-    for case, faults_of in jobs:
+    for first in range(0, len(jobs), at_once):
         if time.monotonic() > end:
             row.part += f" (drawn, of {len(jobs)})"
             break
-        case.judge(row, case.bench.run(case.words, faults_of), f"faults {faults_of}")
+        make(row, sorted(jobs[first:first + at_once], key=lambda job: id(job[0])))
     return row.line()
 
 
@@ -324,10 +332,7 @@ def complete(program, kind, part, of, minutes, only=""):
         for case in cases:
             print(f"{case.growths} growths: {' '.join(case.words)}", file=sys.stderr, flush=True)
         total, row = sum(1 for _ in turns(cases, part, of)), Row("")
-        for case, faults_of in turns(cases, part, of):
-            if time.monotonic() > end:
-                break
-            case.judge(row, bench.run(case.words, faults_of), f"faults {faults_of}")
+        make(row, turns(cases, part, of), end)
     row.part = f"each growth refused alone, {kind}, part {part} of {of} ({row.cases} of {total})"
     return row.line()
 
@@ -363,9 +368,9 @@ def run(program, minutes, seed, only="", whole=False):
                                   ("one growth in 10 or 100 refused", at_random, 0.72)):
             if whole and jobs is alone:
                 continue
-            rows.append(perform(name, jobs(small, draw), draw, begin + 60 * minutes * until))
+            rows.append(perform(name, jobs(small, draw), draw, begin + 60 * minutes * until, 2000))
         large = [Case(bench, w) for w in limit_cases(bench.folder) if only in ("", w[0])]
-        rows.append(perform("growths refused, texts at the limits", at_limits(large, draw), draw, begin + 60 * minutes * 0.9))
+        rows.append(perform("growths refused, texts at the limits", at_limits(large, draw), draw, begin + 60 * minutes * 0.9, 1))
         # the stack has grown before the limit on the address space can stop it: docs/RELIABILITY.md
         every, end = small + large, begin + 60 * minutes
         rows.append(limited("address space of 9 to 600 MB", resource.RLIMIT_AS, 9e6, 6e8, every, draw, end - 2 * minutes, STACK="1500000"))

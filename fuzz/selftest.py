@@ -127,6 +127,26 @@ int main(int count, char **words) {
 }
 """
 
+# A program that is wrong, as KIND says, where its one growth is refused.
+GROWER = r"""
+#include <signal.h>
+#include <stdlib.h>
+#include <string.h>
+#include <unistd.h>
+static void put(int file, const char *text) { if (write(file, text, strlen(text)) < 0) { } }
+int main(void) {
+    const char *kind = getenv("KIND");
+    char *grown = malloc(100);
+    if (grown) { put(1, "right\n"); _exit(0); }
+    if (!strcmp(kind, "crash")) raise(SIGSEGV);
+    if (!strcmp(kind, "waits")) for (;;) pause();
+    if (!strcmp(kind, "turns")) for (;;) {}
+    if (!strcmp(kind, "half")) put(1, "ri");
+    if (strcmp(kind, "silent")) put(2, "multiscalar: 1 OutOfMemory\n");
+    _exit(!strcmp(kind, "status") ? 1 : 2);
+}
+"""
+
 # The kinds of jobs that a script has to try: a name, and words of the command line that only such a job has.
 RUNS = [("run by threads", "run cert"), ("run, script", "run script"), ("run, table", "run summary"), ("run, picture", "run svg"),
         ("run in steps", "run steps"), ("run in steps, script", "run steps script"), ("run in steps, table", "run steps summary"), ("run in steps, picture", "run steps svg"),
@@ -143,9 +163,10 @@ class Planted:
     """The runner, and the environment that plants a fault."""
 
     def __init__(self, program, folder):
-        source, self.runner = folder / "runner.c", folder / "runner"
-        source.write_text(RUNNER)
-        subprocess.run(["cc", "-O1", "-static", "-w", "-o", self.runner, source], check=True)
+        self.runner, self.grower = folder / "runner", folder / "grower"
+        for made, source, how in ((self.runner, RUNNER, ["-static"]), (self.grower, GROWER, [])):
+            made.with_suffix(".c").write_text(source)
+            subprocess.run(["cc", "-O1", *how, "-w", "-o", made, made.with_suffix(".c")], check=True)
         folder.chmod(0o755)
         os.environ["PROGRAM"] = str(pathlib.Path(program).resolve())
 
@@ -180,6 +201,18 @@ def growths(planted):
             for n in range(1, min(case.growths, 12) + 1):
                 case.judge(row, bench.run(words, refused_growths.refusal(n, n)), "")
             yield name, kind, bool(row.differences)
+    for kind in ("crash", "half", "status", "silent"):
+        yield "a run that is forked", kind, is_wrong_when_forked(planted, kind)
+    yield "a run that is forked and right", "nothing", not is_wrong_when_forked(planted, "none")
+
+
+def is_wrong_when_forked(planted, kind):
+    """Whether refused_growths.py finds a fault in the forked runs of GROWER."""
+    os.environ["KIND"] = kind
+    with faults.Bench(planted.grower) as bench:
+        case, row = refused_growths.Case(bench, ["seq"]), faults.Row("")
+        refused_growths.make(row, [(case, refused_growths.refusal(1, 1)), (case, refused_growths.refusal(2, 2))])
+    return bool(row.differences) or sum(row.answers.values()) != 2
 
 
 def calls(planted):
@@ -327,6 +360,7 @@ def ends(planted):
                 planted.plant(kind, "seq")
                 case.judge(row, bench.run(case.words), "")
                 yield "refused_growths.py", what, bool(row.differences)
+                yield "refused_growths.py, forked", what, is_wrong_when_forked(planted, kind)
                 yield "load.py", what, load.call([runner, "seq", source])[0] is None
                 yield "schedules.py", what, schedules.call(runner, "seq", source).returncode is None
                 yield "hostile.py", what, hostile.Runner(runner, pathlib.Path(folder))(["seq", "p"], [b"A: halt\n"])[0] is None
