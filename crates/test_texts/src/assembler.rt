@@ -5,7 +5,9 @@ use crate::numbers::gpr;
 use annotated_asm::assembler::assemble;
 use annotated_asm::fault::AsmFault;
 use mips_instructions::instruction::{ImmKind, LogicKind, Op};
+use std::alloc::{AllocError, Global};
 use std::process::Abort;
+use std::test::Fail;
 use task_descriptor::program::Program;
 
 const COUNT: &str = "
@@ -76,4 +78,28 @@ fn faults(rt: HostRuntime) {
         let answer = assemble(rt.alloc(), text.as_bytes()).err();
         assert_eq!(rt; answer, Some(fault));
     }
+}
+
+// A text with 123,000 labels. Without a key all names that begin with these 24 letters have one hash.
+fn labels_of_one_hash(alloc: Global) -> Result<String, AllocError> {
+    let mut text = String::new(alloc);
+    for number in 10_000_000..10_123_000 {
+        writeln!(text, "XhORumEyUXRDkdbRzxW4OGOA{number}:")?;
+    }
+    text.push_str(".task A create=- targets=-\nA: halt\n")?;
+    Ok(text)
+}
+
+// The labels are found by a key of the text. If the look-up of each walked through the others, four times
+// would take minutes, and a test that takes one fails.
+#[test]
+fn labels_chosen_to_collide(rt: HostRuntime) -> Result<(), Fail> {
+    let text = labels_of_one_hash(rt.alloc())?;
+    for _ in 0..4 {
+        let program = assembled(&rt, rt.alloc(), text.as_str());
+        assert_eq!(rt; program.code().len(), 1);
+        assert_eq!(rt; program.tasks().len(), 1);
+        assert_eq!(rt; program.start().get(), 0);
+    }
+    Ok(())
 }
