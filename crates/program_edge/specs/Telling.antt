@@ -31,8 +31,10 @@ reason_words reason.TooLong = codes "longer than 134217728 bytes"
 reason_words reason.OutOfMemory = codes "out of memory"
 reason_words reason.Other = codes "cannot be read"
 
--- what a fault is called behind `multiscalar: `
+-- what a fault is called: the text that `clap` wrote, or what stands behind `multiscalar: `
 abbrev pub name_of : Fault → List ℕ
+name_of (Help text) = string_bytes text
+name_of (Words text) = string_bytes text
 name_of NoText = codes "1 Words"
 name_of Predict = codes "2 Predict"
 name_of Emit = codes "3 Emit"
@@ -41,12 +43,11 @@ name_of InputTwice = codes "5 InputTwice: only one file can be - (standard input
 name_of (File path) = codes "file " ++ string_bytes path
 name_of (Explained unread) = codes "file " ++ (string_bytes unread.path ++ (codes ": " ++ reason_words unread.reason))
 name_of (Serve fault) = serve_fault_text fault
-name_of _ = []
 
 -- what is said: a text as it stands, or one line
 abbrev pub said_of : Fault → List ℕ
-said_of (Help text) = string_bytes text
-said_of (Words text) = string_bytes text
+said_of (Help text) = name_of (Help text)
+said_of (Words text) = name_of (Words text)
 said_of fault = codes "multiscalar: " ++ (name_of fault ++ 10 ∷ [])
 
 -- help is no fault

@@ -8,7 +8,7 @@ ghost use Rattle.program_edge.specs.Telling.{IsFaultOf};
 use crate::fault::Fault;
 use command_line::words::{UsageFault, job_of};
 use jobs::job::{Job, Paths};
-use std::alloc::Global;
+use std::alloc::{AllocError, Global};
 use std::env;
 use std::io::ErrorKind;
 use std::rt::Env;
@@ -62,7 +62,9 @@ fn input(name: &str) -> u32
 // The words, the program's own name first.
 fn read_words<R: Env + AllocGlobal>(rt: &R) -> Result<Vec<String>, Fault> {
     match env::args(rt) {
-        Ok(words) => words.collect(rt.alloc()).map_err(|_| Fault::OutOfMemory),
+        Ok(words) => words
+            .collect(rt.alloc())
+            .map_err(|_: AllocError| Fault::OutOfMemory),
         Err(error) if error.kind() == ErrorKind::OutOfMemory => Err(Fault::OutOfMemory),
         Err(_) => Err(Fault::NoText),
     }
@@ -76,7 +78,7 @@ pub fn fault_of(alloc: Global, fault: UsageFault) -> Fault
         UsageFault::Words(error) => match format!(in alloc; "{error}") {
             Ok(text) if error.use_stderr() => Fault::Words(text),
             Ok(text) => Fault::Help(text),
-            Err(_) => Fault::OutOfMemory,
+            Err(AllocError) => Fault::OutOfMemory,
         },
         UsageFault::Predict => Fault::Predict,
         UsageFault::Emit => Fault::Emit,

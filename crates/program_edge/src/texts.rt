@@ -8,6 +8,7 @@ ghost use Rattle.program_edge.specs.declared.unread.Reason.{Reason};
 
 use crate::named_files::NamedFiles;
 use crate::unread::{Reason, Unread, reason_of_opening, reason_of_reading};
+use annotated_asm::assembler::MOST_TEXT;
 use jobs::job::{Job, Paths, Texts};
 use shared_fetch::serial::fetch;
 use shared_fetch::shared::fetch_shared;
@@ -16,8 +17,8 @@ use std::marker::Sync;
 use std::thread::Threads;
 use text_pieces::text::Text;
 
-/// The most bytes of a program text, as `annotated_asm::assembler::MOST_TEXT`.
-pub const MOST_PROGRAM: u64 = 4_194_304;
+/// The most bytes of a program text.
+pub const MOST_PROGRAM: u64 = MOST_TEXT as u64;
 
 /// The most bytes of any other file.
 pub const MOST_FILE: u64 = 134_217_728;

@@ -1,10 +1,9 @@
 //! What the program says of a fault, and its status.
 ghost use Rattle.std.specs.Prelude.{◌≡◌, OnOk};
 ghost use Rattle.std.specs.Io.KnownBytes.{Appends};
-ghost use Rattle.program_edge.specs.Telling.{IsTold, reason_words, said_of};
+ghost use Rattle.program_edge.specs.Telling.{IsTold, said_of};
 
 use crate::fault::Fault;
-use crate::unread::Reason;
 use std::io;
 use std::io::Write;
 
@@ -38,40 +37,20 @@ pub fn tell<O: Write, E: Write>(fault: &Fault, output: &mut O, errors: &mut E) -
     }
 }
 
-// Writes what a fault says.
+// Says what a fault is, so that it has arrived.
 fn say<W: Write>(fault: &Fault, writer: &mut W) -> io::Result<()>
     ensures { OnOk result (Appends (W.contents writer.old) (W.contents writer.new) (said_of fault.now)) }
 {
-    match fault {
-        Fault::Help(text) | Fault::Words(text) => writer.write_all(text.as_bytes()),
-        Fault::NoText => writeln!(writer, "multiscalar: 1 Words"),
-        Fault::Predict => writeln!(writer, "multiscalar: 2 Predict"),
-        Fault::Emit => writeln!(writer, "multiscalar: 3 Emit"),
-        Fault::OutOfMemory => writeln!(writer, "multiscalar: 4 OutOfMemory"),
-        Fault::InputTwice => writeln!(
-            writer,
-            "multiscalar: 5 InputTwice: only one file can be - (standard input)"
-        ),
-        Fault::File(path) => writeln!(writer, "multiscalar: file {path}"),
-        Fault::Explained(unread) => {
-            let path = unread.path.as_str();
-            let reason = reason_name(unread.reason);
-            writeln!(writer, "multiscalar: file {path}: {reason}")
-        }
-        Fault::Serve(fault) => writeln!(writer, "multiscalar: {fault}"),
-    }
+    write_line(fault, writer)?;
+    writer.flush()
 }
 
-// Why a file gives no text.
-fn reason_name(reason: Reason) -> &'static str
-    ensures { result.now ≡ reason_words reason }
+// Writes what a fault says: a text as it stands, or one line.
+fn write_line<W: Write>(fault: &Fault, writer: &mut W) -> io::Result<()>
+    ensures { OnOk result (Appends (W.contents writer.old) (W.contents writer.new) (said_of fault.now)) }
 {
-    match reason {
-        Reason::NoSuchFile => "no such file",
-        Reason::IsDirectory => "is a directory",
-        Reason::NotPermitted => "no permission",
-        Reason::TooLong => "longer than 134217728 bytes",
-        Reason::OutOfMemory => "out of memory",
-        Reason::Other => "cannot be read",
+    match fault {
+        Fault::Help(_) | Fault::Words(_) => write!(writer, "{fault}"),
+        _ => writeln!(writer, "multiscalar: {fault}"),
     }
 }

@@ -1,8 +1,8 @@
 //! `annotate`: what is proposed, and what `check` says of it.
 
-use crate::answers::{Bench, EMPTY, Row, answer, expect, texts_of};
 use std::alloc::Global;
 use std::process::Abort;
+use test_answers::answers::{Bench, EMPTY, Row, answer, first_wrong, is_answer, texts_of};
 use test_programs::certificates::COUNT_CERTIFICATE_WIDE;
 use test_programs::programs::{
     COUNT, COUNT_BARE, COUNT_CREATES_LESS, COUNT_FORWARDED, DIAMOND, FIVE_FINDINGS, PAIR,
@@ -52,9 +52,7 @@ const LAID_OUT_MARKED: &str =
 
 #[test]
 fn annotates_count(rt: HostRuntime) {
-    for row in &PROPOSALS {
-        row.runs(&rt, rt.alloc());
-    }
+    assert_eq!(rt; first_wrong(&rt, rt.alloc(), &PROPOSALS), None);
 }
 
 const REFUSING: [&str; 4] = [
@@ -74,33 +72,43 @@ fn refuses_texts(rt: HostRuntime) {
             status: 1,
             ..EMPTY
         };
-        row.runs(&rt, rt.alloc());
+        assert!(rt; row.is_right(&rt, rt.alloc()), "{words}");
     }
 }
 
 // What the words write of a program, with status 0.
-fn annotated(rt: &impl Bench, alloc: Global, words: &str, program: &[u8]) -> Vec<u8> {
-    let texts = texts_of(rt, alloc, program, b"", b"");
-    let (written, status) = answer(rt, alloc, words, &texts);
+fn annotated(rt: &(impl Abort + Bench), alloc: Global, words: &str, program: &[u8]) -> Vec<u8> {
+    let texts = texts_of(alloc, program, b"", b"").expect(rt, "room for texts");
+    let (written, status) = answer(rt, alloc, words, &texts).expect(rt, "an answer");
     assert_eq!(rt; status, 0, "{words}");
     written
 }
 
 // Asserts what `check` writes of a program and its certificate.
 fn expect_checked(
-    rt: &impl Bench,
+    rt: &(impl Abort + Bench),
     alloc: Global,
     program: &[u8],
     certificate: &[u8],
     expected: &str,
     status: u8,
 ) {
-    let texts = texts_of(rt, alloc, program, certificate, b"");
-    expect(rt, alloc, "check a.s a.cert", &texts, expected, status);
+    let texts = texts_of(alloc, program, certificate, b"").expect(rt, "room for texts");
+    let words = "check a.s a.cert";
+    assert!(rt;
+        is_answer(rt, alloc, words, &texts, expected, status),
+        "{expected}"
+    );
 }
 
 // Asserts what `check` writes of the program that is proposed and its certificate.
-fn expect_proposed(rt: &impl Bench, alloc: Global, program: &str, expected: &str, status: u8) {
+fn expect_proposed(
+    rt: &(impl Abort + Bench),
+    alloc: Global,
+    program: &str,
+    expected: &str,
+    status: u8,
+) {
     let program = program.as_bytes();
     let proposed = annotated(rt, alloc, "annotate a.s", program);
     let certificate = annotated(rt, alloc, "annotate --emit cert a.s", program);

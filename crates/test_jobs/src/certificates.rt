@@ -1,8 +1,8 @@
 //! What `check` says of every beginning of a certificate.
 
-use crate::answers::{Bench, expect, texts_of};
 use std::alloc::Global;
 use std::process::Abort;
+use test_answers::answers::{Bench, is_answer, texts_of};
 use test_programs::certificates::{COUNT_CERTIFICATE, COUNT_CERTIFICATE_WIDE};
 use test_programs::programs::COUNT;
 
@@ -30,10 +30,14 @@ fn said_of_lines(lines: usize) -> &'static str {
 }
 
 // Asserts what `check` says of a beginning of the certificate of `COUNT`.
-fn expect_refused(rt: &impl Bench, alloc: Global, beginning: &[u8]) {
-    let texts = texts_of(rt, alloc, COUNT.as_bytes(), beginning, b"");
+fn expect_refused(rt: &(impl Abort + Bench), alloc: Global, beginning: &[u8]) {
+    let texts = texts_of(alloc, COUNT.as_bytes(), beginning, b"").expect(rt, "room for texts");
     let said = said_of(rt, alloc, beginning);
-    expect(rt, alloc, "check a.s a.cert", &texts, said.as_str(), 1);
+    let said = said.as_str();
+    assert!(rt;
+        is_answer(rt, alloc, "check a.s a.cert", &texts, said, 1),
+        "{said}"
+    );
 }
 
 #[test]
@@ -43,7 +47,7 @@ fn reads_beginnings_of_a_certificate(rt: HostRuntime) {
     }
 }
 
-fn expect_beginnings(rt: &impl Bench, alloc: Global, certificate: &[u8]) {
+fn expect_beginnings(rt: &(impl Abort + Bench), alloc: Global, certificate: &[u8]) {
     for len in 0..certificate.len() {
         expect_refused(rt, alloc, &certificate[..len]);
     }

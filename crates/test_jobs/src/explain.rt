@@ -1,7 +1,7 @@
 //! `explain`: what is said of wrong marks, of refused texts and of marks that cost speed, and nothing of marks
 //! that are right and cost nothing.
 
-use crate::answers::{EMPTY, Row};
+use test_answers::answers::{EMPTY, Row};
 use test_programs::programs::{
     COUNT, COUNT_CREATES_LESS, COUNT_FORWARDED, DIAMOND, FIVE_FINDINGS, PRODUCT, READ_ONLY,
     RELEASE, RELEASE_CREATES_MORE, SPIN, UNLISTED_JUMP,
@@ -16,7 +16,7 @@ const EXPLAIN: Row<'static> = Row {
 fn says_nothing_of_right_marks(rt: HostRuntime) {
     for program in [COUNT_FORWARDED, DIAMOND, PRODUCT, READ_ONLY, RELEASE, SPIN] {
         let row = Row { program, ..EXPLAIN };
-        row.runs(&rt, rt.alloc());
+        assert!(rt; row.is_right(&rt, rt.alloc()), "{program}");
     }
 }
 
@@ -57,7 +57,7 @@ fn warns_of_marks_that_cost_speed(rt: HostRuntime) {
             expected,
             ..EXPLAIN
         };
-        row.runs(&rt, rt.alloc());
+        assert!(rt; row.is_right(&rt, rt.alloc()), "{program}");
     }
 }
 
@@ -69,7 +69,7 @@ fn says_nothing_of_them_without_warnings(rt: HostRuntime) {
             program,
             ..EMPTY
         };
-        row.runs(&rt, rt.alloc());
+        assert!(rt; row.is_right(&rt, rt.alloc()), "{program}");
     }
 }
 
@@ -126,7 +126,7 @@ fn explains_wrong_marks(rt: HostRuntime) {
             status: 1,
             ..EXPLAIN
         };
-        row.runs(&rt, rt.alloc());
+        assert!(rt; row.is_right(&rt, rt.alloc()), "{program}");
     }
 }
 
@@ -280,7 +280,7 @@ fn explains_refused_texts(rt: HostRuntime) {
             status: 1,
             ..EXPLAIN
         };
-        row.runs(&rt, rt.alloc());
+        assert!(rt; row.is_right(&rt, rt.alloc()), "{program}");
     }
 }
 
@@ -437,7 +437,7 @@ fn explains_each_rule(rt: HostRuntime) {
             status: 1,
             ..EXPLAIN
         };
-        row.runs(&rt, rt.alloc());
+        assert!(rt; row.is_right(&rt, rt.alloc()), "{program}");
     }
 }
 
@@ -473,6 +473,6 @@ fn explains_certificates(rt: HostRuntime) {
             status,
             ..EMPTY
         };
-        row.runs(&rt, rt.alloc());
+        assert!(rt; row.is_right(&rt, rt.alloc()), "{program}");
     }
 }

@@ -2,7 +2,6 @@
 
 ghost use Rattle.std.specs.Prelude.{◌≡◌, ◌≤◌, length, take};
 
-use crate::answers::{Bench, texts_of};
 use jobs::job::Job;
 use shared_fetch::positioned::PositionedFile;
 use shared_fetch::serial::{FetchFault, fetch};
@@ -11,6 +10,7 @@ use std::alloc::Global;
 use std::io;
 use std::io::{ErrorKind, Read, Write};
 use std::process::Abort;
+use test_answers::answers::{Bench, texts_of};
 use text_pieces::text::Text;
 use verdict_report::fault::ServeFault;
 use verdict_report::serve::serve;
@@ -173,7 +173,13 @@ fn long_file(rt: &impl Abort, alloc: Global) -> Held {
 
 // Asserts that a file of this size, whose positioned reads fail from an offset on, is fetched the same by each
 // number of workers.
-fn expect_shared<R: Bench>(rt: &R, alloc: Global, file: &mut Held, fails_from: u64, most: u64) {
+fn expect_shared<R: Abort + Bench>(
+    rt: &R,
+    alloc: Global,
+    file: &mut Held,
+    fails_from: u64,
+    most: u64,
+) {
     assert!(rt; most <= 134_217_728);
     file.fails_from = fails_from;
     for &workers in &[0, 1, 4, 17] {
@@ -217,10 +223,11 @@ fn fails_as_one_thread_does(rt: HostRuntime) {
     assert!(&rt; answer == Some(FetchFault::Read(ErrorKind::Other)));
 }
 
-// Takes one byte a write, and fails at the write of this number.
+// Takes one byte a write, and fails at the write of this number; it may fail to flush what it took.
 #[derive(Drop)]
 struct Full {
     room: u32,
+    flushes: bool,
 }
 
 impl Write for Full {
@@ -233,23 +240,50 @@ impl Write for Full {
     }
 
     fn flush(&mut self) -> io::Result<()> {
-        Ok(())
+        if self.flushes {
+            Ok(())
+        } else {
+            Err(io::Error::from(ErrorKind::Other))
+        }
     }
 }
 
-// Asserts what `print` of a text with a fault answers where the writer has this room.
-fn expect_written(rt: &impl Bench, alloc: Global, room: u32, expected: Result<u8, ServeFault>) {
-    let texts = texts_of(rt, alloc, b"foo", b"", b"");
-    let mut writer = Full { room };
+// Asserts what `print` of a text with a fault answers with this writer.
+fn expect_written(
+    rt: &(impl Abort + Bench),
+    alloc: Global,
+    writer: Full,
+    expected: Result<u8, ServeFault>,
+) {
+    let texts = texts_of(alloc, b"foo", b"", b"").expect(rt, "room for texts");
+    let mut writer = writer;
     let answer = serve(rt, alloc, &Job::Print, &texts, &mut writer);
-    assert_eq!(rt; answer, expected, "room for {room}");
+    assert_eq!(rt; answer, expected);
 }
 
 // `program refused: 4 Mnemonic line 1` and its LF are 35 bytes.
 #[test]
 fn fails_to_write(rt: HostRuntime) {
     for room in 0..35 {
-        expect_written(&rt, rt.alloc(), room, Err(ServeFault::Write));
+        let writer = Full {
+            room,
+            flushes: true,
+        };
+        expect_written(&rt, rt.alloc(), writer, Err(ServeFault::Write));
     }
-    expect_written(&rt, rt.alloc(), 35, Ok(1));
+    let writer = Full {
+        room: 35,
+        flushes: true,
+    };
+    expect_written(&rt, rt.alloc(), writer, Ok(1));
+}
+
+// The bytes are taken and not flushed, so they may be lost.
+#[test]
+fn fails_to_flush(rt: HostRuntime) {
+    let writer = Full {
+        room: 35,
+        flushes: false,
+    };
+    expect_written(&rt, rt.alloc(), writer, Err(ServeFault::Write));
 }

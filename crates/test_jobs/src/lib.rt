@@ -1,12 +1,10 @@
-//! Tests of the program's jobs, from the words of a command line to the bytes that are written and
-//! the status. The expected bytes are those of the formats and of the instructions' own rules, worked
-//! out by hand.
+//! Tests of the program's jobs that run no machine, from the words of a command line to the bytes that are
+//! written and the status. The expected bytes are those of the formats and of the instructions' own rules,
+//! worked out by hand.
 #![tactic(auto)]
 
 #[cfg(test)]
 mod annotate;
-#[cfg(test)]
-mod answers;
 #[cfg(test)]
 mod calls;
 #[cfg(test)]
@@ -14,13 +12,9 @@ mod certificates;
 #[cfg(test)]
 mod check;
 #[cfg(test)]
-mod curve;
-#[cfg(test)]
 mod explain;
 #[cfg(test)]
 mod files;
-#[cfg(test)]
-mod least;
 #[cfg(test)]
 mod limits;
 #[cfg(test)]
@@ -29,14 +23,6 @@ mod log;
 mod print;
 #[cfg(test)]
 mod ranges;
-#[cfg(test)]
-mod replay;
-#[cfg(test)]
-mod replayed_values;
-#[cfg(test)]
-mod run;
-#[cfg(test)]
-mod scripts;
 #[cfg(test)]
 mod seq;
 #[cfg(test)]

@@ -1,8 +1,8 @@
 //! Programs at the limits and just beyond.
 
-use crate::answers::{Bench, answer, expect, texts_of};
 use std::alloc::Global;
 use std::process::Abort;
+use test_answers::answers::{Bench, answer, is_answer, texts_of};
 
 // How large a program is made: at most 65,536 bytes in one `.space`.
 #[derive(Clone, Copy)]
@@ -84,9 +84,9 @@ fn write_section(rt: &impl Abort, alloc: Global, text: &mut String, name: &str, 
 }
 
 // What `print` writes of a program, with status 0.
-fn printed(rt: &impl Bench, alloc: Global, program: &[u8]) -> Vec<u8> {
-    let texts = texts_of(rt, alloc, program, b"", b"");
-    let (printed, status) = answer(rt, alloc, "print a.s", &texts);
+fn printed(rt: &(impl Abort + Bench), alloc: Global, program: &[u8]) -> Vec<u8> {
+    let texts = texts_of(alloc, program, b"", b"").expect(rt, "room for texts");
+    let (printed, status) = answer(rt, alloc, "print a.s", &texts).expect(rt, "an answer");
     assert_eq!(rt; status, 0);
     printed
 }
@@ -100,9 +100,9 @@ fn prints_the_largest_program(rt: HostRuntime) {
 }
 
 // Asserts what `print` says of a text.
-fn expect_refused(rt: &impl Bench, alloc: Global, program: &[u8], expected: &str) {
-    let texts = texts_of(rt, alloc, program, b"", b"");
-    expect(rt, alloc, "print a.s", &texts, expected, 1);
+fn expect_refused(rt: &(impl Abort + Bench), alloc: Global, program: &[u8], expected: &str) {
+    let texts = texts_of(alloc, program, b"", b"").expect(rt, "room for texts");
+    assert!(rt; is_answer(rt, alloc, "print a.s", &texts, expected, 1));
 }
 
 #[test]

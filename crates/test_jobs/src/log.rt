@@ -1,7 +1,8 @@
 //! `explain --format sarif`: the results of a log; its tool and its rules stand before them.
 
-use crate::answers::{Bench, answer, texts_of};
 use std::alloc::Global;
+use std::process::Abort;
+use test_answers::answers::{Bench, answer, texts_of};
 use test_programs::programs::{
     COUNT, COUNT_CREATES_LESS, FIVE_FINDINGS, RELEASE_CREATES_MORE, SPIN,
 };
@@ -78,15 +79,16 @@ fn logs_no_warnings_where_none_are_asked_for(rt: HostRuntime) {
 // Asserts what stands in the log behind its tool and its rules, and that the status is 0 where no result is an
 // error.
 fn expect_log(
-    rt: &impl Bench,
+    rt: &(impl Abort + Bench),
     alloc: Global,
     words: &str,
     program: &str,
     certificate: &str,
     expected: &str,
 ) {
-    let texts = texts_of(rt, alloc, program.as_bytes(), certificate.as_bytes(), b"");
-    let (written, status) = answer(rt, alloc, words, &texts);
+    let texts = texts_of(alloc, program.as_bytes(), certificate.as_bytes(), b"");
+    let texts = texts.expect(rt, "room for texts");
+    let (written, status) = answer(rt, alloc, words, &texts).expect(rt, "an answer");
     let written = String::from_utf8(written).ok().expect(rt, "UTF-8");
     let parts = written.as_str().split_once("\"columnKind\":");
     let (_, results) = parts.expect(rt, "a kind of columns");

@@ -1,6 +1,6 @@
 //! `print`.
 
-use crate::answers::{EMPTY, Row, expect, texts_of};
+use test_answers::answers::{EMPTY, Row, first_wrong, is_answer, texts_of};
 use test_programs::programs::{COUNT, COUNT_OTHERWISE};
 
 const PRINTED: Row<'static> = Row {
@@ -46,9 +46,7 @@ sll $0,$0,0
 
 #[test]
 fn prints_canonical_text(rt: HostRuntime) {
-    for row in &SPELLINGS {
-        row.runs(&rt, rt.alloc());
-    }
+    assert_eq!(rt; first_wrong(&rt, rt.alloc(), &SPELLINGS), None);
 }
 
 const REFUSALS: [(&str, &str); 11] = [
@@ -82,14 +80,14 @@ fn refuses_texts(rt: HostRuntime) {
             expected,
             ..REFUSED
         };
-        row.runs(&rt, rt.alloc());
+        assert!(rt; row.is_right(&rt, rt.alloc()), "{expected}");
     }
 }
 
 // One byte, which alone is no `str`.
 #[test]
 fn refuses_what_is_not_ascii(rt: HostRuntime) {
-    let texts = texts_of(&rt, rt.alloc(), b"\xC3", b"", b"");
+    let texts = texts_of(rt.alloc(), b"\xC3", b"", b"").expect(&rt, "room for texts");
     let expected = "program refused: 2 NotAscii line 1\n";
-    expect(&rt, rt.alloc(), "print a.s", &texts, expected, 1);
+    assert!(rt; is_answer(&rt, rt.alloc(), "print a.s", &texts, expected, 1));
 }

@@ -1,8 +1,8 @@
 //! `check` of a certificate that is long enough to be shared out: the same for any number of workers.
 
-use crate::answers::{Bench, expect, texts_of};
 use std::alloc::Global;
 use std::process::Abort;
+use test_answers::answers::{Bench, is_answer, texts_of};
 
 // So many tasks of one instruction each; the list of each task has all instructions.
 const TASKS: u32 = 64;
@@ -48,17 +48,19 @@ const CASES: [Case; 4] = [
 
 impl Case {
     // Asserts what is said with one worker, with two and with as many as there may be.
-    fn runs(&self, rt: &impl Bench, alloc: Global) {
+    fn runs(&self, rt: &(impl Abort + Bench), alloc: Global) {
         let program = program(rt, alloc);
         let certificate = certificate(rt, alloc, self.mask);
         assert!(rt; certificate.len() >= 65_536, "too short to be shared out");
-        let texts = texts_of(rt, alloc, program.as_bytes(), certificate.as_bytes(), b"");
+        let texts = texts_of(alloc, program.as_bytes(), certificate.as_bytes(), b"");
+        let texts = texts.expect(rt, "room for texts");
         for words in [
             "check --workers 1 a.s a.cert",
             "check --workers 2 a.s a.cert",
             "check --workers 16 a.s a.cert",
         ] {
-            expect(rt, alloc, words, &texts, self.expected, self.status);
+            let is_right = is_answer(rt, alloc, words, &texts, self.expected, self.status);
+            assert!(rt; is_right, "{words}");
         }
     }
 }

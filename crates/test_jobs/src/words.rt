@@ -1,12 +1,12 @@
 //! Which words give which job, and which are refused.
 
-use crate::answers::words_of;
 use command_line::words::{UsageFault, job_of};
 use jobs::job::{
     CertificateSource, CurveEmit, Emit, Job, Paths, Prediction, ReplayEmit, RunEmit, Schedule,
 };
 use std::alloc::Global;
 use std::process::Abort;
+use test_answers::answers::words_of;
 
 // A job, with the number or the word that it takes.
 #[derive(Clone, Copy, PartialEq)]
@@ -338,7 +338,7 @@ fn reads_runs(rt: HostRuntime) {
 
 // The job of the words, or why there is none.
 fn read(rt: &impl Abort, alloc: Global, line: &str) -> Result<(Job, Paths), UsageFault> {
-    let words = words_of(rt, alloc, line);
+    let words = words_of(alloc, line).expect(rt, "room for words");
     job_of(alloc, words.as_slice())
 }
 

@@ -2,9 +2,10 @@
 //! hand (`test_steps`). The other numbers are those of a model that shares nothing with the program
 //! (`fuzz/curve.py`), and so are the pictures (`fuzz/curve_picture.py`).
 
-use crate::answers::{Bench, EMPTY, Row, answer, texts_of};
 use crate::run::READ_ONLY_TRAPS;
 use std::alloc::Global;
+use std::process::Abort;
+use test_answers::answers::{Bench, EMPTY, Row, answer, first_wrong, texts_of};
 use test_programs::certificates::{
     COUNT_CERTIFICATE, DIAMOND_CERTIFICATE, PAIR_CERTIFICATE, READ_ONLY_CERTIFICATE,
     SPIN_CERTIFICATE, UNLISTED_JUMP_CERTIFICATE,
@@ -108,9 +109,7 @@ const CURVES: [Row<'static>; 8] = [
 
 #[test]
 fn compares_runs(rt: HostRuntime) {
-    for row in &CURVES {
-        row.runs(&rt, rt.alloc());
-    }
+    assert_eq!(rt; first_wrong(&rt, rt.alloc(), &CURVES), None);
 }
 
 // The texts are judged before anything runs.
@@ -135,9 +134,7 @@ const REFUSED: [Row<'static>; 2] = [
 
 #[test]
 fn judges_before_it_runs(rt: HostRuntime) {
-    for row in &REFUSED {
-        row.runs(&rt, rt.alloc());
-    }
+    assert_eq!(rt; first_wrong(&rt, rt.alloc(), &REFUSED), None);
 }
 
 // What stands in a picture behind its legend.
@@ -197,9 +194,10 @@ fn draws_runs(rt: HostRuntime) {
 }
 
 // Asserts what is drawn behind the legend, and the status.
-fn expect_drawn(rt: &impl Bench, alloc: Global, row: &Row<'_>) {
-    let texts = texts_of(rt, alloc, row.program.as_bytes(), b"", b"");
-    let (written, status) = answer(rt, alloc, row.words, &texts);
+fn expect_drawn(rt: &(impl Abort + Bench), alloc: Global, row: &Row<'_>) {
+    let texts = texts_of(alloc, row.program.as_bytes(), b"", b"");
+    let texts = texts.expect(rt, "room for texts");
+    let (written, status) = answer(rt, alloc, row.words, &texts).expect(rt, "an answer");
     let written = String::from_utf8(written).ok().expect(rt, "UTF-8");
     let parts = written.as_str().split_once(">units</text>\n");
     let (_, drawn) = parts.expect(rt, "a legend");

@@ -1,8 +1,8 @@
 //! `--least`: the jobs with the least certificate write what they write with that certificate's text.
 
-use crate::answers::{EMPTY, Row};
 use crate::replay::replays;
 use crate::scripts::COUNT_WAITS;
+use test_answers::answers::{EMPTY, Row, first_wrong};
 use test_programs::programs::{COUNT, COUNT_CREATES_LESS};
 
 const LEAST: Row<'static> = Row {
@@ -50,9 +50,7 @@ const RIGHT: [Row<'static>; 5] = [
 
 #[test]
 fn accepts_right_marks(rt: HostRuntime) {
-    for row in &RIGHT {
-        row.runs(&rt, rt.alloc());
-    }
+    assert_eq!(rt; first_wrong(&rt, rt.alloc(), &RIGHT), None);
 }
 
 #[test]
@@ -84,7 +82,7 @@ fn finds_wrong_marks(rt: HostRuntime) {
             status: 1,
             ..EMPTY
         };
-        row.runs(&rt, rt.alloc());
+        assert!(rt; row.is_right(&rt, rt.alloc()), "{words}");
     }
 }
 
@@ -98,6 +96,6 @@ fn refuses_texts(rt: HostRuntime) {
             status: 1,
             ..EMPTY
         };
-        row.runs(&rt, rt.alloc());
+        assert!(rt; row.is_right(&rt, rt.alloc()), "{words}");
     }
 }

@@ -1,7 +1,8 @@
 //! `run`: what threads come to is the same whatever their order.
 
-use crate::answers::{Bench, EMPTY, Row, answer, expect, texts_of};
 use std::alloc::Global;
+use std::process::Abort;
+use test_answers::answers::{Bench, EMPTY, Row, answer, first_wrong, is_answer, texts_of};
 use test_programs::certificates::{
     COUNT_CERTIFICATE, COUNT_CERTIFICATE_LACKING, DIAMOND_CERTIFICATE, PRODUCT_CERTIFICATE,
     READ_ONLY_CERTIFICATE, RELEASE_CERTIFICATE, SPIN_CERTIFICATE, UNLISTED_JUMP_CERTIFICATE,
@@ -25,7 +26,7 @@ const UNITS: [u32; 4] = [1, 2, 4, 16];
 const PREDICTIONS: [&str; 3] = ["first", "last", "1,0"];
 
 // Asserts a row with these units, by one thread for each unit and by one thread alone.
-fn runs_on(rt: &impl Bench, alloc: Global, row: &Row<'_>, units: u32, predict: &str) {
+fn runs_on(rt: &(impl Abort + Bench), alloc: Global, row: &Row<'_>, units: u32, predict: &str) {
     for workers in ["", " --workers 1", " --workers 16"] {
         let words = format!(in alloc;
             "run a.s a.cert --units {units}{workers} --predict {predict}"
@@ -35,7 +36,7 @@ fn runs_on(rt: &impl Bench, alloc: Global, row: &Row<'_>, units: u32, predict: &
             words: words.as_str(),
             ..*row
         };
-        row.runs(rt, alloc);
+        assert!(rt; row.is_right(rt, alloc), "{words}");
     }
 }
 
@@ -120,8 +121,8 @@ halt
 
 #[test]
 fn runs_programs(rt: HostRuntime) {
+    assert_eq!(rt; first_wrong(&rt, rt.alloc(), &PROGRAMS), None);
     for row in &PROGRAMS {
-        row.runs(&rt, rt.alloc());
         for &units in &UNITS {
             runs_on(&rt, rt.alloc(), row, units, "last");
         }
@@ -165,36 +166,34 @@ fn judges_before_the_run(rt: HostRuntime) {
                 status: 1,
                 ..EMPTY
             };
-            row.runs(&rt, rt.alloc());
+            assert!(rt; row.is_right(&rt, rt.alloc()), "{expected}");
         }
     }
 }
 
 // Asserts that `replay` of the script that `run` writes allows each event, and ends as `run` says.
-fn replays_run(rt: &impl Bench, alloc: Global, row: &Row<'_>, units: u32) {
+fn replays_run(rt: &(impl Abort + Bench), alloc: Global, row: &Row<'_>, units: u32) {
     let words = format!(in alloc; "run --emit script --units {units} --predict last a.s a.cert");
     let words = words.ok().expect(rt, "room for words");
     let (program, certificate) = (row.program.as_bytes(), row.certificate.as_bytes());
-    let texts = texts_of(rt, alloc, program, certificate, b"");
-    let (script, status) = answer(rt, alloc, words.as_str(), &texts);
+    let texts = texts_of(alloc, program, certificate, b"").expect(rt, "room for texts");
+    let (script, status) = answer(rt, alloc, words.as_str(), &texts).expect(rt, "an answer");
     assert_eq!(rt; status, row.status, "{units} units");
     let events = script.iter().filter(|byte| **byte == b'\n').count();
     let words = format!(in alloc; "replay --units {units} a.s a.cert a.events");
     let words = words.ok().expect(rt, "room for words");
     let expected = allowed(rt, alloc, events, row.expected);
-    let texts = texts_of(rt, alloc, program, certificate, script.as_slice());
-    expect(
-        rt,
-        alloc,
-        words.as_str(),
-        &texts,
-        expected.as_str(),
-        row.status,
+    let texts = texts_of(alloc, program, certificate, script.as_slice());
+    let texts = texts.expect(rt, "room for texts");
+    let (words, expected) = (words.as_str(), expected.as_str());
+    assert!(rt;
+        is_answer(rt, alloc, words, &texts, expected, row.status),
+        "{expected}"
     );
 }
 
 // The answers to so many events that are allowed, and then the closing lines.
-fn allowed(rt: &impl Bench, alloc: Global, events: usize, closing: &str) -> String {
+fn allowed(rt: &impl Abort, alloc: Global, events: usize, closing: &str) -> String {
     let mut text = String::new(alloc);
     for number in 1..=events {
         assert!(rt; writeln!(text, "{number} ok").is_ok());
@@ -221,7 +220,7 @@ fn sums_up_count(rt: HostRuntime) {
         expected: SUMMARY,
         ..COUNTED
     };
-    row.runs(&rt, rt.alloc());
+    assert!(rt; row.is_right(&rt, rt.alloc()));
 }
 
 const SUMMARY: &str = "assigned  retired  squashed  dropped  unfinished  useful  wasted  task
@@ -238,7 +237,7 @@ fn counts_the_steps_of_count(rt: HostRuntime) {
         expected: SUMMARY_IN_STEPS,
         ..COUNTED
     };
-    row.runs(&rt, rt.alloc());
+    assert!(rt; row.is_right(&rt, rt.alloc()));
 }
 
 const SUMMARY_IN_STEPS: &str =
@@ -260,7 +259,7 @@ fn traces_a_run(rt: HostRuntime) {
         status: 3,
         ..RUN
     };
-    row.runs(&rt, rt.alloc());
+    assert!(rt; row.is_right(&rt, rt.alloc()));
 }
 
 const TRACE: &str = "1 assign A: ok
@@ -282,7 +281,7 @@ fn writes_json_of_a_run(rt: HostRuntime) {
         status: 3,
         ..RUN
     };
-    row.runs(&rt, rt.alloc());
+    assert!(rt; row.is_right(&rt, rt.alloc()));
 }
 
 const LINES: &str =

@@ -1,11 +1,12 @@
 //! `replay`: what it writes of scripts.
 
-use crate::answers::{Bench, EMPTY, Row};
 use crate::scripts::{
     COUNT_DROPPED, COUNT_REFUSED, COUNT_TAKEN_AGAIN, COUNT_WAITS, JUMP_UNLISTED, READ_AHEAD,
     WRONG_PATH_LOADED, WRONG_PATH_SPUN, answers_of, events_of,
 };
 use std::alloc::Global;
+use std::process::Abort;
+use test_answers::answers::{Bench, EMPTY, Row};
 use test_programs::certificates::{
     COUNT_CERTIFICATE, COUNT_CERTIFICATE_LACKING, READ_ONLY_CERTIFICATE, UNLISTED_JUMP_CERTIFICATE,
     WRONG_PATH_LOAD_CERTIFICATE, WRONG_PATH_SPIN_CERTIFICATE,
@@ -13,7 +14,7 @@ use test_programs::certificates::{
 use test_programs::programs::{COUNT, READ_ONLY, UNLISTED_JUMP, WRONG_PATH_LOAD, WRONG_PATH_SPIN};
 
 /// Asserts a row whose script stands with its answers; what it expects is written behind these.
-pub fn replays(rt: &impl Bench, alloc: Global, row: &Row<'_>) {
+pub fn replays(rt: &(impl Abort + Bench), alloc: Global, row: &Row<'_>) {
     let script = events_of(rt, alloc, row.script);
     let expected = answers_of(rt, alloc, row.script, row.expected);
     let row = Row {
@@ -21,7 +22,7 @@ pub fn replays(rt: &impl Bench, alloc: Global, row: &Row<'_>) {
         expected: expected.as_str(),
         ..*row
     };
-    row.runs(rt, alloc);
+    assert!(rt; row.is_right(rt, alloc));
 }
 
 const ON_TWO_UNITS: Row<'static> = Row {
@@ -166,7 +167,7 @@ fn sums_up_scripts(rt: HostRuntime) {
             script: script.as_str(),
             ..*row
         };
-        row.runs(&rt, rt.alloc());
+        assert!(rt; row.is_right(&rt, rt.alloc()));
     }
 }
 
@@ -198,7 +199,7 @@ fn replays_odd_scripts(rt: HostRuntime) {
             status,
             ..OF_COUNT
         };
-        row.runs(&rt, rt.alloc());
+        assert!(rt; row.is_right(&rt, rt.alloc()), "{expected}");
     }
 }
 
@@ -230,7 +231,7 @@ fn judges_before_the_script(rt: HostRuntime) {
                 status: 1,
                 ..OF_COUNT
             };
-            row.runs(&rt, rt.alloc());
+            assert!(rt; row.is_right(&rt, rt.alloc()), "{expected}");
         }
     }
 }
@@ -247,7 +248,7 @@ fn traces_a_script(rt: HostRuntime) {
         expected: TRACE,
         status: 1,
     };
-    row.runs(&rt, rt.alloc());
+    assert!(rt; row.is_right(&rt, rt.alloc()));
 }
 
 const TRACE: &str = "1 assign A: ok
@@ -286,7 +287,7 @@ fn writes_json_of_a_script(rt: HostRuntime) {
         expected: LINES,
         status: 1,
     };
-    row.runs(&rt, rt.alloc());
+    assert!(rt; row.is_right(&rt, rt.alloc()));
 }
 
 const LINES: &str =

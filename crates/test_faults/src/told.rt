@@ -1,0 +1,79 @@
+//! Each fault, as it is told.
+
+use program_edge::fault::Fault;
+use program_edge::told::tell;
+use program_edge::unread::{Reason, Unread};
+use std::alloc::Global;
+use std::process::Abort;
+use test_answers::held_back::HeldBack;
+use verdict_report::fault::ServeFault;
+
+// What arrives on standard output and on standard error of a fault that is told, and the status.
+fn told(rt: &impl Abort, alloc: Global, fault: &Fault) -> (Vec<u8>, Vec<u8>, u8) {
+    let mut output = HeldBack::new(alloc);
+    let mut errors = HeldBack::new(alloc);
+    let ending = tell(fault, &mut output, &mut errors);
+    assert!(rt; ending.is_told);
+    (output.arrived(), errors.arrived(), ending.status)
+}
+
+// Asserts the line on standard error.
+fn expect_line(rt: &impl Abort, alloc: Global, fault: &Fault, line: &str) {
+    let (output, errors, status) = told(rt, alloc, fault);
+    assert!(rt; output.is_empty(), "{line}");
+    assert!(rt; errors.as_slice() == line.as_bytes(), "{line}");
+    assert_eq!(rt; status, 2, "{line}");
+}
+
+fn text(rt: &impl Abort, alloc: Global, text: &str) -> String {
+    let text = String::from_str(alloc, text).ok();
+    text.expect(rt, "room for a text")
+}
+
+#[test]
+fn tells_of_words(rt: HostRuntime) {
+    expect_line(&rt, rt.alloc(), &Fault::NoText, "multiscalar: 1 Words\n");
+    expect_line(&rt, rt.alloc(), &Fault::Predict, "multiscalar: 2 Predict\n");
+    expect_line(&rt, rt.alloc(), &Fault::Emit, "multiscalar: 3 Emit\n");
+    let line = "multiscalar: 4 OutOfMemory\n";
+    expect_line(&rt, rt.alloc(), &Fault::OutOfMemory, line);
+    let line = "multiscalar: 5 InputTwice: only one file can be - (standard input)\n";
+    expect_line(&rt, rt.alloc(), &Fault::InputTwice, line);
+    let words = text(&rt, rt.alloc(), "error: no job\n");
+    expect_line(&rt, rt.alloc(), &Fault::Words(words), "error: no job\n");
+}
+
+#[test]
+fn tells_of_files(rt: HostRuntime) {
+    let path = text(&rt, rt.alloc(), "a.s");
+    expect_line(
+        &rt,
+        rt.alloc(),
+        &Fault::File(path),
+        "multiscalar: file a.s\n",
+    );
+    let unread = Unread {
+        path: text(&rt, rt.alloc(), "a.cert"),
+        reason: Reason::TooLong,
+    };
+    let line = "multiscalar: file a.cert: longer than 134217728 bytes\n";
+    expect_line(&rt, rt.alloc(), &Fault::Explained(unread), line);
+}
+
+#[test]
+fn tells_of_jobs_that_are_not_done(rt: HostRuntime) {
+    let fault = Fault::Serve(ServeFault::OutOfMemory);
+    expect_line(&rt, rt.alloc(), &fault, "multiscalar: 1 OutOfMemory\n");
+    let fault = Fault::Serve(ServeFault::Write);
+    expect_line(&rt, rt.alloc(), &fault, "multiscalar: 2 Write\n");
+}
+
+// Help is no fault: it stands on standard output.
+#[test]
+fn helps_on_standard_output(rt: HostRuntime) {
+    let help = Fault::Help(text(&rt, rt.alloc(), "Usage: multiscalar\n"));
+    let (output, errors, status) = told(&rt, rt.alloc(), &help);
+    assert!(rt; output.as_slice() == b"Usage: multiscalar\n");
+    assert!(rt; errors.is_empty());
+    assert_eq!(rt; status, 0);
+}
