@@ -53,7 +53,7 @@ pub fn propose(alloc: Global, program: Program) -> Result<(Program, Cert), (Prog
             } = found;
             Ok((marked(program, &forwards, &creates), cert))
         }
-        Err(_) => Err((program, AnnotateFault::OutOfMemory)),
+        Err(AllocError) => Err((program, AnnotateFault::OutOfMemory)),
     }
 }
 

@@ -80,7 +80,7 @@ written tasks (Jump place) = instruction.Jump (target_of tasks place)
 written tasks (JumpLink place) = instruction.JumpLink (target_of tasks place)
 written tasks o = instruction.One o
 
--- its targets are known where those of its places are
+-- its targets are known if its places are
 pub written_known : (labels : Names) (tasks : List Descriptor) (o : Op) → ((place : ℕ) → is_known_target labels (target_of tasks place) ≡ true)
     → is_known_instruction labels (written tasks o) ≡ true
 written_known labels tasks (BranchTwo k rs rt place) known = known place
@@ -89,7 +89,7 @@ written_known labels tasks (Jump place) known = known place
 written_known labels tasks (JumpLink place) known = known place
 written_known labels tasks _ known = refl
 
--- it is that instruction again, where its places are found again
+-- the same instruction is read, if its places are found
 pub written_back : (labels : Names) (tasks : List Descriptor) (n : ℕ) (o : Op) → ((place : ℕ) → target_place labels n (target_of tasks place) ≡ Ok place)
     → spelled labels n (written tasks o) ≡ Ok (o ∷ [])
 written_back labels tasks n (BranchTwo k rs rt place) found = ap (λ read. read >>= λ place. Ok (BranchTwo k rs rt place ∷ [])) (found place)

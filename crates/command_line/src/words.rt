@@ -90,9 +90,9 @@ fn fault_of_kind(alloc: Global, kind: ErrorKind, message: &str) -> UsageFault
     match command(alloc) {
         Ok(mut command) => match command.error(kind, message) {
             Ok(error) => UsageFault::Words(error),
-            Err(_) => UsageFault::OutOfMemory,
+            Err(AllocError) => UsageFault::OutOfMemory,
         },
-        Err(_) => UsageFault::OutOfMemory,
+        Err(AllocError) => UsageFault::OutOfMemory,
     }
 }
 

@@ -1,7 +1,6 @@
 //! The instructions (MIPS manual, the integer instructions; `out`, `release` and `halt` are this
-//! project's own): how each is written, and the parts of one that need no memory: its operands, its
-//! destinations, the word that it writes and the address that it goes to. Each `Kind` names the mnemonics
-//! of one row.
+//! project's own): how each is written, what it reads and writes, and where it goes on. Nothing here needs
+//! memory. Each `Kind` names the mnemonics of one row.
 
 ghost use Rattle.std.specs.Prelude.{◌≡◌, ℕ, ◌||◌, if◌then◌else◌, [], ◌∷◌, map};
 ghost use Rattle.mips_instructions.specs.Words.{has};
@@ -30,7 +29,7 @@ pub enum ThreeKind {
 }
 
 impl ThreeKind {
-    /// The word.
+    /// Its word in a program text.
     pub fn name(self) -> &'static str
         ensures { result.now ≡ three_name self }
     {
@@ -56,7 +55,7 @@ pub enum ShiftByKind {
 }
 
 impl ShiftByKind {
-    /// The word.
+    /// Its word in a program text.
     pub fn name(self) -> &'static str
         ensures { result.now ≡ shift_by_name self }
     {
@@ -77,7 +76,7 @@ pub enum ShiftVarKind {
 }
 
 impl ShiftVarKind {
-    /// The word.
+    /// Its word in a program text.
     pub fn name(self) -> &'static str
         ensures { result.now ≡ shift_var_name self }
     {
@@ -98,7 +97,7 @@ pub enum ImmKind {
 }
 
 impl ImmKind {
-    /// The word.
+    /// Its word in a program text.
     pub fn name(self) -> &'static str
         ensures { result.now ≡ imm_name self }
     {
@@ -119,7 +118,7 @@ pub enum LogicKind {
 }
 
 impl LogicKind {
-    /// The word.
+    /// Its word in a program text.
     pub fn name(self) -> &'static str
         ensures { result.now ≡ logic_name self }
     {
@@ -139,7 +138,7 @@ pub enum MultKind {
 }
 
 impl MultKind {
-    /// The word.
+    /// Its word in a program text.
     pub fn name(self) -> &'static str
         ensures { result.now ≡ mult_name self }
     {
@@ -158,7 +157,7 @@ pub enum MoveFromKind {
 }
 
 impl MoveFromKind {
-    /// The word.
+    /// Its word in a program text.
     pub fn name(self) -> &'static str
         ensures { result.now ≡ move_from_name self }
     {
@@ -177,7 +176,7 @@ pub enum MoveToKind {
 }
 
 impl MoveToKind {
-    /// The word.
+    /// Its word in a program text.
     pub fn name(self) -> &'static str
         ensures { result.now ≡ move_to_name self }
     {
@@ -199,7 +198,7 @@ pub enum LoadKind {
 }
 
 impl LoadKind {
-    /// The word.
+    /// Its word in a program text.
     pub fn name(self) -> &'static str
         ensures { result.now ≡ load_name self }
     {
@@ -222,7 +221,7 @@ pub enum StoreKind {
 }
 
 impl StoreKind {
-    /// The word.
+    /// Its word in a program text.
     pub fn name(self) -> &'static str
         ensures { result.now ≡ store_name self }
     {
@@ -242,7 +241,7 @@ pub enum BranchTwoKind {
 }
 
 impl BranchTwoKind {
-    /// The word.
+    /// Its word in a program text.
     pub fn name(self) -> &'static str
         ensures { result.now ≡ branch_two_name self }
     {
@@ -263,7 +262,7 @@ pub enum BranchOneKind {
 }
 
 impl BranchOneKind {
-    /// The word.
+    /// Its word in a program text.
     pub fn name(self) -> &'static str
         ensures { result.now ≡ branch_one_name self }
     {
@@ -427,7 +426,7 @@ pub const MNEMONICS: [Mnemonic; 52] = [
 ];
 
 impl Mnemonic {
-    /// The word.
+    /// Its word in a program text.
     #[inline]
     pub fn word(self) -> &'static str
         ensures { result.now ≡ word_of self }
@@ -494,7 +493,7 @@ impl Mnemonic {
     }
 }
 
-/// The mnemonic of this word among some.
+/// The one of these mnemonics that has this word.
 fn named_in(mnemonics: &[Mnemonic], word: &[u8]) -> Option<Mnemonic>
     ensures { result ≡ mnemonic_named word.now (map by_word mnemonics.now) }
 {
@@ -506,7 +505,8 @@ fn named_in(mnemonics: &[Mnemonic], word: &[u8]) -> Option<Mnemonic>
     None
 }
 
-/// One instruction, without marks. The fields stand in the order of the text.
+/// One instruction, without marks. The fields stand in the order of the text, but the base of a load or
+/// a store before the offset.
 #[derive(Clone, Copy, Debug, PartialEq, Eq)]
 pub enum Op {
     /// `addu rd,rs,rt`: rd, rs, rt.
@@ -608,7 +608,7 @@ fn insert_some(set: RegSet, register: Option<Reg>) -> RegSet
     }
 }
 
-/// The set of a general register; without a member for register 0, to which nothing is written.
+/// The set of one general register; the empty set for register 0, to which nothing is written.
 fn general_set(register: Gpr) -> RegSet
     ensures { (r : ℕ) → has result r ≡ general register r }
 {

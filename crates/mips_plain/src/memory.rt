@@ -354,9 +354,9 @@ pub(crate) fn effective_address(a: u32, n: i16) -> u32
     a.wrapping_add(i32::from(n).cast_unsigned())
 }
 
-/// The word of an aligned load that lies whole in read-only data, with the operand a, else `None`; also
-/// `None` for an instruction that is no load. `fixed` are the bytes that read-only data begins with; it is
-/// zero behind them.
+/// The word that a load with the operand a reads, if it is aligned and lies wholly in read-only data, else
+/// `None`; also `None` for an instruction that is no load. `fixed` are the bytes that read-only data begins
+/// with; it is zero after them.
 pub fn fixed_load(op: &Op, a: u32, fixed: &[u8]) -> Option<u32>
     ensures { result ≡ fixed_load op.now a (byte_of fixed.now) }
 {

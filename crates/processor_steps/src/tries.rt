@@ -16,6 +16,7 @@ use machine_events::event::{Event, Refused};
 use machine_model::laws::bursts_are_events;
 use mark_checker::accept::Accepted;
 use mips_instructions::number::Reg;
+use mips_plain::outcome::OutOfMemory;
 use std::alloc::Global;
 use task_descriptor::program::Program;
 
@@ -157,7 +158,7 @@ impl Processor {
         room_behind(count)?;
         match self.retire(accepted.program(), exit) {
             Ok(()) => Ok(()),
-            Err(_) => Err(Refused::OutOfMemory),
+            Err(OutOfMemory) => Err(Refused::OutOfMemory),
         }
     }
 

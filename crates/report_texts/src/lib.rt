@@ -1,5 +1,5 @@
-//! What `seq`, `print`, `annotate` and `check` write, and the judgement of a program and its certificate that `run`,
-//! `replay` and `curve` begin with.
+//! What `seq`, `print`, `annotate` and `check` write, and the judgement
+//! of a program and its certificate that `run`, `replay` and `curve` begin with.
 #![tactic(auto)]
 
 pub mod annotating;

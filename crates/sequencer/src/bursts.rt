@@ -4,6 +4,7 @@
 use crate::machine::Machine;
 use machine_events::event::{Event, Refused, Spot};
 use machine_model::laws::bursts_are_events;
+use mips_plain::outcome::OutOfMemory;
 use processor_steps::processor::MOST_EVENTS;
 use unit_core::burst::{Burst, Lease};
 
@@ -133,7 +134,7 @@ impl<'a> Machine<'a> {
                 self.history.push_many(Event::Exec(position), steps);
                 Ok(steps)
             }
-            Err(_) => Err(Refused::OutOfMemory),
+            Err(OutOfMemory) => Err(Refused::OutOfMemory),
         }
     }
 

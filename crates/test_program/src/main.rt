@@ -1,9 +1,9 @@
-//! The program on several command lines in turn. Behind the words of each stands what it writes to standard output
-//! and to standard error, and its status: findings; a check by three workers, who fetch and read a certificate of
-//! 317,709 bytes, where each of 48 tasks may write $8 and does not say so; the three files of `replay`; a program
-//! text on standard input; a missing file; wrong words; and help. At last the program does what the words of this
-//! process ask for, on the two streams of the process and with its status: a file is missing, so it writes nothing
-//! to standard output.
+//! The program on several command lines in turn. After each command line stand what it writes to both
+//! streams, and its status: findings; a check by three workers, who fetch and read a certificate of 317,709
+//! bytes, where each of 48 tasks may write $8 and does not say so; the three files of `replay`; a program
+//! text on standard input; a missing file; wrong words; and help. Last, the program does what its own words
+//! ask for, on the two streams of the process and with its status: a file is missing, so it writes nothing to
+//! standard output.
 #![tactic(auto)]
 
 use program_edge::answer::answer;

@@ -135,7 +135,7 @@ fn new_desk<'a, P: Predict, J: Naming>(
     };
     match Desk::new(alloc, machine, predictor, workers) {
         Ok(desk) => Ok(desk),
-        Err(_) => Err(RunFault::OutOfMemory),
+        Err(AllocError) => Err(RunFault::OutOfMemory),
     }
 }
 

@@ -114,7 +114,7 @@ stretch_grows p u u' step =
     ∙ ap (λ (i : ℕ). longer (stretch_of p u.log) i (is_load_at p i)) index
     ∙ ap (λ (b : Bool). longer (stretch_of p u.log) step.index b) at
 
--- a program with the stretch behind a step has the one before it
+-- a program with the stretch after a step has the stretch before it
 pub shorter : (p q : Listing) (u u' : Active) → StepsAlone p u u' → SameStretch (stretch_of p u'.log) p q → SameStretch (stretch_of p u.log) p q
 shorter p q u u' step same =
     narrower (stretch_of p u.log) step.index (is_load step.at.op) p q (subst (λ (s : Stretch). SameStretch s p q) (stretch_grows p u u' step) same)

@@ -49,7 +49,7 @@ impl ReadLog {
         }
     }
 
-    /// Where it takes its memory.
+    /// The allocator that it takes memory from.
     #[inline]
     pub(crate) fn allocator(&self) -> Global {
         *self.current.allocator()
@@ -123,8 +123,8 @@ impl ReadLog {
         self.move_from(other)
     }
 
-    /// How many reads it has with so many more. Where they are more than any memory holds, room for them is
-    /// asked for, which is refused.
+    /// Its length with `more` further reads. If no memory could hold them, it asks for the room, and that is
+    /// refused.
     fn len_with(&mut self, more: usize) -> Result<usize, AllocError>
         ensures len { IfOk result (λ len. (len ≡ length self.old.reads + more) × (len < 2 ^ 63)) }
         ensures reads { self.new.reads ≡ self.old.reads }

@@ -1,4 +1,4 @@
-//! What a unit holds beside its log.
+//! What a unit holds except its log.
 
 ghost use Rattle.std.specs.Prelude.{◌≡◌};
 ghost use Rattle.unit_core.specs.Units.{unlogged};
@@ -7,8 +7,8 @@ use machine_events::event::Spot;
 use register_ring::held::RegisterWords;
 use register_ring::port::Port;
 
-/// What a unit holds, its log aside: its task and serial number, where it stands, what arrived and was
-/// sent, and what it wrote itself. A burst is made on a copy of it.
+/// What a unit holds except its log: its task and serial number, its place, what arrived and what it sent,
+/// and what it wrote itself. A burst is made on a copy of it.
 #[derive(Clone, Copy, Debug)]
 pub struct UnitState {
     pub(crate) task: u32,

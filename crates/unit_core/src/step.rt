@@ -308,7 +308,7 @@ pub(crate) fn send_each(port: &mut Port, local: &RegisterWords, set: RegSet)
     }
 }
 
-/// The same. Registers that were sent are not looked at again.
+/// The same, but looks only at registers that were not sent before.
 #[inline(always)]
 pub(crate) fn send_unsent(port: &mut Port, local: &RegisterWords, set: RegSet)
     ensures sent { sent_of port.new ≡ sent_with (has set) (value_in (pairs local.now) (arrived_of port.old)) (sent_of port.old) }

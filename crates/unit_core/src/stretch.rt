@@ -39,7 +39,7 @@ impl Stretch {
         }
     }
 
-    /// The stretch of the instructions of a program with these reads.
+    /// The stretch of the instructions that made these reads.
     pub(crate) fn of(program: &Program, reads: &ReadLog) -> Stretch
         ensures { result ≡ stretch_of program.now reads.now.reads }
     {
@@ -87,7 +87,7 @@ impl Stretch {
     }
 }
 
-/// The index of the instruction with an address, 0 where there is none.
+/// The index of the instruction at an address, 0 if there can be none.
 #[inline]
 #[tactic(auto, unfolding(mips_instructions::specs::Words::index_of))]
 fn index_at(pc: u32) -> u32

@@ -1,4 +1,4 @@
--- One operand more.
+-- The step of the loop: one more operand.
 use Rattle.std.proofs.Common.{arith}
 use Rattle.canonical_round_trip.specs.Ranges.{IsOperandInRange}
 use Rattle.canonical_round_trip.proofs.Loops.{all_more, all_done}

@@ -1,4 +1,4 @@
--- An operand is one piece more.
+-- Each operand adds one piece.
 use Rattle.std.proofs.Common.{◌++◌, ◌∙◌, ap, nat_eq, arith, string_bytes}
 use Rattle.mips_instructions.specs.declared.instruction.InstructionOperand.{InstructionOperand}
 use Rattle.canonical_text.specs.CanonicalText.{operand_text, before_operand}

@@ -1,4 +1,4 @@
--- A near word is sought in the rows that are left.
+-- The loop goes on with the remaining rows.
 use Rattle.std.proofs.Common.{◌≡◌, drop, map}
 use Rattle.line_faults.specs.Near.{nearest}
 use Rattle.line_faults.proofs.shape.near_in.Given as goal

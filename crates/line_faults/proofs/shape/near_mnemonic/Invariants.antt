@@ -1,4 +1,4 @@
--- A near word is sought among the mnemonics that are left.
+-- The loop goes on with the remaining mnemonics.
 use Rattle.std.proofs.Common.{◌≡◌, drop, map}
 use Rattle.mips_instructions.specs.InstructionTable.{word_of}
 use Rattle.line_faults.specs.Near.{nearest}

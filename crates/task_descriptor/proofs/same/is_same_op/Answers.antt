@@ -1,4 +1,4 @@
--- By cases on the two: each instruction by its fields, a kind by its tag.
+-- By cases on both instructions: their fields are equal, and kinds are equal if their tags are.
 use Rattle.std.proofs.Common.{◌≡◌, true, refl, sym, ◌∙◌, subst, rules, arith, eqb-true, int_eq}
 use Rattle.std.specs.Prelude.{ℤ}
 use Rattle.std.proofs.lemmas.Bool.{and_parts}
