@@ -8,6 +8,8 @@ mod certificates;
 #[cfg(test)]
 mod checker;
 #[cfg(test)]
+mod count;
+#[cfg(test)]
 mod explanations;
 #[cfg(test)]
 mod given;

@@ -1,6 +1,8 @@
 //! `annotate`: what is proposed, and what `check` says of it.
 
-use crate::answers::{Bench, EMPTY, Row, answer, expect, texts_of};
+use crate::answers::{Bench, answer, expect, expect_row, expect_rows};
+use jobs::job::CertificateSource::File;
+use jobs::job::Emit;
 use std::alloc::Global;
 use std::process::Abort;
 use test_programs::certificates::COUNT_CERTIFICATE_WIDE;
@@ -8,35 +10,31 @@ use test_programs::programs::{
     COUNT, COUNT_BARE, COUNT_CREATES_LESS, COUNT_FORWARDED, DIAMOND, FIVE_FINDINGS, PAIR,
     READ_ONLY, RELEASE, SPIN, UNLISTED_JUMP, WRONG_PATH_LOAD, WRONG_PATH_SPIN,
 };
+use test_rows::asked::Asked;
+use test_rows::rows::{EMPTY, Row, texts_of};
 
 // All four values of `--emit`. The proposal forwards $10 as well, since no path writes it again.
-const PROPOSALS: [Row<'static>; 5] = [
+const PROPOSALS: [Row<'static>; 4] = [
     Row {
-        words: "annotate a.s",
+        asked: Asked::Annotate(Emit::Text),
         program: COUNT_BARE,
         expected: COUNT_FORWARDED,
         ..EMPTY
     },
     Row {
-        words: "annotate --emit text a.s",
-        program: COUNT_BARE,
-        expected: COUNT_FORWARDED,
-        ..EMPTY
-    },
-    Row {
-        words: "annotate --emit cert a.s",
+        asked: Asked::Annotate(Emit::Cert),
         program: COUNT_BARE,
         expected: COUNT_CERTIFICATE_WIDE,
         ..EMPTY
     },
     Row {
-        words: "annotate --emit keep a.s",
+        asked: Asked::Annotate(Emit::Keep),
         program: COUNT,
         expected: COUNT_CERTIFICATE_WIDE,
         ..EMPTY
     },
     Row {
-        words: "annotate --emit marks a.s",
+        asked: Asked::Annotate(Emit::Marks),
         program: LAID_OUT,
         expected: LAID_OUT_MARKED,
         ..EMPTY
@@ -52,37 +50,30 @@ const LAID_OUT_MARKED: &str =
 
 #[test]
 fn annotates_count(rt: HostRuntime) {
-    for row in &PROPOSALS {
-        row.runs(&rt, rt.alloc());
-    }
+    expect_rows(&rt, rt.alloc(), &PROPOSALS);
 }
 
-const REFUSING: [&str; 4] = [
-    "annotate a.s",
-    "annotate --emit cert a.s",
-    "annotate --emit keep a.s",
-    "annotate --emit marks a.s",
-];
+const REFUSING: [Emit; 4] = [Emit::Text, Emit::Cert, Emit::Keep, Emit::Marks];
 
 #[test]
 fn refuses_texts(rt: HostRuntime) {
-    for &words in &REFUSING {
+    for &emit in &REFUSING {
         let row = Row {
-            words,
+            asked: Asked::Annotate(emit),
             program: "foo $8",
             expected: "program refused: 4 Mnemonic line 1\n",
             status: 1,
             ..EMPTY
         };
-        row.runs(&rt, rt.alloc());
+        expect_row(&rt, rt.alloc(), &row);
     }
 }
 
-// What the words write of a program, with status 0.
-fn annotated(rt: &impl Bench, alloc: Global, words: &str, program: &[u8]) -> Vec<u8> {
-    let texts = texts_of(rt, alloc, program, b"", b"");
-    let (written, status) = answer(rt, alloc, words, &texts);
-    assert_eq!(rt; status, 0, "{words}");
+// What a job writes of a program, with status 0.
+fn written(rt: &impl Bench, alloc: Global, asked: Asked<'_>, program: &[u8]) -> Vec<u8> {
+    let texts = texts_of(alloc, program, b"", b"").expect(rt, "room for texts");
+    let (written, status) = answer(rt, alloc, asked, &texts);
+    assert_eq!(rt; status, 0, "{asked:?}");
     written
 }
 
@@ -95,15 +86,15 @@ fn expect_checked(
     expected: &str,
     status: u8,
 ) {
-    let texts = texts_of(rt, alloc, program, certificate, b"");
-    expect(rt, alloc, "check a.s a.cert", &texts, expected, status);
+    let texts = texts_of(alloc, program, certificate, b"").expect(rt, "room for texts");
+    expect(rt, alloc, Asked::Check(File, 1), &texts, expected, status);
 }
 
 // Asserts what `check` writes of the program that is proposed and its certificate.
 fn expect_proposed(rt: &impl Bench, alloc: Global, program: &str, expected: &str, status: u8) {
     let program = program.as_bytes();
-    let proposed = annotated(rt, alloc, "annotate a.s", program);
-    let certificate = annotated(rt, alloc, "annotate --emit cert a.s", program);
+    let proposed = written(rt, alloc, Asked::Annotate(Emit::Text), program);
+    let certificate = written(rt, alloc, Asked::Annotate(Emit::Cert), program);
     let (proposed, certificate) = (proposed.as_slice(), certificate.as_slice());
     expect_checked(rt, alloc, proposed, certificate, expected, status);
 }
@@ -152,8 +143,8 @@ fn leaves_targets(rt: HostRuntime) {
 #[test]
 fn keeps_read_only_data(rt: HostRuntime) {
     let program = READ_ONLY.as_bytes();
-    let printed = annotated(&rt, rt.alloc(), "print a.s", program);
-    let proposed = annotated(&rt, rt.alloc(), "annotate a.s", program);
+    let printed = written(&rt, rt.alloc(), Asked::Print, program);
+    let proposed = written(&rt, rt.alloc(), Asked::Annotate(Emit::Text), program);
     assert!(rt; proposed.as_slice() == printed.as_slice());
 }
 
@@ -171,7 +162,7 @@ const REFUSED: [(&str, &str); 2] = [
 fn keeps_marks_as_they_stand(rt: HostRuntime) {
     for &(program, expected) in &REFUSED {
         let program = program.as_bytes();
-        let certificate = annotated(&rt, rt.alloc(), "annotate --emit keep a.s", program);
+        let certificate = written(&rt, rt.alloc(), Asked::Annotate(Emit::Keep), program);
         expect_checked(
             &rt,
             rt.alloc(),

@@ -1,6 +1,7 @@
 //! `check`: what it writes of programs and certificates.
 
-use crate::answers::{EMPTY, Row};
+use crate::answers::expect_rows;
+use jobs::job::CertificateSource::File;
 use test_programs::certificates::{
     COUNT_CERTIFICATE, COUNT_CERTIFICATE_LACKING, FIVE_FINDINGS_CERTIFICATE, PRODUCT_CERTIFICATE,
     READ_ONLY_CERTIFICATE, RELEASE_CERTIFICATE,
@@ -9,9 +10,11 @@ use test_programs::programs::{
     COUNT, COUNT_CREATES_LESS, COUNT_LISTS_LESS, COUNT_WITHOUT_HALT, COUNT_WRITTEN_AGAIN,
     END_OF_CODE, FIVE_FINDINGS, PRODUCT, READ_ONLY, RELEASE,
 };
+use test_rows::asked::Asked;
+use test_rows::rows::{EMPTY, Row};
 
 const ACCEPTED: Row<'static> = Row {
-    words: "check a.s a.cert",
+    asked: Asked::Check(File, 1),
     ..EMPTY
 };
 
@@ -64,9 +67,7 @@ const ACCEPTANCES: [Row<'static>; 4] = [
 
 #[test]
 fn accepts_programs(rt: HostRuntime) {
-    for row in &ACCEPTANCES {
-        row.runs(&rt, rt.alloc());
-    }
+    expect_rows(&rt, rt.alloc(), &ACCEPTANCES);
 }
 
 const FINDINGS: [Row<'static>; 14] = [
@@ -113,21 +114,21 @@ const FINDINGS: [Row<'static>; 14] = [
     },
     // However many workers there are.
     Row {
-        words: "check a.s a.cert --workers 1",
+        asked: Asked::Check(File, 1),
         program: FIVE_FINDINGS,
         certificate: FIVE_FINDINGS_CERTIFICATE,
         expected: FIVE_FOUND,
         ..REFUSED
     },
     Row {
-        words: "check a.s a.cert --workers 3",
+        asked: Asked::Check(File, 3),
         program: FIVE_FINDINGS,
         certificate: FIVE_FINDINGS_CERTIFICATE,
         expected: FIVE_FOUND,
         ..REFUSED
     },
     Row {
-        words: "check --workers 16 a.s a.cert",
+        asked: Asked::Check(File, 16),
         program: FIVE_FINDINGS,
         certificate: FIVE_FINDINGS_CERTIFICATE,
         expected: FIVE_FOUND,
@@ -162,9 +163,7 @@ const FINDINGS: [Row<'static>; 14] = [
 
 #[test]
 fn finds_what_is_wrong(rt: HostRuntime) {
-    for row in &FINDINGS {
-        row.runs(&rt, rt.alloc());
-    }
+    expect_rows(&rt, rt.alloc(), &FINDINGS);
 }
 
 const REFUSALS: [Row<'static>; 8] = [
@@ -216,7 +215,5 @@ const REFUSALS: [Row<'static>; 8] = [
 
 #[test]
 fn refuses_certificates(rt: HostRuntime) {
-    for row in &REFUSALS {
-        row.runs(&rt, rt.alloc());
-    }
+    expect_rows(&rt, rt.alloc(), &REFUSALS);
 }

@@ -1,23 +1,46 @@
 //! `explain`: what is said of wrong marks, of refused texts and of marks that cost speed, and nothing of marks
 //! that are right and cost nothing.
 
-use crate::answers::{EMPTY, Row};
+use crate::answers::{expect_each, expect_row};
 use test_programs::programs::{
     COUNT, COUNT_CREATES_LESS, COUNT_FORWARDED, DIAMOND, FIVE_FINDINGS, PRODUCT, READ_ONLY,
     RELEASE, RELEASE_CREATES_MORE, SPIN, UNLISTED_JUMP,
 };
+use test_rows::asked::{Asked, AskedExplain, PLAIN_EXPLAIN};
+use test_rows::rows::{EMPTY, Row};
 
 const EXPLAIN: Row<'static> = Row {
-    words: "explain a.s",
+    asked: Asked::Explain(PLAIN_EXPLAIN),
     ..EMPTY
 };
 
+// The same where something is wrong.
+const EXPLAIN_WRONG: Row<'static> = Row {
+    status: 1,
+    ..EXPLAIN
+};
+
+const SILENT: Row<'static> = Row {
+    asked: Asked::Explain(AskedExplain {
+        warnings: false,
+        ..PLAIN_EXPLAIN
+    }),
+    ..EMPTY
+};
+
+// Programs with marks that are right and cost nothing.
+const RIGHT: [(&str, &str); 6] = [
+    (COUNT_FORWARDED, ""),
+    (DIAMOND, ""),
+    (PRODUCT, ""),
+    (READ_ONLY, ""),
+    (RELEASE, ""),
+    (SPIN, ""),
+];
+
 #[test]
 fn says_nothing_of_right_marks(rt: HostRuntime) {
-    for program in [COUNT_FORWARDED, DIAMOND, PRODUCT, READ_ONLY, RELEASE, SPIN] {
-        let row = Row { program, ..EXPLAIN };
-        row.runs(&rt, rt.alloc());
-    }
+    expect_each(&rt, rt.alloc(), &EXPLAIN, &RIGHT);
 }
 
 // Programs with right marks, and what is said of those that cost speed.
@@ -51,26 +74,13 @@ a.s:4:1: help: remove it up to the next instruction that a task reaches, or let 
 
 #[test]
 fn warns_of_marks_that_cost_speed(rt: HostRuntime) {
-    for &(program, expected) in &COSTLY {
-        let row = Row {
-            program,
-            expected,
-            ..EXPLAIN
-        };
-        row.runs(&rt, rt.alloc());
-    }
+    expect_each(&rt, rt.alloc(), &EXPLAIN, &COSTLY);
 }
 
 #[test]
 fn says_nothing_of_them_without_warnings(rt: HostRuntime) {
-    for program in [COUNT, RELEASE_CREATES_MORE, UNLISTED_JUMP] {
-        let row = Row {
-            words: "explain --no-warnings a.s",
-            program,
-            ..EMPTY
-        };
-        row.runs(&rt, rt.alloc());
-    }
+    let programs = [(COUNT, ""), (RELEASE_CREATES_MORE, ""), (UNLISTED_JUMP, "")];
+    expect_each(&rt, rt.alloc(), &SILENT, &programs);
 }
 
 // Programs with wrong marks, and what is said of them.
@@ -119,15 +129,7 @@ a.s:2:27: help: let a task begin there, or remove the target: targets=-
 
 #[test]
 fn explains_wrong_marks(rt: HostRuntime) {
-    for &(program, expected) in &WRONG {
-        let row = Row {
-            program,
-            expected,
-            status: 1,
-            ..EXPLAIN
-        };
-        row.runs(&rt, rt.alloc());
-    }
+    expect_each(&rt, rt.alloc(), &EXPLAIN_WRONG, &WRONG);
 }
 
 // Texts that are refused, and what is said of them.
@@ -273,15 +275,7 @@ a.s:1:35: help: did you mean Loop?
 
 #[test]
 fn explains_refused_texts(rt: HostRuntime) {
-    for &(program, expected) in &REFUSED {
-        let row = Row {
-            program,
-            expected,
-            status: 1,
-            ..EXPLAIN
-        };
-        row.runs(&rt, rt.alloc());
-    }
+    expect_each(&rt, rt.alloc(), &EXPLAIN_WRONG, &REFUSED);
 }
 
 // One program for each of the rules 5 to 12: the same marks, right but for one.
@@ -430,15 +424,7 @@ a.s:1:34: help: let a task begin there, or remove the target: targets=A,B
 
 #[test]
 fn explains_each_rule(rt: HostRuntime) {
-    for &(program, expected) in &BY_RULE {
-        let row = Row {
-            program,
-            expected,
-            status: 1,
-            ..EXPLAIN
-        };
-        row.runs(&rt, rt.alloc());
-    }
+    expect_each(&rt, rt.alloc(), &EXPLAIN_WRONG, &BY_RULE);
 }
 
 // Certificates of `spin`, and what is said of them: the right one, one that is none from its third line on,
@@ -466,13 +452,16 @@ a.cert: help: make it anew: multiscalar annotate --emit keep a.s > a.cert
 fn explains_certificates(rt: HostRuntime) {
     for &(certificate, expected, status) in &CERTIFICATES {
         let row = Row {
-            words: "explain a.s a.cert",
+            asked: Asked::Explain(AskedExplain {
+                certificate: Some("a.cert"),
+                ..PLAIN_EXPLAIN
+            }),
             program: SPIN,
             certificate,
             expected,
             status,
             ..EMPTY
         };
-        row.runs(&rt, rt.alloc());
+        expect_row(&rt, rt.alloc(), &row);
     }
 }

@@ -1,8 +1,10 @@
 //! Programs at the limits and just beyond.
 
-use crate::answers::{Bench, answer, expect, texts_of};
+use crate::answers::{Bench, answer, expect};
 use std::alloc::Global;
 use std::process::Abort;
+use test_rows::asked::Asked;
+use test_rows::rows::texts_of;
 
 // How large a program is made: at most 65,536 bytes in one `.space`.
 #[derive(Clone, Copy)]
@@ -85,8 +87,8 @@ fn write_section(rt: &impl Abort, alloc: Global, text: &mut String, name: &str, 
 
 // What `print` writes of a program, with status 0.
 fn printed(rt: &impl Bench, alloc: Global, program: &[u8]) -> Vec<u8> {
-    let texts = texts_of(rt, alloc, program, b"", b"");
-    let (printed, status) = answer(rt, alloc, "print a.s", &texts);
+    let texts = texts_of(alloc, program, b"", b"").expect(rt, "room for texts");
+    let (printed, status) = answer(rt, alloc, Asked::Print, &texts);
     assert_eq!(rt; status, 0);
     printed
 }
@@ -101,8 +103,8 @@ fn prints_the_largest_program(rt: HostRuntime) {
 
 // Asserts what `print` says of a text.
 fn expect_refused(rt: &impl Bench, alloc: Global, program: &[u8], expected: &str) {
-    let texts = texts_of(rt, alloc, program, b"", b"");
-    expect(rt, alloc, "print a.s", &texts, expected, 1);
+    let texts = texts_of(alloc, program, b"", b"").expect(rt, "room for texts");
+    expect(rt, alloc, Asked::Print, &texts, expected, 1);
 }
 
 #[test]

@@ -1,13 +1,15 @@
 //! `seq`.
 
-use crate::answers::{EMPTY, Row};
+use crate::answers::expect_rows;
 use test_programs::programs::{
     COUNT, COUNT_WITHOUT_HALT, END_OF_CODE, PRODUCT, READ_ONLY, UNLISTED_JUMP,
 };
+use test_rows::asked::Asked;
+use test_rows::rows::{EMPTY, Row};
 
 // A run that halts, and one that traps.
 const HALTS: Row<'static> = Row {
-    words: "seq a.s",
+    asked: Asked::Seq(1_000_000),
     ..EMPTY
 };
 
@@ -20,14 +22,14 @@ const PROGRAMS: [Row<'static>; 7] = [
         ..HALTS
     },
     Row {
-        words: "seq --budget 17 a.s",
+        asked: Asked::Seq(17),
         program: COUNT,
         expected: "10\nout of budget after 17 instructions\n",
         status: 3,
         ..EMPTY
     },
     Row {
-        words: "seq --budget 18 a.s",
+        asked: Asked::Seq(18),
         program: COUNT,
         expected: "10\nhalted after 18 instructions\n",
         ..EMPTY
@@ -56,9 +58,7 @@ const PROGRAMS: [Row<'static>; 7] = [
 
 #[test]
 fn runs_programs(rt: HostRuntime) {
-    for row in &PROGRAMS {
-        row.runs(&rt, rt.alloc());
-    }
+    expect_rows(&rt, rt.alloc(), &PROGRAMS);
 }
 
 const ORDER_OF_TRAPS: [Row<'static>; 4] = [
@@ -86,9 +86,7 @@ const ORDER_OF_TRAPS: [Row<'static>; 4] = [
 
 #[test]
 fn traps_in_order(rt: HostRuntime) {
-    for row in &ORDER_OF_TRAPS {
-        row.runs(&rt, rt.alloc());
-    }
+    expect_rows(&rt, rt.alloc(), &ORDER_OF_TRAPS);
 }
 
 const READ_ONLY_DATA: [Row<'static>; 3] = [
@@ -111,9 +109,7 @@ const READ_ONLY_DATA: [Row<'static>; 3] = [
 
 #[test]
 fn keeps_read_only_data(rt: HostRuntime) {
-    for row in &READ_ONLY_DATA {
-        row.runs(&rt, rt.alloc());
-    }
+    expect_rows(&rt, rt.alloc(), &READ_ONLY_DATA);
 }
 
 const WORDS: [Row<'static>; 2] = [
@@ -154,7 +150,5 @@ halt
 
 #[test]
 fn computes_words(rt: HostRuntime) {
-    for row in &WORDS {
-        row.runs(&rt, rt.alloc());
-    }
+    expect_rows(&rt, rt.alloc(), &WORDS);
 }

@@ -1,4 +1,4 @@
-//! The calls below the jobs.
+//! The program `count`, accepted: its members, and what is found in it and with a wrong certificate.
 
 use annotated_asm::assembler::assemble;
 use mark_checker::check::{check_task, verdict};

@@ -1,15 +1,19 @@
 //! `run`: what threads come to is the same whatever their order.
 
-use crate::answers::{Bench, EMPTY, Row, answer, expect, texts_of};
+use crate::answers::{Bench, answer, expect, expect_row, expect_rows};
+use jobs::job::CertificateSource::File;
+use jobs::job::{ReplayEmit, RunEmit, Schedule};
 use std::alloc::Global;
 use test_programs::certificates::{
     COUNT_CERTIFICATE, COUNT_CERTIFICATE_LACKING, DIAMOND_CERTIFICATE, PRODUCT_CERTIFICATE,
     READ_ONLY_CERTIFICATE, RELEASE_CERTIFICATE, SPIN_CERTIFICATE, UNLISTED_JUMP_CERTIFICATE,
 };
 use test_programs::programs::{COUNT, DIAMOND, PRODUCT, READ_ONLY, RELEASE, SPIN, UNLISTED_JUMP};
+use test_rows::asked::{Asked, AskedRun, Guess, PLAIN_RUN};
+use test_rows::rows::{EMPTY, Row, texts_of};
 
 const RUN: Row<'static> = Row {
-    words: "run a.s a.cert",
+    asked: Asked::Run(PLAIN_RUN),
     ..EMPTY
 };
 
@@ -22,28 +26,26 @@ const COUNTED: Row<'static> = Row {
 
 const UNITS: [u32; 4] = [1, 2, 4, 16];
 
-const PREDICTIONS: [&str; 3] = ["first", "last", "1,0"];
+const GUESSES: [Guess<'static>; 3] = [Guess::First, Guess::Last, Guess::List(&[1, 0])];
 
 // Asserts a row with these units, by one thread for each unit and by one thread alone.
-fn runs_on(rt: &impl Bench, alloc: Global, row: &Row<'_>, units: u32, predict: &str) {
-    for workers in ["", " --workers 1", " --workers 16"] {
-        let words = format!(in alloc;
-            "run a.s a.cert --units {units}{workers} --predict {predict}"
-        );
-        let words = words.ok().expect(rt, "room for words");
-        let row = Row {
-            words: words.as_str(),
-            ..*row
-        };
-        row.runs(rt, alloc);
+fn runs_on(rt: &impl Bench, alloc: Global, row: &Row<'_>, units: u32, predict: Guess<'_>) {
+    for workers in [units, 1, 16] {
+        let asked = Asked::Run(AskedRun {
+            units,
+            workers,
+            predict,
+            ..PLAIN_RUN
+        });
+        expect_row(rt, alloc, &Row { asked, ..*row });
     }
 }
 
 #[test]
 fn runs_count(rt: HostRuntime) {
     for &units in &UNITS {
-        for predict in PREDICTIONS {
-            runs_on(&rt, rt.alloc(), &COUNTED, units, predict);
+        for &guess in &GUESSES {
+            runs_on(&rt, rt.alloc(), &COUNTED, units, guess);
         }
     }
 }
@@ -120,16 +122,19 @@ halt
 
 #[test]
 fn runs_programs(rt: HostRuntime) {
+    expect_rows(&rt, rt.alloc(), &PROGRAMS);
     for row in &PROGRAMS {
-        row.runs(&rt, rt.alloc());
         for &units in &UNITS {
-            runs_on(&rt, rt.alloc(), row, units, "last");
+            runs_on(&rt, rt.alloc(), row, units, Guess::Last);
         }
     }
 }
 
 const SPUN: Row<'static> = Row {
-    words: "run --budget 100 a.s a.cert",
+    asked: Asked::Run(AskedRun {
+        budget: 100,
+        ..PLAIN_RUN
+    }),
     program: SPIN,
     certificate: SPIN_CERTIFICATE,
     expected: "out of budget\n",
@@ -139,7 +144,7 @@ const SPUN: Row<'static> = Row {
 
 #[test]
 fn runs_out_of_budget(rt: HostRuntime) {
-    SPUN.runs(&rt, rt.alloc());
+    expect_row(&rt, rt.alloc(), &SPUN);
 }
 
 // The texts are judged before anything runs.
@@ -156,41 +161,43 @@ const JUDGED_BEFORE: [(&str, &str, &str); 3] = [
 #[test]
 fn judges_before_the_run(rt: HostRuntime) {
     for &(program, certificate, expected) in &JUDGED_BEFORE {
-        for words in ["run a.s a.cert", "run --emit script a.s a.cert"] {
+        for emit in [RunEmit::Report, RunEmit::Script] {
             let row = Row {
-                words,
+                asked: Asked::Run(AskedRun { emit, ..PLAIN_RUN }),
                 program,
                 certificate,
                 expected,
                 status: 1,
                 ..EMPTY
             };
-            row.runs(&rt, rt.alloc());
+            expect_row(&rt, rt.alloc(), &row);
         }
     }
 }
 
 // Asserts that `replay` of the script that `run` writes allows each event, and ends as `run` says.
 fn replays_run(rt: &impl Bench, alloc: Global, row: &Row<'_>, units: u32) {
-    let words = format!(in alloc; "run --emit script --units {units} --predict last a.s a.cert");
-    let words = words.ok().expect(rt, "room for words");
+    let run = AskedRun {
+        units,
+        workers: units,
+        predict: Guess::Last,
+        emit: RunEmit::Script,
+        ..PLAIN_RUN
+    };
     let (program, certificate) = (row.program.as_bytes(), row.certificate.as_bytes());
-    let texts = texts_of(rt, alloc, program, certificate, b"");
-    let (script, status) = answer(rt, alloc, words.as_str(), &texts);
+    let texts = texts_of(alloc, program, certificate, b"").expect(rt, "room for texts");
+    let (script, status) = answer(rt, alloc, Asked::Run(run), &texts);
     assert_eq!(rt; status, row.status, "{units} units");
     let events = script.iter().filter(|byte| **byte == b'\n').count();
-    let words = format!(in alloc; "replay --units {units} a.s a.cert a.events");
-    let words = words.ok().expect(rt, "room for words");
     let expected = allowed(rt, alloc, events, row.expected);
-    let texts = texts_of(rt, alloc, program, certificate, script.as_slice());
-    expect(
-        rt,
-        alloc,
-        words.as_str(),
-        &texts,
-        expected.as_str(),
-        row.status,
-    );
+    let script = String::from_utf8(script).ok().expect(rt, "UTF-8");
+    let replay = Row {
+        asked: Asked::Replay(File, units, ReplayEmit::Answers),
+        script: script.as_str(),
+        expected: expected.as_str(),
+        ..*row
+    };
+    expect_row(rt, alloc, &replay);
 }
 
 // The answers to so many events that are allowed, and then the closing lines.
@@ -217,11 +224,16 @@ fn replays_what_was_run(rt: HostRuntime) {
 #[test]
 fn sums_up_count(rt: HostRuntime) {
     let row = Row {
-        words: "run --units 1 --emit summary a.s a.cert",
+        asked: Asked::Run(AskedRun {
+            units: 1,
+            workers: 1,
+            emit: RunEmit::Summary,
+            ..PLAIN_RUN
+        }),
         expected: SUMMARY,
         ..COUNTED
     };
-    row.runs(&rt, rt.alloc());
+    expect_row(&rt, rt.alloc(), &row);
 }
 
 const SUMMARY: &str = "assigned  retired  squashed  dropped  unfinished  useful  wasted  task
@@ -234,11 +246,17 @@ const SUMMARY: &str = "assigned  retired  squashed  dropped  unfinished  useful 
 #[test]
 fn counts_the_steps_of_count(rt: HostRuntime) {
     let row = Row {
-        words: "run --units 1 --schedule steps --emit summary a.s a.cert",
+        asked: Asked::Run(AskedRun {
+            schedule: Schedule::Steps,
+            units: 1,
+            workers: 1,
+            emit: RunEmit::Summary,
+            ..PLAIN_RUN
+        }),
         expected: SUMMARY_IN_STEPS,
         ..COUNTED
     };
-    row.runs(&rt, rt.alloc());
+    expect_row(&rt, rt.alloc(), &row);
 }
 
 const SUMMARY_IN_STEPS: &str =
@@ -253,14 +271,21 @@ steps 31, retired instructions 16
 #[test]
 fn traces_a_run(rt: HostRuntime) {
     let row = Row {
-        words: "run --units 1 --schedule steps --budget 2 --emit trace a.s a.cert",
+        asked: Asked::Run(AskedRun {
+            schedule: Schedule::Steps,
+            units: 1,
+            workers: 1,
+            budget: 2,
+            emit: RunEmit::Trace,
+            ..PLAIN_RUN
+        }),
         program: SPIN,
         certificate: SPIN_CERTIFICATE,
         expected: TRACE,
         status: 3,
         ..RUN
     };
-    row.runs(&rt, rt.alloc());
+    expect_row(&rt, rt.alloc(), &row);
 }
 
 const TRACE: &str = "1 assign A: ok
@@ -275,14 +300,21 @@ at the end: the run goes on
 #[test]
 fn writes_json_of_a_run(rt: HostRuntime) {
     let row = Row {
-        words: "run --units 1 --schedule steps --budget 2 --emit json a.s a.cert",
+        asked: Asked::Run(AskedRun {
+            schedule: Schedule::Steps,
+            units: 1,
+            workers: 1,
+            budget: 2,
+            emit: RunEmit::Json,
+            ..PLAIN_RUN
+        }),
         program: SPIN,
         certificate: SPIN_CERTIFICATE,
         expected: LINES,
         status: 3,
         ..RUN
     };
-    row.runs(&rt, rt.alloc());
+    expect_row(&rt, rt.alloc(), &row);
 }
 
 const LINES: &str =

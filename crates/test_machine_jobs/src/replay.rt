@@ -1,16 +1,20 @@
 //! `replay`: what it writes of scripts.
 
-use crate::answers::{Bench, EMPTY, Row};
+use crate::answers::{Bench, expect_row};
 use crate::scripts::{
     COUNT_DROPPED, COUNT_REFUSED, COUNT_TAKEN_AGAIN, COUNT_WAITS, JUMP_UNLISTED, READ_AHEAD,
     WRONG_PATH_LOADED, WRONG_PATH_SPUN, answers_of, events_of,
 };
+use jobs::job::CertificateSource::File;
+use jobs::job::ReplayEmit;
 use std::alloc::Global;
 use test_programs::certificates::{
     COUNT_CERTIFICATE, COUNT_CERTIFICATE_LACKING, READ_ONLY_CERTIFICATE, UNLISTED_JUMP_CERTIFICATE,
     WRONG_PATH_LOAD_CERTIFICATE, WRONG_PATH_SPIN_CERTIFICATE,
 };
 use test_programs::programs::{COUNT, READ_ONLY, UNLISTED_JUMP, WRONG_PATH_LOAD, WRONG_PATH_SPIN};
+use test_rows::asked::Asked;
+use test_rows::rows::{EMPTY, Row};
 
 /// Asserts a row whose script stands with its answers; what it expects is written behind these.
 pub fn replays(rt: &impl Bench, alloc: Global, row: &Row<'_>) {
@@ -21,11 +25,17 @@ pub fn replays(rt: &impl Bench, alloc: Global, row: &Row<'_>) {
         expected: expected.as_str(),
         ..*row
     };
-    row.runs(rt, alloc);
+    expect_row(rt, alloc, &row);
+}
+
+fn replays_rows(rt: &impl Bench, alloc: Global, rows: &[Row<'_>]) {
+    for row in rows {
+        replays(rt, alloc, row);
+    }
 }
 
 const ON_TWO_UNITS: Row<'static> = Row {
-    words: "replay --units 2 a.s a.cert a.events",
+    asked: Asked::Replay(File, 2, ReplayEmit::Answers),
     ..EMPTY
 };
 
@@ -52,7 +62,7 @@ const COUNTS: [Row<'static>; 4] = [
         ..OF_COUNT
     },
     Row {
-        words: "replay --units 3 a.s a.cert a.events",
+        asked: Asked::Replay(File, 3, ReplayEmit::Answers),
         script: COUNT_DROPPED,
         expected: "retired 0 c 0 h 0\nrunning\n",
         ..OF_COUNT
@@ -61,9 +71,7 @@ const COUNTS: [Row<'static>; 4] = [
 
 #[test]
 fn replays_count(rt: HostRuntime) {
-    for row in &COUNTS {
-        replays(&rt, rt.alloc(), row);
-    }
+    replays_rows(&rt, rt.alloc(), &COUNTS);
 }
 
 const WRONG_PATHS: [Row<'static>; 4] = [
@@ -90,7 +98,7 @@ const WRONG_PATHS: [Row<'static>; 4] = [
     },
     // The run ends at an address that the task does not list.
     Row {
-        words: "replay --units 1 a.s a.cert a.events",
+        asked: Asked::Replay(File, 1, ReplayEmit::Answers),
         program: UNLISTED_JUMP,
         certificate: UNLISTED_JUMP_CERTIFICATE,
         script: JUMP_UNLISTED,
@@ -101,16 +109,14 @@ const WRONG_PATHS: [Row<'static>; 4] = [
 
 #[test]
 fn replays_wrong_paths(rt: HostRuntime) {
-    for row in &WRONG_PATHS {
-        replays(&rt, rt.alloc(), row);
-    }
+    replays_rows(&rt, rt.alloc(), &WRONG_PATHS);
 }
 
 // The tables of scripts: an event that is refused counts nowhere.
 const SUMMARIES: [Row<'static>; 4] = [
     // The first A retires its 4 instructions; B is squashed before it executes one.
     Row {
-        words: "replay --units 2 --emit summary a.s a.cert a.events",
+        asked: Asked::Replay(File, 2, ReplayEmit::Summary),
         script: COUNT_TAKEN_AGAIN,
         expected: "assigned  retired  squashed  dropped  unfinished  useful  wasted  task
        2        1         0        0           1       4       0  A
@@ -121,7 +127,7 @@ const SUMMARIES: [Row<'static>; 4] = [
     },
     // B goes round three times before it is squashed.
     Row {
-        words: "replay --units 2 --emit summary a.s a.cert a.events",
+        asked: Asked::Replay(File, 2, ReplayEmit::Summary),
         program: WRONG_PATH_SPIN,
         certificate: WRONG_PATH_SPIN_CERTIFICATE,
         script: WRONG_PATH_SPUN,
@@ -135,7 +141,7 @@ const SUMMARIES: [Row<'static>; 4] = [
     },
     // The second A and B are dropped, and a third A comes behind the first.
     Row {
-        words: "replay --units 3 --emit summary a.s a.cert a.events",
+        asked: Asked::Replay(File, 3, ReplayEmit::Summary),
         script: COUNT_DROPPED,
         expected: "assigned  retired  squashed  dropped  unfinished  useful  wasted  task
        3        0         0        1           2       0       0  A
@@ -146,7 +152,7 @@ const SUMMARIES: [Row<'static>; 4] = [
     },
     // The status is that of the answers.
     Row {
-        words: "replay --units 1 --emit summary a.s a.cert a.events",
+        asked: Asked::Replay(File, 1, ReplayEmit::Summary),
         program: UNLISTED_JUMP,
         certificate: UNLISTED_JUMP_CERTIFICATE,
         script: JUMP_UNLISTED,
@@ -166,7 +172,7 @@ fn sums_up_scripts(rt: HostRuntime) {
             script: script.as_str(),
             ..*row
         };
-        row.runs(&rt, rt.alloc());
+        expect_row(&rt, rt.alloc(), &row);
     }
 }
 
@@ -198,7 +204,7 @@ fn replays_odd_scripts(rt: HostRuntime) {
             status,
             ..OF_COUNT
         };
-        row.runs(&rt, rt.alloc());
+        expect_row(&rt, rt.alloc(), &row);
     }
 }
 
@@ -221,16 +227,16 @@ const JUDGED_BEFORE: [(&str, &str, &str); 4] = [
 #[test]
 fn judges_before_the_script(rt: HostRuntime) {
     for &(certificate, script, expected) in &JUDGED_BEFORE {
-        for words in [ON_TWO_UNITS.words, SUMMARIES[0].words] {
+        for emit in [ReplayEmit::Answers, ReplayEmit::Summary] {
             let row = Row {
-                words,
+                asked: Asked::Replay(File, 2, emit),
                 certificate,
                 script,
                 expected,
                 status: 1,
                 ..OF_COUNT
             };
-            row.runs(&rt, rt.alloc());
+            expect_row(&rt, rt.alloc(), &row);
         }
     }
 }
@@ -240,14 +246,14 @@ fn judges_before_the_script(rt: HostRuntime) {
 fn traces_a_script(rt: HostRuntime) {
     let script = events_of(&rt, rt.alloc(), JUMP_UNLISTED);
     let row = Row {
-        words: "replay --units 1 --emit trace a.s a.cert a.events",
+        asked: Asked::Replay(File, 1, ReplayEmit::Trace),
         program: UNLISTED_JUMP,
         certificate: UNLISTED_JUMP_CERTIFICATE,
         script: script.as_str(),
         expected: TRACE,
         status: 1,
     };
-    row.runs(&rt, rt.alloc());
+    expect_row(&rt, rt.alloc(), &row);
 }
 
 const TRACE: &str = "1 assign A: ok
@@ -279,14 +285,14 @@ at the end: the run is unlisted: 0x400010
 fn writes_json_of_a_script(rt: HostRuntime) {
     let script = events_of(&rt, rt.alloc(), JUMP_UNLISTED);
     let row = Row {
-        words: "replay --units 1 --emit json a.s a.cert a.events",
+        asked: Asked::Replay(File, 1, ReplayEmit::Json),
         program: UNLISTED_JUMP,
         certificate: UNLISTED_JUMP_CERTIFICATE,
         script: script.as_str(),
         expected: LINES,
         status: 1,
     };
-    row.runs(&rt, rt.alloc());
+    expect_row(&rt, rt.alloc(), &row);
 }
 
 const LINES: &str =
