@@ -15,6 +15,9 @@ use task_descriptor::program::{BuildFault, Program};
 /// The longest text, in bytes.
 pub const MOST_TEXT: usize = 4_194_304;
 
+/// The most lines that such a text has: one more than its bytes.
+pub const MOST_LINES: usize = 4_194_305;
+
 /// The program of items whose layout is known.
 #[tactic(auto, unfolding(crate::specs::ProgramText::program_of))]
 fn program_of(alloc: Global, items: &[Item], layout: &Layout) -> Result<Program, AsmFault>

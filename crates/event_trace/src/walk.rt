@@ -5,7 +5,7 @@ use crate::told::Told;
 use machine_events::event::{Event, Refused};
 use machine_model::laws::next_is_after;
 use mark_checker::accept::Accepted;
-use sequencer::machine::Machine;
+use sequencer::machine::{Machine, MachineFault};
 use std::alloc::{AllocError, Global};
 use std::marker::Model;
 use task_descriptor::program::Program;
@@ -31,7 +31,7 @@ impl<'a> Model for Walk<'a> {
     ghost invariant = { λ w. (w.before.accepted ≡ w.accepted.now) × IsAbreast w.before w.after };
 }
 
-ghost use Rattle.std.specs.Prelude.{◌≡◌, ◌<◌, ◌≤◌, [], length, Ok, IfOk, OnOk};
+ghost use Rattle.std.specs.Prelude.{◌≡◌, ◌<◌, ◌≤◌, ◌×◌, [], length, Ok, IfOk, OnOk};
 ghost use Rattle.machine_model.specs.Machine.{opening};
 ghost use Rattle.sequencer.specs.Machines.{Applies, SameRing, answer_to, state, units_of};
 ghost use Rattle.event_trace.specs.Entries.{Tells};
@@ -84,12 +84,17 @@ fn machine_at_start<'a>(
     accepted: &'a Accepted,
     units: u32,
 ) -> Result<Machine<'a>, AllocError>
+    requires { (0 < units) × (units ≤ 16) }
     ensures accepted { IfOk result (λ machine. machine.accepted ≡ accepted.now) }
     ensures units { IfOk result (λ machine. units_of machine ≡ units) }
     ensures history { IfOk result (λ machine. machine.history ≡ []) }
     ensures opening { IfOk result (λ machine. state machine ≡ opening accepted.now.program) }
 {
-    Machine::new(alloc, accepted, units).map_err(|_| AllocError)
+    match Machine::new(alloc, accepted, units) {
+        Ok(machine) => Ok(machine),
+        Err(MachineFault::OutOfMemory) => Err(AllocError),
+        Err(MachineFault::Units) => unreachable!(),
+    }
 }
 
 /// Applies an event to two machines that are abreast, and tells what it changes.

@@ -1,2 +1,3 @@
+pub mod FaultText
 pub mod MarkedText
 pub mod Examples

@@ -4,19 +4,17 @@ ghost use Rattle.std.specs.Prelude.{◌≡◌};
 ghost use Rattle.marks_in_text.specs.declared.fault.MarksFault.TheVariants.{OutOfMemory};
 
 use std::alloc::AllocError;
-use thiserror::Error;
+use std::error::Error;
+use std::fmt;
 
 /// Why no text is written (own numbering).
-#[derive(Clone, Copy, Debug, PartialEq, Eq, Error)]
+#[derive(Clone, Copy, Debug, PartialEq, Eq)]
 pub enum MarksFault {
     /// 1: the text with these marks has more than 4,194,304 bytes.
-    #[error("1 TooLong")]
     TooLong,
     /// 2: the text with these marks is not the program's.
-    #[error("2 Differs")]
     Differs,
-    /// There was no memory.
-    #[error("out of memory")]
+    /// 3: there was no memory; it may come in place of any other answer.
     OutOfMemory,
 }
 
@@ -27,3 +25,21 @@ impl From<AllocError> for MarksFault {
         MarksFault::OutOfMemory
     }
 }
+
+impl fmt::Display for MarksFault {
+    ghost use Rattle.std.specs.Prelude.{Some};
+    ghost use Rattle.marks_in_text.specs.FaultText.{marks_fault_text};
+
+    ghost output = { λ fault. Some (marks_fault_text fault) };
+
+    /// The number and the name of the fault (own choice).
+    fn fmt<W: fmt::Write>(&self, f: &mut fmt::Formatter<W>) -> fmt::Result {
+        match *self {
+            MarksFault::TooLong => write!(f, "1 TooLong"),
+            MarksFault::Differs => write!(f, "2 Differs"),
+            MarksFault::OutOfMemory => write!(f, "3 OutOfMemory"),
+        }
+    }
+}
+
+impl Error for MarksFault {}

@@ -4,7 +4,7 @@
 use crate::queue::Queue;
 use machine_events::event::Commit;
 use mips_instructions::number::REGISTERS;
-use mips_plain::memory::Memory;
+use mips_plain::memory::{Memory, MemoryFault};
 use mips_plain::outcome::OutOfMemory;
 use std::alloc::Global;
 use std::marker::Model;
@@ -84,7 +84,8 @@ impl Processor {
                 assigns: 0,
                 spare: ReadLog::new(alloc),
             }),
-            Err(_) => Err(OutOfMemory),
+            Err(MemoryFault::OutOfMemory) => Err(OutOfMemory),
+            Err(MemoryFault::TooMuch) => unreachable!(),
         }
     }
 

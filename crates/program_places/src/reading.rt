@@ -6,15 +6,13 @@ ghost use Rattle.annotated_asm.specs.Items.{labels_of, after_labels};
 ghost use Rattle.program_places.specs.PlacedItems.{said_by, with_more, with_said, with_statement, item_at, label_items, statement_items, read_line, items_of_line, behind_line, items_from, no_lines, placed_items};
 
 use crate::item::{Amounts, Front, PlacedItem, Said, TaskLine, TokenPlace};
+use annotated_asm::assembler::MOST_LINES;
 use annotated_asm::fault::AsmFault;
 use annotated_asm::line::{instruction_count, section_after, statement_at, tokens_of};
 use program_statements::statement::{Section, Statement};
 use program_tokens::token::Token;
 use std::alloc::{AllocError, Global};
 use task_descriptor::name::Name;
-
-/// The most lines that a text has which is not too long.
-const MOST_LINES: usize = 4_194_305;
 
 /// What a statement says of the program as a whole.
 fn said_by(section: Section, statement: &Statement) -> Option<Said>

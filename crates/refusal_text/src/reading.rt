@@ -5,14 +5,12 @@ ghost use Rattle.annotated_asm.specs.Steps.{Answers};
 ghost use Rattle.annotated_asm.specs.Items.{after_labels};
 ghost use Rattle.refusal_text.specs.Reading.{read_line, judged, section_behind, faulty, faults_from, section_of, faults_behind};
 
+use annotated_asm::assembler::MOST_LINES;
 use annotated_asm::fault::AsmFault;
 use annotated_asm::line::{section_after, statement_at, tokens_of};
 use program_statements::statement::Section;
 use program_tokens::token::Token;
 use std::alloc::{AllocError, Global};
-
-/// The most lines that a text has which is not too long.
-const MOST_LINES: usize = 4_194_305;
 
 /// A line with a fault.
 #[derive(Clone, Copy, Debug, PartialEq, Eq)]

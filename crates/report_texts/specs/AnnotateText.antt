@@ -9,6 +9,7 @@ use Rattle.mask_certificate.specs.CertificateText.{cert_text}
 use Rattle.mask_certificate.specs.CertificateReading.{names_of}
 use Rattle.annotator.specs.Least.{IsLeast}
 use Rattle.annotator.specs.Proposed.{IsProposed}
+use Rattle.marks_in_text.specs.FaultText.{marks_fault_text}
 use Rattle.marks_in_text.specs.MarkedText.{IsAnswer}
 use Rattle.marks_in_text.specs.declared.fault.MarksFault.{MarksFault}
 use Rattle.marks_in_text.specs.declared.fault.MarksFault.TheVariants as marks_fault
@@ -35,15 +36,14 @@ pub record IsProposalCertificate (p : Listing) (bytes : List ℕ) : Type 0 where
   pub certified : IsLeastText proposed bytes
 
 -- why the author's text does not get these marks
-abbrev pub marks_refused : List ℕ → Report
-marks_refused why = record { bytes = codes "marks refused: " ++ (why ++ 10 ∷ []); status = 1 }
+abbrev pub marks_refused : MarksFault → Report
+marks_refused fault = record { bytes = codes "marks refused: " ++ (marks_fault_text fault ++ 10 ∷ []); status = 1 }
 
 -- what is written of an answer; want of memory is none
 abbrev pub marks_report : Result (List ℕ) MarksFault → Option Report
 marks_report (Ok bytes) = Some (record { bytes = bytes; status = 0 })
-marks_report (Err marks_fault.TooLong) = Some (marks_refused (codes "1 TooLong"))
-marks_report (Err marks_fault.Differs) = Some (marks_refused (codes "2 Differs"))
 marks_report (Err marks_fault.OutOfMemory) = None
+marks_report (Err fault) = Some (marks_refused fault)
 
 -- the report is of the author's text with the marks of the program q
 pub record IsMarksAnswer (text : List ℕ) (q : Listing) (report : Report) : Type 0 where

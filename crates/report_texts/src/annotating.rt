@@ -95,12 +95,12 @@ fn marks_report(alloc: Global, text: &[u8], program: &Program) -> Result<Report,
 fn refused_marks(alloc: Global, fault: MarksFault) -> Result<Report, AllocError>
     ensures { IfOk result (λ report. marks_report (Err fault) ≡ Some report) }
 {
-    let why = match fault {
-        MarksFault::TooLong => "1 TooLong",
-        MarksFault::Differs => "2 Differs",
-        MarksFault::OutOfMemory => return Err(AllocError),
-    };
-    let mut text = String::new(alloc);
-    writeln!(text, "marks refused: {why}")?;
-    Ok(Report::new(text.into_bytes(), 1))
+    match fault {
+        MarksFault::OutOfMemory => Err(AllocError),
+        MarksFault::TooLong | MarksFault::Differs => {
+            let mut text = String::new(alloc);
+            writeln!(text, "marks refused: {fault}")?;
+            Ok(Report::new(text.into_bytes(), 1))
+        }
+    }
 }

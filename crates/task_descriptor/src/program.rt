@@ -8,7 +8,7 @@ use mips_instructions::instruction::Op;
 use mips_instructions::number::Place;
 use mips_instructions::places::{CODE_START, address_of};
 use mips_plain::outcome::OutOfMemory;
-use mips_plain::plain::Plain;
+use mips_plain::plain::{Plain, PlainFault};
 use std::alloc::{AllocError, Global};
 use std::marker::Model;
 
@@ -184,7 +184,10 @@ impl Program {
         let code = unmarked(alloc, &self.code)?;
         match Plain::new(alloc, code, &self.bytes, &self.fixed, self.start) {
             Ok(machine) => Ok(machine),
-            Err(_) => Err(OutOfMemory),
+            Err(refused) => match refused.fault {
+                PlainFault::OutOfMemory => Err(OutOfMemory),
+                PlainFault::TooMany | PlainFault::TooMuch => unreachable!(),
+            },
         }
     }
 
