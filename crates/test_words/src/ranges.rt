@@ -20,6 +20,6 @@ fn holds_units_and_workers(rt: HostRuntime) {
 fn holds_a_prediction_list(rt: HostRuntime) {
     let numbers = [0, 15, 3].to_vec(rt.alloc()).expect(&rt, "memory");
     let list = PredictionList::new(numbers).expect(&rt, "three numbers");
-    assert!(rt; list.as_slice() == [0, 15, 3]);
-    assert!(rt; list.into_vec().as_slice() == [0, 15, 3]);
+    assert!(rt; list.as_slice() == [0, 15, 3].as_slice());
+    assert!(rt; list.into_vec().as_slice() == [0, 15, 3].as_slice());
 }
