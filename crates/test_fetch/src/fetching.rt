@@ -78,7 +78,7 @@ fn fetches_from_worn_readers(rt: HostRuntime) {
             bytes,
             fails,
         };
-        assert_eq!(rt; fetched(rt.alloc(), reader), expected, "{bytes} bytes");
+        assert!(rt; fetched(rt.alloc(), reader) == expected, "{bytes} bytes");
     }
 }
 

@@ -1,6 +1,6 @@
 //! `annotate`: what is proposed, and what `check` says of it.
 
-use crate::answers::{Bench, answer, expect, expect_row, expect_rows};
+use crate::answers::{Bench, answer, expect, expect_rows};
 use jobs::job::CertificateSource::File;
 use jobs::job::Emit;
 use std::alloc::Global;
@@ -53,27 +53,42 @@ fn annotates_count(rt: HostRuntime) {
     expect_rows(&rt, rt.alloc(), &PROPOSALS);
 }
 
-const REFUSING: [Emit; 4] = [Emit::Text, Emit::Cert, Emit::Keep, Emit::Marks];
+const REFUSED: Row<'static> = Row {
+    program: "foo $8",
+    expected: "program refused: 4 Mnemonic line 1\n",
+    status: 1,
+    ..EMPTY
+};
+
+const REFUSALS: [Row<'static>; 4] = [
+    Row {
+        asked: Asked::Annotate(Emit::Text),
+        ..REFUSED
+    },
+    Row {
+        asked: Asked::Annotate(Emit::Cert),
+        ..REFUSED
+    },
+    Row {
+        asked: Asked::Annotate(Emit::Keep),
+        ..REFUSED
+    },
+    Row {
+        asked: Asked::Annotate(Emit::Marks),
+        ..REFUSED
+    },
+];
 
 #[test]
 fn refuses_texts(rt: HostRuntime) {
-    for &emit in &REFUSING {
-        let row = Row {
-            asked: Asked::Annotate(emit),
-            program: "foo $8",
-            expected: "program refused: 4 Mnemonic line 1\n",
-            status: 1,
-            ..EMPTY
-        };
-        expect_row(&rt, rt.alloc(), &row);
-    }
+    expect_rows(&rt, rt.alloc(), &REFUSALS);
 }
 
 // What a job writes of a program, with status 0.
 fn written(rt: &impl Bench, alloc: Global, asked: Asked<'_>, program: &[u8]) -> Vec<u8> {
     let texts = texts_of(alloc, program, b"", b"").expect(rt, "room for texts");
     let (written, status) = answer(rt, alloc, asked, &texts);
-    assert_eq!(rt; status, 0, "{asked:?}");
+    assert!(rt; status == 0, "{asked:?}");
     written
 }
 
@@ -150,7 +165,7 @@ fn keeps_read_only_data(rt: HostRuntime) {
 
 // With the least certificate what is found is a fault of the marks. So the one fault of the other
 // certificate of these programs is gone.
-const REFUSED: [(&str, &str); 2] = [
+const STILL_WRONG: [(&str, &str); 2] = [
     (
         FIVE_FINDINGS,
         "A 0 rule 5 $8\nA 0 rule 8 $8\nB 1 rule 9 -\nB 1 rule 12 -\nrefused 4\n",
@@ -160,7 +175,7 @@ const REFUSED: [(&str, &str); 2] = [
 
 #[test]
 fn keeps_marks_as_they_stand(rt: HostRuntime) {
-    for &(program, expected) in &REFUSED {
+    for &(program, expected) in &STILL_WRONG {
         let program = program.as_bytes();
         let certificate = written(&rt, rt.alloc(), Asked::Annotate(Emit::Keep), program);
         expect_checked(

@@ -1,7 +1,7 @@
 //! `explain`: what is said of wrong marks, of refused texts and of marks that cost speed, and nothing of marks
 //! that are right and cost nothing.
 
-use crate::answers::{expect_each, expect_row};
+use crate::answers::{expect_each, expect_rows};
 use test_programs::programs::{
     COUNT, COUNT_CREATES_LESS, COUNT_FORWARDED, DIAMOND, FIVE_FINDINGS, PRODUCT, READ_ONLY,
     RELEASE, RELEASE_CREATES_MORE, SPIN, UNLISTED_JUMP,
@@ -427,41 +427,42 @@ fn explains_each_rule(rt: HostRuntime) {
     expect_each(&rt, rt.alloc(), &EXPLAIN_WRONG, &BY_RULE);
 }
 
+const CERTIFIED: Row<'static> = Row {
+    asked: Asked::Explain(AskedExplain {
+        certificate: Some("a.cert"),
+        ..PLAIN_EXPLAIN
+    }),
+    program: SPIN,
+    ..EMPTY
+};
+
 // Certificates of `spin`, and what is said of them: the right one, one that is none from its third line on,
 // and one without a mask for the task's entry.
-const CERTIFICATES: [(&str, &str, u8); 3] = [
-    ("cert 2\ntask A\n0 0000000000000000\n", "", 0),
-    (
-        "cert 2\ntask A\n0 zz\n",
-        "a.cert:3: error: this is no line of a certificate [2 Line 3]
+const CERTIFICATES: [Row<'static>; 3] = [
+    Row {
+        certificate: "cert 2\ntask A\n0 0000000000000000\n",
+        ..CERTIFIED
+    },
+    Row {
+        certificate: "cert 2\ntask A\n0 zz\n",
+        expected: "a.cert:3: error: this is no line of a certificate [2 Line 3]
 a.cert:3: help: a line is task NAME, or an index of at most 5 digits, one blank and a mask: in cert 2 of 16 lower-case hexadecimal digits, in cert 1 of 8, with no bit above 33
 a.cert: help: make it anew: multiscalar annotate --emit keep a.s > a.cert
 ",
-        1,
-    ),
-    (
-        "cert 2\ntask A\n",
-        "a.cert: error: this is not a certificate of a.s as it stands; findings with it: 1, with the least certificate: 0
+        status: 1,
+        ..CERTIFIED
+    },
+    Row {
+        certificate: "cert 2\ntask A\n",
+        expected: "a.cert: error: this is not a certificate of a.s as it stands; findings with it: 1, with the least certificate: 0
 a.cert: help: make it anew: multiscalar annotate --emit keep a.s > a.cert
 ",
-        1,
-    ),
+        status: 1,
+        ..CERTIFIED
+    },
 ];
 
 #[test]
 fn explains_certificates(rt: HostRuntime) {
-    for &(certificate, expected, status) in &CERTIFICATES {
-        let row = Row {
-            asked: Asked::Explain(AskedExplain {
-                certificate: Some("a.cert"),
-                ..PLAIN_EXPLAIN
-            }),
-            program: SPIN,
-            certificate,
-            expected,
-            status,
-            ..EMPTY
-        };
-        expect_row(&rt, rt.alloc(), &row);
-    }
+    expect_rows(&rt, rt.alloc(), &CERTIFICATES);
 }

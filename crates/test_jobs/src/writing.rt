@@ -34,7 +34,7 @@ fn expect_written(rt: &impl Bench, alloc: Global, room: u32, expected: Result<u8
     let texts = texts_of(alloc, b"foo", b"", b"").expect(rt, "room for texts");
     let mut writer = Full { room };
     let answer = serve(rt, alloc, &Job::Print, &texts, &mut writer);
-    assert_eq!(rt; answer, expected, "room for {room}");
+    assert!(rt; answer == expected, "room for {room}");
 }
 
 // `program refused: 4 Mnemonic line 1` and its LF are 35 bytes.

@@ -1,6 +1,6 @@
 //! `replay`: what it writes of scripts.
 
-use crate::answers::{Bench, expect_row};
+use crate::answers::{Bench, expect_row, expect_rows, expect_rows_of};
 use crate::scripts::{
     COUNT_DROPPED, COUNT_REFUSED, COUNT_TAKEN_AGAIN, COUNT_WAITS, JUMP_UNLISTED, READ_AHEAD,
     WRONG_PATH_LOADED, WRONG_PATH_SPUN, answers_of, events_of,
@@ -167,94 +167,117 @@ const SUMMARIES: [Row<'static>; 4] = [
 #[test]
 fn sums_up_scripts(rt: HostRuntime) {
     for row in &SUMMARIES {
-        let script = events_of(&rt, rt.alloc(), row.script);
-        let row = Row {
-            script: script.as_str(),
-            ..*row
-        };
-        expect_row(&rt, rt.alloc(), &row);
+        applies(&rt, rt.alloc(), row);
     }
 }
 
+// Asserts a row whose script stands with its answers, which are not what it expects.
+fn applies(rt: &impl Bench, alloc: Global, row: &Row<'_>) {
+    let script = events_of(rt, alloc, row.script);
+    let row = Row {
+        script: script.as_str(),
+        ..*row
+    };
+    expect_row(rt, alloc, &row);
+}
+
+const REFUSED: Row<'static> = Row {
+    status: 1,
+    ..OF_COUNT
+};
+
 // Scripts of no event, of one that no machine has, and of none.
-const ODD_SCRIPTS: [(&str, &str, u8); 7] = [
-    ("", "retired 0 c 0 h 0\nrunning\n", 0),
-    (
-        "exec 999",
-        "1 refused 3 NoSuch\nretired 0 c 0 h 0\nrunning\n",
-        0,
-    ),
-    ("exec", "script refused: 1 Line 1\n", 1),
-    ("exec 1000", "script refused: 1 Line 1\n", 1),
-    ("exec 01", "script refused: 1 Line 1\n", 1),
-    ("assign C", "script refused: 2 TaskName 1\n", 1),
-    (
-        "assign A\nassign C\nexec",
-        "script refused: 2 TaskName 2\n",
-        1,
-    ),
+const ODD_SCRIPTS: [Row<'static>; 7] = [
+    Row {
+        expected: "retired 0 c 0 h 0\nrunning\n",
+        ..OF_COUNT
+    },
+    Row {
+        script: "exec 999",
+        expected: "1 refused 3 NoSuch\nretired 0 c 0 h 0\nrunning\n",
+        ..OF_COUNT
+    },
+    Row {
+        script: "exec",
+        expected: "script refused: 1 Line 1\n",
+        ..REFUSED
+    },
+    Row {
+        script: "exec 1000",
+        expected: "script refused: 1 Line 1\n",
+        ..REFUSED
+    },
+    Row {
+        script: "exec 01",
+        expected: "script refused: 1 Line 1\n",
+        ..REFUSED
+    },
+    Row {
+        script: "assign C",
+        expected: "script refused: 2 TaskName 1\n",
+        ..REFUSED
+    },
+    Row {
+        script: "assign A\nassign C\nexec",
+        expected: "script refused: 2 TaskName 2\n",
+        ..REFUSED
+    },
 ];
 
 #[test]
 fn replays_odd_scripts(rt: HostRuntime) {
-    for &(script, expected, status) in &ODD_SCRIPTS {
-        let row = Row {
-            script,
-            expected,
-            status,
-            ..OF_COUNT
-        };
-        expect_row(&rt, rt.alloc(), &row);
-    }
+    expect_rows(&rt, rt.alloc(), &ODD_SCRIPTS);
 }
 
 // The certificate and what the rules find come before the script.
-const JUDGED_BEFORE: [(&str, &str, &str); 4] = [
-    ("cert 3\n", "exec", "certificate refused: 1 Header\n"),
-    ("cert 3\n", "assign A", "certificate refused: 1 Header\n"),
-    (
-        COUNT_CERTIFICATE_LACKING,
-        "exec",
-        "A 1 rule 3 $9\nrefused 1\n",
-    ),
-    (
-        COUNT_CERTIFICATE_LACKING,
-        "assign A",
-        "A 1 rule 3 $9\nrefused 1\n",
-    ),
+const JUDGED_BEFORE: [Row<'static>; 4] = [
+    Row {
+        certificate: "cert 3\n",
+        script: "exec",
+        expected: "certificate refused: 1 Header\n",
+        ..REFUSED
+    },
+    Row {
+        certificate: "cert 3\n",
+        script: "assign A",
+        expected: "certificate refused: 1 Header\n",
+        ..REFUSED
+    },
+    Row {
+        certificate: COUNT_CERTIFICATE_LACKING,
+        script: "exec",
+        expected: "A 1 rule 3 $9\nrefused 1\n",
+        ..REFUSED
+    },
+    Row {
+        certificate: COUNT_CERTIFICATE_LACKING,
+        script: "assign A",
+        expected: "A 1 rule 3 $9\nrefused 1\n",
+        ..REFUSED
+    },
 ];
 
 #[test]
 fn judges_before_the_script(rt: HostRuntime) {
-    for &(certificate, script, expected) in &JUDGED_BEFORE {
-        for emit in [ReplayEmit::Answers, ReplayEmit::Summary] {
-            let row = Row {
-                asked: Asked::Replay(File, 2, emit),
-                certificate,
-                script,
-                expected,
-                status: 1,
-                ..OF_COUNT
-            };
-            expect_row(&rt, rt.alloc(), &row);
-        }
-    }
+    expect_rows(&rt, rt.alloc(), &JUDGED_BEFORE);
+    let summary = Asked::Replay(File, 2, ReplayEmit::Summary);
+    expect_rows_of(&rt, rt.alloc(), summary, &JUDGED_BEFORE);
 }
 
 // Each event with what it changed; the jump leads to line 5, which A does not list.
 #[test]
 fn traces_a_script(rt: HostRuntime) {
-    let script = events_of(&rt, rt.alloc(), JUMP_UNLISTED);
-    let row = Row {
-        asked: Asked::Replay(File, 1, ReplayEmit::Trace),
-        program: UNLISTED_JUMP,
-        certificate: UNLISTED_JUMP_CERTIFICATE,
-        script: script.as_str(),
-        expected: TRACE,
-        status: 1,
-    };
-    expect_row(&rt, rt.alloc(), &row);
+    applies(&rt, rt.alloc(), &TRACED);
 }
+
+const TRACED: Row<'static> = Row {
+    asked: Asked::Replay(File, 1, ReplayEmit::Trace),
+    program: UNLISTED_JUMP,
+    certificate: UNLISTED_JUMP_CERTIFICATE,
+    script: JUMP_UNLISTED,
+    expected: TRACE,
+    status: 1,
+};
 
 const TRACE: &str = "1 assign A: ok
     unit 0, task A: begins at line 2
@@ -283,17 +306,14 @@ at the end: the run is unlisted: 0x400010
 // The same in JSON.
 #[test]
 fn writes_json_of_a_script(rt: HostRuntime) {
-    let script = events_of(&rt, rt.alloc(), JUMP_UNLISTED);
-    let row = Row {
-        asked: Asked::Replay(File, 1, ReplayEmit::Json),
-        program: UNLISTED_JUMP,
-        certificate: UNLISTED_JUMP_CERTIFICATE,
-        script: script.as_str(),
-        expected: LINES,
-        status: 1,
-    };
-    expect_row(&rt, rt.alloc(), &row);
+    applies(&rt, rt.alloc(), &WRITTEN_AS_JSON);
 }
+
+const WRITTEN_AS_JSON: Row<'static> = Row {
+    asked: Asked::Replay(File, 1, ReplayEmit::Json),
+    expected: LINES,
+    ..TRACED
+};
 
 const LINES: &str =
     "{\"event\":1,\"kind\":\"assign\",\"task\":\"A\",\"answer\":\"ok\",\"changes\":[{\"change\":\"began\",\"unit\":0,\"task\":\"A\",\"index\":0,\"line\":2}]}

@@ -47,19 +47,3 @@ pub fn texts_of(alloc: Global, program: &[u8], certificate: &[u8], script: &[u8]
         script: script.to_vec(alloc).ok()?,
     })
 }
-
-/// A certificate in `cert 1` as it is spelled in `cert 2`: each mask with eight zeros before it. `None` where a
-/// line has one word, or memory was refused.
-pub fn widened(alloc: Global, certificate: &str) -> Option<String> {
-    let mut text = String::new(alloc);
-    for line in certificate.lines() {
-        let (first, rest) = line.split_once(' ')?;
-        let (zeros, rest) = match first {
-            "cert" => ("", "2"),
-            "task" => ("", rest),
-            _ => ("00000000", rest),
-        };
-        writeln!(text, "{first} {zeros}{rest}").ok()?;
-    }
-    Some(text)
-}

@@ -93,250 +93,308 @@ fn files(wanted: Asked<'_>) -> (&'static str, &'static str) {
     }
 }
 
-// Words that give a job of the program `a.s`.
-const JOBS: [(&str, Asked<'static>); 62] = [
+// Words of the jobs that have no file but the program.
+const JOBS: [(&str, Asked<'static>); 10] = [
     ("seq a.s", Asked::Seq(1_000_000)),
     ("seq --budget 17 a.s", Asked::Seq(17)),
     ("seq --budget 18 a.s", Asked::Seq(18)),
     ("print a.s", Asked::Print),
-    ("explain a.s", Asked::Explain(PLAIN_EXPLAIN)),
-    (
-        "explain a.s a.cert",
-        Asked::Explain(AskedExplain {
-            certificate: Some("a.cert"),
-            ..PLAIN_EXPLAIN
-        }),
-    ),
-    (
-        "explain --no-warnings a.s",
-        Asked::Explain(AskedExplain {
-            warnings: false,
-            ..PLAIN_EXPLAIN
-        }),
-    ),
-    ("explain a.s --format text", Asked::Explain(PLAIN_EXPLAIN)),
-    (
-        "explain --format sarif a.s",
-        Asked::Explain(AskedExplain {
-            format: Format::Sarif,
-            ..PLAIN_EXPLAIN
-        }),
-    ),
-    (
-        "explain --format sarif a.s a.cert",
-        Asked::Explain(AskedExplain {
-            certificate: Some("a.cert"),
-            format: Format::Sarif,
-            ..PLAIN_EXPLAIN
-        }),
-    ),
-    (
-        "explain --no-warnings --format sarif a.s",
-        Asked::Explain(AskedExplain {
-            warnings: false,
-            format: Format::Sarif,
-            ..PLAIN_EXPLAIN
-        }),
-    ),
-    ("check a.s a.cert", Asked::Check(File, 1)),
-    ("check a.s a.cert --workers 16", Asked::Check(File, 16)),
-    ("check --workers 3 a.s a.cert", Asked::Check(File, 3)),
-    ("check --least a.s", Asked::Check(Least, 1)),
-    ("check a.s --workers 2 --least", Asked::Check(Least, 2)),
-    ("check a.s a.cert --workers 1", Asked::Check(File, 1)),
-    ("check a.s a.cert --workers 3", Asked::Check(File, 3)),
-    ("check --workers 1 a.s a.cert", Asked::Check(File, 1)),
-    ("check --workers 2 a.s a.cert", Asked::Check(File, 2)),
-    ("check --workers 16 a.s a.cert", Asked::Check(File, 16)),
-    ("check --least --workers 3 a.s", Asked::Check(Least, 3)),
-    ("check --least --workers 4 a.s", Asked::Check(Least, 4)),
-    (
-        "replay a.s a.cert a.events",
-        Asked::Replay(File, 4, ReplayEmit::Answers),
-    ),
-    (
-        "replay a.s a.cert a.events --units 16",
-        Asked::Replay(File, 16, ReplayEmit::Answers),
-    ),
-    (
-        "replay --units 1 a.s a.cert a.events --emit answers",
-        Asked::Replay(File, 1, ReplayEmit::Answers),
-    ),
-    (
-        "replay --emit summary a.s a.cert a.events",
-        Asked::Replay(File, 4, ReplayEmit::Summary),
-    ),
-    (
-        "replay a.s a.cert --units 2 a.events --emit summary",
-        Asked::Replay(File, 2, ReplayEmit::Summary),
-    ),
-    (
-        "replay --least a.s a.events",
-        Asked::Replay(Least, 4, ReplayEmit::Answers),
-    ),
-    (
-        "replay a.s --least --units 3 --emit summary a.events",
-        Asked::Replay(Least, 3, ReplayEmit::Summary),
-    ),
-    (
-        "replay a.s a.cert a.events --emit json",
-        Asked::Replay(File, 4, ReplayEmit::Json),
-    ),
-    (
-        "replay --least --emit summary a.s a.events",
-        Asked::Replay(Least, 4, ReplayEmit::Summary),
-    ),
-    (
-        "replay --least --units 2 a.s a.events",
-        Asked::Replay(Least, 2, ReplayEmit::Answers),
-    ),
-    (
-        "replay --units 1 a.s a.cert a.events",
-        Asked::Replay(File, 1, ReplayEmit::Answers),
-    ),
-    (
-        "replay --units 2 a.s a.cert a.events",
-        Asked::Replay(File, 2, ReplayEmit::Answers),
-    ),
-    (
-        "replay --units 3 a.s a.cert a.events",
-        Asked::Replay(File, 3, ReplayEmit::Answers),
-    ),
-    (
-        "replay --units 4 a.s a.cert a.events",
-        Asked::Replay(File, 4, ReplayEmit::Answers),
-    ),
-    (
-        "replay --units 16 a.s a.cert a.events",
-        Asked::Replay(File, 16, ReplayEmit::Answers),
-    ),
-    (
-        "replay --units 1 --emit summary a.s a.cert a.events",
-        Asked::Replay(File, 1, ReplayEmit::Summary),
-    ),
-    (
-        "replay --units 2 --emit summary a.s a.cert a.events",
-        Asked::Replay(File, 2, ReplayEmit::Summary),
-    ),
-    (
-        "replay --units 3 --emit summary a.s a.cert a.events",
-        Asked::Replay(File, 3, ReplayEmit::Summary),
-    ),
-    (
-        "replay --units 1 --emit trace a.s a.cert a.events",
-        Asked::Replay(File, 1, ReplayEmit::Trace),
-    ),
-    (
-        "replay --units 1 --emit json a.s a.cert a.events",
-        Asked::Replay(File, 1, ReplayEmit::Json),
-    ),
     ("annotate a.s", Asked::Annotate(Emit::Text)),
     ("annotate --emit text a.s", Asked::Annotate(Emit::Text)),
     ("annotate a.s --emit cert", Asked::Annotate(Emit::Cert)),
     ("annotate --emit keep a.s", Asked::Annotate(Emit::Keep)),
     ("annotate --emit cert a.s", Asked::Annotate(Emit::Cert)),
     ("annotate --emit marks a.s", Asked::Annotate(Emit::Marks)),
-    ("curve a.s a.cert", Asked::Curve(PLAIN_CURVE)),
+];
+
+#[test]
+fn reads_jobs(rt: HostRuntime) {
+    for &(line, wanted) in &JOBS {
+        expect_read(&rt, rt.alloc(), line, wanted);
+    }
+}
+
+// Words of `explain`.
+const EXPLAINS: [(&str, AskedExplain<'static>); 7] = [
+    ("explain a.s", PLAIN_EXPLAIN),
     (
-        "curve --least a.s --units 1",
-        Asked::Curve(AskedCurve {
-            certificate: Least,
-            units: 1,
-            ..PLAIN_CURVE
-        }),
+        "explain a.s a.cert",
+        AskedExplain {
+            certificate: Some("a.cert"),
+            ..PLAIN_EXPLAIN
+        },
     ),
     (
-        "curve a.s --budget 7 a.cert --predict 3,2",
-        Asked::Curve(AskedCurve {
-            budget: 7,
-            predict: Guess::List(&[3, 2]),
-            ..PLAIN_CURVE
-        }),
+        "explain --no-warnings a.s",
+        AskedExplain {
+            warnings: false,
+            ..PLAIN_EXPLAIN
+        },
+    ),
+    ("explain a.s --format text", PLAIN_EXPLAIN),
+    (
+        "explain --format sarif a.s",
+        AskedExplain {
+            format: Format::Sarif,
+            ..PLAIN_EXPLAIN
+        },
     ),
     (
-        "curve --emit svg --least a.s",
-        Asked::Curve(AskedCurve {
-            certificate: Least,
-            emit: CurveEmit::Picture,
-            ..PLAIN_CURVE
-        }),
+        "explain --format sarif a.s a.cert",
+        AskedExplain {
+            certificate: Some("a.cert"),
+            format: Format::Sarif,
+            ..PLAIN_EXPLAIN
+        },
     ),
     (
-        "curve --units 4 a.s a.cert",
-        Asked::Curve(AskedCurve {
-            units: 4,
-            ..PLAIN_CURVE
-        }),
-    ),
-    (
-        "curve a.s --least --units 4",
-        Asked::Curve(AskedCurve {
-            certificate: Least,
-            units: 4,
-            ..PLAIN_CURVE
-        }),
-    ),
-    (
-        "curve --units 2 --predict last a.s a.cert",
-        Asked::Curve(AskedCurve {
-            units: 2,
-            predict: Guess::Last,
-            ..PLAIN_CURVE
-        }),
-    ),
-    (
-        "curve --units 1 a.s a.cert",
-        Asked::Curve(AskedCurve {
-            units: 1,
-            ..PLAIN_CURVE
-        }),
-    ),
-    (
-        "curve --units 2 --budget 100 a.s a.cert",
-        Asked::Curve(AskedCurve {
-            units: 2,
-            budget: 100,
-            ..PLAIN_CURVE
-        }),
-    ),
-    (
-        "curve --units 4 --budget 36 a.s a.cert",
-        Asked::Curve(AskedCurve {
-            units: 4,
-            budget: 36,
-            ..PLAIN_CURVE
-        }),
-    ),
-    (
-        "curve --units 2 a.s a.cert",
-        Asked::Curve(AskedCurve {
-            units: 2,
-            ..PLAIN_CURVE
-        }),
-    ),
-    (
-        "curve --units 2 --emit svg --least a.s",
-        Asked::Curve(AskedCurve {
-            certificate: Least,
-            units: 2,
-            emit: CurveEmit::Picture,
-            ..PLAIN_CURVE
-        }),
-    ),
-    (
-        "curve --units 1 --budget 100 --emit svg --least a.s",
-        Asked::Curve(AskedCurve {
-            certificate: Least,
-            units: 1,
-            budget: 100,
-            emit: CurveEmit::Picture,
-            ..PLAIN_CURVE
-        }),
+        "explain --no-warnings --format sarif a.s",
+        AskedExplain {
+            warnings: false,
+            format: Format::Sarif,
+            ..PLAIN_EXPLAIN
+        },
     ),
 ];
 
+#[test]
+fn reads_explains(rt: HostRuntime) {
+    for &(line, wanted) in &EXPLAINS {
+        expect_read(&rt, rt.alloc(), line, Asked::Explain(wanted));
+    }
+}
+
+// Words of `check`: where the certificate comes from, and the workers.
+const CHECKS: [(&str, CertificateSource, u32); 12] = [
+    ("check a.s a.cert", File, 1),
+    ("check a.s a.cert --workers 16", File, 16),
+    ("check --workers 3 a.s a.cert", File, 3),
+    ("check --least a.s", Least, 1),
+    ("check a.s --workers 2 --least", Least, 2),
+    ("check a.s a.cert --workers 1", File, 1),
+    ("check a.s a.cert --workers 3", File, 3),
+    ("check --workers 1 a.s a.cert", File, 1),
+    ("check --workers 2 a.s a.cert", File, 2),
+    ("check --workers 16 a.s a.cert", File, 16),
+    ("check --least --workers 3 a.s", Least, 3),
+    ("check --least --workers 4 a.s", Least, 4),
+];
+
+#[test]
+fn reads_checks(rt: HostRuntime) {
+    for &(line, certificate, workers) in &CHECKS {
+        expect_read(&rt, rt.alloc(), line, Asked::Check(certificate, workers));
+    }
+}
+
+// Words of `replay`: where the certificate comes from, the units, and what is written.
+const REPLAYS: [(&str, CertificateSource, u32, ReplayEmit); 16] = [
+    ("replay a.s a.cert a.events", File, 4, ReplayEmit::Answers),
+    (
+        "replay a.s a.cert a.events --units 16",
+        File,
+        16,
+        ReplayEmit::Answers,
+    ),
+    (
+        "replay --units 1 a.s a.cert a.events --emit answers",
+        File,
+        1,
+        ReplayEmit::Answers,
+    ),
+    (
+        "replay --emit summary a.s a.cert a.events",
+        File,
+        4,
+        ReplayEmit::Summary,
+    ),
+    (
+        "replay a.s a.cert --units 2 a.events --emit summary",
+        File,
+        2,
+        ReplayEmit::Summary,
+    ),
+    ("replay --least a.s a.events", Least, 4, ReplayEmit::Answers),
+    (
+        "replay a.s --least --units 3 --emit summary a.events",
+        Least,
+        3,
+        ReplayEmit::Summary,
+    ),
+    (
+        "replay a.s a.cert a.events --emit json",
+        File,
+        4,
+        ReplayEmit::Json,
+    ),
+    (
+        "replay --least --emit summary a.s a.events",
+        Least,
+        4,
+        ReplayEmit::Summary,
+    ),
+    (
+        "replay --least --units 2 a.s a.events",
+        Least,
+        2,
+        ReplayEmit::Answers,
+    ),
+    (
+        "replay --units 3 a.s a.cert a.events",
+        File,
+        3,
+        ReplayEmit::Answers,
+    ),
+    (
+        "replay --units 1 --emit summary a.s a.cert a.events",
+        File,
+        1,
+        ReplayEmit::Summary,
+    ),
+    (
+        "replay --units 2 --emit summary a.s a.cert a.events",
+        File,
+        2,
+        ReplayEmit::Summary,
+    ),
+    (
+        "replay --units 3 --emit summary a.s a.cert a.events",
+        File,
+        3,
+        ReplayEmit::Summary,
+    ),
+    (
+        "replay --units 1 --emit trace a.s a.cert a.events",
+        File,
+        1,
+        ReplayEmit::Trace,
+    ),
+    (
+        "replay --units 1 --emit json a.s a.cert a.events",
+        File,
+        1,
+        ReplayEmit::Json,
+    ),
+];
+
+#[test]
+fn reads_replays(rt: HostRuntime) {
+    for &(line, certificate, units, emit) in &REPLAYS {
+        let wanted = Asked::Replay(certificate, units, emit);
+        expect_read(&rt, rt.alloc(), line, wanted);
+    }
+}
+
+// Words of `curve`.
+const CURVES: [(&str, AskedCurve<'static>); 13] = [
+    ("curve a.s a.cert", PLAIN_CURVE),
+    (
+        "curve --least a.s --units 1",
+        AskedCurve {
+            certificate: Least,
+            units: 1,
+            ..PLAIN_CURVE
+        },
+    ),
+    (
+        "curve a.s --budget 7 a.cert --predict 3,2",
+        AskedCurve {
+            budget: 7,
+            predict: Guess::List(&[3, 2]),
+            ..PLAIN_CURVE
+        },
+    ),
+    (
+        "curve --emit svg --least a.s",
+        AskedCurve {
+            certificate: Least,
+            emit: CurveEmit::Picture,
+            ..PLAIN_CURVE
+        },
+    ),
+    (
+        "curve --units 4 a.s a.cert",
+        AskedCurve {
+            units: 4,
+            ..PLAIN_CURVE
+        },
+    ),
+    (
+        "curve a.s --least --units 4",
+        AskedCurve {
+            certificate: Least,
+            units: 4,
+            ..PLAIN_CURVE
+        },
+    ),
+    (
+        "curve --units 2 --predict last a.s a.cert",
+        AskedCurve {
+            units: 2,
+            predict: Guess::Last,
+            ..PLAIN_CURVE
+        },
+    ),
+    (
+        "curve --units 1 a.s a.cert",
+        AskedCurve {
+            units: 1,
+            ..PLAIN_CURVE
+        },
+    ),
+    (
+        "curve --units 2 --budget 100 a.s a.cert",
+        AskedCurve {
+            units: 2,
+            budget: 100,
+            ..PLAIN_CURVE
+        },
+    ),
+    (
+        "curve --units 4 --budget 36 a.s a.cert",
+        AskedCurve {
+            units: 4,
+            budget: 36,
+            ..PLAIN_CURVE
+        },
+    ),
+    (
+        "curve --units 2 a.s a.cert",
+        AskedCurve {
+            units: 2,
+            ..PLAIN_CURVE
+        },
+    ),
+    (
+        "curve --units 2 --emit svg --least a.s",
+        AskedCurve {
+            certificate: Least,
+            units: 2,
+            emit: CurveEmit::Picture,
+            ..PLAIN_CURVE
+        },
+    ),
+    (
+        "curve --units 1 --budget 100 --emit svg --least a.s",
+        AskedCurve {
+            certificate: Least,
+            units: 1,
+            budget: 100,
+            emit: CurveEmit::Picture,
+            ..PLAIN_CURVE
+        },
+    ),
+];
+
+#[test]
+fn reads_curves(rt: HostRuntime) {
+    for &(line, wanted) in &CURVES {
+        expect_read(&rt, rt.alloc(), line, Asked::Curve(wanted));
+    }
+}
+
 // Words of `run`.
-const RUNS: [(&str, AskedRun<'static>); 24] = [
+const RUNS: [(&str, AskedRun<'static>); 15] = [
     ("run a.s a.cert", PLAIN_RUN),
     (
         "run --least a.s",
@@ -433,97 +491,6 @@ const RUNS: [(&str, AskedRun<'static>); 24] = [
             ..PLAIN_RUN
         },
     ),
-    (
-        "run --units 1 --emit summary a.s a.cert",
-        AskedRun {
-            units: 1,
-            workers: 1,
-            emit: RunEmit::Summary,
-            ..PLAIN_RUN
-        },
-    ),
-    (
-        "run --least --units 1 --emit summary a.s",
-        AskedRun {
-            certificate: Least,
-            units: 1,
-            workers: 1,
-            emit: RunEmit::Summary,
-            ..PLAIN_RUN
-        },
-    ),
-    (
-        "run --units 1 --schedule steps --emit summary a.s a.cert",
-        AskedRun {
-            schedule: Schedule::Steps,
-            units: 1,
-            workers: 1,
-            emit: RunEmit::Summary,
-            ..PLAIN_RUN
-        },
-    ),
-    (
-        "run --units 1 --schedule steps --budget 2 --emit trace a.s a.cert",
-        AskedRun {
-            schedule: Schedule::Steps,
-            units: 1,
-            workers: 1,
-            budget: 2,
-            emit: RunEmit::Trace,
-            ..PLAIN_RUN
-        },
-    ),
-    (
-        "run --units 1 --schedule steps --budget 2 --emit json a.s a.cert",
-        AskedRun {
-            schedule: Schedule::Steps,
-            units: 1,
-            workers: 1,
-            budget: 2,
-            emit: RunEmit::Json,
-            ..PLAIN_RUN
-        },
-    ),
-    (
-        "run --emit script --units 1 --predict last a.s a.cert",
-        AskedRun {
-            units: 1,
-            workers: 1,
-            predict: Guess::Last,
-            emit: RunEmit::Script,
-            ..PLAIN_RUN
-        },
-    ),
-    (
-        "run --emit script --units 2 --predict last a.s a.cert",
-        AskedRun {
-            units: 2,
-            workers: 2,
-            predict: Guess::Last,
-            emit: RunEmit::Script,
-            ..PLAIN_RUN
-        },
-    ),
-    (
-        "run --emit script --units 4 --predict last a.s a.cert",
-        AskedRun {
-            units: 4,
-            workers: 4,
-            predict: Guess::Last,
-            emit: RunEmit::Script,
-            ..PLAIN_RUN
-        },
-    ),
-    (
-        "run --emit script --units 16 --predict last a.s a.cert",
-        AskedRun {
-            units: 16,
-            workers: 16,
-            predict: Guess::Last,
-            emit: RunEmit::Script,
-            ..PLAIN_RUN
-        },
-    ),
 ];
 
 #[test]
@@ -533,8 +500,65 @@ fn reads_runs(rt: HostRuntime) {
     }
 }
 
-// The words of units, of workers and of predictions, and what they give.
-const UNITS: [(&str, u32); 4] = [("1", 1), ("2", 2), ("4", 4), ("16", 16)];
+// Words of `run` on one unit.
+const RUNS_OF_ONE: [(&str, AskedRun<'static>); 5] = [
+    (
+        "run --units 1 --emit summary a.s a.cert",
+        AskedRun {
+            emit: RunEmit::Summary,
+            ..RUN_OF_ONE
+        },
+    ),
+    (
+        "run --least --units 1 --emit summary a.s",
+        AskedRun {
+            certificate: Least,
+            emit: RunEmit::Summary,
+            ..RUN_OF_ONE
+        },
+    ),
+    (
+        "run --units 1 --schedule steps --emit summary a.s a.cert",
+        AskedRun {
+            schedule: Schedule::Steps,
+            emit: RunEmit::Summary,
+            ..RUN_OF_ONE
+        },
+    ),
+    (
+        "run --units 1 --schedule steps --budget 2 --emit trace a.s a.cert",
+        AskedRun {
+            schedule: Schedule::Steps,
+            budget: 2,
+            emit: RunEmit::Trace,
+            ..RUN_OF_ONE
+        },
+    ),
+    (
+        "run --units 1 --schedule steps --budget 2 --emit json a.s a.cert",
+        AskedRun {
+            schedule: Schedule::Steps,
+            budget: 2,
+            emit: RunEmit::Json,
+            ..RUN_OF_ONE
+        },
+    ),
+];
+
+const RUN_OF_ONE: AskedRun<'static> = AskedRun {
+    units: 1,
+    workers: 1,
+    ..PLAIN_RUN
+};
+
+#[test]
+fn reads_runs_of_one(rt: HostRuntime) {
+    for &(line, wanted) in &RUNS_OF_ONE {
+        expect_read(&rt, rt.alloc(), line, Asked::Run(wanted));
+    }
+}
+
+const UNITS: [u32; 4] = [1, 2, 4, 16];
 
 const GUESSES: [(&str, Guess<'static>); 3] = [
     ("first", Guess::First),
@@ -542,59 +566,65 @@ const GUESSES: [(&str, Guess<'static>); 3] = [
     ("1,0", Guess::List(&[1, 0])),
 ];
 
-// Where no workers are named, there are as many as units.
+// Words of workers; where there are none, there are as many as units.
+const WORKERS: [(&str, Option<u32>); 3] = [
+    ("", None),
+    (" --workers 1", Some(1)),
+    (" --workers 16", Some(16)),
+];
+
 #[test]
 fn reads_runs_of_each_size(rt: HostRuntime) {
-    for &(name, units) in &UNITS {
+    for &units in &UNITS {
         for &(predict, guess) in &GUESSES {
-            let run = AskedRun {
-                units,
-                predict: guess,
-                ..PLAIN_RUN
-            };
-            expect_run(
-                &rt,
-                rt.alloc(),
-                name,
-                "",
-                predict,
-                AskedRun {
-                    workers: units,
-                    ..run
-                },
-            );
-            expect_run(
-                &rt,
-                rt.alloc(),
-                name,
-                " --workers 1",
-                predict,
-                AskedRun { workers: 1, ..run },
-            );
-            expect_run(
-                &rt,
-                rt.alloc(),
-                name,
-                " --workers 16",
-                predict,
-                AskedRun { workers: 16, ..run },
-            );
+            expect_runs(&rt, rt.alloc(), units, predict, guess);
         }
     }
 }
 
-// Asserts a run with so many units, by so many workers, with this prediction.
-fn expect_run(
-    rt: &impl Abort,
-    alloc: Global,
-    units: &str,
-    workers: &str,
-    predict: &str,
-    wanted: AskedRun<'_>,
-) {
-    let line = format!(in alloc; "run a.s a.cert --units {units}{workers} --predict {predict}");
+// Asserts the runs on so many units with this prediction.
+fn expect_runs(rt: &impl Abort, alloc: Global, units: u32, predict: &str, guess: Guess<'_>) {
+    for &(words, workers) in &WORKERS {
+        let line = format!(in alloc; "run a.s a.cert --units {units}{words} --predict {predict}");
+        let line = line.ok().expect(rt, "room for words");
+        let wanted = AskedRun {
+            units,
+            workers: workers.unwrap_or(units),
+            predict: guess,
+            ..PLAIN_RUN
+        };
+        expect_read(rt, alloc, line.as_str(), Asked::Run(wanted));
+    }
+}
+
+#[test]
+fn reads_scripts_of_each_size(rt: HostRuntime) {
+    for &units in &UNITS {
+        expect_script(&rt, rt.alloc(), units);
+        expect_replay(&rt, rt.alloc(), units);
+    }
+}
+
+// Asserts the run on so many units that writes a script.
+fn expect_script(rt: &impl Abort, alloc: Global, units: u32) {
+    let line = format!(in alloc; "run --emit script --units {units} --predict last a.s a.cert");
     let line = line.ok().expect(rt, "room for words");
+    let wanted = AskedRun {
+        units,
+        workers: units,
+        predict: Guess::Last,
+        emit: RunEmit::Script,
+        ..PLAIN_RUN
+    };
     expect_read(rt, alloc, line.as_str(), Asked::Run(wanted));
+}
+
+// Asserts the replay of a script on so many units.
+fn expect_replay(rt: &impl Abort, alloc: Global, units: u32) {
+    let line = format!(in alloc; "replay --units {units} a.s a.cert a.events");
+    let line = line.ok().expect(rt, "room for words");
+    let wanted = Asked::Replay(File, units, ReplayEmit::Answers);
+    expect_read(rt, alloc, line.as_str(), wanted);
 }
 
 // The job of the words, or why there is none.
@@ -617,13 +647,6 @@ fn push_word(rt: &impl Abort, alloc: Global, words: &mut Vec<String>, word: &str
     let word = String::from_str(alloc, word).ok();
     let word = word.expect(rt, "room for a word");
     assert!(rt; words.push(word).is_ok());
-}
-
-#[test]
-fn reads_jobs(rt: HostRuntime) {
-    for &(line, wanted) in &JOBS {
-        expect_read(&rt, rt.alloc(), line, wanted);
-    }
 }
 
 // Asserts the job of the words, and the names of its files.
