@@ -1,6 +1,6 @@
 //! What `clap` is told of the command line.
-ghost use Rattle.std.specs.Prelude.{◌≡◌, ◌≤◌, IfOk, false};
-ghost use Rattle.clap.specs.Words.{app_of, new_app, rule_of};
+ghost use Rattle.std.specs.Prelude.{◌≡◌, ◌≤◌, IfOk, IsOkAnd, false};
+ghost use Rattle.clap.specs.Words.{AddsSubcommand, app_of, new_app, rule_of};
 ghost use Rattle.clap.specs.declared.builder.command.Command.TheViews.{out-Command as fields_of};
 ghost use Rattle.command_line.specs.CommandLine.{IsSubcommand, command_line, program_name as program_name_shape, file as file_rule, flag as flag_rule, free_file as free_file_rule, word as word_rule};
 ghost use Rattle.command_line.specs.CommandLine.{free_number as free_number_rule, number as number_rule};
@@ -17,15 +17,26 @@ use std::alloc::{AllocError, Global};
 pub(crate) fn command<'a>(alloc: Global) -> Result<Command<'a>, AllocError>
     ensures { IfOk result (λ c. app_of c ≡ command_line) }
 {
-    program_name(alloc)
-        .subcommand(seq(alloc)?)?
-        .subcommand(print(alloc)?)?
-        .subcommand(annotate(alloc)?)?
-        .subcommand(explain(alloc)?)?
-        .subcommand(check(alloc)?)?
-        .subcommand(replay(alloc)?)?
-        .subcommand(run(alloc)?)?
-        .subcommand(curve(alloc)?)
+    let command = Ok(program_name(alloc));
+    let command = with_subcommand(command, seq(alloc));
+    let command = with_subcommand(command, print(alloc));
+    let command = with_subcommand(command, annotate(alloc));
+    let command = with_subcommand(command, explain(alloc));
+    let command = with_subcommand(command, check(alloc));
+    let command = with_subcommand(command, replay(alloc));
+    let command = with_subcommand(command, run(alloc));
+    with_subcommand(command, curve(alloc))
+}
+
+// The command with one subcommand more, if memory sufficed for both.
+fn with_subcommand<'a>(
+    command: Result<Command<'a>, AllocError>,
+    subcommand: Result<Command<'a>, AllocError>,
+) -> Result<Command<'a>, AllocError>
+    ensures { IfOk result (λ new. IsOkAnd command.entry (λ old.
+        IsOkAnd subcommand.entry (λ sub. AddsSubcommand old sub new))) }
+{
+    command?.subcommand(subcommand?)
 }
 
 // The program, with no subcommand yet.
@@ -241,63 +252,73 @@ fn annotate<'a>(alloc: Global) -> Result<Command<'a>, AllocError>
 fn explain<'a>(alloc: Global) -> Result<Command<'a>, AllocError>
     ensures { IfOk result (IsSubcommand explain_shape) }
 {
-    subcommand(alloc, "explain", help::EXPLAIN, help::EXPLAIN_LONG)
-        .arg(program(alloc))?
-        .arg(free_certificate(alloc, help::EXPLAIN_CERTIFICATE))?
-        .arg(no_warnings(alloc))?
-        .arg(layout(alloc))
+    let arguments = vec![in alloc;
+        program(alloc),
+        free_certificate(alloc, help::EXPLAIN_CERTIFICATE),
+        no_warnings(alloc),
+        layout(alloc),
+    ]?;
+    subcommand(alloc, "explain", help::EXPLAIN, help::EXPLAIN_LONG).args(arguments)
 }
 
 fn check<'a>(alloc: Global) -> Result<Command<'a>, AllocError>
     ensures { IfOk result (IsSubcommand check_shape) }
 {
+    let arguments = vec![in alloc;
+        program(alloc),
+        free_certificate(alloc, help::CERTIFICATE),
+        least(alloc),
+        checkers(alloc),
+    ]?;
     let command = subcommand(alloc, "check", help::CHECK, help::CHECK_LONG);
-    with_usage(command, help::CHECK_USAGE)
-        .arg(program(alloc))?
-        .arg(free_certificate(alloc, help::CERTIFICATE))?
-        .arg(least(alloc))?
-        .arg(checkers(alloc))
+    with_usage(command, help::CHECK_USAGE).args(arguments)
 }
 
 fn replay<'a>(alloc: Global) -> Result<Command<'a>, AllocError>
     ensures { IfOk result (IsSubcommand replay_shape) }
 {
+    let arguments = vec![in alloc;
+        program(alloc),
+        certificate(alloc),
+        free_script(alloc),
+        least(alloc),
+        units(alloc),
+        word(alloc, "emit", "WHAT", help::REPLAY_EMIT, "answers"),
+    ]?;
     let command = subcommand(alloc, "replay", help::REPLAY, help::REPLAY_LONG);
-    with_usage(command, help::REPLAY_USAGE)
-        .arg(program(alloc))?
-        .arg(certificate(alloc))?
-        .arg(free_script(alloc))?
-        .arg(least(alloc))?
-        .arg(units(alloc))?
-        .arg(word(alloc, "emit", "WHAT", help::REPLAY_EMIT, "answers"))
+    with_usage(command, help::REPLAY_USAGE).args(arguments)
 }
 
 fn run<'a>(alloc: Global) -> Result<Command<'a>, AllocError>
     ensures { IfOk result (IsSubcommand run_shape) }
 {
+    let arguments = vec![in alloc;
+        program(alloc),
+        free_certificate(alloc, help::CERTIFICATE),
+        least(alloc),
+        schedule(alloc),
+        units(alloc),
+        workers(alloc),
+        budget(alloc, help::RUN_BUDGET),
+        word(alloc, "predict", "HOW", help::PREDICT, "first"),
+        word(alloc, "emit", "WHAT", help::RUN_EMIT, "report"),
+    ]?;
     let command = subcommand(alloc, "run", help::RUN, help::RUN_LONG);
-    with_usage(command, help::RUN_USAGE)
-        .arg(program(alloc))?
-        .arg(free_certificate(alloc, help::CERTIFICATE))?
-        .arg(least(alloc))?
-        .arg(schedule(alloc))?
-        .arg(units(alloc))?
-        .arg(workers(alloc))?
-        .arg(budget(alloc, help::RUN_BUDGET))?
-        .arg(word(alloc, "predict", "HOW", help::PREDICT, "first"))?
-        .arg(word(alloc, "emit", "WHAT", help::RUN_EMIT, "report"))
+    with_usage(command, help::RUN_USAGE).args(arguments)
 }
 
 fn curve<'a>(alloc: Global) -> Result<Command<'a>, AllocError>
     ensures { IfOk result (IsSubcommand curve_shape) }
 {
+    let arguments = vec![in alloc;
+        program(alloc),
+        free_certificate(alloc, help::CERTIFICATE),
+        least(alloc),
+        most_units(alloc),
+        budget(alloc, help::CURVE_BUDGET),
+        word(alloc, "predict", "HOW", help::PREDICT, "first"),
+        word(alloc, "emit", "WHAT", help::CURVE_EMIT, "table"),
+    ]?;
     let command = subcommand(alloc, "curve", help::CURVE, help::CURVE_LONG);
-    with_usage(command, help::CURVE_USAGE)
-        .arg(program(alloc))?
-        .arg(free_certificate(alloc, help::CERTIFICATE))?
-        .arg(least(alloc))?
-        .arg(most_units(alloc))?
-        .arg(budget(alloc, help::CURVE_BUDGET))?
-        .arg(word(alloc, "predict", "HOW", help::PREDICT, "first"))?
-        .arg(word(alloc, "emit", "WHAT", help::CURVE_EMIT, "table"))
+    with_usage(command, help::CURVE_USAGE).args(arguments)
 }

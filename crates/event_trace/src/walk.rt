@@ -31,7 +31,7 @@ impl<'a> Model for Walk<'a> {
     ghost invariant = { λ w. (w.before.accepted ≡ w.accepted.now) × IsAbreast w.before w.after };
 }
 
-ghost use Rattle.std.specs.Prelude.{◌≡◌, ◌<◌, ◌≤◌, ◌×◌, [], length, Ok, IfOk, OnOk};
+ghost use Rattle.std.specs.Prelude.{◌≡◌, ◌<◌, ◌≤◌, [], length, Ok, IfOk, OnOk};
 ghost use Rattle.machine_model.specs.Machine.{opening};
 ghost use Rattle.sequencer.specs.Machines.{Applies, SameRing, answer_to, state, units_of};
 ghost use Rattle.event_trace.specs.Entries.{Tells};

@@ -1,15 +1,15 @@
 -- Subcommand by subcommand.
-use Rattle.std.proofs.lemmas.Result.{IfOk-weaker}
-use Rattle.command_line.proofs.ClapBuilds.{with_sub}
+use Rattle.std.proofs.Common.{Ok}
+use Rattle.command_line.proofs.ClapBuilds.{with_sub_if_there}
 use Rattle.command_line.proofs.subcommands.command.Goals as goal
 
 pub returns : goal.returns
 returns c =
-    let one = with_sub c.in_ok-subcommand.ensures c.program_name.ensures.0 c.in_ok-seq.ensures in
-    let two = with_sub c.in_ok-subcommand-2.ensures one c.in_ok-print.ensures in
-    let three = with_sub c.in_ok-subcommand-3.ensures two c.in_ok-annotate.ensures in
-    let four = with_sub c.in_ok-subcommand-4.ensures three c.in_ok-explain.ensures in
-    let five = with_sub c.in_ok-subcommand-5.ensures four c.in_ok-check.ensures in
-    let six = with_sub c.in_ok-subcommand-6.ensures five c.in_ok-replay.ensures in
-    let seven = with_sub c.in_ok-subcommand-7.ensures six c.in_ok-run.ensures in
-    IfOk-weaker c.subcommand-8.result _ _ (λ _ h. with_sub h seven c.in_ok-curve.ensures) c.subcommand-8.ensures
+    let one = with_sub_if_there (Ok c.program_name.result) c.seq.result c.with_subcommand-command.result _ _ c.with_subcommand-command.ensures c.program_name.ensures.0 c.seq.ensures in
+    let two = with_sub_if_there c.with_subcommand-command.result c.print.result c.with_subcommand-command-2.result _ _ c.with_subcommand-command-2.ensures one c.print.ensures in
+    let three = with_sub_if_there c.with_subcommand-command-2.result c.annotate.result c.with_subcommand-command-3.result _ _ c.with_subcommand-command-3.ensures two c.annotate.ensures in
+    let four = with_sub_if_there c.with_subcommand-command-3.result c.explain.result c.with_subcommand-command-4.result _ _ c.with_subcommand-command-4.ensures three c.explain.ensures in
+    let five = with_sub_if_there c.with_subcommand-command-4.result c.check.result c.with_subcommand-command-5.result _ _ c.with_subcommand-command-5.ensures four c.check.ensures in
+    let six = with_sub_if_there c.with_subcommand-command-5.result c.replay.result c.with_subcommand-command-6.result _ _ c.with_subcommand-command-6.ensures five c.replay.ensures in
+    let seven = with_sub_if_there c.with_subcommand-command-6.result c.run.result c.with_subcommand-command-7.result _ _ c.with_subcommand-command-7.ensures six c.run.ensures in
+    with_sub_if_there c.with_subcommand-command-7.result c.curve.result c.with_subcommand.result _ _ c.with_subcommand.ensures seven c.curve.ensures

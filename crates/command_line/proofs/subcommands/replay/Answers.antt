@@ -1,14 +1,12 @@
--- Argument by argument.
+-- The arguments have the rules of the subcommand, in order.
 use Rattle.std.proofs.Common.{◌∙◌}
 use Rattle.std.proofs.lemmas.Result.{IfOk-weaker}
-use Rattle.command_line.proofs.ClapBuilds.{with_argument}
+use Rattle.command_line.specs.CommandLine.{replay as shape}
+use Rattle.command_line.proofs.ClapBuilds.{with_arguments}
 use Rattle.command_line.proofs.subcommands.replay.Goals as goal
 
 pub returns : goal.returns
 returns c =
-    let one = with_argument c.in_ok-arg.ensures (c.with_usage.ensures.app ∙ c.subcommand-command.ensures.app, c.with_usage.ensures.local ∙ c.subcommand-command.ensures.local) c.program.ensures.rule c.program.ensures.local in
-    let two = with_argument c.in_ok-arg-2.ensures one c.certificate.ensures.rule c.certificate.ensures.local in
-    let three = with_argument c.in_ok-arg-3.ensures two c.free_script.ensures.rule c.free_script.ensures.local in
-    let four = with_argument c.in_ok-arg-4.ensures three c.least.ensures.rule c.least.ensures.local in
-    let five = with_argument c.in_ok-arg-5.ensures four c.units.ensures.rule c.units.ensures.local in
-    IfOk-weaker c.arg-6.result _ _ (λ _ h. with_argument h five c.word.ensures.rule c.word.ensures.local) c.arg-6.ensures
+    IfOk-weaker c.args-2.result _ _ (λ new added. with_arguments c.with_usage.result new _ _ _ shape.rules added c.in_ok-arguments.ensures.items
+    (c.with_usage.ensures.app ∙ c.subcommand-command.ensures.app, c.with_usage.ensures.local ∙ c.subcommand-command.ensures.local)
+    (c.program.ensures.rule, c.program.ensures.local, (c.certificate.ensures.rule, c.certificate.ensures.local, (c.free_script.ensures.rule, c.free_script.ensures.local, (c.least.ensures.rule, c.least.ensures.local, (c.units.ensures.rule, c.units.ensures.local, (c.word.ensures.rule, c.word.ensures.local, tt))))))) c.args-2.ensures

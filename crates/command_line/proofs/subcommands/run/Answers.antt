@@ -1,17 +1,12 @@
--- Argument by argument.
+-- The arguments have the rules of the subcommand, in order.
 use Rattle.std.proofs.Common.{◌∙◌}
 use Rattle.std.proofs.lemmas.Result.{IfOk-weaker}
-use Rattle.command_line.proofs.ClapBuilds.{with_argument}
+use Rattle.command_line.specs.CommandLine.{run as shape}
+use Rattle.command_line.proofs.ClapBuilds.{with_arguments}
 use Rattle.command_line.proofs.subcommands.run.Goals as goal
 
 pub returns : goal.returns
 returns c =
-    let one = with_argument c.in_ok-arg.ensures (c.with_usage.ensures.app ∙ c.subcommand-command.ensures.app, c.with_usage.ensures.local ∙ c.subcommand-command.ensures.local) c.program.ensures.rule c.program.ensures.local in
-    let two = with_argument c.in_ok-arg-2.ensures one c.free_certificate.ensures.rule c.free_certificate.ensures.local in
-    let three = with_argument c.in_ok-arg-3.ensures two c.least.ensures.rule c.least.ensures.local in
-    let four = with_argument c.in_ok-arg-4.ensures three c.schedule.ensures.rule c.schedule.ensures.local in
-    let five = with_argument c.in_ok-arg-5.ensures four c.units.ensures.rule c.units.ensures.local in
-    let six = with_argument c.in_ok-arg-6.ensures five c.workers.ensures.rule c.workers.ensures.local in
-    let seven = with_argument c.in_ok-arg-7.ensures six c.budget.ensures.rule c.budget.ensures.local in
-    let eight = with_argument c.in_ok-arg-8.ensures seven c.word.ensures.rule c.word.ensures.local in
-    IfOk-weaker c.arg-9.result _ _ (λ _ h. with_argument h eight c.word-2.ensures.rule c.word-2.ensures.local) c.arg-9.ensures
+    IfOk-weaker c.args-2.result _ _ (λ new added. with_arguments c.with_usage.result new _ _ _ shape.rules added c.in_ok-arguments.ensures.items
+    (c.with_usage.ensures.app ∙ c.subcommand-command.ensures.app, c.with_usage.ensures.local ∙ c.subcommand-command.ensures.local)
+    (c.program.ensures.rule, c.program.ensures.local, (c.free_certificate.ensures.rule, c.free_certificate.ensures.local, (c.least.ensures.rule, c.least.ensures.local, (c.schedule.ensures.rule, c.schedule.ensures.local, (c.units.ensures.rule, c.units.ensures.local, (c.workers.ensures.rule, c.workers.ensures.local, (c.budget.ensures.rule, c.budget.ensures.local, (c.word.ensures.rule, c.word.ensures.local, (c.word-2.ensures.rule, c.word-2.ensures.local, tt)))))))))) c.args-2.ensures

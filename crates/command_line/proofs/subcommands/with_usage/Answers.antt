@@ -1,12 +1,8 @@
 -- Of the usage nothing is read.
-use Rattle.std.proofs.Common.{ap}
-use Rattle.clap.specs.Simple.{app_of_fields}
-use Rattle.clap.specs.declared.builder.command.Command.{Command}
-use Rattle.clap.specs.declared.builder.command.Command.TheOpen.{Command-F}
+use Rattle.command_line.proofs.ClapSettings.{with_override_usage}
 use Rattle.command_line.proofs.subcommands.with_usage.Goals as goal
 
-pub returns-clause-app : goal.returns-clause-app
-returns-clause-app c = ap app_of_fields c.override_usage.ensures
-
-pub returns-clause-local : goal.returns-clause-local
-returns-clause-local c = ap (λ (f : Command-F Command). f.has_globals) c.override_usage.ensures
+pub returns : goal.returns
+returns c =
+    let same = with_override_usage _ _ _ c.override_usage.ensures in
+    record { app = same.0; local = same.1 }
