@@ -1,8 +1,6 @@
 //! `annotate`: what is proposed, and what `check` says of it.
 
-use crate::answers::{Bench, answer, expect, expect_rows};
-use jobs::job::CertificateSource::File;
-use jobs::job::Emit;
+use crate::answers::{Bench, EMPTY, Row, answer, expect, texts_of};
 use std::alloc::Global;
 use std::process::Abort;
 use test_programs::certificates::COUNT_CERTIFICATE_WIDE;
@@ -10,31 +8,35 @@ use test_programs::programs::{
     COUNT, COUNT_BARE, COUNT_CREATES_LESS, COUNT_FORWARDED, DIAMOND, FIVE_FINDINGS, PAIR,
     READ_ONLY, RELEASE, SPIN, UNLISTED_JUMP, WRONG_PATH_LOAD, WRONG_PATH_SPIN,
 };
-use test_rows::asked::Asked;
-use test_rows::rows::{EMPTY, Row, texts_of};
 
 // All four values of `--emit`. The proposal forwards $10 as well, since no path writes it again.
-const PROPOSALS: [Row<'static>; 4] = [
+const PROPOSALS: [Row<'static>; 5] = [
     Row {
-        asked: Asked::Annotate(Emit::Text),
+        words: "annotate a.s",
         program: COUNT_BARE,
         expected: COUNT_FORWARDED,
         ..EMPTY
     },
     Row {
-        asked: Asked::Annotate(Emit::Cert),
+        words: "annotate --emit text a.s",
+        program: COUNT_BARE,
+        expected: COUNT_FORWARDED,
+        ..EMPTY
+    },
+    Row {
+        words: "annotate --emit cert a.s",
         program: COUNT_BARE,
         expected: COUNT_CERTIFICATE_WIDE,
         ..EMPTY
     },
     Row {
-        asked: Asked::Annotate(Emit::Keep),
+        words: "annotate --emit keep a.s",
         program: COUNT,
         expected: COUNT_CERTIFICATE_WIDE,
         ..EMPTY
     },
     Row {
-        asked: Asked::Annotate(Emit::Marks),
+        words: "annotate --emit marks a.s",
         program: LAID_OUT,
         expected: LAID_OUT_MARKED,
         ..EMPTY
@@ -50,45 +52,37 @@ const LAID_OUT_MARKED: &str =
 
 #[test]
 fn annotates_count(rt: HostRuntime) {
-    expect_rows(&rt, rt.alloc(), &PROPOSALS);
+    for row in &PROPOSALS {
+        row.runs(&rt, rt.alloc());
+    }
 }
 
-const REFUSED: Row<'static> = Row {
-    program: "foo $8",
-    expected: "program refused: 4 Mnemonic line 1\n",
-    status: 1,
-    ..EMPTY
-};
-
-const REFUSALS: [Row<'static>; 4] = [
-    Row {
-        asked: Asked::Annotate(Emit::Text),
-        ..REFUSED
-    },
-    Row {
-        asked: Asked::Annotate(Emit::Cert),
-        ..REFUSED
-    },
-    Row {
-        asked: Asked::Annotate(Emit::Keep),
-        ..REFUSED
-    },
-    Row {
-        asked: Asked::Annotate(Emit::Marks),
-        ..REFUSED
-    },
+const REFUSING: [&str; 4] = [
+    "annotate a.s",
+    "annotate --emit cert a.s",
+    "annotate --emit keep a.s",
+    "annotate --emit marks a.s",
 ];
 
 #[test]
 fn refuses_texts(rt: HostRuntime) {
-    expect_rows(&rt, rt.alloc(), &REFUSALS);
+    for &words in &REFUSING {
+        let row = Row {
+            words,
+            program: "foo $8",
+            expected: "program refused: 4 Mnemonic line 1\n",
+            status: 1,
+            ..EMPTY
+        };
+        row.runs(&rt, rt.alloc());
+    }
 }
 
-// What a job writes of a program, with status 0.
-fn written(rt: &impl Bench, alloc: Global, asked: Asked<'_>, program: &[u8]) -> Vec<u8> {
-    let texts = texts_of(alloc, program, b"", b"").expect(rt, "room for texts");
-    let (written, status) = answer(rt, alloc, asked, &texts);
-    assert!(rt; status == 0, "{asked:?}");
+// What the words write of a program, with status 0.
+fn annotated(rt: &impl Bench, alloc: Global, words: &str, program: &[u8]) -> Vec<u8> {
+    let texts = texts_of(rt, alloc, program, b"", b"");
+    let (written, status) = answer(rt, alloc, words, &texts);
+    assert_eq!(rt; status, 0, "{words}");
     written
 }
 
@@ -101,15 +95,15 @@ fn expect_checked(
     expected: &str,
     status: u8,
 ) {
-    let texts = texts_of(alloc, program, certificate, b"").expect(rt, "room for texts");
-    expect(rt, alloc, Asked::Check(File, 1), &texts, expected, status);
+    let texts = texts_of(rt, alloc, program, certificate, b"");
+    expect(rt, alloc, "check a.s a.cert", &texts, expected, status);
 }
 
 // Asserts what `check` writes of the program that is proposed and its certificate.
 fn expect_proposed(rt: &impl Bench, alloc: Global, program: &str, expected: &str, status: u8) {
     let program = program.as_bytes();
-    let proposed = written(rt, alloc, Asked::Annotate(Emit::Text), program);
-    let certificate = written(rt, alloc, Asked::Annotate(Emit::Cert), program);
+    let proposed = annotated(rt, alloc, "annotate a.s", program);
+    let certificate = annotated(rt, alloc, "annotate --emit cert a.s", program);
     let (proposed, certificate) = (proposed.as_slice(), certificate.as_slice());
     expect_checked(rt, alloc, proposed, certificate, expected, status);
 }
@@ -158,14 +152,14 @@ fn leaves_targets(rt: HostRuntime) {
 #[test]
 fn keeps_read_only_data(rt: HostRuntime) {
     let program = READ_ONLY.as_bytes();
-    let printed = written(&rt, rt.alloc(), Asked::Print, program);
-    let proposed = written(&rt, rt.alloc(), Asked::Annotate(Emit::Text), program);
+    let printed = annotated(&rt, rt.alloc(), "print a.s", program);
+    let proposed = annotated(&rt, rt.alloc(), "annotate a.s", program);
     assert!(rt; proposed.as_slice() == printed.as_slice());
 }
 
 // With the least certificate what is found is a fault of the marks. So the one fault of the other
 // certificate of these programs is gone.
-const STILL_WRONG: [(&str, &str); 2] = [
+const REFUSED: [(&str, &str); 2] = [
     (
         FIVE_FINDINGS,
         "A 0 rule 5 $8\nA 0 rule 8 $8\nB 1 rule 9 -\nB 1 rule 12 -\nrefused 4\n",
@@ -175,9 +169,9 @@ const STILL_WRONG: [(&str, &str); 2] = [
 
 #[test]
 fn keeps_marks_as_they_stand(rt: HostRuntime) {
-    for &(program, expected) in &STILL_WRONG {
+    for &(program, expected) in &REFUSED {
         let program = program.as_bytes();
-        let certificate = written(&rt, rt.alloc(), Asked::Annotate(Emit::Keep), program);
+        let certificate = annotated(&rt, rt.alloc(), "annotate --emit keep a.s", program);
         expect_checked(
             &rt,
             rt.alloc(),

@@ -1,12 +1,12 @@
-//! One run of a job, as the program does it, but for its words and its files.
+//! One run of a job, as the program does it, but for its files; and tables of runs.
 
+use command_line::words::job_of;
 use jobs::job::Texts;
 use std::alloc::Global;
 use std::process::Abort;
 use std::sync::Wait;
 use std::thread::Threads;
-use test_rows::asked::Asked;
-use test_rows::rows::{Row, texts_of};
+use text_pieces::text::Text;
 use verdict_report::serve::serve;
 
 /// What a test's runtime may do: stop, wait, and make threads.
@@ -14,44 +14,50 @@ pub trait Bench: Abort + Threads + Wait + Sync {}
 
 impl<R: Abort + Threads + Wait + Sync> Bench for R {}
 
-/// What a job writes of texts, and the status.
-pub fn answer(rt: &impl Bench, alloc: Global, asked: Asked<'_>, texts: &Texts) -> (Vec<u8>, u8) {
-    let job = asked.job(alloc).expect(rt, "a job");
-    let mut written = Vec::new(alloc);
-    let status = serve(rt, alloc, &job, texts, &mut written).ok();
-    (written, status.expect(rt, "a status"))
+/// A run of the program: its command line, its texts, and what it answers.
+#[derive(Clone, Copy)]
+pub struct Row<'a> {
+    /// The words behind the program's own name, split at blanks.
+    pub words: &'a str,
+    /// The program text.
+    pub program: &'a str,
+    /// The certificate; empty where the job has none.
+    pub certificate: &'a str,
+    /// The event script; empty where the job has none.
+    pub script: &'a str,
+    /// What is written.
+    pub expected: &'a str,
+    /// The status of the program.
+    pub status: u8,
 }
 
-/// Asserts what a job writes of texts, and the status.
-pub fn expect(
-    rt: &impl Bench,
-    alloc: Global,
-    asked: Asked<'_>,
-    texts: &Texts,
-    expected: &str,
-    status: u8,
-) {
-    let (written, answered) = answer(rt, alloc, asked, texts);
-    let is_right = answered == status && written.as_slice() == expected.as_bytes();
-    assert!(rt; is_right, "{asked:?}: {expected}");
-}
+/// A row with nothing in it.
+pub const EMPTY: Row<'static> = Row {
+    words: "",
+    program: "",
+    certificate: "",
+    script: "",
+    expected: "",
+    status: 0,
+};
 
-/// Asserts the answer of a row, and that a certificate in `cert 1` gives the same in `cert 2`.
-pub fn expect_row(rt: &impl Bench, alloc: Global, row: &Row<'_>) {
-    expect_with(rt, alloc, row, row.certificate);
-    if row.certificate.starts_with("cert 1") {
-        let wide = widened(rt, alloc, row.certificate);
-        expect_with(rt, alloc, row, wide.as_str());
+impl Row<'_> {
+    /// Asserts the answer, and that a certificate in `cert 1` gives the same in `cert 2`.
+    pub fn runs(&self, rt: &impl Bench, alloc: Global) {
+        self.runs_with(rt, alloc, self.certificate);
+        if self.certificate.starts_with("cert 1") {
+            let wide = widened(rt, alloc, self.certificate);
+            self.runs_with(rt, alloc, wide.as_str());
+        }
     }
-}
 
-// Asserts the answer of a row where the certificate is this one.
-fn expect_with(rt: &impl Bench, alloc: Global, row: &Row<'_>, certificate: &str) {
-    let program = row.program.as_bytes();
-    let script = row.script.as_bytes();
-    let texts = texts_of(alloc, program, certificate.as_bytes(), script);
-    let texts = texts.expect(rt, "room for texts");
-    expect(rt, alloc, row.asked, &texts, row.expected, row.status);
+    // Asserts the answer where the certificate is this one.
+    fn runs_with(&self, rt: &impl Bench, alloc: Global, certificate: &str) {
+        let program = self.program.as_bytes();
+        let script = self.script.as_bytes();
+        let texts = texts_of(rt, alloc, program, certificate.as_bytes(), script);
+        expect(rt, alloc, self.words, &texts, self.expected, self.status);
+    }
 }
 
 // A certificate in `cert 1` as it is spelled in `cert 2`: each mask with eight zeros before it.
@@ -69,21 +75,64 @@ fn widened(rt: &impl Abort, alloc: Global, certificate: &str) -> String {
     text
 }
 
-/// Asserts the answers of rows.
-pub fn expect_rows(rt: &impl Bench, alloc: Global, rows: &[Row<'_>]) {
-    for row in rows {
-        expect_row(rt, alloc, row);
+/// The texts of a program, of its certificate and of a script; one that the job does not have is empty.
+pub fn texts_of(
+    rt: &impl Abort,
+    alloc: Global,
+    program: &[u8],
+    certificate: &[u8],
+    script: &[u8],
+) -> Texts {
+    Texts {
+        program: copy(rt, alloc, program),
+        certificate: Text::new(alloc, copy(rt, alloc, certificate)),
+        script: copy(rt, alloc, script),
     }
 }
 
-/// Asserts the answers of rows that are like this one, but for their program and what is written of it.
-pub fn expect_each(rt: &impl Bench, alloc: Global, like: &Row<'_>, rows: &[(&str, &str)]) {
-    for &(program, expected) in rows {
-        let row = Row {
-            program,
-            expected,
-            ..*like
-        };
-        expect_row(rt, alloc, &row);
+fn copy(rt: &impl Abort, alloc: Global, text: &[u8]) -> Vec<u8> {
+    text.to_vec(alloc).ok().expect(rt, "room for a text")
+}
+
+/// Asserts what the words write of texts, and the status.
+pub fn expect(
+    rt: &impl Bench,
+    alloc: Global,
+    words: &str,
+    texts: &Texts,
+    expected: &str,
+    status: u8,
+) {
+    let (written, answered) = answer(rt, alloc, words, texts);
+    assert!(rt;
+        written.as_slice() == expected.as_bytes(),
+        "{words}: {expected}"
+    );
+    assert_eq!(rt; answered, status, "{words}: {expected}");
+}
+
+/// What the words write of texts, and the status.
+pub fn answer(rt: &impl Bench, alloc: Global, words: &str, texts: &Texts) -> (Vec<u8>, u8) {
+    let words = words_of(rt, alloc, words);
+    let job = job_of(alloc, words.as_slice()).ok();
+    let (job, _) = job.expect(rt, "a job");
+    let mut written = Vec::new(alloc);
+    let status = serve(rt, alloc, &job, texts, &mut written).ok();
+    (written, status.expect(rt, "a status"))
+}
+
+/// The words of a command line, split at blanks, with the program's own name first.
+pub fn words_of(rt: &impl Abort, alloc: Global, line: &str) -> Vec<String> {
+    let mut words = Vec::new(alloc);
+    push_word(rt, alloc, &mut words, "multiscalar");
+    for word in line.split(' ') {
+        push_word(rt, alloc, &mut words, word);
     }
+    words
+}
+
+fn push_word(rt: &impl Abort, alloc: Global, words: &mut Vec<String>, word: &str) {
+    let word = String::from_str(alloc, word).ok();
+    let word = word.expect(rt, "room for a word");
+    assert!(rt; words.push(word).is_ok());
 }

@@ -1,13 +1,10 @@
 //! What `check` says of every beginning of a certificate.
 
-use crate::answers::{Bench, expect};
-use jobs::job::CertificateSource::File;
+use crate::answers::{Bench, expect, texts_of};
 use std::alloc::Global;
 use std::process::Abort;
 use test_programs::certificates::{COUNT_CERTIFICATE, COUNT_CERTIFICATE_WIDE};
 use test_programs::programs::COUNT;
-use test_rows::asked::Asked;
-use test_rows::rows::texts_of;
 
 // What `check` says of a beginning of the certificate of `COUNT`, which has 9 lines.
 fn said_of(rt: &impl Abort, alloc: Global, beginning: &[u8]) -> String {
@@ -34,10 +31,9 @@ fn said_of_lines(lines: usize) -> &'static str {
 
 // Asserts what `check` says of a beginning of the certificate of `COUNT`.
 fn expect_refused(rt: &impl Bench, alloc: Global, beginning: &[u8]) {
-    let texts = texts_of(alloc, COUNT.as_bytes(), beginning, b"");
-    let texts = texts.expect(rt, "room for texts");
+    let texts = texts_of(rt, alloc, COUNT.as_bytes(), beginning, b"");
     let said = said_of(rt, alloc, beginning);
-    expect(rt, alloc, Asked::Check(File, 1), &texts, said.as_str(), 1);
+    expect(rt, alloc, "check a.s a.cert", &texts, said.as_str(), 1);
 }
 
 #[test]

@@ -1,7 +1,6 @@
 //! `check`: what it writes of programs and certificates.
 
-use crate::answers::expect_rows;
-use jobs::job::CertificateSource::File;
+use crate::answers::{EMPTY, Row};
 use test_programs::certificates::{
     COUNT_CERTIFICATE, COUNT_CERTIFICATE_LACKING, FIVE_FINDINGS_CERTIFICATE, PRODUCT_CERTIFICATE,
     READ_ONLY_CERTIFICATE, RELEASE_CERTIFICATE,
@@ -10,11 +9,9 @@ use test_programs::programs::{
     COUNT, COUNT_CREATES_LESS, COUNT_LISTS_LESS, COUNT_WITHOUT_HALT, COUNT_WRITTEN_AGAIN,
     END_OF_CODE, FIVE_FINDINGS, PRODUCT, READ_ONLY, RELEASE,
 };
-use test_rows::asked::Asked;
-use test_rows::rows::{EMPTY, Row};
 
 const ACCEPTED: Row<'static> = Row {
-    asked: Asked::Check(File, 1),
+    words: "check a.s a.cert",
     ..EMPTY
 };
 
@@ -67,7 +64,9 @@ const ACCEPTANCES: [Row<'static>; 4] = [
 
 #[test]
 fn accepts_programs(rt: HostRuntime) {
-    expect_rows(&rt, rt.alloc(), &ACCEPTANCES);
+    for row in &ACCEPTANCES {
+        row.runs(&rt, rt.alloc());
+    }
 }
 
 const FINDINGS: [Row<'static>; 14] = [
@@ -114,21 +113,21 @@ const FINDINGS: [Row<'static>; 14] = [
     },
     // However many workers there are.
     Row {
-        asked: Asked::Check(File, 1),
+        words: "check a.s a.cert --workers 1",
         program: FIVE_FINDINGS,
         certificate: FIVE_FINDINGS_CERTIFICATE,
         expected: FIVE_FOUND,
         ..REFUSED
     },
     Row {
-        asked: Asked::Check(File, 3),
+        words: "check a.s a.cert --workers 3",
         program: FIVE_FINDINGS,
         certificate: FIVE_FINDINGS_CERTIFICATE,
         expected: FIVE_FOUND,
         ..REFUSED
     },
     Row {
-        asked: Asked::Check(File, 16),
+        words: "check --workers 16 a.s a.cert",
         program: FIVE_FINDINGS,
         certificate: FIVE_FINDINGS_CERTIFICATE,
         expected: FIVE_FOUND,
@@ -163,7 +162,9 @@ const FINDINGS: [Row<'static>; 14] = [
 
 #[test]
 fn finds_what_is_wrong(rt: HostRuntime) {
-    expect_rows(&rt, rt.alloc(), &FINDINGS);
+    for row in &FINDINGS {
+        row.runs(&rt, rt.alloc());
+    }
 }
 
 const REFUSALS: [Row<'static>; 8] = [
@@ -215,5 +216,7 @@ const REFUSALS: [Row<'static>; 8] = [
 
 #[test]
 fn refuses_certificates(rt: HostRuntime) {
-    expect_rows(&rt, rt.alloc(), &REFUSALS);
+    for row in &REFUSALS {
+        row.runs(&rt, rt.alloc());
+    }
 }

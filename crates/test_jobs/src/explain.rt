@@ -1,46 +1,23 @@
 //! `explain`: what is said of wrong marks, of refused texts and of marks that cost speed, and nothing of marks
 //! that are right and cost nothing.
 
-use crate::answers::{expect_each, expect_rows};
+use crate::answers::{EMPTY, Row};
 use test_programs::programs::{
     COUNT, COUNT_CREATES_LESS, COUNT_FORWARDED, DIAMOND, FIVE_FINDINGS, PRODUCT, READ_ONLY,
     RELEASE, RELEASE_CREATES_MORE, SPIN, UNLISTED_JUMP,
 };
-use test_rows::asked::{Asked, AskedExplain, PLAIN_EXPLAIN};
-use test_rows::rows::{EMPTY, Row};
 
 const EXPLAIN: Row<'static> = Row {
-    asked: Asked::Explain(PLAIN_EXPLAIN),
+    words: "explain a.s",
     ..EMPTY
 };
-
-// The same where something is wrong.
-const EXPLAIN_WRONG: Row<'static> = Row {
-    status: 1,
-    ..EXPLAIN
-};
-
-const SILENT: Row<'static> = Row {
-    asked: Asked::Explain(AskedExplain {
-        warnings: false,
-        ..PLAIN_EXPLAIN
-    }),
-    ..EMPTY
-};
-
-// Programs with marks that are right and cost nothing.
-const RIGHT: [(&str, &str); 6] = [
-    (COUNT_FORWARDED, ""),
-    (DIAMOND, ""),
-    (PRODUCT, ""),
-    (READ_ONLY, ""),
-    (RELEASE, ""),
-    (SPIN, ""),
-];
 
 #[test]
 fn says_nothing_of_right_marks(rt: HostRuntime) {
-    expect_each(&rt, rt.alloc(), &EXPLAIN, &RIGHT);
+    for program in [COUNT_FORWARDED, DIAMOND, PRODUCT, READ_ONLY, RELEASE, SPIN] {
+        let row = Row { program, ..EXPLAIN };
+        row.runs(&rt, rt.alloc());
+    }
 }
 
 // Programs with right marks, and what is said of those that cost speed.
@@ -74,13 +51,26 @@ a.s:4:1: help: remove it up to the next instruction that a task reaches, or let 
 
 #[test]
 fn warns_of_marks_that_cost_speed(rt: HostRuntime) {
-    expect_each(&rt, rt.alloc(), &EXPLAIN, &COSTLY);
+    for &(program, expected) in &COSTLY {
+        let row = Row {
+            program,
+            expected,
+            ..EXPLAIN
+        };
+        row.runs(&rt, rt.alloc());
+    }
 }
 
 #[test]
 fn says_nothing_of_them_without_warnings(rt: HostRuntime) {
-    let programs = [(COUNT, ""), (RELEASE_CREATES_MORE, ""), (UNLISTED_JUMP, "")];
-    expect_each(&rt, rt.alloc(), &SILENT, &programs);
+    for program in [COUNT, RELEASE_CREATES_MORE, UNLISTED_JUMP] {
+        let row = Row {
+            words: "explain --no-warnings a.s",
+            program,
+            ..EMPTY
+        };
+        row.runs(&rt, rt.alloc());
+    }
 }
 
 // Programs with wrong marks, and what is said of them.
@@ -129,7 +119,15 @@ a.s:2:27: help: let a task begin there, or remove the target: targets=-
 
 #[test]
 fn explains_wrong_marks(rt: HostRuntime) {
-    expect_each(&rt, rt.alloc(), &EXPLAIN_WRONG, &WRONG);
+    for &(program, expected) in &WRONG {
+        let row = Row {
+            program,
+            expected,
+            status: 1,
+            ..EXPLAIN
+        };
+        row.runs(&rt, rt.alloc());
+    }
 }
 
 // Texts that are refused, and what is said of them.
@@ -275,7 +273,15 @@ a.s:1:35: help: did you mean Loop?
 
 #[test]
 fn explains_refused_texts(rt: HostRuntime) {
-    expect_each(&rt, rt.alloc(), &EXPLAIN_WRONG, &REFUSED);
+    for &(program, expected) in &REFUSED {
+        let row = Row {
+            program,
+            expected,
+            status: 1,
+            ..EXPLAIN
+        };
+        row.runs(&rt, rt.alloc());
+    }
 }
 
 // One program for each of the rules 5 to 12: the same marks, right but for one.
@@ -424,45 +430,49 @@ a.s:1:34: help: let a task begin there, or remove the target: targets=A,B
 
 #[test]
 fn explains_each_rule(rt: HostRuntime) {
-    expect_each(&rt, rt.alloc(), &EXPLAIN_WRONG, &BY_RULE);
+    for &(program, expected) in &BY_RULE {
+        let row = Row {
+            program,
+            expected,
+            status: 1,
+            ..EXPLAIN
+        };
+        row.runs(&rt, rt.alloc());
+    }
 }
-
-const CERTIFIED: Row<'static> = Row {
-    asked: Asked::Explain(AskedExplain {
-        certificate: Some("a.cert"),
-        ..PLAIN_EXPLAIN
-    }),
-    program: SPIN,
-    ..EMPTY
-};
 
 // Certificates of `spin`, and what is said of them: the right one, one that is none from its third line on,
 // and one without a mask for the task's entry.
-const CERTIFICATES: [Row<'static>; 3] = [
-    Row {
-        certificate: "cert 2\ntask A\n0 0000000000000000\n",
-        ..CERTIFIED
-    },
-    Row {
-        certificate: "cert 2\ntask A\n0 zz\n",
-        expected: "a.cert:3: error: this is no line of a certificate [2 Line 3]
+const CERTIFICATES: [(&str, &str, u8); 3] = [
+    ("cert 2\ntask A\n0 0000000000000000\n", "", 0),
+    (
+        "cert 2\ntask A\n0 zz\n",
+        "a.cert:3: error: this is no line of a certificate [2 Line 3]
 a.cert:3: help: a line is task NAME, or an index of at most 5 digits, one blank and a mask: in cert 2 of 16 lower-case hexadecimal digits, in cert 1 of 8, with no bit above 33
 a.cert: help: make it anew: multiscalar annotate --emit keep a.s > a.cert
 ",
-        status: 1,
-        ..CERTIFIED
-    },
-    Row {
-        certificate: "cert 2\ntask A\n",
-        expected: "a.cert: error: this is not a certificate of a.s as it stands; findings with it: 1, with the least certificate: 0
+        1,
+    ),
+    (
+        "cert 2\ntask A\n",
+        "a.cert: error: this is not a certificate of a.s as it stands; findings with it: 1, with the least certificate: 0
 a.cert: help: make it anew: multiscalar annotate --emit keep a.s > a.cert
 ",
-        status: 1,
-        ..CERTIFIED
-    },
+        1,
+    ),
 ];
 
 #[test]
 fn explains_certificates(rt: HostRuntime) {
-    expect_rows(&rt, rt.alloc(), &CERTIFICATES);
+    for &(certificate, expected, status) in &CERTIFICATES {
+        let row = Row {
+            words: "explain a.s a.cert",
+            program: SPIN,
+            certificate,
+            expected,
+            status,
+            ..EMPTY
+        };
+        row.runs(&rt, rt.alloc());
+    }
 }

@@ -1,5 +1,6 @@
-//! Tests of the jobs that run no machine of units, to the bytes that are written and the status. The expected bytes
-//! are those of the formats and of the instructions' own rules, worked out by hand.
+//! Tests of the program's jobs, from the words of a command line to the bytes that are written and
+//! the status. The expected bytes are those of the formats and of the instructions' own rules, worked
+//! out by hand.
 #![tactic(auto)]
 
 #[cfg(test)]
@@ -11,7 +12,13 @@ mod certificates;
 #[cfg(test)]
 mod check;
 #[cfg(test)]
+mod curve;
+#[cfg(test)]
 mod explain;
+#[cfg(test)]
+mod files;
+#[cfg(test)]
+mod least;
 #[cfg(test)]
 mod limits;
 #[cfg(test)]
@@ -19,8 +26,18 @@ mod log;
 #[cfg(test)]
 mod print;
 #[cfg(test)]
+mod ranges;
+#[cfg(test)]
+mod replay;
+#[cfg(test)]
+mod replayed_values;
+#[cfg(test)]
+mod run;
+#[cfg(test)]
+mod scripts;
+#[cfg(test)]
 mod seq;
 #[cfg(test)]
 mod shared_check;
 #[cfg(test)]
-mod writing;
+mod words;

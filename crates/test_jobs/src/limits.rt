@@ -1,10 +1,8 @@
 //! Programs at the limits and just beyond.
 
-use crate::answers::{Bench, answer, expect};
+use crate::answers::{Bench, answer, expect, texts_of};
 use std::alloc::Global;
 use std::process::Abort;
-use test_rows::asked::Asked;
-use test_rows::rows::texts_of;
 
 // How large a program is made: at most 65,536 bytes in one `.space`.
 #[derive(Clone, Copy)]
@@ -87,9 +85,9 @@ fn write_section(rt: &impl Abort, alloc: Global, text: &mut String, name: &str, 
 
 // What `print` writes of a program, with status 0.
 fn printed(rt: &impl Bench, alloc: Global, program: &[u8]) -> Vec<u8> {
-    let texts = texts_of(alloc, program, b"", b"").expect(rt, "room for texts");
-    let (printed, status) = answer(rt, alloc, Asked::Print, &texts);
-    assert!(rt; status == 0);
+    let texts = texts_of(rt, alloc, program, b"", b"");
+    let (printed, status) = answer(rt, alloc, "print a.s", &texts);
+    assert_eq!(rt; status, 0);
     printed
 }
 
@@ -103,8 +101,8 @@ fn prints_the_largest_program(rt: HostRuntime) {
 
 // Asserts what `print` says of a text.
 fn expect_refused(rt: &impl Bench, alloc: Global, program: &[u8], expected: &str) {
-    let texts = texts_of(alloc, program, b"", b"").expect(rt, "room for texts");
-    expect(rt, alloc, Asked::Print, &texts, expected, 1);
+    let texts = texts_of(rt, alloc, program, b"", b"");
+    expect(rt, alloc, "print a.s", &texts, expected, 1);
 }
 
 #[test]

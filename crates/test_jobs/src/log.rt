@@ -1,17 +1,9 @@
 //! `explain --format sarif`: the results of a log; its tool and its rules stand before them.
 
-use crate::answers::{Bench, answer};
-use jobs::job::Format;
+use crate::answers::{Bench, answer, texts_of};
 use std::alloc::Global;
 use test_programs::programs::{
     COUNT, COUNT_CREATES_LESS, FIVE_FINDINGS, RELEASE_CREATES_MORE, SPIN,
-};
-use test_rows::asked::{Asked, AskedExplain, PLAIN_EXPLAIN};
-use test_rows::rows::texts_of;
-
-const LOG: AskedExplain<'static> = AskedExplain {
-    format: Format::Sarif,
-    ..PLAIN_EXPLAIN
 };
 
 // A program text, a certificate, and what stands in the log behind its tool and its rules.
@@ -67,22 +59,20 @@ const LOGS: [(&str, &str, &str); 10] = [
 #[test]
 fn logs_what_is_wrong(rt: HostRuntime) {
     for &(program, certificate, expected) in &LOGS {
-        let asked = AskedExplain {
-            certificate: (!certificate.is_empty()).then_some("a.cert"),
-            ..LOG
+        let words = if certificate.is_empty() {
+            "explain --format sarif a.s"
+        } else {
+            "explain --format sarif a.s a.cert"
         };
-        expect_log(&rt, rt.alloc(), asked, program, certificate, expected);
+        expect_log(&rt, rt.alloc(), words, program, certificate, expected);
     }
 }
 
 #[test]
 fn logs_no_warnings_where_none_are_asked_for(rt: HostRuntime) {
-    let asked = AskedExplain {
-        warnings: false,
-        ..LOG
-    };
+    let words = "explain --no-warnings --format sarif a.s";
     let expected = "\"unicodeCodePoints\",\"results\":[]}]}\n";
-    expect_log(&rt, rt.alloc(), asked, COUNT, "", expected);
+    expect_log(&rt, rt.alloc(), words, COUNT, "", expected);
 }
 
 // Asserts what stands in the log behind its tool and its rules, and that the status is 0 where no result is an
@@ -90,17 +80,17 @@ fn logs_no_warnings_where_none_are_asked_for(rt: HostRuntime) {
 fn expect_log(
     rt: &impl Bench,
     alloc: Global,
-    asked: AskedExplain<'_>,
+    words: &str,
     program: &str,
     certificate: &str,
     expected: &str,
 ) {
-    let texts = texts_of(alloc, program.as_bytes(), certificate.as_bytes(), b"");
-    let texts = texts.expect(rt, "room for texts");
-    let (written, status) = answer(rt, alloc, Asked::Explain(asked), &texts);
+    let texts = texts_of(rt, alloc, program.as_bytes(), certificate.as_bytes(), b"");
+    let (written, status) = answer(rt, alloc, words, &texts);
     let written = String::from_utf8(written).ok().expect(rt, "UTF-8");
     let parts = written.as_str().split_once("\"columnKind\":");
     let (_, results) = parts.expect(rt, "a kind of columns");
     let right = !expected.contains("\"level\":\"error\"");
-    assert!(rt; results == expected && (status == 0) == right, "{results}");
+    assert_eq!(rt; status == 0, right);
+    assert!(rt; results == expected, "{results}");
 }

@@ -1,12 +1,10 @@
 //! `print`.
 
-use crate::answers::{expect, expect_each, expect_rows};
+use crate::answers::{EMPTY, Row, expect, texts_of};
 use test_programs::programs::{COUNT, COUNT_OTHERWISE};
-use test_rows::asked::Asked;
-use test_rows::rows::{EMPTY, Row, texts_of};
 
 const PRINTED: Row<'static> = Row {
-    asked: Asked::Print,
+    words: "print a.s",
     ..EMPTY
 };
 
@@ -48,7 +46,9 @@ sll $0,$0,0
 
 #[test]
 fn prints_canonical_text(rt: HostRuntime) {
-    expect_rows(&rt, rt.alloc(), &SPELLINGS);
+    for row in &SPELLINGS {
+        row.runs(&rt, rt.alloc());
+    }
 }
 
 const REFUSALS: [(&str, &str); 11] = [
@@ -76,14 +76,20 @@ const REFUSALS: [(&str, &str); 11] = [
 
 #[test]
 fn refuses_texts(rt: HostRuntime) {
-    expect_each(&rt, rt.alloc(), &REFUSED, &REFUSALS);
+    for &(program, expected) in &REFUSALS {
+        let row = Row {
+            program,
+            expected,
+            ..REFUSED
+        };
+        row.runs(&rt, rt.alloc());
+    }
 }
 
 // One byte, which alone is no `str`.
 #[test]
 fn refuses_what_is_not_ascii(rt: HostRuntime) {
-    let texts = texts_of(rt.alloc(), b"\xC3", b"", b"");
-    let texts = texts.expect(&rt, "room for texts");
+    let texts = texts_of(&rt, rt.alloc(), b"\xC3", b"", b"");
     let expected = "program refused: 2 NotAscii line 1\n";
-    expect(&rt, rt.alloc(), Asked::Print, &texts, expected, 1);
+    expect(&rt, rt.alloc(), "print a.s", &texts, expected, 1);
 }

@@ -1,15 +1,13 @@
 //! `seq`.
 
-use crate::answers::expect_rows;
+use crate::answers::{EMPTY, Row};
 use test_programs::programs::{
     COUNT, COUNT_WITHOUT_HALT, END_OF_CODE, PRODUCT, READ_ONLY, UNLISTED_JUMP,
 };
-use test_rows::asked::Asked;
-use test_rows::rows::{EMPTY, Row};
 
 // A run that halts, and one that traps.
 const HALTS: Row<'static> = Row {
-    asked: Asked::Seq(1_000_000),
+    words: "seq a.s",
     ..EMPTY
 };
 
@@ -22,14 +20,14 @@ const PROGRAMS: [Row<'static>; 7] = [
         ..HALTS
     },
     Row {
-        asked: Asked::Seq(17),
+        words: "seq --budget 17 a.s",
         program: COUNT,
         expected: "10\nout of budget after 17 instructions\n",
         status: 3,
         ..EMPTY
     },
     Row {
-        asked: Asked::Seq(18),
+        words: "seq --budget 18 a.s",
         program: COUNT,
         expected: "10\nhalted after 18 instructions\n",
         ..EMPTY
@@ -58,7 +56,9 @@ const PROGRAMS: [Row<'static>; 7] = [
 
 #[test]
 fn runs_programs(rt: HostRuntime) {
-    expect_rows(&rt, rt.alloc(), &PROGRAMS);
+    for row in &PROGRAMS {
+        row.runs(&rt, rt.alloc());
+    }
 }
 
 const ORDER_OF_TRAPS: [Row<'static>; 4] = [
@@ -86,7 +86,9 @@ const ORDER_OF_TRAPS: [Row<'static>; 4] = [
 
 #[test]
 fn traps_in_order(rt: HostRuntime) {
-    expect_rows(&rt, rt.alloc(), &ORDER_OF_TRAPS);
+    for row in &ORDER_OF_TRAPS {
+        row.runs(&rt, rt.alloc());
+    }
 }
 
 const READ_ONLY_DATA: [Row<'static>; 3] = [
@@ -109,7 +111,9 @@ const READ_ONLY_DATA: [Row<'static>; 3] = [
 
 #[test]
 fn keeps_read_only_data(rt: HostRuntime) {
-    expect_rows(&rt, rt.alloc(), &READ_ONLY_DATA);
+    for row in &READ_ONLY_DATA {
+        row.runs(&rt, rt.alloc());
+    }
 }
 
 const WORDS: [Row<'static>; 2] = [
@@ -150,5 +154,7 @@ halt
 
 #[test]
 fn computes_words(rt: HostRuntime) {
-    expect_rows(&rt, rt.alloc(), &WORDS);
+    for row in &WORDS {
+        row.runs(&rt, rt.alloc());
+    }
 }

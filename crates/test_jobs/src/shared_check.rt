@@ -1,11 +1,8 @@
 //! `check` of a certificate that is long enough to be shared out: the same for any number of workers.
 
-use crate::answers::{Bench, expect};
-use jobs::job::CertificateSource::File;
+use crate::answers::{Bench, expect, texts_of};
 use std::alloc::Global;
 use std::process::Abort;
-use test_rows::asked::Asked;
-use test_rows::rows::texts_of;
 
 // So many tasks of one instruction each; the list of each task has all instructions.
 const TASKS: u32 = 64;
@@ -55,11 +52,13 @@ impl Case {
         let program = program(rt, alloc);
         let certificate = certificate(rt, alloc, self.mask);
         assert!(rt; certificate.len() >= 65_536, "too short to be shared out");
-        let texts = texts_of(alloc, program.as_bytes(), certificate.as_bytes(), b"");
-        let texts = texts.expect(rt, "room for texts");
-        for workers in [1, 2, 16] {
-            let asked = Asked::Check(File, workers);
-            expect(rt, alloc, asked, &texts, self.expected, self.status);
+        let texts = texts_of(rt, alloc, program.as_bytes(), certificate.as_bytes(), b"");
+        for words in [
+            "check --workers 1 a.s a.cert",
+            "check --workers 2 a.s a.cert",
+            "check --workers 16 a.s a.cert",
+        ] {
+            expect(rt, alloc, words, &texts, self.expected, self.status);
         }
     }
 }

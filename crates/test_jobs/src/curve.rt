@@ -2,26 +2,19 @@
 //! hand (`test_steps`). The other numbers are those of a model that shares nothing with the program
 //! (`fuzz/curve.py`), and so are the pictures (`fuzz/curve_picture.py`).
 
-use crate::answers::{Bench, answer, expect_rows};
+use crate::answers::{Bench, EMPTY, Row, answer, texts_of};
 use crate::run::READ_ONLY_TRAPS;
-use jobs::job::CertificateSource::Least;
-use jobs::job::CurveEmit;
 use std::alloc::Global;
 use test_programs::certificates::{
     COUNT_CERTIFICATE, DIAMOND_CERTIFICATE, PAIR_CERTIFICATE, READ_ONLY_CERTIFICATE,
     SPIN_CERTIFICATE, UNLISTED_JUMP_CERTIFICATE,
 };
 use test_programs::programs::{COUNT, DIAMOND, PAIR, SPIN, UNLISTED_JUMP};
-use test_rows::asked::{Asked, AskedCurve, Guess, PLAIN_CURVE};
-use test_rows::rows::{EMPTY, Row, texts_of};
 
 const CURVES: [Row<'static>; 8] = [
     // The fifth round is squashed, with 1, 3 or 4 instructions.
     Row {
-        asked: Asked::Curve(AskedCurve {
-            units: 4,
-            ..PLAIN_CURVE
-        }),
+        words: "curve --units 4 a.s a.cert",
         program: COUNT,
         certificate: COUNT_CERTIFICATE,
         expected: "units    steps  retired  per step  speed-up   wasted  end
@@ -34,11 +27,7 @@ const CURVES: [Row<'static>; 8] = [
     },
     // A third unit saves no step.
     Row {
-        asked: Asked::Curve(AskedCurve {
-            certificate: Least,
-            units: 4,
-            ..PLAIN_CURVE
-        }),
+        words: "curve a.s --least --units 4",
         program: PAIR,
         expected: "units    steps  retired  per step  speed-up   wasted  end
     1        8        2      0.25      1.00    0.00%  halted
@@ -50,11 +39,7 @@ const CURVES: [Row<'static>; 8] = [
     },
     // The last target is right, and each run guesses anew.
     Row {
-        asked: Asked::Curve(AskedCurve {
-            units: 2,
-            predict: Guess::Last,
-            ..PLAIN_CURVE
-        }),
+        words: "curve --units 2 --predict last a.s a.cert",
         program: DIAMOND,
         certificate: DIAMOND_CERTIFICATE,
         expected: "units    steps  retired  per step  speed-up   wasted  end
@@ -64,10 +49,7 @@ const CURVES: [Row<'static>; 8] = [
         ..EMPTY
     },
     Row {
-        asked: Asked::Curve(AskedCurve {
-            units: 1,
-            ..PLAIN_CURVE
-        }),
+        words: "curve --units 1 a.s a.cert",
         program: PAIR,
         certificate: PAIR_CERTIFICATE,
         expected: "units    steps  retired  per step  speed-up   wasted  end
@@ -76,11 +58,7 @@ const CURVES: [Row<'static>; 8] = [
         ..EMPTY
     },
     Row {
-        asked: Asked::Curve(AskedCurve {
-            units: 2,
-            budget: 100,
-            ..PLAIN_CURVE
-        }),
+        words: "curve --units 2 --budget 100 a.s a.cert",
         program: SPIN,
         certificate: SPIN_CERTIFICATE,
         expected: "units    steps  retired  per step  speed-up   wasted  end
@@ -92,11 +70,7 @@ const CURVES: [Row<'static>; 8] = [
     },
     // What is squashed takes events too: only one unit gets by with 36.
     Row {
-        asked: Asked::Curve(AskedCurve {
-            units: 4,
-            budget: 36,
-            ..PLAIN_CURVE
-        }),
+        words: "curve --units 4 --budget 36 a.s a.cert",
         program: COUNT,
         certificate: COUNT_CERTIFICATE,
         expected: "units    steps  retired  per step  speed-up   wasted  end
@@ -109,10 +83,7 @@ const CURVES: [Row<'static>; 8] = [
         ..EMPTY
     },
     Row {
-        asked: Asked::Curve(AskedCurve {
-            units: 2,
-            ..PLAIN_CURVE
-        }),
+        words: "curve --units 2 a.s a.cert",
         program: UNLISTED_JUMP,
         certificate: UNLISTED_JUMP_CERTIFICATE,
         expected: "units    steps  retired  per step  speed-up   wasted  end
@@ -123,11 +94,7 @@ const CURVES: [Row<'static>; 8] = [
         ..EMPTY
     },
     Row {
-        asked: Asked::Curve(AskedCurve {
-            units: 2,
-            predict: Guess::Last,
-            ..PLAIN_CURVE
-        }),
+        words: "curve --units 2 --predict last a.s a.cert",
         program: READ_ONLY_TRAPS,
         certificate: READ_ONLY_CERTIFICATE,
         expected: "units    steps  retired  per step  speed-up   wasted  end
@@ -141,13 +108,15 @@ const CURVES: [Row<'static>; 8] = [
 
 #[test]
 fn compares_runs(rt: HostRuntime) {
-    expect_rows(&rt, rt.alloc(), &CURVES);
+    for row in &CURVES {
+        row.runs(&rt, rt.alloc());
+    }
 }
 
 // The texts are judged before anything runs.
 const REFUSED: [Row<'static>; 2] = [
     Row {
-        asked: Asked::Curve(PLAIN_CURVE),
+        words: "curve a.s a.cert",
         program: "foo",
         certificate: "cert 3\n",
         expected: "program refused: 4 Mnemonic line 1\n",
@@ -155,7 +124,7 @@ const REFUSED: [Row<'static>; 2] = [
         ..EMPTY
     },
     Row {
-        asked: Asked::Curve(PLAIN_CURVE),
+        words: "curve a.s a.cert",
         program: COUNT,
         certificate: "cert 3\n",
         expected: "certificate refused: 1 Header\n",
@@ -166,18 +135,15 @@ const REFUSED: [Row<'static>; 2] = [
 
 #[test]
 fn judges_before_it_runs(rt: HostRuntime) {
-    expect_rows(&rt, rt.alloc(), &REFUSED);
+    for row in &REFUSED {
+        row.runs(&rt, rt.alloc());
+    }
 }
 
 // What stands in a picture behind its legend.
 const PICTURES: [Row<'static>; 2] = [
     Row {
-        asked: Asked::Curve(AskedCurve {
-            certificate: Least,
-            units: 2,
-            emit: CurveEmit::Picture,
-            ..PLAIN_CURVE
-        }),
+        words: "curve --units 2 --emit svg --least a.s",
         program: PAIR,
         expected: "<text class='scale' x='78' y='492'>0.00</text>
 <text class='scale' x='78' y='404'>0.10</text>
@@ -202,13 +168,7 @@ const PICTURES: [Row<'static>; 2] = [
         ..EMPTY
     },
     Row {
-        asked: Asked::Curve(AskedCurve {
-            certificate: Least,
-            units: 1,
-            budget: 100,
-            emit: CurveEmit::Picture,
-            ..PLAIN_CURVE
-        }),
+        words: "curve --units 1 --budget 100 --emit svg --least a.s",
         program: SPIN,
         expected: "<text class='scale' x='78' y='492'>0.00</text>
 <text class='scale' x='78' y='404'>0.05</text>
@@ -238,11 +198,11 @@ fn draws_runs(rt: HostRuntime) {
 
 // Asserts what is drawn behind the legend, and the status.
 fn expect_drawn(rt: &impl Bench, alloc: Global, row: &Row<'_>) {
-    let texts = texts_of(alloc, row.program.as_bytes(), b"", b"");
-    let texts = texts.expect(rt, "room for texts");
-    let (written, status) = answer(rt, alloc, row.asked, &texts);
+    let texts = texts_of(rt, alloc, row.program.as_bytes(), b"", b"");
+    let (written, status) = answer(rt, alloc, row.words, &texts);
     let written = String::from_utf8(written).ok().expect(rt, "UTF-8");
     let parts = written.as_str().split_once(">units</text>\n");
     let (_, drawn) = parts.expect(rt, "a legend");
-    assert!(rt; drawn == row.expected && status == row.status, "{drawn}");
+    assert!(rt; drawn == row.expected, "{drawn}");
+    assert_eq!(rt; status, row.status);
 }

@@ -1,17 +1,19 @@
-//! Files that several threads fetch, and readers that fail.
+//! Files that several threads fetch, and readers and writers that fail.
 
 ghost use Rattle.std.specs.Prelude.{◌≡◌, ◌≤◌, length, take};
 
+use crate::answers::{Bench, texts_of};
+use jobs::job::Job;
 use shared_fetch::positioned::PositionedFile;
 use shared_fetch::serial::{FetchFault, fetch};
 use shared_fetch::shared::fetch_shared;
 use std::alloc::Global;
 use std::io;
-use std::io::{ErrorKind, Read};
+use std::io::{ErrorKind, Read, Write};
 use std::process::Abort;
-use std::sync::Wait;
-use std::thread::Threads;
 use text_pieces::text::Text;
+use verdict_report::fault::ServeFault;
+use verdict_report::serve::serve;
 
 // Gives one byte a read, is interrupted first, and fails at its last read.
 #[derive(Drop)]
@@ -78,7 +80,7 @@ fn fetches_from_worn_readers(rt: HostRuntime) {
             bytes,
             fails,
         };
-        assert!(rt; fetched(rt.alloc(), reader) == expected, "{bytes} bytes");
+        assert_eq!(rt; fetched(rt.alloc(), reader), expected, "{bytes} bytes");
     }
 }
 
@@ -169,11 +171,6 @@ fn long_file(rt: &impl Abort, alloc: Global) -> Held {
     }
 }
 
-// What a test's runtime may do: stop, wait, and make threads.
-trait Bench: Abort + Threads + Wait + Sync {}
-
-impl<R: Abort + Threads + Wait + Sync> Bench for R {}
-
 // Asserts that a file of this size, whose positioned reads fail from an offset on, is fetched the same by each
 // number of workers.
 fn expect_shared<R: Bench>(rt: &R, alloc: Global, file: &mut Held, fails_from: u64, most: u64) {
@@ -218,4 +215,41 @@ fn fails_as_one_thread_does(rt: HostRuntime) {
     file.is_worn = true;
     let answer = fetch_shared(&rt, rt.alloc(), &mut file, 134_217_728, 4).err();
     assert!(&rt; answer == Some(FetchFault::Read(ErrorKind::Other)));
+}
+
+// Takes one byte a write, and fails at the write of this number.
+#[derive(Drop)]
+struct Full {
+    room: u32,
+}
+
+impl Write for Full {
+    fn write(&mut self, buf: &[u8]) -> io::Result<usize> {
+        if self.room == 0 {
+            return Err(io::Error::from(ErrorKind::Other));
+        }
+        self.room -= 1;
+        Ok(buf.len().min(1))
+    }
+
+    fn flush(&mut self) -> io::Result<()> {
+        Ok(())
+    }
+}
+
+// Asserts what `print` of a text with a fault answers where the writer has this room.
+fn expect_written(rt: &impl Bench, alloc: Global, room: u32, expected: Result<u8, ServeFault>) {
+    let texts = texts_of(rt, alloc, b"foo", b"", b"");
+    let mut writer = Full { room };
+    let answer = serve(rt, alloc, &Job::Print, &texts, &mut writer);
+    assert_eq!(rt; answer, expected, "room for {room}");
+}
+
+// `program refused: 4 Mnemonic line 1` and its LF are 35 bytes.
+#[test]
+fn fails_to_write(rt: HostRuntime) {
+    for room in 0..35 {
+        expect_written(&rt, rt.alloc(), room, Err(ServeFault::Write));
+    }
+    expect_written(&rt, rt.alloc(), 35, Ok(1));
 }

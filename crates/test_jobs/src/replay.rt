@@ -1,20 +1,16 @@
 //! `replay`: what it writes of scripts.
 
-use crate::answers::{Bench, expect_row, expect_rows, expect_rows_of};
+use crate::answers::{Bench, EMPTY, Row};
 use crate::scripts::{
     COUNT_DROPPED, COUNT_REFUSED, COUNT_TAKEN_AGAIN, COUNT_WAITS, JUMP_UNLISTED, READ_AHEAD,
     WRONG_PATH_LOADED, WRONG_PATH_SPUN, answers_of, events_of,
 };
-use jobs::job::CertificateSource::File;
-use jobs::job::ReplayEmit;
 use std::alloc::Global;
 use test_programs::certificates::{
     COUNT_CERTIFICATE, COUNT_CERTIFICATE_LACKING, READ_ONLY_CERTIFICATE, UNLISTED_JUMP_CERTIFICATE,
     WRONG_PATH_LOAD_CERTIFICATE, WRONG_PATH_SPIN_CERTIFICATE,
 };
 use test_programs::programs::{COUNT, READ_ONLY, UNLISTED_JUMP, WRONG_PATH_LOAD, WRONG_PATH_SPIN};
-use test_rows::asked::Asked;
-use test_rows::rows::{EMPTY, Row};
 
 /// Asserts a row whose script stands with its answers; what it expects is written behind these.
 pub fn replays(rt: &impl Bench, alloc: Global, row: &Row<'_>) {
@@ -25,17 +21,11 @@ pub fn replays(rt: &impl Bench, alloc: Global, row: &Row<'_>) {
         expected: expected.as_str(),
         ..*row
     };
-    expect_row(rt, alloc, &row);
-}
-
-fn replays_rows(rt: &impl Bench, alloc: Global, rows: &[Row<'_>]) {
-    for row in rows {
-        replays(rt, alloc, row);
-    }
+    row.runs(rt, alloc);
 }
 
 const ON_TWO_UNITS: Row<'static> = Row {
-    asked: Asked::Replay(File, 2, ReplayEmit::Answers),
+    words: "replay --units 2 a.s a.cert a.events",
     ..EMPTY
 };
 
@@ -62,7 +52,7 @@ const COUNTS: [Row<'static>; 4] = [
         ..OF_COUNT
     },
     Row {
-        asked: Asked::Replay(File, 3, ReplayEmit::Answers),
+        words: "replay --units 3 a.s a.cert a.events",
         script: COUNT_DROPPED,
         expected: "retired 0 c 0 h 0\nrunning\n",
         ..OF_COUNT
@@ -71,7 +61,9 @@ const COUNTS: [Row<'static>; 4] = [
 
 #[test]
 fn replays_count(rt: HostRuntime) {
-    replays_rows(&rt, rt.alloc(), &COUNTS);
+    for row in &COUNTS {
+        replays(&rt, rt.alloc(), row);
+    }
 }
 
 const WRONG_PATHS: [Row<'static>; 4] = [
@@ -98,7 +90,7 @@ const WRONG_PATHS: [Row<'static>; 4] = [
     },
     // The run ends at an address that the task does not list.
     Row {
-        asked: Asked::Replay(File, 1, ReplayEmit::Answers),
+        words: "replay --units 1 a.s a.cert a.events",
         program: UNLISTED_JUMP,
         certificate: UNLISTED_JUMP_CERTIFICATE,
         script: JUMP_UNLISTED,
@@ -109,14 +101,16 @@ const WRONG_PATHS: [Row<'static>; 4] = [
 
 #[test]
 fn replays_wrong_paths(rt: HostRuntime) {
-    replays_rows(&rt, rt.alloc(), &WRONG_PATHS);
+    for row in &WRONG_PATHS {
+        replays(&rt, rt.alloc(), row);
+    }
 }
 
 // The tables of scripts: an event that is refused counts nowhere.
 const SUMMARIES: [Row<'static>; 4] = [
     // The first A retires its 4 instructions; B is squashed before it executes one.
     Row {
-        asked: Asked::Replay(File, 2, ReplayEmit::Summary),
+        words: "replay --units 2 --emit summary a.s a.cert a.events",
         script: COUNT_TAKEN_AGAIN,
         expected: "assigned  retired  squashed  dropped  unfinished  useful  wasted  task
        2        1         0        0           1       4       0  A
@@ -127,7 +121,7 @@ const SUMMARIES: [Row<'static>; 4] = [
     },
     // B goes round three times before it is squashed.
     Row {
-        asked: Asked::Replay(File, 2, ReplayEmit::Summary),
+        words: "replay --units 2 --emit summary a.s a.cert a.events",
         program: WRONG_PATH_SPIN,
         certificate: WRONG_PATH_SPIN_CERTIFICATE,
         script: WRONG_PATH_SPUN,
@@ -141,7 +135,7 @@ const SUMMARIES: [Row<'static>; 4] = [
     },
     // The second A and B are dropped, and a third A comes behind the first.
     Row {
-        asked: Asked::Replay(File, 3, ReplayEmit::Summary),
+        words: "replay --units 3 --emit summary a.s a.cert a.events",
         script: COUNT_DROPPED,
         expected: "assigned  retired  squashed  dropped  unfinished  useful  wasted  task
        3        0         0        1           2       0       0  A
@@ -152,7 +146,7 @@ const SUMMARIES: [Row<'static>; 4] = [
     },
     // The status is that of the answers.
     Row {
-        asked: Asked::Replay(File, 1, ReplayEmit::Summary),
+        words: "replay --units 1 --emit summary a.s a.cert a.events",
         program: UNLISTED_JUMP,
         certificate: UNLISTED_JUMP_CERTIFICATE,
         script: JUMP_UNLISTED,
@@ -167,117 +161,94 @@ const SUMMARIES: [Row<'static>; 4] = [
 #[test]
 fn sums_up_scripts(rt: HostRuntime) {
     for row in &SUMMARIES {
-        applies(&rt, rt.alloc(), row);
+        let script = events_of(&rt, rt.alloc(), row.script);
+        let row = Row {
+            script: script.as_str(),
+            ..*row
+        };
+        row.runs(&rt, rt.alloc());
     }
 }
 
-// Asserts a row whose script stands with its answers, which are not what it expects.
-fn applies(rt: &impl Bench, alloc: Global, row: &Row<'_>) {
-    let script = events_of(rt, alloc, row.script);
-    let row = Row {
-        script: script.as_str(),
-        ..*row
-    };
-    expect_row(rt, alloc, &row);
-}
-
-const REFUSED: Row<'static> = Row {
-    status: 1,
-    ..OF_COUNT
-};
-
 // Scripts of no event, of one that no machine has, and of none.
-const ODD_SCRIPTS: [Row<'static>; 7] = [
-    Row {
-        expected: "retired 0 c 0 h 0\nrunning\n",
-        ..OF_COUNT
-    },
-    Row {
-        script: "exec 999",
-        expected: "1 refused 3 NoSuch\nretired 0 c 0 h 0\nrunning\n",
-        ..OF_COUNT
-    },
-    Row {
-        script: "exec",
-        expected: "script refused: 1 Line 1\n",
-        ..REFUSED
-    },
-    Row {
-        script: "exec 1000",
-        expected: "script refused: 1 Line 1\n",
-        ..REFUSED
-    },
-    Row {
-        script: "exec 01",
-        expected: "script refused: 1 Line 1\n",
-        ..REFUSED
-    },
-    Row {
-        script: "assign C",
-        expected: "script refused: 2 TaskName 1\n",
-        ..REFUSED
-    },
-    Row {
-        script: "assign A\nassign C\nexec",
-        expected: "script refused: 2 TaskName 2\n",
-        ..REFUSED
-    },
+const ODD_SCRIPTS: [(&str, &str, u8); 7] = [
+    ("", "retired 0 c 0 h 0\nrunning\n", 0),
+    (
+        "exec 999",
+        "1 refused 3 NoSuch\nretired 0 c 0 h 0\nrunning\n",
+        0,
+    ),
+    ("exec", "script refused: 1 Line 1\n", 1),
+    ("exec 1000", "script refused: 1 Line 1\n", 1),
+    ("exec 01", "script refused: 1 Line 1\n", 1),
+    ("assign C", "script refused: 2 TaskName 1\n", 1),
+    (
+        "assign A\nassign C\nexec",
+        "script refused: 2 TaskName 2\n",
+        1,
+    ),
 ];
 
 #[test]
 fn replays_odd_scripts(rt: HostRuntime) {
-    expect_rows(&rt, rt.alloc(), &ODD_SCRIPTS);
+    for &(script, expected, status) in &ODD_SCRIPTS {
+        let row = Row {
+            script,
+            expected,
+            status,
+            ..OF_COUNT
+        };
+        row.runs(&rt, rt.alloc());
+    }
 }
 
 // The certificate and what the rules find come before the script.
-const JUDGED_BEFORE: [Row<'static>; 4] = [
-    Row {
-        certificate: "cert 3\n",
-        script: "exec",
-        expected: "certificate refused: 1 Header\n",
-        ..REFUSED
-    },
-    Row {
-        certificate: "cert 3\n",
-        script: "assign A",
-        expected: "certificate refused: 1 Header\n",
-        ..REFUSED
-    },
-    Row {
-        certificate: COUNT_CERTIFICATE_LACKING,
-        script: "exec",
-        expected: "A 1 rule 3 $9\nrefused 1\n",
-        ..REFUSED
-    },
-    Row {
-        certificate: COUNT_CERTIFICATE_LACKING,
-        script: "assign A",
-        expected: "A 1 rule 3 $9\nrefused 1\n",
-        ..REFUSED
-    },
+const JUDGED_BEFORE: [(&str, &str, &str); 4] = [
+    ("cert 3\n", "exec", "certificate refused: 1 Header\n"),
+    ("cert 3\n", "assign A", "certificate refused: 1 Header\n"),
+    (
+        COUNT_CERTIFICATE_LACKING,
+        "exec",
+        "A 1 rule 3 $9\nrefused 1\n",
+    ),
+    (
+        COUNT_CERTIFICATE_LACKING,
+        "assign A",
+        "A 1 rule 3 $9\nrefused 1\n",
+    ),
 ];
 
 #[test]
 fn judges_before_the_script(rt: HostRuntime) {
-    expect_rows(&rt, rt.alloc(), &JUDGED_BEFORE);
-    let summary = Asked::Replay(File, 2, ReplayEmit::Summary);
-    expect_rows_of(&rt, rt.alloc(), summary, &JUDGED_BEFORE);
+    for &(certificate, script, expected) in &JUDGED_BEFORE {
+        for words in [ON_TWO_UNITS.words, SUMMARIES[0].words] {
+            let row = Row {
+                words,
+                certificate,
+                script,
+                expected,
+                status: 1,
+                ..OF_COUNT
+            };
+            row.runs(&rt, rt.alloc());
+        }
+    }
 }
 
 // Each event with what it changed; the jump leads to line 5, which A does not list.
 #[test]
 fn traces_a_script(rt: HostRuntime) {
-    applies(&rt, rt.alloc(), &TRACED);
+    let script = events_of(&rt, rt.alloc(), JUMP_UNLISTED);
+    let row = Row {
+        words: "replay --units 1 --emit trace a.s a.cert a.events",
+        program: UNLISTED_JUMP,
+        certificate: UNLISTED_JUMP_CERTIFICATE,
+        script: script.as_str(),
+        expected: TRACE,
+        status: 1,
+    };
+    row.runs(&rt, rt.alloc());
 }
-
-const TRACED: Row<'static> = Row {
-    asked: Asked::Replay(File, 1, ReplayEmit::Trace),
-    program: UNLISTED_JUMP,
-    certificate: UNLISTED_JUMP_CERTIFICATE,
-    script: JUMP_UNLISTED,
-    expected: TRACE,
-    status: 1,
-};
 
 const TRACE: &str = "1 assign A: ok
     unit 0, task A: begins at line 2
@@ -306,14 +277,17 @@ at the end: the run is unlisted: 0x400010
 // The same in JSON.
 #[test]
 fn writes_json_of_a_script(rt: HostRuntime) {
-    applies(&rt, rt.alloc(), &WRITTEN_AS_JSON);
+    let script = events_of(&rt, rt.alloc(), JUMP_UNLISTED);
+    let row = Row {
+        words: "replay --units 1 --emit json a.s a.cert a.events",
+        program: UNLISTED_JUMP,
+        certificate: UNLISTED_JUMP_CERTIFICATE,
+        script: script.as_str(),
+        expected: LINES,
+        status: 1,
+    };
+    row.runs(&rt, rt.alloc());
 }
-
-const WRITTEN_AS_JSON: Row<'static> = Row {
-    asked: Asked::Replay(File, 1, ReplayEmit::Json),
-    expected: LINES,
-    ..TRACED
-};
 
 const LINES: &str =
     "{\"event\":1,\"kind\":\"assign\",\"task\":\"A\",\"answer\":\"ok\",\"changes\":[{\"change\":\"began\",\"unit\":0,\"task\":\"A\",\"index\":0,\"line\":2}]}

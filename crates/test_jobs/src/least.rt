@@ -1,14 +1,9 @@
 //! `--least`: the jobs with the least certificate write what they write with that certificate's text.
 
-use crate::answers::{Bench, expect_row, expect_rows};
+use crate::answers::{EMPTY, Row};
 use crate::replay::replays;
 use crate::scripts::COUNT_WAITS;
-use jobs::job::CertificateSource::Least;
-use jobs::job::{ReplayEmit, RunEmit};
-use std::alloc::Global;
 use test_programs::programs::{COUNT, COUNT_CREATES_LESS};
-use test_rows::asked::{Asked, AskedRun, PLAIN_RUN};
-use test_rows::rows::{EMPTY, Row};
 
 const LEAST: Row<'static> = Row {
     program: COUNT,
@@ -18,28 +13,22 @@ const LEAST: Row<'static> = Row {
 // The marks of `COUNT` are right.
 const RIGHT: [Row<'static>; 5] = [
     Row {
-        asked: Asked::Check(Least, 1),
+        words: "check --least a.s",
         expected: "accepted 2 tasks 6 instructions\n",
         ..LEAST
     },
     Row {
-        asked: Asked::Check(Least, 3),
+        words: "check --least --workers 3 a.s",
         expected: "accepted 2 tasks 6 instructions\n",
         ..LEAST
     },
     Row {
-        asked: LEAST_RUN,
+        words: "run --least a.s",
         expected: "10\nretired 4 c 16 h 18\nhalted\n",
         ..LEAST
     },
     Row {
-        asked: Asked::Run(AskedRun {
-            certificate: Least,
-            units: 1,
-            workers: 1,
-            emit: RunEmit::Summary,
-            ..PLAIN_RUN
-        }),
+        words: "run --least --units 1 --emit summary a.s",
         expected: "assigned  retired  squashed  dropped  unfinished  useful  wasted  task
        4        4         0        0           0      16       0  A
        1        0         0        0           1       0       0  B
@@ -48,7 +37,7 @@ const RIGHT: [Row<'static>; 5] = [
         ..LEAST
     },
     Row {
-        asked: Asked::Replay(Least, 4, ReplayEmit::Summary),
+        words: "replay --least --emit summary a.s a.events",
         script: "assign A\nexec 0\n",
         expected: "assigned  retired  squashed  dropped  unfinished  useful  wasted  task
        1        0         0        0           1       0       0  A
@@ -61,13 +50,15 @@ const RIGHT: [Row<'static>; 5] = [
 
 #[test]
 fn accepts_right_marks(rt: HostRuntime) {
-    expect_rows(&rt, rt.alloc(), &RIGHT);
+    for row in &RIGHT {
+        row.runs(&rt, rt.alloc());
+    }
 }
 
 #[test]
 fn replays_a_script(rt: HostRuntime) {
     let row = Row {
-        asked: Asked::Replay(Least, 2, ReplayEmit::Answers),
+        words: "replay --least --units 2 a.s a.events",
         script: COUNT_WAITS,
         expected: "retired 0 c 0 h 1\nrunning\n",
         ..LEAST
@@ -75,42 +66,38 @@ fn replays_a_script(rt: HostRuntime) {
     replays(&rt, rt.alloc(), &row);
 }
 
-// `check` by one thread and by several, `run` and `replay`.
-const JOBS: [Asked<'static>; 4] = [
-    Asked::Check(Least, 1),
-    Asked::Check(Least, 4),
-    LEAST_RUN,
-    Asked::Replay(Least, 4, ReplayEmit::Answers),
+const JOBS: [&str; 4] = [
+    "check --least a.s",
+    "check --least --workers 4 a.s",
+    "run --least a.s",
+    "replay --least a.s a.events",
 ];
-
-const LEAST_RUN: Asked<'static> = Asked::Run(AskedRun {
-    certificate: Least,
-    ..PLAIN_RUN
-});
-
-// Asserts that each of the jobs writes this of a program, with status 1.
-fn expect_wrong(rt: &impl Bench, alloc: Global, program: &str, expected: &str) {
-    for &asked in &JOBS {
-        let row = Row {
-            asked,
-            program,
-            expected,
-            status: 1,
-            ..EMPTY
-        };
-        expect_row(rt, alloc, &row);
-    }
-}
 
 // A writes $10 and its create mask lacks it.
 #[test]
 fn finds_wrong_marks(rt: HostRuntime) {
-    let expected = "A 0 rule 5 $10\nrefused 1\n";
-    expect_wrong(&rt, rt.alloc(), COUNT_CREATES_LESS, expected);
+    for words in JOBS {
+        let row = Row {
+            words,
+            program: COUNT_CREATES_LESS,
+            expected: "A 0 rule 5 $10\nrefused 1\n",
+            status: 1,
+            ..EMPTY
+        };
+        row.runs(&rt, rt.alloc());
+    }
 }
 
 #[test]
 fn refuses_texts(rt: HostRuntime) {
-    let expected = "program refused: 4 Mnemonic line 1\n";
-    expect_wrong(&rt, rt.alloc(), "foo", expected);
+    for words in JOBS {
+        let row = Row {
+            words,
+            program: "foo",
+            expected: "program refused: 4 Mnemonic line 1\n",
+            status: 1,
+            ..EMPTY
+        };
+        row.runs(&rt, rt.alloc());
+    }
 }

@@ -1,19 +1,15 @@
 //! `run`: what threads come to is the same whatever their order.
 
-use crate::answers::{Bench, answer, expect_row, expect_rows, expect_rows_of};
-use jobs::job::CertificateSource::File;
-use jobs::job::{ReplayEmit, RunEmit, Schedule};
+use crate::answers::{Bench, EMPTY, Row, answer, expect, texts_of};
 use std::alloc::Global;
 use test_programs::certificates::{
     COUNT_CERTIFICATE, COUNT_CERTIFICATE_LACKING, DIAMOND_CERTIFICATE, PRODUCT_CERTIFICATE,
     READ_ONLY_CERTIFICATE, RELEASE_CERTIFICATE, SPIN_CERTIFICATE, UNLISTED_JUMP_CERTIFICATE,
 };
 use test_programs::programs::{COUNT, DIAMOND, PRODUCT, READ_ONLY, RELEASE, SPIN, UNLISTED_JUMP};
-use test_rows::asked::{Asked, AskedRun, Guess, PLAIN_RUN};
-use test_rows::rows::{EMPTY, Row, texts_of};
 
 const RUN: Row<'static> = Row {
-    asked: Asked::Run(PLAIN_RUN),
+    words: "run a.s a.cert",
     ..EMPTY
 };
 
@@ -26,26 +22,28 @@ const COUNTED: Row<'static> = Row {
 
 const UNITS: [u32; 4] = [1, 2, 4, 16];
 
-const GUESSES: [Guess<'static>; 3] = [Guess::First, Guess::Last, Guess::List(&[1, 0])];
+const PREDICTIONS: [&str; 3] = ["first", "last", "1,0"];
 
 // Asserts a row with these units, by one thread for each unit and by one thread alone.
-fn runs_on(rt: &impl Bench, alloc: Global, row: &Row<'_>, units: u32, predict: Guess<'_>) {
-    for workers in [units, 1, 16] {
-        let asked = Asked::Run(AskedRun {
-            units,
-            workers,
-            predict,
-            ..PLAIN_RUN
-        });
-        expect_row(rt, alloc, &Row { asked, ..*row });
+fn runs_on(rt: &impl Bench, alloc: Global, row: &Row<'_>, units: u32, predict: &str) {
+    for workers in ["", " --workers 1", " --workers 16"] {
+        let words = format!(in alloc;
+            "run a.s a.cert --units {units}{workers} --predict {predict}"
+        );
+        let words = words.ok().expect(rt, "room for words");
+        let row = Row {
+            words: words.as_str(),
+            ..*row
+        };
+        row.runs(rt, alloc);
     }
 }
 
 #[test]
 fn runs_count(rt: HostRuntime) {
     for &units in &UNITS {
-        for &guess in &GUESSES {
-            runs_on(&rt, rt.alloc(), &COUNTED, units, guess);
+        for predict in PREDICTIONS {
+            runs_on(&rt, rt.alloc(), &COUNTED, units, predict);
         }
     }
 }
@@ -122,19 +120,16 @@ halt
 
 #[test]
 fn runs_programs(rt: HostRuntime) {
-    expect_rows(&rt, rt.alloc(), &PROGRAMS);
     for row in &PROGRAMS {
+        row.runs(&rt, rt.alloc());
         for &units in &UNITS {
-            runs_on(&rt, rt.alloc(), row, units, Guess::Last);
+            runs_on(&rt, rt.alloc(), row, units, "last");
         }
     }
 }
 
 const SPUN: Row<'static> = Row {
-    asked: Asked::Run(AskedRun {
-        budget: 100,
-        ..PLAIN_RUN
-    }),
+    words: "run --budget 100 a.s a.cert",
     program: SPIN,
     certificate: SPIN_CERTIFICATE,
     expected: "out of budget\n",
@@ -144,67 +139,58 @@ const SPUN: Row<'static> = Row {
 
 #[test]
 fn runs_out_of_budget(rt: HostRuntime) {
-    expect_row(&rt, rt.alloc(), &SPUN);
+    SPUN.runs(&rt, rt.alloc());
 }
 
-const REFUSED: Row<'static> = Row { status: 1, ..RUN };
-
 // The texts are judged before anything runs.
-const JUDGED_BEFORE: [Row<'static>; 3] = [
-    Row {
-        program: "foo",
-        certificate: "cert 3\n",
-        expected: "program refused: 4 Mnemonic line 1\n",
-        ..REFUSED
-    },
-    Row {
-        program: COUNT,
-        certificate: "cert 3\n",
-        expected: "certificate refused: 1 Header\n",
-        ..REFUSED
-    },
-    Row {
-        program: COUNT,
-        certificate: COUNT_CERTIFICATE_LACKING,
-        expected: "A 1 rule 3 $9\nrefused 1\n",
-        ..REFUSED
-    },
+const JUDGED_BEFORE: [(&str, &str, &str); 3] = [
+    ("foo", "cert 3\n", "program refused: 4 Mnemonic line 1\n"),
+    (COUNT, "cert 3\n", "certificate refused: 1 Header\n"),
+    (
+        COUNT,
+        COUNT_CERTIFICATE_LACKING,
+        "A 1 rule 3 $9\nrefused 1\n",
+    ),
 ];
 
 #[test]
 fn judges_before_the_run(rt: HostRuntime) {
-    expect_rows(&rt, rt.alloc(), &JUDGED_BEFORE);
-    expect_rows_of(&rt, rt.alloc(), SCRIPT, &JUDGED_BEFORE);
+    for &(program, certificate, expected) in &JUDGED_BEFORE {
+        for words in ["run a.s a.cert", "run --emit script a.s a.cert"] {
+            let row = Row {
+                words,
+                program,
+                certificate,
+                expected,
+                status: 1,
+                ..EMPTY
+            };
+            row.runs(&rt, rt.alloc());
+        }
+    }
 }
-
-const SCRIPT: Asked<'static> = Asked::Run(AskedRun {
-    emit: RunEmit::Script,
-    ..PLAIN_RUN
-});
 
 // Asserts that `replay` of the script that `run` writes allows each event, and ends as `run` says.
 fn replays_run(rt: &impl Bench, alloc: Global, row: &Row<'_>, units: u32) {
-    let run = AskedRun {
-        units,
-        workers: units,
-        predict: Guess::Last,
-        emit: RunEmit::Script,
-        ..PLAIN_RUN
-    };
+    let words = format!(in alloc; "run --emit script --units {units} --predict last a.s a.cert");
+    let words = words.ok().expect(rt, "room for words");
     let (program, certificate) = (row.program.as_bytes(), row.certificate.as_bytes());
-    let texts = texts_of(alloc, program, certificate, b"").expect(rt, "room for texts");
-    let (script, status) = answer(rt, alloc, Asked::Run(run), &texts);
-    assert!(rt; status == row.status, "{units} units");
+    let texts = texts_of(rt, alloc, program, certificate, b"");
+    let (script, status) = answer(rt, alloc, words.as_str(), &texts);
+    assert_eq!(rt; status, row.status, "{units} units");
     let events = script.iter().filter(|byte| **byte == b'\n').count();
+    let words = format!(in alloc; "replay --units {units} a.s a.cert a.events");
+    let words = words.ok().expect(rt, "room for words");
     let expected = allowed(rt, alloc, events, row.expected);
-    let script = String::from_utf8(script).ok().expect(rt, "UTF-8");
-    let replay = Row {
-        asked: Asked::Replay(File, units, ReplayEmit::Answers),
-        script: script.as_str(),
-        expected: expected.as_str(),
-        ..*row
-    };
-    expect_row(rt, alloc, &replay);
+    let texts = texts_of(rt, alloc, program, certificate, script.as_slice());
+    expect(
+        rt,
+        alloc,
+        words.as_str(),
+        &texts,
+        expected.as_str(),
+        row.status,
+    );
 }
 
 // The answers to so many events that are allowed, and then the closing lines.
@@ -230,19 +216,13 @@ fn replays_what_was_run(rt: HostRuntime) {
 // One unit guesses nothing: four rounds retire, and the last task halts, so it never does.
 #[test]
 fn sums_up_count(rt: HostRuntime) {
-    expect_row(&rt, rt.alloc(), &SUMMED_UP);
+    let row = Row {
+        words: "run --units 1 --emit summary a.s a.cert",
+        expected: SUMMARY,
+        ..COUNTED
+    };
+    row.runs(&rt, rt.alloc());
 }
-
-const SUMMED_UP: Row<'static> = Row {
-    asked: Asked::Run(AskedRun {
-        units: 1,
-        workers: 1,
-        emit: RunEmit::Summary,
-        ..PLAIN_RUN
-    }),
-    expected: SUMMARY,
-    ..COUNTED
-};
 
 const SUMMARY: &str = "assigned  retired  squashed  dropped  unfinished  useful  wasted  task
        4        4         0        0           0      16       0  A
@@ -253,20 +233,13 @@ const SUMMARY: &str = "assigned  retired  squashed  dropped  unfinished  useful 
 // The same run in steps: each unit does one event a step, and there is one unit.
 #[test]
 fn counts_the_steps_of_count(rt: HostRuntime) {
-    expect_row(&rt, rt.alloc(), &SUMMED_UP_IN_STEPS);
+    let row = Row {
+        words: "run --units 1 --schedule steps --emit summary a.s a.cert",
+        expected: SUMMARY_IN_STEPS,
+        ..COUNTED
+    };
+    row.runs(&rt, rt.alloc());
 }
-
-const SUMMED_UP_IN_STEPS: Row<'static> = Row {
-    asked: Asked::Run(AskedRun {
-        schedule: Schedule::Steps,
-        units: 1,
-        workers: 1,
-        emit: RunEmit::Summary,
-        ..PLAIN_RUN
-    }),
-    expected: SUMMARY_IN_STEPS,
-    ..COUNTED
-};
 
 const SUMMARY_IN_STEPS: &str =
     "assigned  retired  squashed  dropped  unfinished  useful  wasted  task
@@ -279,24 +252,16 @@ steps 31, retired instructions 16
 // A run in steps that comes to its budget, with what each event changed: `j A` goes on at itself.
 #[test]
 fn traces_a_run(rt: HostRuntime) {
-    expect_row(&rt, rt.alloc(), &TRACED);
+    let row = Row {
+        words: "run --units 1 --schedule steps --budget 2 --emit trace a.s a.cert",
+        program: SPIN,
+        certificate: SPIN_CERTIFICATE,
+        expected: TRACE,
+        status: 3,
+        ..RUN
+    };
+    row.runs(&rt, rt.alloc());
 }
-
-const TRACED: Row<'static> = Row {
-    asked: Asked::Run(AskedRun {
-        schedule: Schedule::Steps,
-        units: 1,
-        workers: 1,
-        budget: 2,
-        emit: RunEmit::Trace,
-        ..PLAIN_RUN
-    }),
-    program: SPIN,
-    certificate: SPIN_CERTIFICATE,
-    expected: TRACE,
-    status: 3,
-    ..RUN
-};
 
 const TRACE: &str = "1 assign A: ok
     unit 0, task A: begins at line 2
@@ -309,21 +274,16 @@ at the end: the run goes on
 // The same in JSON.
 #[test]
 fn writes_json_of_a_run(rt: HostRuntime) {
-    expect_row(&rt, rt.alloc(), &WRITTEN_AS_JSON);
+    let row = Row {
+        words: "run --units 1 --schedule steps --budget 2 --emit json a.s a.cert",
+        program: SPIN,
+        certificate: SPIN_CERTIFICATE,
+        expected: LINES,
+        status: 3,
+        ..RUN
+    };
+    row.runs(&rt, rt.alloc());
 }
-
-const WRITTEN_AS_JSON: Row<'static> = Row {
-    asked: Asked::Run(AskedRun {
-        schedule: Schedule::Steps,
-        units: 1,
-        workers: 1,
-        budget: 2,
-        emit: RunEmit::Json,
-        ..PLAIN_RUN
-    }),
-    expected: LINES,
-    ..TRACED
-};
 
 const LINES: &str =
     "{\"event\":1,\"kind\":\"assign\",\"task\":\"A\",\"answer\":\"ok\",\"changes\":[{\"change\":\"began\",\"unit\":0,\"task\":\"A\",\"index\":0,\"line\":2}]}

@@ -1,0 +1,479 @@
+//! Which words give which job, and which are refused.
+
+use crate::answers::words_of;
+use command_line::words::{UsageFault, job_of};
+use jobs::job::{
+    CertificateSource, CurveEmit, Emit, Job, Paths, Prediction, ReplayEmit, RunEmit, Schedule,
+};
+use std::alloc::Global;
+use std::process::Abort;
+
+// A job, with the number or the word that it takes.
+#[derive(Clone, Copy, PartialEq)]
+enum Wanted {
+    Seq(u32),
+    Print,
+    Annotate(Emit),
+    Explain(WantedExplain),
+    Check(CertificateSource, u32),
+    Replay(CertificateSource, u32, ReplayEmit),
+    Run(WantedRun),
+    Curve(CertificateSource, u32, u32, Wanting, CurveEmit),
+}
+
+use CertificateSource::{File, Least};
+
+// What `explain` takes.
+#[derive(Clone, Copy, PartialEq)]
+struct WantedExplain {
+    names_program: bool,
+    names_certificate: bool,
+    warnings: bool,
+}
+
+// `explain` with nothing but its program.
+const PLAIN_EXPLAIN: WantedExplain = WantedExplain {
+    names_program: true,
+    names_certificate: false,
+    warnings: true,
+};
+
+// What `run` takes.
+#[derive(Clone, Copy, PartialEq)]
+struct WantedRun {
+    certificate: CertificateSource,
+    schedule: Schedule,
+    units: u32,
+    workers: u32,
+    budget: u32,
+    predict: Wanting,
+    emit: RunEmit,
+}
+
+// How the next task is to be guessed; of a list how many numbers it has, and the first.
+#[derive(Clone, Copy, PartialEq)]
+enum Wanting {
+    First,
+    Last,
+    List(usize, Option<u32>),
+}
+
+impl Wanting {
+    // The prediction that was given.
+    fn of(predict: &Prediction) -> Wanting {
+        match predict {
+            Prediction::First => Wanting::First,
+            Prediction::Last => Wanting::Last,
+            Prediction::List(answers) => {
+                let numbers = answers.as_slice();
+                Wanting::List(numbers.len(), numbers.first().copied())
+            }
+        }
+    }
+}
+
+// `run` with nothing but its files.
+const PLAIN_RUN: WantedRun = WantedRun {
+    certificate: File,
+    schedule: Schedule::Threads,
+    units: 4,
+    workers: 4,
+    budget: 1_000_000,
+    predict: Wanting::First,
+    emit: RunEmit::Report,
+};
+
+impl Wanted {
+    // The job that was given.
+    fn of(job: &Job) -> Wanted {
+        match job {
+            Job::Seq { budget } => Wanted::Seq(budget.get()),
+            Job::Print => Wanted::Print,
+            Job::Annotate { emit } => Wanted::Annotate(*emit),
+            Job::Explain {
+                name,
+                certificate,
+                warnings,
+                ..
+            } => Wanted::Explain(WantedExplain {
+                names_program: name.as_str() == "a.s",
+                names_certificate: is_named(certificate, "a.cert"),
+                warnings: *warnings,
+            }),
+            Job::Check {
+                certificate,
+                workers,
+            } => Wanted::Check(*certificate, workers.get()),
+            Job::Replay {
+                certificate,
+                units,
+                emit,
+            } => Wanted::Replay(*certificate, units.get(), *emit),
+            Job::Run {
+                certificate,
+                schedule,
+                units,
+                workers,
+                budget,
+                predict,
+                emit,
+            } => Wanted::Run(WantedRun {
+                certificate: *certificate,
+                schedule: *schedule,
+                units: units.get(),
+                workers: workers.get(),
+                budget: budget.get(),
+                predict: Wanting::of(predict),
+                emit: *emit,
+            }),
+            Job::Curve {
+                certificate,
+                units,
+                budget,
+                predict,
+                emit,
+            } => Wanted::Curve(
+                *certificate,
+                units.get(),
+                budget.get(),
+                Wanting::of(predict),
+                *emit,
+            ),
+        }
+    }
+
+    // The names of the certificate and of the script; one that the job does not have is empty.
+    fn files(self) -> (&'static str, &'static str) {
+        match self {
+            Wanted::Replay(Least, ..) => ("", "a.events"),
+            Wanted::Replay(File, ..) => ("a.cert", "a.events"),
+            Wanted::Check(File, _) => ("a.cert", ""),
+            Wanted::Explain(explain) if explain.names_certificate => ("a.cert", ""),
+            Wanted::Run(run) if run.certificate == File => ("a.cert", ""),
+            Wanted::Curve(File, ..) => ("a.cert", ""),
+            _ => ("", ""),
+        }
+    }
+}
+
+// Whether there is a file, of this name.
+fn is_named(file: &Option<String>, name: &str) -> bool {
+    match file {
+        Some(file) => file.as_str() == name,
+        None => false,
+    }
+}
+
+// Words that give a job of the program `a.s`.
+const JOBS: [(&str, Wanted); 27] = [
+    ("seq a.s", Wanted::Seq(1_000_000)),
+    ("seq --budget 17 a.s", Wanted::Seq(17)),
+    ("print a.s", Wanted::Print),
+    ("explain a.s", Wanted::Explain(PLAIN_EXPLAIN)),
+    (
+        "explain a.s a.cert",
+        Wanted::Explain(WantedExplain {
+            names_certificate: true,
+            ..PLAIN_EXPLAIN
+        }),
+    ),
+    (
+        "explain --no-warnings a.s",
+        Wanted::Explain(WantedExplain {
+            warnings: false,
+            ..PLAIN_EXPLAIN
+        }),
+    ),
+    ("check a.s a.cert", Wanted::Check(File, 1)),
+    ("check a.s a.cert --workers 16", Wanted::Check(File, 16)),
+    ("check --workers 3 a.s a.cert", Wanted::Check(File, 3)),
+    ("check --least a.s", Wanted::Check(Least, 1)),
+    ("check a.s --workers 2 --least", Wanted::Check(Least, 2)),
+    (
+        "replay a.s a.cert a.events",
+        Wanted::Replay(File, 4, ReplayEmit::Answers),
+    ),
+    (
+        "replay a.s a.cert a.events --units 16",
+        Wanted::Replay(File, 16, ReplayEmit::Answers),
+    ),
+    (
+        "replay --units 1 a.s a.cert a.events --emit answers",
+        Wanted::Replay(File, 1, ReplayEmit::Answers),
+    ),
+    (
+        "replay --emit summary a.s a.cert a.events",
+        Wanted::Replay(File, 4, ReplayEmit::Summary),
+    ),
+    (
+        "replay a.s a.cert --units 2 a.events --emit summary",
+        Wanted::Replay(File, 2, ReplayEmit::Summary),
+    ),
+    (
+        "replay --least a.s a.events",
+        Wanted::Replay(Least, 4, ReplayEmit::Answers),
+    ),
+    (
+        "replay a.s --least --units 3 --emit summary a.events",
+        Wanted::Replay(Least, 3, ReplayEmit::Summary),
+    ),
+    (
+        "replay a.s a.cert a.events --emit json",
+        Wanted::Replay(File, 4, ReplayEmit::Json),
+    ),
+    ("annotate a.s", Wanted::Annotate(Emit::Text)),
+    ("annotate --emit text a.s", Wanted::Annotate(Emit::Text)),
+    ("annotate a.s --emit cert", Wanted::Annotate(Emit::Cert)),
+    ("annotate --emit keep a.s", Wanted::Annotate(Emit::Keep)),
+    (
+        "curve a.s a.cert",
+        Wanted::Curve(File, 16, 1_000_000, Wanting::First, CurveEmit::Table),
+    ),
+    (
+        "curve --least a.s --units 1",
+        Wanted::Curve(Least, 1, 1_000_000, Wanting::First, CurveEmit::Table),
+    ),
+    (
+        "curve a.s --budget 7 a.cert --predict 3,2",
+        Wanted::Curve(File, 16, 7, Wanting::List(2, Some(3)), CurveEmit::Table),
+    ),
+    (
+        "curve --emit svg --least a.s",
+        Wanted::Curve(Least, 16, 1_000_000, Wanting::First, CurveEmit::Picture),
+    ),
+];
+
+// Words of `run`.
+const RUNS: [(&str, WantedRun); 13] = [
+    ("run a.s a.cert", PLAIN_RUN),
+    (
+        "run --least a.s",
+        WantedRun {
+            certificate: Least,
+            ..PLAIN_RUN
+        },
+    ),
+    (
+        "run a.s --least --emit script",
+        WantedRun {
+            certificate: Least,
+            emit: RunEmit::Script,
+            ..PLAIN_RUN
+        },
+    ),
+    ("run a.s a.cert --schedule threads", PLAIN_RUN),
+    (
+        "run --schedule steps a.s a.cert",
+        WantedRun {
+            schedule: Schedule::Steps,
+            ..PLAIN_RUN
+        },
+    ),
+    (
+        "run --units 16 a.s a.cert",
+        WantedRun {
+            units: 16,
+            workers: 16,
+            ..PLAIN_RUN
+        },
+    ),
+    (
+        "run --workers 1 a.s a.cert",
+        WantedRun {
+            workers: 1,
+            ..PLAIN_RUN
+        },
+    ),
+    (
+        "run a.s a.cert --units 2 --workers 16",
+        WantedRun {
+            units: 2,
+            workers: 16,
+            ..PLAIN_RUN
+        },
+    ),
+    (
+        "run a.s a.cert --budget 100",
+        WantedRun {
+            budget: 100,
+            ..PLAIN_RUN
+        },
+    ),
+    (
+        "run a.s a.cert --predict last",
+        WantedRun {
+            predict: Wanting::Last,
+            ..PLAIN_RUN
+        },
+    ),
+    (
+        "run a.s a.cert --predict 15,0,07",
+        WantedRun {
+            predict: Wanting::List(3, Some(15)),
+            ..PLAIN_RUN
+        },
+    ),
+    (
+        "run a.s a.cert --emit script",
+        WantedRun {
+            emit: RunEmit::Script,
+            ..PLAIN_RUN
+        },
+    ),
+    (
+        "run a.s a.cert --emit json",
+        WantedRun {
+            emit: RunEmit::Json,
+            ..PLAIN_RUN
+        },
+    ),
+];
+
+#[test]
+fn reads_runs(rt: HostRuntime) {
+    for &(line, wanted) in &RUNS {
+        expect_read(&rt, rt.alloc(), line, Wanted::Run(wanted));
+    }
+}
+
+// The job of the words, or why there is none.
+fn read(rt: &impl Abort, alloc: Global, line: &str) -> Result<(Job, Paths), UsageFault> {
+    let words = words_of(rt, alloc, line);
+    job_of(alloc, words.as_slice())
+}
+
+#[test]
+fn reads_jobs(rt: HostRuntime) {
+    for &(line, wanted) in &JOBS {
+        expect_read(&rt, rt.alloc(), line, wanted);
+    }
+}
+
+// Asserts the job of the words, and the names of its files.
+fn expect_read(rt: &impl Abort, alloc: Global, line: &str, wanted: Wanted) {
+    let (job, paths) = read(rt, alloc, line).ok().expect(rt, "a job");
+    let (certificate, script) = wanted.files();
+    assert!(rt; Wanted::of(&job) == wanted, "{line}");
+    assert!(rt; job.has_certificate() == !certificate.is_empty(), "{line}");
+    assert!(rt; job.has_script() == !script.is_empty(), "{line}");
+    expect_path(rt, line, &paths.program, "a.s");
+    expect_path(rt, line, &paths.certificate, certificate);
+    expect_path(rt, line, &paths.script, script);
+}
+
+fn expect_path(rt: &impl Abort, line: &str, path: &String, expected: &str) {
+    assert!(rt; path.as_str() == expected, "{line}");
+}
+
+const NO_JOBS: [&str; 35] = [
+    "seq",
+    "seq a.s b.s",
+    "seq a.s --budget 0",
+    "seq a.s --budget 1000001",
+    "annotate",
+    "annotate a.s a.cert",
+    "check a.s",
+    "check a.s a.cert b.cert",
+    "check a.s a.cert --workers 0",
+    "check a.s a.cert --workers 17",
+    "check a.s a.cert --units 2",
+    "check --least",
+    "check --least=yes a.s",
+    "check --least --least a.s",
+    "explain --least a.s",
+    "explain a.s a.cert b.cert",
+    "replay a.s a.cert",
+    "replay a.s a.cert a.events b.events",
+    "replay a.s a.cert a.events --units 0",
+    "replay a.s a.cert a.events --units 17",
+    "replay a.s a.cert a.events --budget 3",
+    "run a.s",
+    "run a.s a.cert a.events",
+    "run a.s a.cert --units 0",
+    "run a.s a.cert --units 17",
+    "run a.s a.cert --workers 0",
+    "run a.s a.cert --workers 17",
+    "run a.s a.cert --budget 0",
+    "run a.s a.cert --schedule Steps",
+    "replay a.s a.cert a.events --schedule steps",
+    "curve a.s a.cert b.cert",
+    "curve a.s a.cert --units 17",
+    "curve a.s a.cert --budget 0",
+    "curve a.s a.cert --workers 2",
+    "foo",
+];
+
+#[test]
+fn refuses_words(rt: HostRuntime) {
+    for &line in &NO_JOBS {
+        let refused = read(&rt, rt.alloc(), line);
+        assert!(rt; matches!(refused, Err(UsageFault::Words(_))), "{line}");
+    }
+}
+
+// Files that do not fit `--least`, or its absence.
+const MISFITS: [&str; 8] = [
+    "check a.s",
+    "check --least a.s a.cert",
+    "replay a.s a.events",
+    "replay --least a.s a.cert a.events",
+    "run a.s --predict 16 --emit xml",
+    "run --least a.s a.cert",
+    "curve a.s --predict 16",
+    "curve --least a.s a.cert",
+];
+
+#[test]
+fn refuses_files_that_do_not_fit(rt: HostRuntime) {
+    for &line in &MISFITS {
+        let refused = read(&rt, rt.alloc(), line);
+        assert!(rt; matches!(refused, Err(UsageFault::Words(_))), "{line}");
+    }
+}
+
+const NO_EMIT: [&str; 9] = [
+    "annotate a.s --emit xml",
+    "annotate a.s --emit Text",
+    "annotate a.s --emit script",
+    "replay a.s a.cert a.events --emit report",
+    "replay a.s a.cert a.events --emit Summary",
+    "run a.s a.cert --emit xml",
+    "run a.s a.cert --emit text",
+    "curve a.s a.cert --emit json",
+    "curve --least a.s --emit Table",
+];
+
+#[test]
+fn refuses_other_values_of_emit(rt: HostRuntime) {
+    for &line in &NO_EMIT {
+        let refused = read(&rt, rt.alloc(), line);
+        assert!(rt; matches!(refused, Err(UsageFault::Emit)), "{line}");
+    }
+}
+
+// A value of `--predict` is looked at before that of `--emit`.
+const NO_PREDICTION: [&str; 7] = [
+    "run a.s a.cert --predict 1,,0",
+    "run a.s a.cert --predict 16",
+    "run a.s a.cert --predict 001",
+    "run a.s a.cert --predict Last",
+    "run a.s a.cert --predict 1,,0 --emit xml",
+    "curve --least a.s --predict 16",
+    "curve a.s a.cert --predict 16 --emit xml",
+];
+
+#[test]
+fn refuses_other_values_of_predict(rt: HostRuntime) {
+    for &line in &NO_PREDICTION {
+        let refused = read(&rt, rt.alloc(), line);
+        assert!(rt; matches!(refused, Err(UsageFault::Predict)), "{line}");
+    }
+}
+
+// What `clap` decides comes before either.
+#[test]
+fn refuses_words_first(rt: HostRuntime) {
+    let line = "run a.s a.cert --units 17 --predict 1,,0 --emit xml";
+    let refused = read(&rt, rt.alloc(), line);
+    assert!(rt; matches!(refused, Err(UsageFault::Words(_))), "{line}");
+}
