@@ -63,11 +63,14 @@ SHARES = {
 OF_WHOLE = ("every_growth", "growths_in_a_row")
 # Parts that ask the model, and so are quicker under pypy3.
 OF_MODEL = ("model", "kept_cases", "seeds")
-# What a part needs, and the reason that is told where it is not there.
+# A part that begins when another has ended, since it takes what that one kept.
+BEHIND = {"kept_cases": "fuzzer"}
+# One of these a part needs, and the reason that is told where none is there.
 NEEDS = {
-    "refused_calls": ("calls", "no --calls, which refused_calls.py keeps"),
-    "races": ("module", "no --module, which entry/capture.py makes"),
-    "fuzzer": ("fuzzer", "no --fuzzer, which entry/build.sh makes"),
+    "refused_calls": (["calls"], "no --calls, which refused_calls.py keeps"),
+    "races": (["module"], "no --module, which entry/capture.py makes"),
+    "fuzzer": (["fuzzer"], "no --fuzzer, which entry/build.sh makes"),
+    "kept_cases": (["fuzzer", "kept"], "no --fuzzer and no --kept"),
 }
 HERE = pathlib.Path(__file__).resolve().parent
 BEGIN, END = "<!-- figures -->\n", "<!-- end of figures -->\n"
@@ -152,10 +155,7 @@ def runs_of(args):
 
 def lacks(args):
     """Each part that is left out, and why."""
-    missing = {name: why for name, (needed, why) in NEEDS.items() if not getattr(args, needed)}
-    if not args.fuzzer and not args.kept:
-        missing["kept_cases"] = "no --kept"
-    return missing
+    return {name: why for name, (needed, why) in NEEDS.items() if not any(getattr(args, one) for one in needed)}
 
 
 def rows_of(name, run, program, minutes, seed):
@@ -211,21 +211,21 @@ def one_part(name, args, minutes, rows):
 
 
 def in_lanes(names, args, minutes, rows):
-    """Runs the parts as processes, so many at once as there are lanes, the longest first."""
-    begun, last = {}, ("kept_cases",)
+    """Runs the parts as processes, so many at once as there are lanes, the longest first; a row for each that fails itself."""
+    begun = {}
     with concurrent.futures.ThreadPoolExecutor(args.lanes) as lanes:
-        for name in sorted(names, key=lambda name: (name in last, -SHARES[name])):
-            begun[name] = lanes.submit(in_a_process, name, args, minutes[name], rows, begun.get("fuzzer") if name in last else None)
+        for name in sorted(names, key=lambda name: (name in BEHIND, -SHARES[name])):
+            begun[name] = lanes.submit(in_a_process, name, args, minutes[name], begun.get(BEHIND.get(name)))
+    return [(name, 0, {}, [f"the script failed: status {it.result()}"]) for name, it in begun.items() if not rows.has(name, args.seed)]
 
 
-def in_a_process(name, args, minutes, rows, before):
-    """Runs a part as a process of its own, when the one before it has ended; if that leaves no rows, this is a difference."""
+def in_a_process(name, args, minutes, before):
+    """Runs a part as a process of its own, when the one before it has ended: its status."""
     if before:
         before.result()
     python = shutil.which("pypy3") if name in OF_MODEL else None
-    ended = subprocess.run([python or sys.executable, __file__, *sys.argv[1:], "--rows", str(args.rows), "--alone", name, "--minutes", str(minutes)], stdout=subprocess.DEVNULL)
-    if not rows.has(name, args.seed):
-        rows.keep(name, args.seed, 0.0, [(name, 0, {}, [f"the script failed: status {ended.returncode}"])])
+    words = [python or sys.executable, __file__, *sys.argv[1:], "--rows", str(args.rows), "--alone", name, "--minutes", str(minutes)]
+    return subprocess.run(words, stdout=subprocess.DEVNULL).returncode
 
 
 def added(every):
@@ -314,20 +314,20 @@ def write(document, text):
 
 
 def make(args, rows):
-    """Runs the parts that are asked for and not kept yet."""
+    """Runs the parts that are asked for and not kept yet; a row for each that fails itself."""
     asked = [name for name in SHARES if (not args.only or name in args.only) and (args.whole or name not in OF_WHOLE) and name not in lacks(args)]
     names = [name for name in asked if not rows.has(name, args.seed)]
     shares = sum(SHARES[name] for name in asked)
     minutes = {name: args.minutes * args.lanes * SHARES[name] / shares for name in names}
     print("minutes of each part:", ", ".join(f"{name} {minutes[name]:.1f}" for name in names), file=sys.stderr, flush=True)
-    in_lanes(names, args, minutes, rows)
+    return in_lanes(names, args, minutes, rows)
 
 
-def tell(args, rows):
-    """Prints the table of all that is kept of the program, and writes it; whether there is no difference."""
+def tell(args, rows, failed):
+    """Prints the table of all that is kept of the program and of what failed, and writes it; whether there is no difference."""
     missing = lacks(args)
     left_out = [f"{name}: {missing.get(name, 'not asked for')}" for name in SHARES if not rows.of(name) and (args.whole or name not in OF_WHOLE)]
-    found = [row for name in SHARES for row in added(one for kept in rows.of(name) for one in kept["rows"])]
+    found = [row for name in SHARES for row in added(one for kept in rows.of(name) for one in kept["rows"])] + failed
     text = "\n".join([*heading(rows, left_out), "", *table(found), ""])
     print(text)
     for difference in (difference for row in found for difference in row[3]):
@@ -345,8 +345,7 @@ def main():
         if args.alone:
             one_part(args.alone, args, args.minutes, rows)
             return 0
-        make(args, rows)
-        return 0 if tell(args, rows) else 1
+        return 0 if tell(args, rows, make(args, rows)) else 1
 
 
 if __name__ == "__main__":
