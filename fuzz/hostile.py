@@ -5,7 +5,8 @@
 
 Three parts. `fuzzed`: libFuzzer over the whole program in one process (entry/README.md); it needs the
 fuzzer that entry/build.sh makes, named by --fuzzer or HOSTILE_FUZZER, and is left out without one; with --cases it goes on
-until it has made so many, however long that takes, and --keep names the folder that keeps what it finds. `model`: each case
+until it has made so many, however long that takes, and --keep names the folder that keeps what it finds, from which a later call goes on; what it made
+before counts. `model`: each case
 that the fuzzer kept (--kept or HOSTILE_KEPT) is given to PROGRAM, and bytes and status are compared with model.py, and with
 the rules of the command line below; all kept cases are, however long it takes, on all cores. Without kept cases, those of
 entry/seeds.py are, until the minutes are over. `time`: inputs that are worst for
@@ -14,6 +15,7 @@ second. Where the answer grows more than the input does, as that of `explain` wi
 """
 import argparse
 import collections
+import hashlib
 import multiprocessing
 import os
 import pathlib
@@ -454,10 +456,10 @@ def compare(program, end, cases):
             return compared, answers, differences, runner.worst
 
 
-def compared(program, kept, minutes, seed):
-    """The kept cases, all of them, beside the model; without such, seeds until the minutes are over."""
+def compared(program, kept, minutes, seed, whole=False):
+    """The kept cases, all of them, beside the model; without such, seeds, all of them or until the minutes are over."""
     cases = [p.read_bytes() for folder in kept.split(os.pathsep) for p in sorted(pathlib.Path(folder).iterdir())] if kept else list(seeds.cases(2000, seed))
-    end = float("inf") if kept else time.monotonic() + 60 * minutes
+    end = float("inf") if kept or whole else time.monotonic() + 60 * minutes
     random.Random(seed).shuffle(cases)
     many = int(subprocess.run(["nproc"], capture_output=True, check=True).stdout)  # pypy3 cannot say how many cores it may use
     parts = [(program, end, cases[k::8 * many]) for k in range(8 * many)]
@@ -484,41 +486,63 @@ def begun(corpus, kept, seed):
             (corpus / f"seed-{k}").write_bytes(case)
 
 
+class Rounds:
+    """Calls of libFuzzer over one folder of cases. Each writes what it did, its log and the cases that ended it into a folder
+    beside that one; so what was done before one is stopped counts, too."""
+
+    def __init__(self, fuzzer, corpus):
+        digest = hashlib.sha256(pathlib.Path(fuzzer).read_bytes()).hexdigest()
+        self.fuzzer, self.corpus, self.told = fuzzer, corpus, corpus.with_name(f"{corpus.name}-{digest[:16]}")
+        self.told.mkdir(exist_ok=True)
+        self.cases, self.calls, self.most, self.answers, self.differences = 0, 0, [0.0, 0], collections.Counter(), []
+        for number in range(1, 1 + len(list(self.told.glob("log-*")))):
+            self.add(number)
+
+    def another(self, length, dictionary, seed):
+        """One more, so long: how many cases it made."""
+        number, before = 1 + len(list(self.told.glob("log-*"))), self.cases
+        words = [self.fuzzer, *FUZZING, length, f"-dict={dictionary}", f"-seed={seed + number}", f"-artifact_prefix={self.told}/found-{number}-", str(self.corpus)]
+        with open(self.told / f"log-{number}", "wb") as log:
+            subprocess.run(words, stdout=log, stderr=log, env=dict(os.environ, HOSTILE_STATUS=str(self.told / f"status-{number}")))
+        self.add(number)
+        return self.cases - before
+
+    def add(self, number):
+        """Adds what one of these calls did."""
+        status, log = self.told / f"status-{number}", (self.told / f"log-{number}").read_bytes()
+        told = dict(line.rsplit(" ", 1) for line in status.read_text().splitlines()) if status.exists() else {}
+        self.cases, self.calls = self.cases + int(told.get("cases", 0)), self.calls + int(told.get("calls", 0))
+        self.most = [max(self.most[0], float(told.get("worst_seconds", 0))), max(self.most[1], int(told.get("worst_peak", 0)))]
+        for key, count in told.items():
+            if ":" in key:
+                self.answers[key.replace(":", ": status ")] += int(count)
+        why = re.search(rb"HOSTILE: [^\n]*|SUMMARY: [^\n]*", log)
+        for kind in ("crash", "timeout", "oom"):
+            for it in sorted(self.told.glob(f"found-{number}-{kind}-*")):
+                self.differences.append(f"{why.group().decode('latin-1') if why else 'ended'}: case {it.read_bytes().hex()}")
+
+    def row(self):
+        name = f"fuzzed in one process, by libFuzzer: {self.cases:,} cases, at most {self.most[0]:.2f} s and {self.most[1] / 1e6:.0f} MB of heap"
+        return name, self.calls, dict(self.answers), self.differences
+
+
 def fuzzed(fuzzer, kept, minutes, seed, cases=None, keep=None):
-    """libFuzzer for some minutes, or for so many cases: the calls of the program that it made, by job and status. What it
-    keeps goes to the folder `keep`, if one is named."""
+    """libFuzzer for some minutes, or until so many cases are made: the calls of the program, by job and status. What it
+    keeps goes to the folder `keep`, if one is named, and a later call with that folder goes on from there."""
     end = float("inf") if cases else time.monotonic() + 60 * minutes
-    done, calls, most, answers, differences = 0, 0, [0.0, 0], collections.Counter(), []
     with tempfile.TemporaryDirectory() as name:
-        folder = pathlib.Path(name)
-        corpus = pathlib.Path(keep or folder / "corpus")
+        corpus, dictionary = pathlib.Path(keep or f"{name}/corpus"), pathlib.Path(name) / "dictionary"
         corpus.mkdir(exist_ok=True)
         if not any(corpus.iterdir()):
             begun(corpus, kept, seed)
-        (folder / "dictionary").write_text(seeds.dictionary())
-        while (done < cases if cases else time.monotonic() < end - 1) and len(differences) < 20:
-            status = folder / "status"
-            length = [f"-runs={cases - done}"] if cases else [f"-max_total_time={max(1, int(end - time.monotonic()))}"]
-            words = [fuzzer, *FUZZING, *length, f"-dict={folder}/dictionary", f"-seed={seed + len(differences) + 1}", f"-artifact_prefix={folder}/", str(corpus)]
-            with open(folder / "log", "wb") as log:
-                code = subprocess.run(words, stdout=log, stderr=log, env=dict(os.environ, HOSTILE_STATUS=os.environ.get("HOSTILE_STATUS", str(status)))).returncode
-            status = pathlib.Path(os.environ.get("HOSTILE_STATUS", status))
-            told = dict(line.rsplit(" ", 1) for line in status.read_text().splitlines()) if status.exists() else {}
-            done, calls = done + int(told.get("cases", 0)), calls + int(told.get("calls", 0))
-            most = [max(most[0], float(told.get("worst_seconds", 0))), max(most[1], int(told.get("worst_peak", 0)))]
-            for key, count in told.items():
-                if ":" in key:
-                    answers[key.replace(":", ": status ")] += int(count)
-            if code:
-                why = re.search(rb"HOSTILE: [^\n]*|SUMMARY: [^\n]*", (folder / "log").read_bytes())
-                for it in sorted(folder.glob("crash-*")) + sorted(folder.glob("timeout-*")) + sorted(folder.glob("oom-*")):
-                    differences.append(f"{why.group().decode('latin-1') if why else 'ended'}: case {it.read_bytes().hex()}")
-                    it.unlink()
-                if not told or not int(told.get("cases", 0)):
-                    differences.append("the fuzzer ends before its first case")
-                    break
-    name = f"fuzzed in one process, by libFuzzer: {done:,} cases, at most {most[0]:.2f} s and {most[1] / 1e6:.0f} MB of heap"
-    return name, calls, dict(answers), differences
+        dictionary.write_text(seeds.dictionary())
+        rounds = Rounds(fuzzer, corpus)
+        while (rounds.cases < cases if cases else time.monotonic() < end - 1) and len(rounds.differences) < 20:
+            length = f"-runs={cases - rounds.cases}" if cases else f"-max_total_time={max(1, int(end - time.monotonic()))}"
+            if not rounds.another(length, dictionary, seed):
+                rounds.differences.append("the fuzzer ends before its first case")
+                break
+        return rounds.row()
 
 
 ALL = ",".join(f"${k}" for k in range(8, 28))

@@ -258,8 +258,8 @@ def faults_of(ended, status, answer, bound, reason=""):
         yield f"{ended.memory:.0f} MB"
 
 
-def run(program, minutes=0, seed=0, only=""):
-    """One row for each kind of text: its name, the number of runs, what they took, and the differences."""
+def measured(program, only=""):
+    """By subcommand and kind of text: the runs, the most memory and seconds, what memory is allowed, and the differences."""
     rows, traces = {}, ("trace", "json") if writes_json(program) else ("trace",)
     with tempfile.TemporaryDirectory(prefix="multiscalar-limits-") as name:
         folder = pathlib.Path(name)
@@ -270,8 +270,22 @@ def run(program, minutes=0, seed=0, only=""):
             row = rows.setdefault((words[0], kind), [0, 0, 0, bound, []])
             row[0], row[1], row[2] = row[0] + 1, max(row[1], ended.memory), max(row[2], ended.seconds)
             row[4] += [f"{' '.join(map(str, words))}: {fault}" for fault in faults_of(ended, status, answer, bound, ": longer than 134217728 bytes" if words[0] == "explain" else "")]
+    return rows
+
+
+def run(program, minutes=0, seed=0, only=""):
+    """One row for each kind of text: its name, the number of runs, what they took, and the differences."""
     return [(f"`{subcommand}` of {kind}", count, {f"at most {memory:.0f} MB of {bound:.0f}, {seconds:.1f} s": count}, differences)
-            for (subcommand, kind), (count, memory, seconds, bound, differences) in rows.items()]
+            for (subcommand, kind), (count, memory, seconds, bound, differences) in measured(program, only).items()]
+
+
+def by_subcommand(program):
+    """One row for each subcommand."""
+    rows = {}
+    for (subcommand, _), (count, memory, _, _, differences) in measured(program).items():
+        row = rows.setdefault(subcommand, [0, 0, []])
+        row[0], row[1], row[2] = row[0] + count, max(row[1], memory), row[2] + differences
+    return [(f"texts at the limits, `{subcommand}`", count, {f"at most {memory:.0f} MB": count}, differences) for subcommand, (count, memory, differences) in rows.items()]
 
 
 def main():

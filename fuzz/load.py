@@ -1,7 +1,7 @@
 #!/usr/bin/env python3
 """Runs programs in threads under load, and compares each run with `seq`.
 
-    load.py PROGRAM [--minutes M] [--seed N] [--only WORD]
+    load.py PROGRAM [--minutes M] [--seed N] [--only WORD] [--runs N]
 
 PROGRAM is the built `multiscalar`. Accepted examples, two programs that guess wrong at
 every task (schedules.py), one with long tasks, and random programs (accepted.py) are run with 1 to 16
@@ -335,6 +335,10 @@ class Load:
         if fault:
             row[2].append(f"{what}: {fault}")
 
+    def count(self, wanted):
+        """How many runs of a job there were."""
+        return sum(row[0] for (job, _), row in self.rows.items() if job == wanted)
+
     def check(self, how):
         """`check` with several workers of a certificate that they share out and fetch by positioned reads."""
         workers = self.draw.randrange(2, 17)
@@ -400,8 +404,9 @@ def no_memory(files):
     return [b"multiscalar: 1 OutOfMemory\n", b"multiscalar: 4 OutOfMemory\n", *(f"multiscalar: file {path}\n".encode() for path in files)]
 
 
-def run(program, minutes, seed, only="", kinds=None, until_first=False):
-    """Rows for the table: (part, cases, answers seen, differences); with `until_first`, only until there is a difference."""
+def run(program, minutes, seed, only="", kinds=None, until_first=False, runs=None):
+    """Rows for the table: (part, cases, answers seen, differences); with `until_first`, only until there is a difference, and with
+    `runs`, until there are so many of `run`, however long that takes."""
     draw = random.Random(seed)
     accepted.R.seed(seed)
     in_turn = [refused_in_turn(program, minutes / 6)] if not kinds and only in "each thread refused in turn" else []
@@ -410,7 +415,7 @@ def run(program, minutes, seed, only="", kinds=None, until_first=False):
     others = []
     with tempfile.TemporaryDirectory() as name:
         load = Load(program, pathlib.Path(name), draw, kinds)
-        is_over = lambda: time.monotonic() > end or until_first and any(row[2] for row in load.rows.values())
+        is_over = lambda: (load.count("run") >= runs if runs else time.monotonic() > end) or until_first and any(row[2] for row in load.rows.values())
         for title, source, certificate in texts(load.folder, draw, TOP):
             if is_over() or not kinds:
                 break
@@ -436,8 +441,9 @@ def main():
     options.add_argument("--minutes", type=float, default=10)
     options.add_argument("--seed", type=int, default=1)
     options.add_argument("--only", default="")
+    options.add_argument("--runs", type=int, help="go on until there are so many runs of `run`")
     given = options.parse_args()
-    rows = run(os.path.abspath(given.program), given.minutes, given.seed, given.only)
+    rows = run(os.path.abspath(given.program), given.minutes, given.seed, given.only, runs=given.runs)
     for part, cases, answers, differences in rows:
         print(f"{part}: {cases} cases, {answers}, {len(differences)} differences")
         for it in differences[:20]:

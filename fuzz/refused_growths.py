@@ -30,8 +30,8 @@ run time; it is no part of the tests.
 """
 import argparse
 import collections
-import concurrent.futures
 import itertools
+import multiprocessing
 import os
 import random
 import resource
@@ -204,7 +204,8 @@ class Case:
         self.files = [word for word in words if "/" in word]
         self.reason = ": out of memory" if words[0] == "explain" else ""
         runs = [bench.forked(words, counts=True) for _ in range(5 if self.shares else 1)]
-        self.growths = max(ended.counts[GROW] for ended in runs)
+        # not the greatest: a wrong path may be long once, where the thread that ends it waits for a core, and each event takes memory
+        self.growths = sorted(ended.counts[GROW] for ended in runs)[len(runs) // 2]
         self.told = runs[0].told
         self.right = self.shown(runs[0])
 
@@ -267,15 +268,20 @@ def refusal(first, last, one_in=0, seed=0):
     return fault(GROW, first, last, "e", ENOMEM, one_in, seed)
 
 
-def alone(cases, _):
-    """Each growth of each case, refused alone."""
-    return [(case, refusal(n, n)) for case in cases for n in range(1, case.growths + 1) for _ in range(3 if case.shares else 1)]
+def alone(cases, _, part=1, of=1):
+    """Of each case each growth of this part refused alone, those of a case after one another."""
+    for case in cases:
+        for first in range(part, case.growths + 1, of):
+            for _ in range(3 if case.shares else 1):
+                yield case, refusal(first, first)
 
 
-def in_a_row(cases, draw):
-    """From each growth on some are refused, and all."""
-    return [(case, refusal(n, last)) for case in cases for n in range(1, case.growths + 1)
-            for last in (n + draw.choice((1, 2, 4, 9, 30, 99)), EVERY)]
+def in_a_row(cases, draw, part=1, of=1):
+    """From each growth of this part on some are refused, and all."""
+    for case in cases:
+        for first in range(part, case.growths + 1, of):
+            for last in (first + draw.choice((1, 2, 4, 9, 30, 99)), EVERY):
+                yield case, refusal(first, last)
 
 
 def at_random(cases, draw):
@@ -315,35 +321,31 @@ def perform(name, jobs, draw, end, at_once):
     return row.line()
 
 
-def turns(cases, part, of):
-    """Of each case each growth of this part refused alone, those of a case after one another."""
-    for case in cases:
-        for first in range(part, case.growths + 1, of):
-            for _ in range(3 if case.shares else 1):
-                yield case, refusal(first, first)
-
-
-def complete(program, kind, part, of, minutes, only=""):
+def complete(program, kind, part, of, minutes, only="", jobs=alone, seed=1):
     """Each growth of all cases of a kind that falls into this part, none drawn, as one row."""
     end = time.monotonic() + 60 * minutes
     with faults.Bench(program) as bench:
         words = limit_cases(bench.folder) if kind == "limits" else itertools.chain(example_cases(), refused_cases(bench.folder))
         cases = [Case(bench, w) for w in words if only in ("", w[0])]
-        for case in cases:
+        for case in cases if part == 1 else ():
             print(f"{case.growths} growths: {' '.join(case.words)}", file=sys.stderr, flush=True)
-        total, row = sum(1 for _ in turns(cases, part, of)), Row("")
-        make(row, turns(cases, part, of), end)
+        total, row = sum(1 for _ in jobs(cases, random.Random(seed), part, of)), Row("")
+        make(row, jobs(cases, random.Random(seed), part, of), end)
     row.part = f"each growth refused alone, {kind}, part {part} of {of} ({row.cases} of {total})"
     return row.line()
 
 
-def every_growth(program):
-    """Each growth of the examples refused alone, in as many parts at once as there are cores, as one row."""
+# What can be made of each growth of the examples, none drawn.
+WHOLE = {"each growth refused alone": alone, "several in a row, or all, from each on": in_a_row}
+
+
+def whole(program, name, seed):
+    """All runs of a name of WHOLE, in as many processes at once as there are cores, as one row."""
     of = len(os.sched_getaffinity(0))
-    with concurrent.futures.ThreadPoolExecutor(of) as parts:
-        rows = list(parts.map(lambda part: complete(program, "examples", part, of, 1e9), range(1, of + 1)))
+    with multiprocessing.Pool(of) as parts:
+        rows = parts.starmap(complete, [(program, "examples", part, of, 1e9, "", WHOLE[name], seed) for part in range(1, of + 1)], chunksize=1)
     answers = sum((collections.Counter(row[2]) for row in rows), collections.Counter())
-    return "each growth refused alone (all)", sum(row[1] for row in rows), answers, [one for row in rows for one in row[3]]
+    return f"{name} (all)", sum(row[1] for row in rows), dict(answers), [one for row in rows for one in row[3]]
 
 
 def limited(name, kind, least, most, cases, draw, end, **environment):
@@ -356,19 +358,15 @@ def limited(name, kind, least, most, cases, draw, end, **environment):
     return row.line()
 
 
-def run(program, minutes, seed, only="", whole=False):
-    """The rows of all parts, in about so many minutes; with `whole`, each growth of the examples, however long it takes."""
-    rows = [every_growth(program)] if whole else []
-    begin, draw = time.monotonic(), random.Random(seed)
+def run(program, minutes, seed, only="", rest=False):
+    """The rows of all parts, in about so many minutes; with `rest`, of those alone that `whole` cannot make."""
+    rows, begin, draw = [], time.monotonic(), random.Random(seed)
     with faults.Bench(program) as bench:
         words = [w for w in itertools.chain(example_cases(), refused_cases(bench.folder)) if only in ("", w[0])]
         small = [Case(bench, w) for w in words]
-        for name, jobs, until in (("each growth refused alone", alone, 0.45),
-                                  ("several in a row, or all, from each on", in_a_row, 0.65),
-                                  ("one growth in 10 or 100 refused", at_random, 0.72)):
-            if whole and jobs is alone:
-                continue
-            rows.append(perform(name, jobs(small, draw), draw, begin + 60 * minutes * until, 2000))
+        parts = {**({} if rest else WHOLE), "one growth in 10 or 100 refused": at_random}
+        for (name, jobs), until in zip(parts.items(), (0.5,) if rest else (0.45, 0.65, 0.72)):
+            rows.append(perform(name, list(jobs(small, draw)), draw, begin + 60 * minutes * until, 2000))
         large = [Case(bench, w) for w in limit_cases(bench.folder) if only in ("", w[0])]
         rows.append(perform("growths refused, texts at the limits", at_limits(large, draw), draw, begin + 60 * minutes * 0.9, 1))
         # the stack has grown before the limit on the address space can stop it: docs/RELIABILITY.md

@@ -1,30 +1,39 @@
 #!/usr/bin/env python3
 """Runs everything that looks for faults, and prints one table.
 
-    reliability.py --program PATH [--minutes M] [--seed N] [--only PART] [--whole] [--calls FILE] [--fuzzer FILE]
-                   [--kept FOLDERS] [--cases N] [--module FILE] [--write DOCUMENT]
+    reliability.py --program PATH [--minutes M] [--seed N] [--lanes N] [--rows FOLDER] [--only PART] [--whole] [--calls FILE]
+                   [--fuzzer FILE] [--kept FOLDERS] [--cases N] [--runs N] [--module FILE] [--patience N] [--write DOCUMENT]
 
-The parts of SHARES are run one after another, each for its share of the minutes. A part that cannot be run, or of
-which something is missing, is named with the reason, in the table's heading. `--fuzzer` is the libFuzzer
-program that entry/build.sh makes, and `--kept` the folders of the cases that it kept (parted by colons): all of them
-are run beside the model, however long that takes, and fuzzing goes on from them, with `--cases` until so many are made. `--module` is the LLVM module of the
-program (entry/capture.py), for the thread sanitizer; `--calls` is the program of public calls that
-`refused_calls.py --keep` keeps. With `--whole`, each growth of the examples and of those calls is refused, however long
-that takes, and none is drawn. Each part's module has `run(program, minutes, seed)`, which answers
-rows: the part, the number of runs, how often each answer was seen, and the differences, one line each with what
-reproduces it; they go to standard error as soon as a part is done. The table is printed in the form of docs/RELIABILITY.md; with --write it takes the place of the figures
-that stand there. The script ends with status 1 if there is any difference. Needs python3, cc, and what the
-modules say.
+The parts of SHARES are run each as a process of its own, `--lanes` at once, the longest first, each for its share of
+the minutes. What they find stands in the table in the order of SHARES. `--rows` names a folder that keeps the rows of each part as
+soon as it is done, with the program's SHA-256 and the seed: a later call with the same program makes no such part again,
+and its table has all that is kept of this program; parts of several seeds add up. A part that cannot be run, or of
+which something is missing, is named with the reason, in the table's heading.
+
+`--fuzzer` is the libFuzzer program that entry/build.sh makes; it goes on for its minutes, or with `--cases` until so many are made, from
+the cases of the folders `--kept` (parted by colons) or else from seeds. All cases that are kept are then run beside the model,
+however long that takes. `--module` is the LLVM module of the program (entry/capture.py), for the thread sanitizer; `--calls` is the
+program of public calls that `refused_calls.py --keep` keeps. With `--runs`, threads under load go on until there are so many
+runs of `run`. With `--whole`, nothing is drawn where all can be made: each growth of the examples and of those calls, several
+growths in a row, each call that fails, all seeds of hostile bytes, all inputs that are worst for time, however long that takes.
+
+Each part answers rows: the part, the number of runs, how often each answer was seen, and the differences, one line each with what
+reproduces it; they go to standard error as soon as a part is done. The table is printed in the form of docs/RELIABILITY.md;
+with --write it takes the place of the figures that stand there. The script ends with status 1 if there is any difference. Needs
+python3, cc, and what the modules say; what makes answers of the model is run by pypy3 where there is one.
 """
 import argparse
 import ast
 import collections
+import concurrent.futures
 import hashlib
 import importlib
+import json
 import os
 import pathlib
 import platform
 import re
+import shutil
 import subprocess
 import sys
 import tempfile
@@ -33,17 +42,35 @@ import traceback
 
 # The parts, and their shares of the minutes.
 SHARES = {
+    "every_growth": 5,
+    "growths_in_a_row": 5,
     "refused_growths": 5,
-    "refused_calls": 2,
+    "refused_calls": 3,
     "limits": 2,
-    "failed_calls": 5,
+    "failed_calls": 7,
     "ended_runs": 2,
     "schedules": 2,
-    "load": 6,
+    "load": 8,
     "races": 2,
     "model": 4,
-    "hostile": 6,
-    "selftest": 1,
+    "fuzzer": 12,
+    "kept_cases": 1,
+    "seeds": 1,
+    "worst_times": 1,
+    "selftest": 6,
+}
+# Parts that are there with --whole alone; without, refused_growths draws from them.
+OF_WHOLE = ("every_growth", "growths_in_a_row")
+# Parts that ask the model, and so are quicker under pypy3.
+OF_MODEL = ("model", "kept_cases", "seeds")
+# A part that begins when another has ended, since it takes what that one kept.
+BEHIND = {"kept_cases": "fuzzer"}
+# One of these a part needs, and the reason that is told where none is there.
+NEEDS = {
+    "refused_calls": (["calls"], "no --calls, which refused_calls.py keeps"),
+    "races": (["module"], "no --module, which entry/capture.py makes"),
+    "fuzzer": (["fuzzer"], "no --fuzzer, which entry/build.sh makes"),
+    "kept_cases": (["fuzzer", "kept"], "no --fuzzer and no --kept"),
 }
 HERE = pathlib.Path(__file__).resolve().parent
 BEGIN, END = "<!-- figures -->\n", "<!-- end of figures -->\n"
@@ -87,9 +114,9 @@ def beside_model(program, minutes, seed):
         return [("random texts beside the model", sum(counts.values()), answers, differences)]
 
 
-def call_by_call(calls, minutes, seed, whole):
+def call_by_call(calls, minutes, whole):
     """The row of refused_calls.py: the growths of public calls, one by one."""
-    rows = importlib.import_module("refused_calls").run(calls, 1e9 if whole else minutes, seed)
+    rows = part("refused_calls").run(calls, 1e9 if whole else minutes)
     cases, runs = sum(row.cases for row in rows), sum(row.runs for row in rows)
     growths = sum(row.growths for row in rows)
     answers = sum((row.answers for row in rows), collections.Counter())
@@ -97,55 +124,117 @@ def call_by_call(calls, minutes, seed, whole):
     return [(name, runs, answers, [one for row in rows for one in row.differences])]
 
 
-def imported(name):
-    """The `run` of a part's module, or why there is none."""
-    if name == "model":
-        return beside_models, None
-    try:
-        module = importlib.import_module(name)
-    except ModuleNotFoundError as fault:
-        if fault.name != name:
-            raise
-        return None, "the script is not there"
-    return (module.run, None) if hasattr(module, "run") else (None, "its module has no `run`")
+def part(name):
+    """The module of a part."""
+    return importlib.import_module(name)
 
 
-def chosen(only, more):
-    """The parts that can be run, with what else their `run` is given, and a line for each that cannot, or not whole."""
-    there, left_out = {}, []
-    for name in SHARES:
-        if only and name not in only:
-            left_out.append(f"{name}: not asked for (--only)")
-            continue
-        part, why = imported(name)
-        if not why and name == "races" and not more["races"]["module"]:
-            why = "no --module, which entry/capture.py makes"
-        if why:
-            left_out.append(f"{name}: {why}")
-            continue
-        if name == "refused_calls" and not more[name]["calls"]:
-            left_out.append("refused_calls: no --calls, which refused_calls.py keeps")
-            continue
-        if name == "refused_calls":
-            part = lambda _, minutes, seed, calls, whole: call_by_call(calls, minutes, seed, whole)
-        there[name] = lambda *given, part=part, name=name: part(*given, **more.get(name, {}))
-        if name == "hostile":
-            left_out += [f"hostile: {lacks}" for key, lacks in (("fuzzer", "no fuzzing in one process, since no --fuzzer is named"),
-                                                               ("kept", "seeds in place of kept cases, since no --kept is named")) if not more["hostile"][key]]
-    return there, left_out
+def runs_of(args):
+    """What makes the rows of each part; each is given the program, the minutes and a seed."""
+    corpus = str(args.rows / "corpus")
+    kept = corpus if args.fuzzer else args.kept
+    return {
+        "every_growth": lambda program, _, seed: [part("refused_growths").whole(program, "each growth refused alone", seed)],
+        "growths_in_a_row": lambda program, _, seed: [part("refused_growths").whole(program, "several in a row, or all, from each on", seed)],
+        "refused_growths": lambda *given: part("refused_growths").run(*given, rest=args.whole),
+        "refused_calls": lambda _, minutes, __: call_by_call(args.calls, minutes, args.whole),
+        "limits": lambda program, *_: part("limits").by_subcommand(program),
+        "failed_calls": lambda program, minutes, seed: part("failed_calls").run(program, 1e9 if args.whole else minutes, seed),
+        "ended_runs": lambda *given: part("ended_runs").run(*given),
+        "schedules": lambda *given: part("schedules").run(*given),
+        "load": lambda *given: part("load").run(*given, runs=args.runs),
+        "races": lambda *given: part("races").run(*given, args.module),
+        "model": beside_models,
+        "fuzzer": lambda _, minutes, seed: [part("hostile").fuzzed(args.fuzzer, args.kept, minutes, seed, args.cases, corpus)],
+        "kept_cases": lambda program, minutes, seed: [part("hostile").compared(program, kept, minutes, seed)],
+        "seeds": lambda program, minutes, seed: [part("hostile").compared(program, None, minutes, seed, args.whole)],
+        "worst_times": lambda program, minutes, seed: [part("hostile").timed(program, 1e9 if args.whole else minutes, seed)],
+        "selftest": lambda *given: part("selftest").run(*given, args.fuzzer, args.calls, args.patience),
+    }
 
 
-def rows_of(name, part, program, minutes, seed):
+def lacks(args):
+    """Each part that is left out, and why."""
+    return {name: why for name, (needed, why) in NEEDS.items() if not any(getattr(args, one) for one in needed)}
+
+
+def rows_of(name, run, program, minutes, seed):
     """The rows of a part; one that fails itself gives a difference."""
     begin = time.monotonic()
     try:
-        rows = list(part(program, minutes, seed))
+        rows = list(run(program, minutes, seed))
     except Exception:
         rows = [(name, 0, {}, [f"the script failed: {traceback.format_exc().strip().splitlines()[-1]}"])]
     print(f"{name}: {(time.monotonic() - begin) / 60:.1f} minutes, {sum(row[1] for row in rows)} runs, "
           f"{sum(len(row[3]) for row in rows)} differences", *list(table(rows))[2:-1], *(f"difference: {it}" for row in rows for it in row[3]),
           sep="\n", file=sys.stderr, flush=True)
     return rows
+
+
+class Rows:
+    """The folder that keeps the rows of each part, by seed. Those of another program are not looked at, and written over."""
+
+    def __init__(self, folder, program):
+        self.folder, self.digest = folder, hashlib.sha256(pathlib.Path(program).read_bytes()).hexdigest()
+        folder.mkdir(exist_ok=True)
+
+    def place(self, name, seed):
+        return self.folder / f"{name}-{seed}.json"
+
+    def keep(self, name, seed, minutes, rows):
+        """Keeps the rows of a part, and how long it took."""
+        text = json.dumps({"program": self.digest, "part": name, "seed": seed, "day": time.strftime("%Y-%m-%d"), "minutes": minutes, "rows": rows}, indent=1)
+        unfinished = self.folder / f"{name}-{seed}.unfinished"
+        unfinished.write_text(text)
+        unfinished.rename(self.place(name, seed))
+
+    def has(self, name, seed):
+        return self.place(name, seed) in (path for path, _ in self.every())
+
+    def every(self):
+        """What is kept of this program, with its file."""
+        for path in sorted(self.folder.glob("*-*.json")):
+            kept = json.loads(path.read_text())
+            if kept["program"] == self.digest:
+                yield path, kept
+
+    def of(self, name):
+        """What is kept of a part, in the order of the seeds."""
+        return sorted((kept for _, kept in self.every() if kept["part"] == name), key=lambda kept: kept["seed"])
+
+
+def one_part(name, args, minutes, rows):
+    """Runs a part here, and keeps its rows."""
+    begin = time.monotonic()
+    found = rows_of(name, runs_of(args)[name], args.program, minutes, args.seed)
+    rows.keep(name, args.seed, (time.monotonic() - begin) / 60, found)
+
+
+def in_lanes(names, args, minutes, rows):
+    """Runs the parts as processes, so many at once as there are lanes, the longest first; a row for each that fails itself."""
+    begun = {}
+    with concurrent.futures.ThreadPoolExecutor(args.lanes) as lanes:
+        for name in sorted(names, key=lambda name: (name in BEHIND, -SHARES[name])):
+            begun[name] = lanes.submit(in_a_process, name, args, minutes[name], begun.get(BEHIND.get(name)))
+    return [(name, 0, {}, [f"the script failed: status {it.result()}"]) for name, it in begun.items() if not rows.has(name, args.seed)]
+
+
+def in_a_process(name, args, minutes, before):
+    """Runs a part as a process of its own, when the one before it has ended: its status."""
+    if before:
+        before.result()
+    python = shutil.which("pypy3") if name in OF_MODEL else None
+    words = [python or sys.executable, __file__, *sys.argv[1:], "--rows", str(args.rows), "--alone", name, "--minutes", str(minutes)]
+    return subprocess.run(words, stdout=subprocess.DEVNULL).returncode
+
+
+def added(every):
+    """The rows of some runs of a part; those of one name are added."""
+    rows = {}
+    for name, runs, answers, differences in every:
+        _, before, seen_before, found = rows.get(name, (name, 0, {}, []))
+        rows[name] = name, before + runs, collections.Counter(seen_before) + collections.Counter(answers), found + differences
+    return rows.values()
 
 
 def figure(number):
@@ -179,12 +268,18 @@ def machine():
     return f"a {kind} of {os.cpu_count()} cores and {memory:.0f} GB, Linux {platform.release().split('-')[0]}"
 
 
-def heading(program, asked, took, seed, left_out):
-    """On what, for how long, and with what this was run."""
-    digest = hashlib.sha256(pathlib.Path(program).read_bytes()).hexdigest()
-    took_parts = ", ".join(f"{name} {minutes:.1f}" for name, minutes in took.items())
-    yield (f"{time.strftime('%Y-%m-%d')}: {sum(took.values()):.0f} minutes ({asked:g} asked for), seed {seed}, on {machine()}. "
-           f"The program's SHA-256 begins with {digest[:16]}. Minutes of each part: {took_parts}.")
+def heading(rows, left_out):
+    """On what, for how long, and with what seeds this was run."""
+    kept = [(name, rows.of(name)) for name in SHARES if rows.of(name)]
+    days = sorted({run["day"] for _, runs in kept for run in runs})
+    took = ", ".join(f"{name} {sum(run['minutes'] for run in runs):.1f}" for name, runs in kept)
+    seeds = collections.defaultdict(list)
+    for name, runs in kept:
+        seeds[", ".join(str(run["seed"]) for run in runs)].append(name)
+    usual = max(seeds, key=lambda seed: len(seeds[seed]), default="")
+    others = "".join(f"; {', '.join(names)}: {seed}" for seed, names in seeds.items() if seed != usual)
+    yield (f"{' and '.join(days)}, on {machine()}. The program's SHA-256 begins with {rows.digest[:16]}. "
+           f"Minutes of each part: {took}. Seed {usual}{others}.")
     if left_out:
         yield ""
         yield f"Left out: {'; '.join(left_out)}."
@@ -192,17 +287,22 @@ def heading(program, asked, took, seed, left_out):
 
 def arguments():
     parser = argparse.ArgumentParser(description=__doc__, formatter_class=argparse.RawDescriptionHelpFormatter)
-    parser.add_argument("--program", required=True)
+    parser.add_argument("--program", required=True, type=os.path.abspath)
     parser.add_argument("--minutes", default=30, type=float)
     parser.add_argument("--seed", default=1, type=int)
+    parser.add_argument("--lanes", default=1, type=int, help="so many parts at once")
+    parser.add_argument("--rows", type=pathlib.Path, metavar="FOLDER", help="keep the rows here, and take those that are kept of this program")
     parser.add_argument("--only", default=[], action="append", choices=list(SHARES), help="this part; may be given again for others")
-    parser.add_argument("--whole", action="store_true", help="refuse each growth of the examples and of the calls")
+    parser.add_argument("--whole", action="store_true", help="draw nothing where all can be made")
     parser.add_argument("--calls", type=os.path.abspath, help="the program that refused_calls.py keeps")
     parser.add_argument("--fuzzer", type=os.path.abspath, help="the libFuzzer program")
     parser.add_argument("--kept", help="folders of kept cases, parted by colons")
     parser.add_argument("--cases", type=int, help="go on fuzzing until so many cases are made")
+    parser.add_argument("--runs", type=int, help="go on with load until there are so many runs of `run`")
     parser.add_argument("--module", type=os.path.abspath, help="the program's LLVM module")
+    parser.add_argument("--patience", default=1.0, type=float, help="how many times the usual seconds selftest.py gives a script")
     parser.add_argument("--write", type=pathlib.Path, metavar="DOCUMENT", help="put the table into this document")
+    parser.add_argument("--alone", choices=list(SHARES), help=argparse.SUPPRESS)
     return parser.parse_args()
 
 
@@ -213,32 +313,39 @@ def write(document, text):
     document.write_text(before + BEGIN + text + END + rest.split(END)[1])
 
 
-def main():
-    args = arguments()
-    program = str(pathlib.Path(args.program).resolve())
-    more = {
-        "refused_growths": {"whole": args.whole},
-        "refused_calls": {"calls": args.calls, "whole": args.whole},
-        "hostile": {"fuzzer": args.fuzzer, "kept": args.kept, "cases": args.cases},
-        "selftest": {"fuzzer": args.fuzzer, "calls": args.calls},
-        "races": {"module": args.module},
-    }
-    there, left_out = chosen(args.only, more)
-    rows, took, shares = [], {}, sum(SHARES[name] for name in there)
-    print("minutes of each part:", ", ".join(f"{name} {args.minutes * SHARES[name] / shares:.1f}" for name in there), file=sys.stderr)
-    for line in left_out:
-        print("left out:", line, file=sys.stderr, flush=True)
-    for name, part in there.items():
-        begin = time.monotonic()
-        rows += rows_of(name, part, program, args.minutes * SHARES[name] / shares, args.seed)
-        took[name] = (time.monotonic() - begin) / 60
-    text = "\n".join([*heading(program, args.minutes, took, args.seed, left_out), "", *table(rows), ""])
+def make(args, rows):
+    """Runs the parts that are asked for and not kept yet; a row for each that fails itself."""
+    asked = [name for name in SHARES if (not args.only or name in args.only) and (args.whole or name not in OF_WHOLE) and name not in lacks(args)]
+    names = [name for name in asked if not rows.has(name, args.seed)]
+    shares = sum(SHARES[name] for name in asked)
+    minutes = {name: args.minutes * args.lanes * SHARES[name] / shares for name in names}
+    print("minutes of each part:", ", ".join(f"{name} {minutes[name]:.1f}" for name in names), file=sys.stderr, flush=True)
+    return in_lanes(names, args, minutes, rows)
+
+
+def tell(args, rows, failed):
+    """Prints the table of all that is kept of the program and of what failed, and writes it; whether there is no difference."""
+    missing = lacks(args)
+    left_out = [f"{name}: {missing.get(name, 'not asked for')}" for name in SHARES if not rows.of(name) and (args.whole or name not in OF_WHOLE)]
+    found = [row for name in SHARES for row in added(one for kept in rows.of(name) for one in kept["rows"])] + failed
+    text = "\n".join([*heading(rows, left_out), "", *table(found), ""])
     print(text)
-    for difference in (difference for row in rows for difference in row[3]):
+    for difference in (difference for row in found for difference in row[3]):
         print("difference:", difference)
     if args.write:
         write(args.write, text)
-    return 1 if any(row[3] for row in rows) else 0
+    return not any(row[3] for row in found)
+
+
+def main():
+    args = arguments()
+    with tempfile.TemporaryDirectory() as folder:
+        args.rows = (args.rows or pathlib.Path(folder)).resolve()
+        rows = Rows(args.rows, args.program)
+        if args.alone:
+            one_part(args.alone, args, args.minutes, rows)
+            return 0
+        return 0 if tell(args, rows, make(args, rows)) else 1
 
 
 if __name__ == "__main__":

@@ -403,8 +403,10 @@ def parts_of(fuzzer_of, calls_of):
     return parts
 
 
-def run(program, minutes, seed, fuzzer=None, calls=None):
-    """The row for the table, however long it takes: how many faults were planted, and which were not found."""
+def run(program, minutes, seed, fuzzer=None, calls=None, times=1.0):
+    """The row for the table, however long it takes: how many faults were planted, and which were not found. The scripts have so many times their seconds."""
+    global patience
+    patience = times
     tried, missed, kept = 0, [], dict(os.environ)
     with tempfile.TemporaryDirectory(prefix="multiscalar-planted-") as name:
         planted = Planted(program, pathlib.Path(name))
