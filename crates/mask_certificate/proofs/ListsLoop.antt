@@ -1,8 +1,14 @@
 -- Reading lists one after the other, as a loop over the tasks does.
-use Rattle.std.proofs.Common.{◌≡◌, ℕ, ◌+◌, List, [], ◌∷◌, ◌++◌, length, drop, Result, Ok, Err, refl, sym, ◌∙◌, ap, arith, append_assoc}
+use Rattle.std.specs.Prelude.{is_none}
+use Rattle.std.proofs.Common.{◌≡◌, ℕ, ◌+◌, Bool, true, false, cond, ◌&&◌, List, [], ◌∷◌, ◌++◌, length, drop, Result, Ok, Err, refl, sym, ◌∙◌, ap, subst, arith, append_assoc}
+use Rattle.std.proofs.lemmas.Bool.{and_parts, cond-true, cond-false}
+use Rattle.std.proofs.lemmas.List.{append-nil}
 use Rattle.mask_certificate.specs.declared.fault.CertFault.{CertFault}
 use Rattle.mask_certificate.specs.declared.fault.CertFault.TheVariants.{Header, Line, TaskName, MissingTask, Shape, OutOfMemory}
-use Rattle.mask_certificate.specs.CertificateReading.{◌>>=◌, Fails, Judged, entries_in, behind_task_line, lists_at}
+use Rattle.mask_certificate.specs.CertificateReading.{◌>>=◌, Fails, Judged, entries_in, behind_task_line, at_end, lists_at, rising}
+use Rattle.mask_certificate.specs.Lists.{IsCertificate}
+use Rattle.mask_certificate.specs.Blocks.{TellsOf}
+use Rattle.mask_certificate.proofs.Telling.{TellsOfAll, tells_none, tells_push, told_right}
 
 -- what was read before, and what is still read
 abbrev pub with_front : List (List (ℕ × ℕ)) → Result (List (List (ℕ × ℕ))) CertFault → Result (List (List (ℕ × ℕ))) CertFault
@@ -24,7 +30,7 @@ regroup front list (Err fault) = refl
 module _ (front : List (List (ℕ × ℕ))) (n : ℕ) (name : List ℕ) (names : List (List ℕ)) (lines : List Judged) (whole : Result (List (List (ℕ × ℕ))) CertFault)
     (so_far : with_front front (lists_at n (name ∷ names) lines) ≡ whole) where
   -- one task more
-  pub goes_on : (rest after : List Judged) (list : List (ℕ × ℕ)) (next : ℕ) → behind_task_line n name lines ≡ Ok rest → list ≡ entries_in rest → after ≡ drop (length list) rest → next ≡ n + (1 + length list)
+  goes_on : (rest after : List Judged) (list : List (ℕ × ℕ)) (next : ℕ) → behind_task_line n name lines ≡ Ok rest → list ≡ entries_in rest → after ≡ drop (length list) rest → next ≡ n + (1 + length list)
       → with_front (front ++ list ∷ []) (lists_at next names after) ≡ whole
   goes_on rest after list next opened same left line =
       let all = λ (r : Result (List Judged) CertFault). with_front front (r >>= λ rest. lists_at (n + 1 + length (entries_in rest)) names (drop (length (entries_in rest)) rest) >>= λ lists. Ok (entries_in rest ∷ lists)) in
@@ -35,3 +41,58 @@ module _ (front : List (List (ℕ × ℕ))) (n : ℕ) (name : List ℕ) (names :
       ∙ ap (λ (ls : List Judged). with_front front (lists_at next names ls >>= λ lists. Ok (entries_in rest ∷ lists))) (sym lines_left)
       ∙ ap (λ m. with_front front (lists_at m names (drop (length (entries_in rest)) rest) >>= λ lists. Ok (entries_in rest ∷ lists))) (sym place)
       ∙ sym (ap all opened) ∙ so_far
+
+-- The lists in front of line n are read, and it is told whether they are right; if they are, they are
+-- kept. With those that the lines from there on spell for the other tasks they are the text's.
+pub record HasRead (n : ℕ) (names : List (List ℕ)) (lines : List Judged) (whole : Result (List (List (ℕ × ℕ))) CertFault) (kept : List (List (ℕ × ℕ))) (right : Bool) : Type 0 where
+  pub front : List (List (ℕ × ℕ))
+  pub lists : with_front front (lists_at n names lines) ≡ whole
+  pub told : TellsOfAll front right
+  pub same : right ≡ true → kept ≡ front
+
+none_front : (read : Result (List (List (ℕ × ℕ))) CertFault) → with_front [] read ≡ read
+none_front (Ok lists) = refl
+none_front (Err fault) = refl
+
+pub none_read : (n : ℕ) (names : List (List ℕ)) (lines : List Judged) → HasRead n names lines (lists_at n names lines) [] true
+none_read n names lines = record { front = []; lists = none_front (lists_at n names lines); told = tells_none; same = λ e. refl }
+
+module _ (n : ℕ) (name : List ℕ) (names : List (List ℕ)) (lines : List Judged) (whole : Result (List (List (ℕ × ℕ))) CertFault) (kept : List (List (ℕ × ℕ))) (right : Bool)
+    (read : HasRead n (name ∷ names) lines whole kept right) where
+  -- one task more, of whose list this is kept
+  pub more_read : (rest after : List Judged) (list keeps : List (ℕ × ℕ)) (here : Bool) (next : ℕ) → behind_task_line n name lines ≡ Ok rest → list ≡ entries_in rest → after ≡ drop (length list) rest
+      → next ≡ n + (1 + length list) → TellsOf list here → (here ≡ true → keeps ≡ list) → HasRead next names after whole (kept ++ keeps ∷ []) (right && here)
+  more_read rest after list keeps here next opened is left line told same = record {
+    front = read.front ++ list ∷ [];
+    lists = goes_on read.front n name names lines whole read.lists rest after list next opened is left line;
+    told = tells_push read.front list right here read.told told;
+    same = λ both.
+        let parts = and_parts right here both in
+        ap (λ (ls : List (List (ℕ × ℕ))). ls ++ keeps ∷ []) (read.same parts.0) ∙ ap (λ (l : List (ℕ × ℕ)). read.front ++ l ∷ []) (same parts.1);
+  }
+
+  -- the next line is not that of the next task
+  pub fault_read : (fault : CertFault) → behind_task_line n name lines ≡ Err fault → Fails fault (whole >>= rising)
+  fault_read fault e =
+      let all = λ (r : Result (List Judged) CertFault). with_front read.front (r >>= λ rest. lists_at (n + 1 + length (entries_in rest)) names (drop (length (entries_in rest)) rest) >>= λ lists. Ok (entries_in rest ∷ lists)) in
+      fails fault (whole >>= rising) (ap (λ (r : Result (List (List (ℕ × ℕ))) CertFault). r >>= rising) (sym read.lists ∙ ap all e))
+
+-- the tasks are all read
+module _ (n : ℕ) (lines : List Judged) (whole : Result (List (List (ℕ × ℕ))) CertFault) (kept : List (List (ℕ × ℕ))) (right : Bool) (read : HasRead n [] lines whole kept right) where
+  pub left_over : (fault : CertFault) → at_end n lines ≡ Err fault → Fails fault (whole >>= rising)
+  left_over fault e =
+      fails fault (whole >>= rising) (ap (λ (r : Result (List (List (ℕ × ℕ))) CertFault). r >>= rising) (sym read.lists ∙ ap (with_front read.front) e))
+
+  at_front : at_end n lines ≡ Ok [] → (whole >>= rising) ≡ cond right (Ok read.front) (Err Shape)
+  at_front e =
+      ap (λ (r : Result (List (List (ℕ × ℕ))) CertFault). r >>= rising) (sym read.lists ∙ ap (with_front read.front) e ∙ ap (λ (ls : List (List (ℕ × ℕ))). Ok ls) (append-nil read.front))
+      ∙ ap (λ (b : Bool). cond b (Ok read.front) (Err Shape)) (sym read.told.rising)
+
+  pub all_right : at_end n lines ≡ Ok [] → right ≡ true → (whole >>= rising) ≡ Ok kept
+  all_right e is = at_front e ∙ cond-true right _ _ is ∙ ap (λ (ls : List (List (ℕ × ℕ))). Ok ls) (sym (read.same is))
+
+  pub not_right : at_end n lines ≡ Ok [] → right ≡ false → (whole >>= rising) ≡ Err Shape
+  not_right e is = at_front e ∙ cond-false right _ _ is
+
+  pub kept_right : right ≡ true → IsCertificate kept
+  kept_right is = subst IsCertificate (sym (read.same is)) (told_right read.front right read.told is)

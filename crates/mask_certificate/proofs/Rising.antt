@@ -119,6 +119,12 @@ position_small entries rises (suc k) lt =
 pub index_small : (entries : List (ℕ × ℕ)) → Rises entries → (k : ℕ) → k < length entries → (get_or entries k (0, 0)).0 < 4096
 index_small entries rises k lt = rises.inside k (0, 0) lt
 
+pub few_entries : (entries : List (ℕ × ℕ)) → Rises entries → length entries ≤ 4096
+few_entries [] rises = omega arith
+few_entries (entry ∷ entries) rises =
+    let last = length entries in
+    omega (arith, position_small (entry ∷ entries) rises last (omega arith), index_small (entry ∷ entries) rises last (omega arith))
+
 -- the first n positions stand at their entries' indices
 abbrev pub HasPositions : List (ℕ × ℕ) → List ℕ → ℕ → Type 0
 HasPositions entries positions n = (k : ℕ) → k < n → get_or positions (get_or entries k (0, 0)).0 0 ≡ k

@@ -2,13 +2,19 @@
 use Rattle.std.specs.Prelude.{is_none, is_some, IfNone, not}
 use Rattle.std.specs.List.{All}
 use Rattle.std.specs.Option.{option_or}
-use Rattle.std.proofs.Common.{◌≡◌, ℕ, ◌+◌, ◌^◌, ◌<◌, Bool, true, false, cond, ◌&&◌, ltb, leb, List, [], ◌∷◌, ◌++◌, Option, Some, None, refl, sym, ◌∙◌, ap}
+use Rattle.std.proofs.Common.{◌≡◌, ℕ, ◌+◌, ◌^◌, ◌<◌, ◌≤◌, Bool, true, false, cond, ◌&&◌, ltb, leb, List, [], ◌∷◌, ◌++◌, length, Option, Some, None, refl, sym, ◌∙◌, ap}
 use Rattle.std.proofs.lemmas.Bool.{and_parts}
 use Rattle.std.proofs.lemmas.List.Elements.{All-nil, All-push}
 use Rattle.std.proofs.lemmas.List.Recursion.{and_push}
 use Rattle.mask_certificate.specs.declared.certificate.ListFault.{ListFault}
 use Rattle.mask_certificate.specs.Lists.{fault_in, first_fault, IsCertificate}
-use Rattle.mask_certificate.specs.Blocks.{TellsOf, TellsOfAll}
+use Rattle.mask_certificate.specs.Blocks.{TellsOf}
+use Rattle.mask_certificate.proofs.Rising.{rises_alone, few_entries}
+
+-- This tells whether the lists of all tasks are right.
+pub record TellsOfAll (lists : List (List (ℕ × ℕ))) (right : Bool) : Type 0 where
+  pub rising : right ≡ is_none (first_fault 0 lists)
+  pub masks : right ≡ true → All (All (λ entry. entry.1 < 2 ^ 34)) lists
 
 none_or : (a b : Option ListFault) → is_none (option_or a b) ≡ (is_none a && is_none b)
 none_or None b = refl
@@ -52,6 +58,10 @@ tells_push lists list right here all one = record {
 fault_none : (o : Option ListFault) → true ≡ is_none o → o ≡ None
 fault_none None e = refl
 fault_none (Some fault) e = cc
+
+-- a list that is right has few entries
+pub told_few : (list : List (ℕ × ℕ)) (right : Bool) → TellsOf list right → right ≡ true → length list ≤ 4096
+told_few list right tells e = few_entries list (rises_alone list 0 (fault_none (fault_in 0 0 0 list) (sym e ∙ tells.rising)))
 
 pub told_right : (lists : List (List (ℕ × ℕ))) (right : Bool) → TellsOfAll lists right → right ≡ true → IsCertificate lists
 told_right lists right tells e = record {

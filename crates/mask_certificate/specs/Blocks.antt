@@ -2,7 +2,7 @@
 use Rattle.std.specs.Prelude.{◌≡◌, ℕ, ◌+◌, ◌-◌, ◌^◌, ◌<◌, ◌≤◌, Bool, true, List, length, drop, is_none}
 use Rattle.std.specs.List.{All}
 use Rattle.mask_certificate.specs.declared.fault.Spelling.{Spelling}
-use Rattle.mask_certificate.specs.Lists.{fault_in, first_fault}
+use Rattle.mask_certificate.specs.Lists.{fault_in}
 use Rattle.mask_certificate.specs.CertificateReading.{lines_in, entries_in}
 
 -- where a block begins, in which text, and how the text is spelled
@@ -24,11 +24,6 @@ AreOf text blocks = All (λ block. block.text ≡ text) blocks
 pub record TellsOf (list : List (ℕ × ℕ)) (right : Bool) : Type 0 where
   pub rising : right ≡ is_none (fault_in 0 0 0 list)
   pub masks : right ≡ true → All (λ entry. entry.1 < 2 ^ 34) list
-
--- the same of the lists of all tasks
-pub record TellsOfAll (lists : List (List (ℕ × ℕ))) (right : Bool) : Type 0 where
-  pub rising : right ≡ is_none (first_fault 0 lists)
-  pub masks : right ≡ true → All (All (λ entry. entry.1 < 2 ^ 34)) lists
 
 -- These are the entries of the lines from the offset start on, in front of the first that is none, and
 -- behind the last of them stands the offset end; it is told whether they are right.

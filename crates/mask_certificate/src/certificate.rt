@@ -42,7 +42,6 @@ impl Model for Cert {
 impl Cert {
     ghost use Rattle.std.specs.Prelude.{◌≡◌, ◌<◌, ◌^◌, ◌↔◌, None, Some, true, false, is_none, IfSome, IfNone, vec_len, MatchResult};
     ghost use Rattle.mask_certificate.specs.Lists.{entries_of, first_fault, list_of, mask_at, Rises, IsCertificate};
-    ghost use Rattle.mask_certificate.specs.Blocks.{TellsOfAll};
 
     /// The certificate of these lists, the list at position t being that of task t. Lists that are none
     /// come back with what is wrong at the first position where something is: `NotRising` before
@@ -62,15 +61,14 @@ impl Cert {
         }
     }
 
-    /// The certificate of lists of which it is told whether they are right, so that none is looked at;
-    /// `None` where they are not. There are fewer than 2^32 lists.
-    pub(crate) fn of_told(lists: Vec<Vec<(u32, RegSet)>>, right: bool) -> Option<Cert>
+    /// The certificate of lists that are known to be right, so that none is looked at. There are fewer
+    /// than 2^32 lists.
+    pub(crate) fn of_right(lists: Vec<Vec<(u32, RegSet)>>) -> Cert
         requires few { vec_len lists < 2 ^ 32 }
-        requires told { TellsOfAll (entries_of lists.items) right }
-        ensures none { IfNone result (is_none (first_fault 0 (entries_of lists.items)) ≡ false) }
-        ensures some { IfSome result (λ cert. (is_none (first_fault 0 (entries_of lists.items)) ≡ true) × (cert ≡ entries_of lists.items)) }
+        requires right { IsCertificate (entries_of lists.items) }
+        ensures { result ≡ entries_of lists.items }
     {
-        if right { Some(Cert { lists }) } else { None }
+        Cert { lists }
     }
 
     /// The entries of a task, by rising index; none where the list is missing.

@@ -1,14 +1,14 @@
 //! Reading the text of a certificate.
 
-ghost use Rattle.std.specs.Prelude.{◌≡◌, ◌≢◌, ℕ, ◌+◌, ◌^◌, ◌<◌, ◌≤◌, ◌↔◌, List, [], ◌∷◌, true, false, length, take, drop, map, slice_index, Some, None, Ok, Err, MatchOption, MatchResult, IfSome, IfNone, IfOk, SomeIff, IsTrue, OnOk, OnSome, ◌==◌, ◌⊎◌, vec_len};
+ghost use Rattle.std.specs.Prelude.{◌≡◌, ◌≢◌, ℕ, ◌+◌, ◌*◌, ◌^◌, ◌<◌, ◌≤◌, ◌↔◌, List, [], ◌∷◌, true, false, length, take, drop, map, slice_index, Some, None, Ok, Err, MatchOption, MatchResult, IfSome, IfNone, IfOk, SomeIff, IsTrue, OnOk, OnSome, ◌==◌, ◌⊎◌, vec_len};
 ghost use Rattle.std.specs.List.{slice_split, position, list_all};
 ghost use Rattle.std.specs.Str.Parse.{digits_value_after};
 ghost use Rattle.std.specs.Option.{option_copied};
 ghost use Rattle.mask_certificate.specs.declared.fault.Spelling.{Spelling};
-ghost use Rattle.mask_certificate.specs.Lists.{entries_of};
+ghost use Rattle.mask_certificate.specs.Lists.{entries_of, IsCertificate};
 ghost use Rattle.mask_certificate.specs.CertificateText.{Spells};
-ghost use Rattle.mask_certificate.specs.CertificateReading.{is_space, index_in, mask_in, name_in, lines_in, entries_in, behind_task_line, at_end, lists_at, spelling_of, mask_digit, is_mask_digit, Gives, cert_parse, names_of, names_in, is_newline, entry_line};
-ghost use Rattle.mask_certificate.specs.Blocks.{IsEnd, AreOf, TellsOf, TellsOfAll};
+ghost use Rattle.mask_certificate.specs.CertificateReading.{is_space, index_in, mask_in, name_in, lines_in, entries_in, behind_task_line, at_end, body_of, spelling_of, mask_digit, is_mask_digit, Gives, cert_parse, names_of, names_in, is_newline, entry_line};
+ghost use Rattle.mask_certificate.specs.Blocks.{IsEnd, AreOf, TellsOf};
 ghost use Rattle.mask_certificate.specs.Left.{left_of};
 ghost use Rattle.text_pieces.specs.Pieces.{joined, AreCut};
 
@@ -322,46 +322,62 @@ fn whole_list<'a>(
     Ok((list, right, left))
 }
 
-/// The number of the line behind a `task` line and a list of so many entries. A number that is no `usize`
-/// is answered as want of memory; no text in memory of its own has so many lines.
-fn line_behind(line: usize, entries: usize) -> Result<usize, AllocError>
-    ensures { IfOk result (λ next. next ≡ line + (1 + entries)) }
+/// The number of the line behind the `task` line at `line` and its list. The entries of a list that is not
+/// right go to the others of that kind: no certificate comes of them, but the lines behind are still read,
+/// for their faults, and in one list they are fewer than 2^63. A right list has at most 4,096 entries and
+/// stays. So a number of a line is a `usize`, however often the same memory stands in a text's parts.
+fn line_behind(
+    line: usize,
+    list: &mut Vec<(u32, RegSet)>,
+    is_right: bool,
+    wrong: &mut Vec<(u32, RegSet)>,
+) -> Result<usize, AllocError>
+    requires told { TellsOf list.old.items is_right }
+    requires few { line ≤ 2 + 4097 * 1024 + vec_len wrong.old }
+    ensures next { IfOk result (λ next. next ≡ line + (1 + length list.old.items)) }
+    ensures few { IfOk result (λ next. next + vec_len wrong.old ≤ line + 4097 + vec_len wrong.new) }
+    ensures kept { OnOk result (is_right ≡ true → list.new.items ≡ list.old.items) }
 {
-    let Some(last) = line.checked_add(entries) else {
-        return Err(AllocError);
-    };
-    match last.checked_add(1) {
-        Some(next) => Ok(next),
-        None => Err(AllocError),
+    let entries = list.len();
+    if is_right {
+        return Ok(line + 1 + entries);
     }
+    wrong.append(list)?;
+    Ok(line + 1 + entries)
 }
 
-/// The lists that what is left of a text spells for these tasks from line 2 on, and whether they are
-/// right.
+/// The lists that what is left of a text spells for these tasks from line 2 on, where all are right; else
+/// the first fault.
 fn lists_of(
     alloc: Global,
     spelling: Spelling,
     body: Left<'_>,
     tasks: &[Descriptor],
-) -> Result<(Vec<Vec<(u32, RegSet)>>, bool), CertFault>
-    ensures lists { Gives (λ found. entries_of found.0.items) result (lists_at 2 (names_in tasks.now) (lines_in spelling (left_of body.entry))) }
-    ensures told { IfOk result (λ found. TellsOfAll (entries_of found.0.items) found.1) }
-    ensures count { IfOk result (λ found. vec_len found.0 ≡ length tasks.now) }
+) -> Result<Vec<Vec<(u32, RegSet)>>, CertFault>
+    requires few { length tasks.now ≤ 1024 }
+    ensures lists { Gives (λ lists. entries_of lists.items) result (body_of spelling (left_of body.entry) (names_in tasks.now)) }
+    ensures right { IfOk result (λ lists. IsCertificate (entries_of lists.items)) }
+    ensures count { IfOk result (λ lists. vec_len lists ≡ length tasks.now) }
 {
     let mut lists = Vec::with_capacity(alloc, tasks.len())?;
     let mut right = true;
+    let mut wrong = Vec::new(alloc);
     let mut rest = body;
     let mut line = 2;
     for task in tasks {
         let left = behind_task(rest, line, &task.name)?;
-        let (list, is_right, after) = whole_list(alloc, spelling, left)?;
-        line = line_behind(line, list.len())?;
+        let (mut list, is_right, after) = whole_list(alloc, spelling, left)?;
+        line = line_behind(line, &mut list, is_right, &mut wrong)?;
         right &= is_right;
         rest = after;
         lists.push(list)?;
     }
     check_left(&rest, line)?;
-    Ok((lists, right))
+    if right {
+        Ok(lists)
+    } else {
+        Err(CertFault::Shape)
+    }
 }
 
 /// The spelling that the first line of a text names; `None` where it names none.
@@ -410,11 +426,8 @@ fn certificate_of(
     let Some(spelling) = spelling_of_left(&left) else {
         return Err(CertFault::Header);
     };
-    let (lists, right) = lists_of(alloc, spelling, behind_first_line(left), tasks)?;
-    match Cert::of_told(lists, right) {
-        Some(cert) => Ok(cert),
-        None => Err(CertFault::Shape),
-    }
+    let lists = lists_of(alloc, spelling, behind_first_line(left), tasks)?;
+    Ok(Cert::of_right(lists))
 }
 
 /// The certificate that a text spells for the tasks of a program, one list for each, in `cert 1` or in

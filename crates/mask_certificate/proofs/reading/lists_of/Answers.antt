@@ -1,12 +1,10 @@
 -- One list more stands before what is left.
-use Rattle.std.proofs.Common.{◌≡◌, ℕ, ◌+◌, List, ◌∷◌, ◌&&◌, length, drop, ap, sym, ◌∙◌, subst, arith}
+use Rattle.std.proofs.Common.{◌≡◌, ℕ, ◌+◌, List, ◌∷◌, ◌&&◌, drop, ap, sym, ◌∙◌, subst, arith}
 use Rattle.std.proofs.lemmas.List.{at_drop_more, map_push}
 use Rattle.mask_certificate.specs.Lists.{entries_of}
 use Rattle.mask_certificate.specs.CertificateReading.{lines_in, lists_at, names_in}
-use Rattle.mask_certificate.specs.Blocks.{TellsOfAll}
 use Rattle.mask_certificate.specs.Left.{left_of}
-use Rattle.mask_certificate.proofs.ListsLoop.{with_front, goes_on}
-use Rattle.mask_certificate.proofs.Telling.{tells_push}
+use Rattle.mask_certificate.proofs.ListsLoop.{HasRead, more_read}
 use Rattle.mask_certificate.proofs.reading.lists_of.Goals as goal
 
 pub loop-task-preserved : goal.loop-task-preserved
@@ -15,6 +13,7 @@ loop-task-preserved c =
     let i = c.loop-task.task-index in
     let task = c.task-item.result in
     let list = c.in_ok-list.list in
+    let keeps = c.line_behind.new.list in
     let front = c.loop-task.lists.items in
     let lines = lines_in c.args.spelling (left_of c.loop-task.rest) in
     let body = lines_in c.args.spelling (left_of c.in_ok-left.left) in
@@ -23,18 +22,15 @@ loop-task-preserved c =
     let whole = lists_at 2 (names_in tasks) (lines_in c.args.spelling (left_of c.args.body)) in
     let names : names_in (drop i tasks) ≡ task.name ∷ names_in (drop (i + 1) tasks) =
     at_drop_more names_in tasks i task c.loop-task-test.true ∙ ap (λ t. names_in (t ∷ drop (i + 1) tasks)) (sym c.task-item.is) in
-    let so_far : with_front (entries_of front) (lists_at c.loop-task.line (task.name ∷ names_in (drop (i + 1) tasks)) lines) ≡ whole =
-    ap (λ (ns : List (List ℕ)). with_front (entries_of front) (lists_at c.loop-task.line ns lines)) (sym names) ∙ c.loop-task.invariant.lists in
-    let long : c.len.result ≡ length list.items = omega arith in
+    let so_far : HasRead c.loop-task.line (task.name ∷ names_in (drop (i + 1) tasks)) lines whole (entries_of front) c.loop-task.right =
+    subst (λ (ns : List (List ℕ)). HasRead c.loop-task.line ns lines whole (entries_of front) c.loop-task.right) names c.loop-task.invariant.read in
     record {
-      lists =
-          ap (λ items. with_front (entries_of items) (lists_at next (names_in (drop (i + 1) tasks)) after)) c.in_ok-push.ensures.items
-          ∙ ap (λ (lists : List (List (ℕ × ℕ))). with_front lists (lists_at next (names_in (drop (i + 1) tasks)) after)) (map_push _ front list)
-          ∙ goes_on (entries_of front) c.loop-task.line task.name (names_in (drop (i + 1) tasks)) lines whole so_far
-          body after list.items next (c.in_ok-left.ensures c.args.spelling) c.in_ok-list.ensures.entries c.in_ok-list.ensures.rest (omega (arith, long));
-      told =
-          subst (λ (lists : List (List (ℕ × ℕ))). TellsOfAll lists (c.loop-task.right && c.in_ok-list.is_right))
-          (sym (ap entries_of c.in_ok-push.ensures.items ∙ map_push _ front list))
-          (tells_push (entries_of front) list.items c.loop-task.right c.in_ok-list.is_right c.loop-task.invariant.told c.in_ok-list.ensures.told);
+      read =
+          subst (λ (kept : List (List (ℕ × ℕ))). HasRead next (names_in (drop (i + 1) tasks)) after whole kept (c.loop-task.right && c.in_ok-list.is_right))
+          (sym (ap entries_of c.in_ok-push.ensures.items ∙ map_push _ front keeps))
+          (more_read c.loop-task.line task.name (names_in (drop (i + 1) tasks)) lines whole (entries_of front) c.loop-task.right so_far
+          body after list.items keeps.items c.in_ok-list.is_right next (c.in_ok-left.ensures c.args.spelling)
+          c.in_ok-list.ensures.entries c.in_ok-list.ensures.rest c.in_ok-line.ensures.next c.in_ok-list.ensures.told c.in_ok-line.ensures.kept);
       counted = omega (arith, c.in_ok-push.ensures.len);
+      few = omega (arith, c.in_ok-line.ensures.few, c.loop-task.invariant.few);
     }
