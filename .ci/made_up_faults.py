@@ -2,8 +2,9 @@
 """Looks for code that makes an out-of-memory fault of its own, names each such line, and then ends with status 1.
 
 No contract can tell a call whose memory was refused from one that gives up and says so. So no code makes an AllocError
-or an OutOfMemory: it comes from a refused call by `?`, or its line matches, maps or converts another fault. ALLOWED has
-the few other lines, counted for each file with the reason; one more is refused.
+or an OutOfMemory: it comes from a refused call by `?`, or its line matches, maps or converts a fault that it names as
+want of memory, so that it takes no other fault for one. ALLOWED has the few other lines, counted for each file with the
+reason; one more is refused.
 """
 import pathlib
 import re
@@ -21,8 +22,6 @@ ALLOWED = {
     "mips_plain/src/memory.rt": 1,
     # Noted when a call or a thread was refused.
     "threaded_runner/src/desk.rt": 1,
-    # Counts that no text reaches.
-    "mask_certificate/src/reading.rt": 2,
     # A test that says what is told of this fault.
     "test_flush/src/faults.rt": 2,
 }
@@ -31,13 +30,21 @@ FAULT = re.compile(r"(AllocError|OutOfMemory)([);,]|$)")
 # Comments, imports, signatures and declared variants.
 NO_CODE = re.compile(r" *(//|(ghost )?use |pub |fn |OutOfMemory,)")
 CLAUSE_OR_TYPE = re.compile(r"≡|≢|Result<")
-PASSED_ON = re.compile(r"(Err\(.*\)|OutOfMemory.*) =>|map_err\(\||let Err\(")
+NAMED = re.compile(r"\b(AllocError|OutOfMemory)\b")
+MAPPED = re.compile(r"map_err\(\|_: (AllocError|OutOfMemory)\||let Err\([\w:]*(AllocError|OutOfMemory)\) =")
+CONVERTED = re.compile(r"fn from\(\w+: (AllocError|AllocFailed<T>|OutOfMemory)\)")
+
+
+def passes_on(line):
+    """Whether a line takes a fault that it names as want of memory: in each pattern of its arm, if it is one."""
+    pattern, arrow, _ = line.partition(" =>")
+    return all(NAMED.search(it) for it in pattern.split("|")) if arrow else bool(MAPPED.search(line))
 
 
 def makes_one(line, before):
     """Whether a line makes such a fault; the line before it tells whether it stands in a conversion."""
-    is_harmless = NO_CODE.match(line) or CLAUSE_OR_TYPE.search(line) or PASSED_ON.search(line)
-    return bool(FAULT.search(line)) and not is_harmless and "fn from(" not in before
+    is_harmless = NO_CODE.match(line) or CLAUSE_OR_TYPE.search(line) or passes_on(line)
+    return bool(FAULT.search(line)) and not is_harmless and not CONVERTED.search(before)
 
 
 def made_in(path):
