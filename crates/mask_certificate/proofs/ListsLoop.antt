@@ -1,27 +1,14 @@
 -- Reading lists one after the other, as a loop over the tasks does.
-use Rattle.std.specs.Prelude.{is_none}
-use Rattle.std.proofs.Common.{◌≡◌, ℕ, ◌+◌, Bool, true, false, cond, ◌&&◌, List, [], ◌∷◌, ◌++◌, length, drop, Result, Ok, Err, refl, sym, ◌∙◌, ap, subst, arith, append_assoc}
-use Rattle.std.proofs.lemmas.Bool.{and_parts, cond-true, cond-false}
-use Rattle.std.proofs.lemmas.List.{append-nil}
+use Rattle.std.proofs.Common.{◌≡◌, ℕ, ◌+◌, Bool, true, ◌&&◌, List, [], ◌∷◌, ◌++◌, length, drop, Result, Ok, Err, refl, sym, ◌∙◌, ap, arith, append_assoc}
+use Rattle.std.proofs.lemmas.Bool.{and_parts}
 use Rattle.mask_certificate.specs.declared.fault.CertFault.{CertFault}
-use Rattle.mask_certificate.specs.declared.fault.CertFault.TheVariants.{Header, Line, TaskName, MissingTask, Shape, OutOfMemory}
-use Rattle.mask_certificate.specs.CertificateReading.{◌>>=◌, Fails, Judged, entries_in, behind_task_line, at_end, lists_at, rising}
-use Rattle.mask_certificate.specs.Lists.{IsCertificate}
+use Rattle.mask_certificate.specs.CertificateReading.{◌>>=◌, Judged, entries_in, behind_task_line, lists_at}
 use Rattle.mask_certificate.specs.Blocks.{TellsOf}
-use Rattle.mask_certificate.proofs.Telling.{TellsOfAll, tells_none, tells_push, told_right}
+use Rattle.mask_certificate.proofs.Telling.{TellsOfAll, tells_none, tells_push}
 
 -- what was read before, and what is still read
 abbrev pub with_front : List (List (ℕ × ℕ)) → Result (List (List (ℕ × ℕ))) CertFault → Result (List (List (ℕ × ℕ))) CertFault
 with_front front read = read >>= λ lists. Ok (front ++ lists)
-
--- a fault that is not want of memory is the definition's
-pub fails : {Y : Type 0} (fault : CertFault) (read : Result Y CertFault) → read ≡ Err fault → Fails fault read
-fails Header read e = e
-fails (Line n) read e = e
-fails (TaskName n) read e = e
-fails MissingTask read e = e
-fails Shape read e = e
-fails OutOfMemory read e = tt
 
 regroup : (front : List (List (ℕ × ℕ))) (list : List (ℕ × ℕ)) (read : Result (List (List (ℕ × ℕ))) CertFault) → with_front front (read >>= λ lists. Ok (list ∷ lists)) ≡ with_front (front ++ list ∷ []) read
 regroup front list (Ok lists) = ap (λ (ls : List (List (ℕ × ℕ))). Ok ls) (sym (append_assoc front (list ∷ []) lists))
@@ -70,29 +57,3 @@ module _ (n : ℕ) (name : List ℕ) (names : List (List ℕ)) (lines : List Jud
         let parts = and_parts right here both in
         ap (λ (ls : List (List (ℕ × ℕ))). ls ++ keeps ∷ []) (read.same parts.0) ∙ ap (λ (l : List (ℕ × ℕ)). read.front ++ l ∷ []) (same parts.1);
   }
-
-  -- the next line is not that of the next task
-  pub fault_read : (fault : CertFault) → behind_task_line n name lines ≡ Err fault → Fails fault (whole >>= rising)
-  fault_read fault e =
-      let all = λ (r : Result (List Judged) CertFault). with_front read.front (r >>= λ rest. lists_at (n + 1 + length (entries_in rest)) names (drop (length (entries_in rest)) rest) >>= λ lists. Ok (entries_in rest ∷ lists)) in
-      fails fault (whole >>= rising) (ap (λ (r : Result (List (List (ℕ × ℕ))) CertFault). r >>= rising) (sym read.lists ∙ ap all e))
-
--- the tasks are all read
-module _ (n : ℕ) (lines : List Judged) (whole : Result (List (List (ℕ × ℕ))) CertFault) (kept : List (List (ℕ × ℕ))) (right : Bool) (read : HasRead n [] lines whole kept right) where
-  pub left_over : (fault : CertFault) → at_end n lines ≡ Err fault → Fails fault (whole >>= rising)
-  left_over fault e =
-      fails fault (whole >>= rising) (ap (λ (r : Result (List (List (ℕ × ℕ))) CertFault). r >>= rising) (sym read.lists ∙ ap (with_front read.front) e))
-
-  at_front : at_end n lines ≡ Ok [] → (whole >>= rising) ≡ cond right (Ok read.front) (Err Shape)
-  at_front e =
-      ap (λ (r : Result (List (List (ℕ × ℕ))) CertFault). r >>= rising) (sym read.lists ∙ ap (with_front read.front) e ∙ ap (λ (ls : List (List (ℕ × ℕ))). Ok ls) (append-nil read.front))
-      ∙ ap (λ (b : Bool). cond b (Ok read.front) (Err Shape)) (sym read.told.rising)
-
-  pub all_right : at_end n lines ≡ Ok [] → right ≡ true → (whole >>= rising) ≡ Ok kept
-  all_right e is = at_front e ∙ cond-true right _ _ is ∙ ap (λ (ls : List (List (ℕ × ℕ))). Ok ls) (sym (read.same is))
-
-  pub not_right : at_end n lines ≡ Ok [] → right ≡ false → (whole >>= rising) ≡ Err Shape
-  not_right e is = at_front e ∙ cond-false right _ _ is
-
-  pub kept_right : right ≡ true → IsCertificate kept
-  kept_right is = subst IsCertificate (sym (read.same is)) (told_right read.front right read.told is)
