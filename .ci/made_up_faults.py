@@ -13,10 +13,6 @@ import sys
 CRATES = pathlib.Path(__file__).resolve().parent.parent / "crates"
 
 ALLOWED = {
-    # `let Ok(..) = call else`
-    "sequencer/src/machine.rt": 2,
-    "synchronous_runner/src/runner.rt": 2,
-    "threaded_runner/src/runner.rt": 2,
     # The fault is matched in a line above; one of two calls was refused.
     "mips_plain/src/plain.rt": 1,
     "mips_plain/src/memory.rt": 1,

@@ -7,8 +7,9 @@ use machine_events::event::{Commit, Event, EventRun, Refused, Standing};
 use mark_checker::accept::Accepted;
 use mips_instructions::number::{Place, Reg};
 use mips_plain::memory::Memory;
+use mips_plain::outcome::OutOfMemory;
 use processor_steps::processor::{MOST_EVENTS, Processor};
-use std::alloc::Global;
+use std::alloc::{AllocError, Global};
 use std::marker::Model;
 use thiserror::Error;
 use unit_core::read_log::ReadLog;
@@ -93,11 +94,13 @@ impl<'a> Machine<'a> {
         if units == 0 || units > MOST_UNITS {
             return Err(MachineFault::Units);
         }
-        let Ok(processor) = Processor::new(alloc, accepted.program(), units) else {
-            return Err(MachineFault::OutOfMemory);
+        let processor = match Processor::new(alloc, accepted.program(), units) {
+            Ok(processor) => processor,
+            Err(OutOfMemory) => return Err(MachineFault::OutOfMemory),
         };
-        let Ok(history) = History::new(alloc) else {
-            return Err(MachineFault::OutOfMemory);
+        let history = match History::new(alloc) {
+            Ok(history) => history,
+            Err(AllocError) => return Err(MachineFault::OutOfMemory),
         };
         Ok(Machine {
             alloc,

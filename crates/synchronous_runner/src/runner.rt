@@ -16,7 +16,7 @@ use crate::turns::{goes_on, turn_behind, turn_of_head};
 use machine_events::event::{Refused, Standing};
 use machine_model::laws::{next_is_after, replays_join};
 use mark_checker::accept::Accepted;
-use sequencer::machine::{MOST_BUDGET, MOST_UNITS, Machine};
+use sequencer::machine::{MOST_BUDGET, MOST_UNITS, Machine, MachineFault};
 use std::alloc::Global;
 
 /// Runs the accepted program on a machine of so many units, 1 to 16, in steps, until the run has ended or
@@ -52,11 +52,15 @@ pub fn run_steps<'a>(
     if budget == 0 || budget > MOST_BUDGET {
         return Err(StepsFault::Budget);
     }
-    let Ok(mut machine) = Machine::new(alloc, accepted, units) else {
-        return Err(StepsFault::OutOfMemory);
+    let mut machine = match Machine::new(alloc, accepted, units) {
+        Ok(machine) => machine,
+        Err(MachineFault::OutOfMemory) => return Err(StepsFault::OutOfMemory),
+        Err(MachineFault::Units) => unreachable!(),
     };
-    let Ok(steps) = run(&mut machine, &mut predictor, units, budget) else {
-        return Err(StepsFault::OutOfMemory);
+    let steps = match run(&mut machine, &mut predictor, units, budget) {
+        Ok(steps) => steps,
+        Err(Refused::OutOfMemory) => return Err(StepsFault::OutOfMemory),
+        Err(_) => unreachable!(),
     };
     // A machine is the replay of its history, which is known where that is read.
     let _ = machine.history();
