@@ -133,7 +133,7 @@ fn explains_wrong_marks(rt: HostRuntime) {
 }
 
 // Texts that are refused, and what is said of them.
-const REFUSED: [(&str, &str); 11] = [
+const REFUSED: [(&str, &str); 12] = [
     (
         "foo $8",
         "a.s:1:1: error: there is no instruction or directive `foo` here [4 Mnemonic line 1]
@@ -214,6 +214,18 @@ a.s:4:4: error: there is no instruction or directive `hlat` here [4 Mnemonic lin
     4 |    hlat !s
       |    ^~~~
 a.s:4:4: help: did you mean halt?
+",
+    ),
+    (
+        ".task A create=$8 targets=-\nA: addi $8,$8,1 !f\n   ble $8,$9,A\n   halt !s\n",
+        "a.s:2:4: error: there is no instruction or directive `addi` here [4 Mnemonic line 2]
+    2 | A: addi $8,$8,1 !f
+      |    ^~~~
+a.s:2:4: help: write addiu rt,rs,n
+a.s:3:4: error: there is no instruction or directive `ble` here [4 Mnemonic line 3]
+    3 |    ble $8,$9,A
+      |    ^~~
+a.s:3:4: help: write slt $1,rt,rs and beq $1,$0,T
 ",
     ),
     (
