@@ -342,7 +342,10 @@ CERTIFICATE_FAULTS = {
 
 def remark(program, name, file, text):
     """What is said of a certificate in a file of this name, behind what is said of the marks."""
-    anew = f"{file}: help: make it anew: multiscalar annotate --emit keep {name} > {file}\n"
+    command = "multiscalar annotate --emit keep"
+    plain = f"{file}: help: make a certificate: {command} PROGRAM > CERT\n"
+    named = f"{file}: help: make it anew: {command} {name} > {file}\n"
+    anew = named if name != file and all(re.fullmatch(r"(?!-)[A-Za-z0-9._/+,:@-]+", it) for it in (name, file)) else plain
     try:
         found = verdict(program, cert_parse(text, program))
     except CertFault as fault:
@@ -350,7 +353,8 @@ def remark(program, name, file, text):
         at = f"{file}:{line}: " if line else f"{file}: "
         told = fault.text()[len("certificate refused: "):-1]
         sentence, expected = CERTIFICATE_FAULTS[fault.k]
-        return f"{at}error: {sentence} [{told}]\n{at}help: {expected}\n{anew}"
+        # what does not begin as a certificate may be anything else
+        return f"{at}error: {sentence} [{told}]\n{at}help: {expected}\n{plain if fault.k == 1 else anew}"
     least = verdict(program, certify(program))
     if len(found) <= len(least) and all(rule > 4 for _, _, rule, _ in found):
         return ""

@@ -1,8 +1,10 @@
 -- What is said of a certificate that does not serve its program (own choice, in the form of gcc and clang):
--- why its text is refused, or that it is not one of the program as it stands; and the command that makes it
--- anew.
-use Rattle.std.specs.Prelude.{ℕ, nat_le, nat_lt, Bool, ◌||◌, if◌then◌else◌, List, [], ◌∷◌, ◌++◌, length, codes}
-use Rattle.std.specs.List.{list_any}
+-- why its text is refused, or that it is not one of the program as it stands; and the command that makes
+-- one anew.
+use Rattle.std.specs.Prelude.{ℕ, nat_le, nat_lt, Bool, true, false, not, ◌==◌, ◌&&◌, ◌||◌, if◌then◌else◌, List, [], ◌∷◌, ◌++◌, length, codes}
+use Rattle.std.specs.Char.{is_ascii_alphanumeric}
+use Rattle.std.specs.List.{list_all, list_any}
+use Rattle.std.specs.Str.{byte, bytes_eq}
 use Rattle.std.specs.Fmt.{decimal}
 use Rattle.mask_certificate.specs.declared.fault.CertFault.{CertFault}
 use Rattle.mask_certificate.specs.declared.fault.CertFault.TheVariants.{Header, Line, TaskName, MissingTask, Shape, OutOfMemory}
@@ -38,17 +40,47 @@ fault_line _ = []
 abbrev pub place_text : (file : List ℕ) → CertFault → List ℕ
 place_text file fault = file ++ (codes ":" ++ (fault_line fault ++ codes " "))
 
--- the command that makes the certificate anew, for a program in a file of this name
-abbrev pub anew_text : (program file : List ℕ) → List ℕ
-anew_text program file =
-    file ++ (codes ": help: make it anew: multiscalar annotate --emit keep " ++ (program ++ (codes " > " ++ (file ++ 10 ∷ []))))
+-- The command that makes a certificate anew. A file is named to be written only if that harms nothing: what
+-- stands in it is a certificate, even if a wrong one, it is not the program, and a shell takes both names as
+-- they stand.
+
+-- letters, digits and . _ / - + , : @
+abbrev pub is_bare_byte : ℕ → Bool
+is_bare_byte b =
+    is_ascii_alphanumeric b || (b == byte "." || (b == byte "_" || (b == byte "/" || (b == byte "-"
+    || (b == byte "+" || (b == byte "," || (b == byte ":" || b == byte "@")))))))
+
+-- a name that a shell takes as it stands, and a command as the name of a file
+abbrev pub is_bare : (name : List ℕ) → Bool
+is_bare [] = false
+is_bare (first ∷ rest) = not (first == byte "-") && list_all is_bare_byte (first ∷ rest)
+
+unfoldable pub can_name : (program file : List ℕ) → Bool
+can_name program file = is_bare program && (is_bare file && not (bytes_eq program file))
+
+-- the command with both names, and without
+unfoldable pub named_command : (program file : List ℕ) → List ℕ
+named_command program file = codes "make it anew: multiscalar annotate --emit keep " ++ (program ++ (codes " > " ++ (file ++ 10 ∷ [])))
+
+unfoldable pub plain_command : List ℕ
+plain_command = codes "make a certificate: multiscalar annotate --emit keep PROGRAM > CERT" ++ 10 ∷ []
+
+-- the command for a program in a file of this name; `is_certificate` says that the other file has a certificate
+abbrev pub anew_text : (is_certificate : Bool) → (program file : List ℕ) → List ℕ
+anew_text is_certificate program file =
+    file ++ (codes ": help: " ++ (if is_certificate && can_name program file then named_command program file else plain_command))
+
+-- a text that does not begin as a certificate is none: its file may hold anything else
+abbrev pub begins_as_one : CertFault → Bool
+begins_as_one Header = false
+begins_as_one _ = true
 
 -- all that is said of a certificate whose text is refused; both files have names
 abbrev pub refused_text : (program file : List ℕ) → CertFault → List ℕ
 refused_text program file fault =
     place_text file fault ++ (codes "error: " ++ (fault_sentence fault ++ (codes " [" ++ (cert_fault_text fault ++ (codes "]" ++ 10 ∷ [])))))
     ++ (place_text file fault ++ (codes "help: " ++ (fault_help fault ++ 10 ∷ [])))
-    ++ anew_text program file
+    ++ anew_text (begins_as_one fault) program file
 
 -- The rules 1 to 4 judge the certificate alone: with a least certificate they find nothing.
 abbrev pub is_of_certificate : Finding → Bool
@@ -62,7 +94,7 @@ abbrev pub unfit_text : (program file : List ℕ) → (found least : ℕ) → Li
 unfit_text program file found least =
     file ++ (codes ": error: this is not a certificate of " ++ (program ++ (codes " as it stands; findings with it: " ++ (decimal found
     ++ (codes ", with the least certificate: " ++ (decimal least ++ 10 ∷ []))))))
-    ++ anew_text program file
+    ++ anew_text true program file
 
 -- What is said of a certificate that could be read: nothing, or that it does not fit, by what the checker finds
 -- with it and with the least one.

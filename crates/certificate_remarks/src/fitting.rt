@@ -5,7 +5,7 @@ ghost use Rattle.std.specs.List.{list_any};
 ghost use Rattle.std.specs.String.{string_bytes};
 ghost use Rattle.certificate_remarks.specs.Remarks.{is_of_certificate, finds_more, unfit_text, fitting_text};
 
-use crate::place::write_anew;
+use crate::anew::write_anew;
 use mark_checker::finding::Finding;
 use std::alloc::{AllocError, Global};
 
@@ -70,6 +70,6 @@ fn unfit(
         said,
         "{file}: error: this is not a certificate of {program} as it stands; findings with it: {found}, with the least certificate: {least}"
     )?;
-    write_anew(&mut said, program, file)?;
+    write_anew(&mut said, true, program, file)?;
     Ok(said)
 }

@@ -1,8 +1,8 @@
-//! Where a certificate's text has its fault, and the command that makes the certificate anew.
+//! Where a certificate's text has its fault.
 
 ghost use Rattle.std.specs.Prelude.{◌≡◌, ◌++◌, IfOk, OnOk};
 ghost use Rattle.std.specs.String.{string_bytes};
-ghost use Rattle.certificate_remarks.specs.Remarks.{fault_line, place_text, anew_text};
+ghost use Rattle.certificate_remarks.specs.Remarks.{fault_line, place_text};
 
 use mask_certificate::fault::CertFault;
 use std::alloc::{AllocError, Global};
@@ -27,14 +27,4 @@ pub(crate) fn place(alloc: Global, file: &str, fault: CertFault) -> Result<Strin
     write_line(&mut place, fault)?;
     write!(place, " ")?;
     Ok(place)
-}
-
-/// Adds the command that makes the certificate anew.
-pub(crate) fn write_anew(text: &mut String, program: &str, file: &str) -> Result<(), AllocError>
-    ensures { OnOk result (string_bytes text.new ≡ string_bytes text.old ++ anew_text program.now file.now) }
-{
-    writeln!(
-        text,
-        "{file}: help: make it anew: multiscalar annotate --emit keep {program} > {file}"
-    )
 }

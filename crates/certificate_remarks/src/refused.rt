@@ -4,7 +4,8 @@ ghost use Rattle.std.specs.Prelude.{◌≡◌, IfOk};
 ghost use Rattle.std.specs.String.{string_bytes};
 ghost use Rattle.certificate_remarks.specs.Remarks.{refused_text};
 
-use crate::place::{place, write_anew};
+use crate::anew::{begins_as_one, write_anew};
+use crate::place::place;
 use crate::sentence::{fault_help, fault_sentence};
 use mask_certificate::fault::CertFault;
 use std::alloc::{AllocError, Global};
@@ -31,6 +32,6 @@ pub fn refused(
     let mut said = String::new(alloc);
     writeln!(said, "{place}error: {sentence} [{fault}]")?;
     writeln!(said, "{place}help: {help}")?;
-    write_anew(&mut said, program, file)?;
+    write_anew(&mut said, begins_as_one(fault), program, file)?;
     Ok(said)
 }

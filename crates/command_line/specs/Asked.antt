@@ -90,13 +90,9 @@ IsMisfit last values fault =
     (IsOfKind kind.MissingRequiredArgument fault × (is_least values ≡ false) × (first_of last values ≡ None))
     ⊎ (IsOfKind kind.ArgumentConflict fault × (is_least values ≡ true) × IsSome (first_of last values))
 
--- the value of `--schedule` stands for nothing
-abbrev pub IsNoSchedule : List Row → UsageFault → Type 0
-IsNoSchedule values fault = IsOfKind kind.InvalidValue fault × (schedule_in values ≡ None)
-
--- the value of `--format` stands for nothing
-abbrev pub IsNoFormat : List Row → UsageFault → Type 0
-IsNoFormat values fault = IsOfKind kind.InvalidValue fault × (format_in values ≡ None)
+-- the value of an option stands for nothing
+abbrev pub IsNoValue : {V : Type 0} → Option V → UsageFault → Type 0
+IsNoValue value fault = IsOfKind kind.InvalidValue fault × (value ≡ None)
 
 -- a subcommand of this name with these values gives the job
 abbrev pub Gives : Text → List Row → Job → Type 0
@@ -151,22 +147,23 @@ IsNoJob fault = IsOfKind kind.MissingSubcommand fault
 abbrev pub Fits : Text → List Row → Type 0
 Fits last values = is_none (first_of last values) ≡ is_least values
 
--- why a subcommand with these values gives no job
+-- why a subcommand with these values gives no job: only `run` has the fault `Predict`, and only `annotate` the
+-- fault `Emit`
 abbrev pub Refuses : Text → List Row → UsageFault → Type 0
-Refuses name values Predict =
-    ((name ≡ codes "run") × Fits (codes "certificate") values × IsSome (schedule_in values) × (predict_in values ≡ None))
-    ⊎ ((name ≡ codes "curve") × Fits (codes "certificate") values × (predict_in values ≡ None))
-Refuses name values EmitFault = ((name ≡ codes "annotate") × (emit_in values ≡ None))
-    ⊎ ((name ≡ codes "replay") × Fits (codes "script") values × (replay_emit_in values ≡ None))
-    ⊎ ((name ≡ codes "run") × Fits (codes "certificate") values × IsSome (schedule_in values) × IsSome (predict_in values) × (run_emit_in values ≡ None))
-    ⊎ ((name ≡ codes "curve") × Fits (codes "certificate") values × IsSome (predict_in values) × (curve_emit_in values ≡ None))
+Refuses name values Predict = (name ≡ codes "run") × Fits (codes "certificate") values × IsSome (schedule_in values)
+    × IsSome (run_emit_in values) × (predict_in values ≡ None)
+Refuses name values EmitFault = (name ≡ codes "annotate") × (emit_in values ≡ None)
 Refuses name values fault = IsNoJob fault
-    ⊎ ((name ≡ codes "explain") × IsNoFormat values fault)
+    ⊎ ((name ≡ codes "explain") × IsNoValue (format_in values) fault)
     ⊎ ((name ≡ codes "check") × IsMisfit (codes "certificate") values fault)
     ⊎ ((name ≡ codes "replay") × IsMisfit (codes "script") values fault)
+    ⊎ ((name ≡ codes "replay") × Fits (codes "script") values × IsNoValue (replay_emit_in values) fault)
     ⊎ ((name ≡ codes "run") × IsMisfit (codes "certificate") values fault)
-    ⊎ ((name ≡ codes "run") × Fits (codes "certificate") values × IsNoSchedule values fault)
+    ⊎ ((name ≡ codes "run") × Fits (codes "certificate") values × IsNoValue (schedule_in values) fault)
+    ⊎ ((name ≡ codes "run") × Fits (codes "certificate") values × IsSome (schedule_in values) × IsNoValue (run_emit_in values) fault)
     ⊎ ((name ≡ codes "curve") × IsMisfit (codes "certificate") values fault)
+    ⊎ ((name ≡ codes "curve") × Fits (codes "certificate") values × IsNoValue (predict_in values) fault)
+    ⊎ ((name ≡ codes "curve") × Fits (codes "certificate") values × IsSome (predict_in values) × IsNoValue (curve_emit_in values) fault)
 
 -- what reading a subcommand with these values comes to
 abbrev pub Reads : Text → List Row → Result (Job × Paths) UsageFault → Type 0

@@ -1,5 +1,6 @@
 -- What the program takes on its command line: the subcommands, and the files and options of each (own choice).
-use Rattle.std.specs.Prelude.{◌≡◌, ℕ, pos, true, false, List, [], ◌∷◌, Some, codes}
+use Rattle.std.specs.Prelude.{◌≡◌, ℕ, pos, true, false, if◌then◌else◌, List, [], ◌∷◌, Some, codes}
+use Rattle.std.specs.Str.{bytes_eq}
 use Rattle.clap.specs.Words.{App, Rule, Shape, Text, app_of, new_rule}
 use Rattle.clap.specs.declared.builder.command.Command.TheViews.{out-Command as fields_of}
 use Rattle.clap.specs.Simple.{new_shape}
@@ -123,6 +124,19 @@ command_line = record {
   subs = seq ∷ print ∷ annotate ∷ explain ∷ check ∷ replay ∷ run ∷ curve ∷ [];
 }
 
+-- A fault of the words is told with the usage of their subcommand. These subcommands find faults where `clap`
+-- finds none; any other name stands for the whole command line.
+abbrev pub alone : Shape → App
+alone s = record { top = s; subs = [] }
+
+abbrev pub app_named : Text → App
+app_named name =
+    if bytes_eq name (codes "explain") then alone explain
+    else (if bytes_eq name (codes "check") then alone check
+    else (if bytes_eq name (codes "replay") then alone replay
+    else (if bytes_eq name (codes "run") then alone run
+    else (if bytes_eq name (codes "curve") then alone curve else command_line))))
+
 -- the command is the subcommand s, without an argument that is global
 abbrev pub IsSubcommand : Shape → Command → Type 0
-IsSubcommand s c = (app_of c ≡ record { top = s; subs = [] }) × ((fields_of c).has_globals ≡ false)
+IsSubcommand s c = (app_of c ≡ alone s) × ((fields_of c).has_globals ≡ false)

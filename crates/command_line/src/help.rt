@@ -71,6 +71,9 @@ and a text with new marks in place of the old:
 /// `explain`, in one line.
 pub const EXPLAIN: &str = "Says which of a program's annotations are wrong, and why";
 
+/// The usage of `explain`.
+pub const EXPLAIN_USAGE: &str = "multiscalar explain [OPTIONS] <PROGRAM> [CERT]";
+
 /// `explain`.
 pub const EXPLAIN_LONG: &str =
     "Says which of a program's annotations are wrong, and why. It needs no certificate: it makes the least
@@ -298,6 +301,19 @@ pub const NO_FORMAT: &str = "the value of --format is text or sarif";
 
 /// Why another value of `--schedule` gives no job.
 pub const NO_SCHEDULE: &str = "the value of --schedule is threads or steps";
+
+/// Why another value of `--emit` of `replay` gives no job.
+pub const NO_REPLAY_EMIT: &str = "the value of --emit is answers, summary, svg, trace or json";
+
+/// Why another value of `--emit` of `run` gives no job.
+pub const NO_RUN_EMIT: &str = "the value of --emit is report, script, summary, svg, trace or json";
+
+/// Why another value of `--emit` of `curve` gives no job.
+pub const NO_CURVE_EMIT: &str = "the value of --emit is table or svg";
+
+/// Why another value of `--predict` of `curve` gives no job.
+pub const NO_CURVE_PREDICT: &str =
+    "the value of --predict is first, last, or 1 to 64 numbers 0 to 15 with commas, as in 1,0";
 
 /// `--workers` of `run`.
 pub const RUN_WORKERS: &str = "How many threads serve the units, 1 to 16; never more than units

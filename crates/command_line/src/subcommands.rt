@@ -2,7 +2,7 @@
 ghost use Rattle.std.specs.Prelude.{◌≡◌, ◌≤◌, IfOk, IsOkAnd, false};
 ghost use Rattle.clap.specs.Words.{AddsSubcommand, app_of, new_app, rule_of};
 ghost use Rattle.clap.specs.declared.builder.command.Command.TheViews.{out-Command as fields_of};
-ghost use Rattle.command_line.specs.CommandLine.{IsSubcommand, command_line, program_name as program_name_shape, file as file_rule, flag as flag_rule, free_file as free_file_rule, word as word_rule};
+ghost use Rattle.command_line.specs.CommandLine.{IsSubcommand, app_named, command_line, program_name as program_name_shape, file as file_rule, flag as flag_rule, free_file as free_file_rule, word as word_rule};
 ghost use Rattle.command_line.specs.CommandLine.{free_number as free_number_rule, number as number_rule};
 ghost use Rattle.command_line.specs.CommandLine.{program as program_rule, certificate as certificate_rule, free_certificate as free_certificate_rule, free_script as free_script_rule, least as least_rule, no_warnings as no_warnings_rule, layout as layout_rule, schedule as schedule_rule};
 ghost use Rattle.command_line.specs.CommandLine.{budget as budget_rule, units as units_rule, most_units as most_units_rule, checkers as checkers_rule, workers as workers_rule};
@@ -26,6 +26,21 @@ pub(crate) fn command<'a>(alloc: Global) -> Result<Command<'a>, AllocError>
     let command = with_subcommand(command, replay(alloc));
     let command = with_subcommand(command, run(alloc));
     with_subcommand(command, curve(alloc))
+}
+
+/// The subcommand of this name, with its usage, of those that find faults where `clap` finds none; for any other
+/// name the whole command line.
+pub(crate) fn command_named<'a>(alloc: Global, name: &str) -> Result<Command<'a>, AllocError>
+    ensures { IfOk result (λ c. app_of c ≡ app_named name.now) }
+{
+    match name {
+        "explain" => explain(alloc),
+        "check" => check(alloc),
+        "replay" => replay(alloc),
+        "run" => run(alloc),
+        "curve" => curve(alloc),
+        _ => command(alloc),
+    }
 }
 
 // The command with one subcommand more, if memory sufficed for both.
@@ -258,7 +273,8 @@ fn explain<'a>(alloc: Global) -> Result<Command<'a>, AllocError>
         no_warnings(alloc),
         layout(alloc),
     ]?;
-    subcommand(alloc, "explain", help::EXPLAIN, help::EXPLAIN_LONG).args(arguments)
+    let command = subcommand(alloc, "explain", help::EXPLAIN, help::EXPLAIN_LONG);
+    with_usage(command, help::EXPLAIN_USAGE).args(arguments)
 }
 
 fn check<'a>(alloc: Global) -> Result<Command<'a>, AllocError>

@@ -1,15 +1,16 @@
 //! From the words of a command line to a job.
-ghost use Rattle.std.specs.Prelude.{◌≡◌, ◌≤◌, ◌==◌, IfErr, IfOk, IfSome, MatchOption, MatchResult, All, Some, None, true, false, if◌then◌else◌, map, length, option_map, option_and_then, unwrap_or, vec_len, [], codes};
+ghost use Rattle.std.specs.Prelude.{◌≡◌, ◌≤◌, ◌==◌, ◌⊎◌, IfErr, IfOk, IfSome, MatchOption, MatchResult, All, Some, None, true, false, if◌then◌else◌, map, length, option_map, option_and_then, unwrap_or, vec_len, [], codes};
 ghost use Rattle.std.specs.String.{string_bytes};
 ghost use Rattle.std.specs.List.{slice_split};
 ghost use Rattle.clap.specs.Words.{first_of};
-ghost use Rattle.command_line.specs.Asked.{AskFor, IsFaultOf, IsFrom, IsMisfit, IsNoFormat, IsNoJob, IsNoSchedule, IsOfKind, IsSource, Reads, is_given, curve_emit_in, emit_in, format_in, number_at, predict_in, replay_emit_in, run_emit_in, schedule_in, values_in};
+ghost use Rattle.clap.specs.declared.error.kind.ErrorKind.TheVariants.{InvalidValue};
+ghost use Rattle.command_line.specs.Asked.{AskFor, IsFaultOf, IsFrom, IsMisfit, IsNoJob, IsNoValue, IsOfKind, IsSource, Reads, is_given, curve_emit_in, emit_in, format_in, number_at, predict_in, replay_emit_in, run_emit_in, schedule_in, values_in};
 ghost use Rattle.command_line.specs.Words.{listed_number, listed_numbers, all_there, curve_emit_of, emit_of, format_of, prediction_of, replay_emit_of, run_emit_of, schedule_of};
 ghost use Rattle.jobs.specs.Files.{HasFilesOf, is_in_file};
 ghost use Rattle.command_line.specs.declared.words.UsageFault.TheVariants.{OutOfMemory, Predict, Emit as EmitFault};
 
 use crate::help;
-use crate::subcommands::command;
+use crate::subcommands::{command, command_named};
 use clap::ArgMatches;
 use clap::error::ErrorKind;
 use jobs::job::{
@@ -24,16 +25,17 @@ use thiserror::Error;
 #[derive(Debug, Drop, Error)]
 pub enum UsageFault {
     /// 1: the words are none of the program's, or ask for help or for the version; or there is neither a
-    /// certificate nor `--least`, or both; or the value of `--schedule` is neither `threads` nor `steps`, or that
-    /// of `--format` neither `text` nor `sarif`. The fault is `clap`'s, with its text.
+    /// certificate nor `--least`, or both; or the value of an option is none: of `--schedule` neither `threads`
+    /// nor `steps`; of `--format` neither `text` nor `sarif`; of `--emit` for `replay` none of `answers`,
+    /// `summary`, `svg`, `trace` and `json`, for `run` none of `report`, `script`, `summary`, `svg`, `trace` and
+    /// `json`, for `curve` neither `table` nor `svg`; of `--predict` for `curve` as below. The fault is `clap`'s,
+    /// with its text.
     #[error("1 Words")]
     Words(clap::Error),
-    /// 2: the value of `--predict` is neither `first`, `last` nor 1 to 64 numbers 0..=15.
+    /// 2: for `run`, the value of `--predict` is neither `first`, `last` nor 1 to 64 numbers 0..=15.
     #[error("2 Predict")]
     Predict,
-    /// 3: the value of `--emit` is none of `text`, `cert`, `keep` and `marks`; for `replay` none of `answers`,
-    /// `summary`, `svg`, `trace` and `json`; for `run` none of `report`, `script`, `summary`, `svg`, `trace` and
-    /// `json`; for `curve` neither `table` nor `svg`.
+    /// 3: for `annotate`, the value of `--emit` is none of `text`, `cert`, `keep` and `marks`.
     #[error("3 Emit")]
     Emit,
     /// 4: memory ran out.
@@ -62,8 +64,8 @@ impl From<clap::Error> for UsageFault {
 
 /// The job that a command line asks for, and the names of its files. The first word is the program's
 /// own name. What `clap` decides comes first, then whether there are as many files as `--least` asks for,
-/// then the value of `--format` or `--schedule`, then that of `--predict`, then that of `--emit`.
-/// (own choice)
+/// then the values of `--format`, of `--schedule`, of `--predict` for `curve`, of `--emit`, and at last of
+/// `--predict` for `run`. (own choice)
 pub fn job_of(alloc: Global, words: &[String]) -> Result<(Job, Paths), UsageFault>
     ensures files { IfOk result (λ r. HasFilesOf r.0 r.1) }
     ensures job { IfOk result (λ r. AskFor (map string_bytes words.now) r.0 r.1) }
@@ -80,14 +82,21 @@ pub fn job_of(alloc: Global, words: &[String]) -> Result<(Job, Paths), UsageFaul
 fn no_job(alloc: Global) -> UsageFault
     ensures { IsNoJob result }
 {
-    fault_of_kind(alloc, ErrorKind::MissingSubcommand, "no job")
+    fault_of_kind(alloc, "multiscalar", ErrorKind::MissingSubcommand, "no job")
 }
 
-// A fault of `clap`'s.
-fn fault_of_kind(alloc: Global, kind: ErrorKind, message: &str) -> UsageFault
+// The fault that the value of an option stands for nothing, of the subcommand of this name.
+fn no_value(alloc: Global, name: &str, message: &str) -> UsageFault
+    ensures { IsOfKind InvalidValue result }
+{
+    fault_of_kind(alloc, name, ErrorKind::InvalidValue, message)
+}
+
+// A fault of `clap`'s, with the usage of the subcommand of this name.
+fn fault_of_kind(alloc: Global, name: &str, kind: ErrorKind, message: &str) -> UsageFault
     ensures { IsOfKind kind result }
 {
-    match command(alloc) {
+    match command_named(alloc, name) {
         Ok(mut command) => match command.error(kind, message) {
             Ok(error) => UsageFault::Words(error),
             Err(AllocError) => UsageFault::OutOfMemory,
@@ -195,9 +204,10 @@ fn is_given(values: &ArgMatches<'_>, id: &str) -> bool
     }
 }
 
-// Where the certificate comes from, of a subcommand whose last file has this id.
+// Where the certificate comes from, of the subcommand of this name, whose last file has this id.
 fn read_source(
     alloc: Global,
+    name: &str,
     values: &ArgMatches<'_>,
     last: &str,
 ) -> Result<CertificateSource, UsageFault>
@@ -207,6 +217,7 @@ fn read_source(
     match text(values, last) {
         Some(_) if least => Err(fault_of_kind(
             alloc,
+            name,
             ErrorKind::ArgumentConflict,
             help::FILE_TOO_MANY,
         )),
@@ -214,6 +225,7 @@ fn read_source(
         None if least => Ok(CertificateSource::Least),
         None => Err(fault_of_kind(
             alloc,
+            name,
             ErrorKind::MissingRequiredArgument,
             help::FILE_MISSING,
         )),
@@ -331,7 +343,7 @@ fn read_explain(alloc: Global, values: &ArgMatches<'_>) -> Result<(Job, Paths), 
 fn read_check(alloc: Global, values: &ArgMatches<'_>) -> Result<(Job, Paths), UsageFault>
     ensures { Reads (codes "check") (values_in values.now) result }
 {
-    let certificate = read_source(alloc, values, "certificate")?;
+    let certificate = read_source(alloc, "check", values, "certificate")?;
     let workers = read_checkers(alloc, values)?;
     let job = Job::Check {
         certificate,
@@ -343,11 +355,9 @@ fn read_check(alloc: Global, values: &ArgMatches<'_>) -> Result<(Job, Paths), Us
 fn read_replay(alloc: Global, values: &ArgMatches<'_>) -> Result<(Job, Paths), UsageFault>
     ensures { Reads (codes "replay") (values_in values.now) result }
 {
-    let certificate = read_source(alloc, values, "script")?;
+    let certificate = read_source(alloc, "replay", values, "script")?;
     let units = read_units(alloc, values)?;
-    let emit = text(values, "emit")
-        .and_then(read_replay_emit)
-        .ok_or(UsageFault::Emit)?;
+    let emit = replay_emit(alloc, values)?;
     let job = Job::Replay {
         certificate,
         units,
@@ -359,15 +369,13 @@ fn read_replay(alloc: Global, values: &ArgMatches<'_>) -> Result<(Job, Paths), U
 fn read_run(alloc: Global, values: &ArgMatches<'_>) -> Result<(Job, Paths), UsageFault>
     ensures { Reads (codes "run") (values_in values.now) result }
 {
-    let certificate = read_source(alloc, values, "certificate")?;
+    let certificate = read_source(alloc, "run", values, "certificate")?;
     let schedule = read_schedule(alloc, values)?;
+    let emit = run_emit(alloc, values)?;
     let units = read_units(alloc, values)?;
     let workers = read_workers(alloc, values, units)?;
     let budget = read_budget(alloc, values)?;
     let predict = read_predict(alloc, values)?.ok_or(UsageFault::Predict)?;
-    let emit = text(values, "emit")
-        .and_then(read_run_emit)
-        .ok_or(UsageFault::Emit)?;
     let job = Job::Run {
         certificate,
         schedule,
@@ -383,13 +391,11 @@ fn read_run(alloc: Global, values: &ArgMatches<'_>) -> Result<(Job, Paths), Usag
 fn read_curve(alloc: Global, values: &ArgMatches<'_>) -> Result<(Job, Paths), UsageFault>
     ensures { Reads (codes "curve") (values_in values.now) result }
 {
-    let certificate = read_source(alloc, values, "certificate")?;
+    let certificate = read_source(alloc, "curve", values, "certificate")?;
     let units = read_units(alloc, values)?;
     let budget = read_budget(alloc, values)?;
-    let predict = read_predict(alloc, values)?.ok_or(UsageFault::Predict)?;
-    let emit = text(values, "emit")
-        .and_then(read_curve_emit)
-        .ok_or(UsageFault::Emit)?;
+    let predict = curve_predict(alloc, values)?;
+    let emit = curve_emit(alloc, values)?;
     let job = Job::Curve {
         certificate,
         units,
@@ -402,11 +408,11 @@ fn read_curve(alloc: Global, values: &ArgMatches<'_>) -> Result<(Job, Paths), Us
 
 // What the value of `--format` stands for.
 fn read_format(alloc: Global, values: &ArgMatches<'_>) -> Result<Format, UsageFault>
-    ensures { MatchResult result (λ f. format_in (values_in values.now) ≡ Some f) (IsNoFormat (values_in values.now)) }
+    ensures { MatchResult result (λ f. format_in (values_in values.now) ≡ Some f) (IsNoValue (format_in (values_in values.now))) }
 {
     match text(values, "format").and_then(format_named) {
         Some(format) => Ok(format),
-        None => Err(fault_of_kind(alloc, ErrorKind::InvalidValue, help::NO_FORMAT)),
+        None => Err(no_value(alloc, "explain", help::NO_FORMAT)),
     }
 }
 
@@ -423,11 +429,11 @@ fn format_named(text: &str) -> Option<Format>
 
 // What the value of `--schedule` stands for.
 fn read_schedule(alloc: Global, values: &ArgMatches<'_>) -> Result<Schedule, UsageFault>
-    ensures { MatchResult result (λ s. schedule_in (values_in values.now) ≡ Some s) (IsNoSchedule (values_in values.now)) }
+    ensures { MatchResult result (λ s. schedule_in (values_in values.now) ≡ Some s) (IsNoValue (schedule_in (values_in values.now))) }
 {
     match text(values, "schedule").and_then(schedule_named) {
         Some(schedule) => Ok(schedule),
-        None => Err(fault_of_kind(alloc, ErrorKind::InvalidValue, help::NO_SCHEDULE)),
+        None => Err(no_value(alloc, "run", help::NO_SCHEDULE)),
     }
 }
 
@@ -439,6 +445,47 @@ fn schedule_named(text: &str) -> Option<Schedule>
         "threads" => Some(Schedule::Threads),
         "steps" => Some(Schedule::Steps),
         _ => None,
+    }
+}
+
+// What the value of `--emit` of `replay` stands for.
+fn replay_emit(alloc: Global, values: &ArgMatches<'_>) -> Result<ReplayEmit, UsageFault>
+    ensures { MatchResult result (λ e. replay_emit_in (values_in values.now) ≡ Some e) (IsNoValue (replay_emit_in (values_in values.now))) }
+{
+    match text(values, "emit").and_then(read_replay_emit) {
+        Some(emit) => Ok(emit),
+        None => Err(no_value(alloc, "replay", help::NO_REPLAY_EMIT)),
+    }
+}
+
+// What the value of `--emit` of `run` stands for.
+fn run_emit(alloc: Global, values: &ArgMatches<'_>) -> Result<RunEmit, UsageFault>
+    ensures { MatchResult result (λ e. run_emit_in (values_in values.now) ≡ Some e) (IsNoValue (run_emit_in (values_in values.now))) }
+{
+    match text(values, "emit").and_then(read_run_emit) {
+        Some(emit) => Ok(emit),
+        None => Err(no_value(alloc, "run", help::NO_RUN_EMIT)),
+    }
+}
+
+// What the value of `--emit` of `curve` stands for.
+fn curve_emit(alloc: Global, values: &ArgMatches<'_>) -> Result<CurveEmit, UsageFault>
+    ensures { MatchResult result (λ e. curve_emit_in (values_in values.now) ≡ Some e) (IsNoValue (curve_emit_in (values_in values.now))) }
+{
+    match text(values, "emit").and_then(read_curve_emit) {
+        Some(emit) => Ok(emit),
+        None => Err(no_value(alloc, "curve", help::NO_CURVE_EMIT)),
+    }
+}
+
+// What the value of `--predict` of `curve` stands for.
+fn curve_predict(alloc: Global, values: &ArgMatches<'_>) -> Result<Prediction, UsageFault>
+    ensures { MatchResult result (λ p. predict_in (values_in values.now) ≡ Some p)
+        (λ fault. IsNoJob fault ⊎ IsNoValue (predict_in (values_in values.now)) fault) }
+{
+    match read_predict(alloc, values)? {
+        Some(predict) => Ok(predict),
+        None => Err(no_value(alloc, "curve", help::NO_CURVE_PREDICT)),
     }
 }
 

@@ -5,4 +5,5 @@ pub mod bytes;
 mod form;
 pub mod meant;
 pub mod near;
+pub mod other_names;
 pub mod shape;

@@ -16,6 +16,7 @@ use Rattle.annotated_asm.specs.declared.fault.AsmFault.TheVariants.{NotAscii, To
 use Rattle.source_excerpt.specs.Excerpt.{shown_byte}
 use Rattle.line_faults.specs.declared.shape.Shape.{Shape}
 use Rattle.line_faults.specs.declared.shape.Shape.TheVariants.{Nothing}
+use Rattle.line_faults.specs.OtherNames.{in_place_of}
 use Rattle.line_faults.specs.Shapes.{near_statement, shape_of as shape_named, form_text, range_text}
 use Rattle.line_faults.specs.Bytes.{span, bytes_at, byte_at, byte_span, token_span, token_help}
 use Rattle.line_faults.specs.Meant.{label_tokens, span_at, is_early, operand_span, number_index, is_directive, mark_index}
@@ -113,15 +114,23 @@ abbrev pub near_help : Section → (near : Option (List ℕ)) → List ℕ
 near_help here None = section_help here
 near_help here (Some near) = codes "did you mean " ++ (near ++ codes "?")
 
+-- a word of other assemblers has a text that is written in its place
+abbrev pub unknown_help : Section → (in_place near : Option (List ℕ)) → List ℕ
+unknown_help here None near = near_help here near
+unknown_help here (Some text) near = codes "write " ++ text
+
 unfoldable pub begins_statement : (word : List ℕ) → Bool
 begins_statement word = is_some (shape_named word)
 
 unfoldable pub near_word : (word : List ℕ) → Option (List ℕ)
 near_word word = near_statement word
 
+unfoldable pub in_place : (word : List ℕ) → Option (List ℕ)
+in_place word = in_place_of word
+
 -- a word that begins a statement, but in another section, is spelled well
 abbrev pub mnemonic_help : Section → (word : List ℕ) → List ℕ
-mnemonic_help here word = if begins_statement word then section_help here else near_help here (near_word word)
+mnemonic_help here word = if begins_statement word then section_help here else unknown_help here (in_place word) (near_word word)
 
 abbrev pub number_help : Option Token → Shape → List ℕ
 number_help (Some (token.Index n)) shape = codes "a place is @0 to @4096"

@@ -4,13 +4,14 @@ ghost use Rattle.std.specs.Prelude.{◌≡◌, ◌++◌, map, take, slice_get, I
 ghost use Rattle.std.specs.Option.{option_copied, option_map};
 ghost use Rattle.std.specs.String.{string_bytes};
 ghost use Rattle.source_excerpt.specs.Excerpt.{shown_byte};
-ghost use Rattle.refusal_text.specs.LineSentences.{word_of, shape_of, number_span, meant, dots, quoted, shown, ends_early, byte_sentence, token_sentence, mnemonic_sentence, operand_sentence, number_sentence, bad_mark, mark_sentence, line_sentence, section_help, near_help, begins_statement, near_word, mnemonic_help, number_help, range_help, form_of, form_help, byte_help, ascii_help, mark_help, line_help};
+ghost use Rattle.refusal_text.specs.LineSentences.{word_of, shape_of, number_span, meant, dots, quoted, shown, ends_early, byte_sentence, token_sentence, mnemonic_sentence, operand_sentence, number_sentence, bad_mark, mark_sentence, line_sentence, section_help, near_help, unknown_help, begins_statement, near_word, in_place, mnemonic_help, number_help, range_help, form_of, form_help, byte_help, ascii_help, mark_help, line_help};
 
 use annotated_asm::fault::AsmFault;
 use line_faults::bytes::{byte_span, bytes_at, front, token_help, token_span};
 use line_faults::meant::{
     is_directive, is_early, label_tokens, mark_index, number_index, operand_span, span_at,
 };
+use line_faults::other_names::in_place_of;
 use line_faults::shape::{Shape, form_text, near_statement, range_text, shape_of as shape_named};
 use program_statements::statement::Section;
 use program_tokens::span::Span;
@@ -313,14 +314,37 @@ fn near_word(word: &[u8]) -> Option<&'static str>
     near_statement(word)
 }
 
-/// Adds which word may have been meant in place of one that begins no statement in this section.
+/// What is written in place of a word of other assemblers, if it is one.
+#[tactic(auto, unfolding(crate::specs::LineSentences::in_place))]
+fn in_place(word: &[u8]) -> Option<&'static str>
+    ensures { option_map (λ text. text.now) result ≡ in_place word.now }
+{
+    in_place_of(word)
+}
+
+/// Adds what is written in place of a word, if there is a text, else which word may have been meant.
+fn write_unknown_help(
+    said: &mut String,
+    section: Section,
+    text: Option<&str>,
+    near: Option<&str>,
+) -> Result<(), AllocError>
+    ensures { OnOk result (string_bytes said.new ≡ string_bytes said.old ++ unknown_help section (option_map (λ text. text.now) text.entry) (option_map (λ word. word.now) near.entry)) }
+{
+    match text {
+        Some(text) => write!(said, "write {text}"),
+        None => write_near_help(said, section, near),
+    }
+}
+
+/// Adds what may have been meant by a word that begins no statement in this section.
 fn write_mnemonic_help(said: &mut String, section: Section, word: &[u8]) -> Result<(), AllocError>
     ensures { OnOk result (string_bytes said.new ≡ string_bytes said.old ++ mnemonic_help section word.now) }
 {
     if begins_statement(word) {
         return said.push_str(section_help(section));
     }
-    write_near_help(said, section, near_word(word))
+    write_unknown_help(said, section, in_place(word), near_word(word))
 }
 
 /// What the numbers of a statement are.

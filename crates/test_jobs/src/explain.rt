@@ -2,6 +2,8 @@
 //! that are right and cost nothing.
 
 use crate::answers::{EMPTY, Row};
+use std::alloc::Global;
+use std::process::Abort;
 use test_programs::programs::{
     COUNT, COUNT_CREATES_LESS, COUNT_FORWARDED, DIAMOND, FIVE_FINDINGS, PRODUCT, READ_ONLY,
     RELEASE, RELEASE_CREATES_MORE, SPIN, UNLISTED_JUMP,
@@ -131,7 +133,7 @@ fn explains_wrong_marks(rt: HostRuntime) {
 }
 
 // Texts that are refused, and what is said of them.
-const REFUSED: [(&str, &str); 11] = [
+const REFUSED: [(&str, &str); 12] = [
     (
         "foo $8",
         "a.s:1:1: error: there is no instruction or directive `foo` here [4 Mnemonic line 1]
@@ -212,6 +214,18 @@ a.s:4:4: error: there is no instruction or directive `hlat` here [4 Mnemonic lin
     4 |    hlat !s
       |    ^~~~
 a.s:4:4: help: did you mean halt?
+",
+    ),
+    (
+        ".task A create=$8 targets=-\nA: addi $8,$8,1 !f\n   ble $8,$9,A\n   halt !s\n",
+        "a.s:2:4: error: there is no instruction or directive `addi` here [4 Mnemonic line 2]
+    2 | A: addi $8,$8,1 !f
+      |    ^~~~
+a.s:2:4: help: write addiu rt,rs,n
+a.s:3:4: error: there is no instruction or directive `ble` here [4 Mnemonic line 3]
+    3 |    ble $8,$9,A
+      |    ^~~
+a.s:3:4: help: write slt $1,rt,rs and beq $1,$0,T
 ",
     ),
     (
@@ -441,10 +455,19 @@ fn explains_each_rule(rt: HostRuntime) {
     }
 }
 
-// Certificates of `spin`, and what is said of them: the right one, one that is none from its third line on,
-// and one without a mask for the task's entry.
-const CERTIFICATES: [(&str, &str, u8); 3] = [
+// Certificates of `spin`, and what is said of them: the right one, one that is none from its first or from its
+// third line on, and one without a mask for the task's entry. A file that begins as no certificate does is not
+// named to be written.
+const CERTIFICATES: [(&str, &str, u8); 4] = [
     ("cert 2\ntask A\n0 0000000000000000\n", "", 0),
+    (
+        SPIN,
+        "a.cert:1: error: the first line is neither cert 2 nor cert 1 [1 Header]
+a.cert:1: help: a certificate begins with the line cert 2, or with cert 1 where its masks have 8 digits
+a.cert: help: make a certificate: multiscalar annotate --emit keep PROGRAM > CERT
+",
+        1,
+    ),
     (
         "cert 2\ntask A\n0 zz\n",
         "a.cert:3: error: this is no line of a certificate [2 Line 3]
@@ -471,6 +494,71 @@ fn explains_certificates(rt: HostRuntime) {
             certificate,
             expected,
             status,
+            ..EMPTY
+        };
+        row.runs(&rt, rt.alloc());
+    }
+}
+
+// Names of a program and of a certificate that does not fit, and whether the command names both: a shell takes
+// them as they stand, and they are two.
+const NAMES: [(&str, &str, bool); 8] = [
+    ("a.s", "b/c-1_2.cert", true),
+    ("a.s", "a.s", false),
+    ("a.s", "-", false),
+    ("-", "a.cert", false),
+    ("a.s", "a\t.cert", false),
+    ("a.s", "a;.cert", false),
+    ("$a.s", "a.cert", false),
+    ("./-a.s", "a.cert", true),
+];
+
+// What is said of the certificate.
+fn said_of_names(
+    rt: &impl Abort,
+    alloc: Global,
+    program: &str,
+    certificate: &str,
+    named: bool,
+) -> String {
+    let mut text = String::new(alloc);
+    let error = "error: this is not a certificate of";
+    let found = "findings with it: 1, with the least certificate: 0";
+    assert!(rt;
+        writeln!(
+            text,
+            "{certificate}: {error} {program} as it stands; {found}"
+        )
+        .is_ok()
+    );
+    let command = "multiscalar annotate --emit keep";
+    let help = if named {
+        writeln!(
+            text,
+            "{certificate}: help: make it anew: {command} {program} > {certificate}"
+        )
+    } else {
+        writeln!(
+            text,
+            "{certificate}: help: make a certificate: {command} PROGRAM > CERT"
+        )
+    };
+    assert!(rt; help.is_ok());
+    text
+}
+
+#[test]
+fn names_files_that_a_shell_takes(rt: HostRuntime) {
+    for &(program, certificate, named) in &NAMES {
+        let mut words = String::new(rt.alloc());
+        assert!(rt; write!(words, "explain {program} {certificate}").is_ok());
+        let said = said_of_names(&rt, rt.alloc(), program, certificate, named);
+        let row = Row {
+            words: words.as_str(),
+            program: SPIN,
+            certificate: "cert 2\ntask A\n",
+            expected: said.as_str(),
+            status: 1,
             ..EMPTY
         };
         row.runs(&rt, rt.alloc());

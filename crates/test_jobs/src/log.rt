@@ -52,7 +52,7 @@ const LOGS: [(&str, &str, &str); 10] = [
     (
         SPIN,
         "task A\n",
-        "\"unicodeCodePoints\",\"results\":[{\"ruleId\":\"certificate-1-Header\",\"level\":\"error\",\"message\":{\"text\":\"a.cert:1: error: the first line is neither cert 2 nor cert 1 [1 Header]\\na.cert:1: help: a certificate begins with the line cert 2, or with cert 1 where its masks have 8 digits\\na.cert: help: make it anew: multiscalar annotate --emit keep a.s > a.cert\\n\"},\"locations\":[{\"physicalLocation\":{\"artifactLocation\":{\"uri\":\"a.cert\"},\"region\":{\"startLine\":1}}}]}]}]}\n",
+        "\"unicodeCodePoints\",\"results\":[{\"ruleId\":\"certificate-1-Header\",\"level\":\"error\",\"message\":{\"text\":\"a.cert:1: error: the first line is neither cert 2 nor cert 1 [1 Header]\\na.cert:1: help: a certificate begins with the line cert 2, or with cert 1 where its masks have 8 digits\\na.cert: help: make a certificate: multiscalar annotate --emit keep PROGRAM > CERT\\n\"},\"locations\":[{\"physicalLocation\":{\"artifactLocation\":{\"uri\":\"a.cert\"},\"region\":{\"startLine\":1}}}]}]}]}\n",
     ),
 ];
 

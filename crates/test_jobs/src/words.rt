@@ -365,7 +365,7 @@ fn expect_path(rt: &impl Abort, line: &str, path: &String, expected: &str) {
     assert!(rt; path.as_str() == expected, "{line}");
 }
 
-const NO_JOBS: [&str; 35] = [
+const NO_JOBS: [&str; 43] = [
     "seq",
     "seq a.s b.s",
     "seq a.s --budget 0",
@@ -400,6 +400,14 @@ const NO_JOBS: [&str; 35] = [
     "curve a.s a.cert --units 17",
     "curve a.s a.cert --budget 0",
     "curve a.s a.cert --workers 2",
+    "replay a.s a.cert a.events --emit report",
+    "replay a.s a.cert a.events --emit Summary",
+    "run a.s a.cert --emit xml",
+    "run a.s a.cert --emit text",
+    "curve a.s a.cert --emit json",
+    "curve --least a.s --emit Table",
+    "curve --least a.s --predict 16",
+    "curve a.s a.cert --predict 16 --emit xml",
     "foo",
 ];
 
@@ -431,16 +439,10 @@ fn refuses_files_that_do_not_fit(rt: HostRuntime) {
     }
 }
 
-const NO_EMIT: [&str; 9] = [
+const NO_EMIT: [&str; 3] = [
     "annotate a.s --emit xml",
     "annotate a.s --emit Text",
     "annotate a.s --emit script",
-    "replay a.s a.cert a.events --emit report",
-    "replay a.s a.cert a.events --emit Summary",
-    "run a.s a.cert --emit xml",
-    "run a.s a.cert --emit text",
-    "curve a.s a.cert --emit json",
-    "curve --least a.s --emit Table",
 ];
 
 #[test]
@@ -451,15 +453,11 @@ fn refuses_other_values_of_emit(rt: HostRuntime) {
     }
 }
 
-// A value of `--predict` is looked at before that of `--emit`.
-const NO_PREDICTION: [&str; 7] = [
+const NO_PREDICTION: [&str; 4] = [
     "run a.s a.cert --predict 1,,0",
     "run a.s a.cert --predict 16",
     "run a.s a.cert --predict 001",
     "run a.s a.cert --predict Last",
-    "run a.s a.cert --predict 1,,0 --emit xml",
-    "curve --least a.s --predict 16",
-    "curve a.s a.cert --predict 16 --emit xml",
 ];
 
 #[test]
@@ -470,10 +468,14 @@ fn refuses_other_values_of_predict(rt: HostRuntime) {
     }
 }
 
-// What `clap` decides comes before either.
+// What `clap` decides comes before the value of `--predict`, and so does that of `--emit` of `run`.
 #[test]
 fn refuses_words_first(rt: HostRuntime) {
-    let line = "run a.s a.cert --units 17 --predict 1,,0 --emit xml";
-    let refused = read(&rt, rt.alloc(), line);
-    assert!(rt; matches!(refused, Err(UsageFault::Words(_))), "{line}");
+    for line in [
+        "run a.s a.cert --units 17 --predict 1,,0",
+        "run a.s a.cert --predict 1,,0 --emit xml",
+    ] {
+        let refused = read(&rt, rt.alloc(), line);
+        assert!(rt; matches!(refused, Err(UsageFault::Words(_))), "{line}");
+    }
 }

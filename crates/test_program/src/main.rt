@@ -19,7 +19,7 @@ use std::rt::Files;
 use std::sync::Wait;
 use std::thread::Threads;
 
-const LINES: [&str; 10] = [
+const LINES: [&str; 12] = [
     "check five-findings.s five-findings.cert2",
     "check --workers 3 large.s large.cert2",
     "replay --units 2 count.s count.cert2 count.events",
@@ -27,6 +27,8 @@ const LINES: [&str; 10] = [
     "explain missing.s",
     "check - -",
     "annotate --emit all count.s",
+    "check count.s",
+    "run --least --emit all count.s",
     "print",
     "print --help",
     "--version",
