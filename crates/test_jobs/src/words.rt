@@ -406,9 +406,14 @@ const NO_JOBS: [&str; 35] = [
 #[test]
 fn refuses_words(rt: HostRuntime) {
     for &line in &NO_JOBS {
-        let refused = read(&rt, rt.alloc(), line);
-        assert!(rt; matches!(refused, Err(UsageFault::Words(_))), "{line}");
+        expect_refused(&rt, rt.alloc(), line);
     }
+}
+
+// Asserts that the words are none of the program's.
+fn expect_refused(rt: &impl Abort, alloc: Global, line: &str) {
+    let refused = read(rt, alloc, line);
+    assert!(rt; matches!(refused, Err(UsageFault::Words(_))), "{line}");
 }
 
 // Files that do not fit `--least`, or its absence.
@@ -426,8 +431,7 @@ const MISFITS: [&str; 8] = [
 #[test]
 fn refuses_files_that_do_not_fit(rt: HostRuntime) {
     for &line in &MISFITS {
-        let refused = read(&rt, rt.alloc(), line);
-        assert!(rt; matches!(refused, Err(UsageFault::Words(_))), "{line}");
+        expect_refused(&rt, rt.alloc(), line);
     }
 }
 
@@ -446,9 +450,13 @@ const NO_EMIT: [&str; 9] = [
 #[test]
 fn refuses_other_values_of_emit(rt: HostRuntime) {
     for &line in &NO_EMIT {
-        let refused = read(&rt, rt.alloc(), line);
-        assert!(rt; matches!(refused, Err(UsageFault::Emit)), "{line}");
+        expect_no_emit(&rt, rt.alloc(), line);
     }
+}
+
+fn expect_no_emit(rt: &impl Abort, alloc: Global, line: &str) {
+    let refused = read(rt, alloc, line);
+    assert!(rt; matches!(refused, Err(UsageFault::Emit)), "{line}");
 }
 
 // A value of `--predict` is looked at before that of `--emit`.
@@ -465,15 +473,18 @@ const NO_PREDICTION: [&str; 7] = [
 #[test]
 fn refuses_other_values_of_predict(rt: HostRuntime) {
     for &line in &NO_PREDICTION {
-        let refused = read(&rt, rt.alloc(), line);
-        assert!(rt; matches!(refused, Err(UsageFault::Predict)), "{line}");
+        expect_no_prediction(&rt, rt.alloc(), line);
     }
+}
+
+fn expect_no_prediction(rt: &impl Abort, alloc: Global, line: &str) {
+    let refused = read(rt, alloc, line);
+    assert!(rt; matches!(refused, Err(UsageFault::Predict)), "{line}");
 }
 
 // What `clap` decides comes before either.
 #[test]
 fn refuses_words_first(rt: HostRuntime) {
     let line = "run a.s a.cert --units 17 --predict 1,,0 --emit xml";
-    let refused = read(&rt, rt.alloc(), line);
-    assert!(rt; matches!(refused, Err(UsageFault::Words(_))), "{line}");
+    expect_refused(&rt, rt.alloc(), line);
 }
