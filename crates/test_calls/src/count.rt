@@ -15,7 +15,7 @@ fn finds_members(rt: HostRuntime) {
     let accepted = accepted(rt.alloc(), COUNT, COUNT_CERTIFICATE).expect(&rt, "accepted");
     let found = members(rt.alloc(), accepted.program(), 0).ok();
     let found = found.expect(&rt, "room for members");
-    assert_eq!(rt; found.as_slice(), [0, 1, 2, 3].as_slice());
+    assert!(rt; found.as_slice() == [0, 1, 2, 3].as_slice());
 }
 
 #[test]
@@ -40,5 +40,5 @@ fn finds_a_missing_destination(rt: HostRuntime) {
     };
     let verdict = verdict(rt.alloc(), &program, &cert).ok();
     let found = verdict.expect(&rt, "room for findings").findings;
-    assert_eq!(rt; found.as_slice(), [missing].as_slice());
+    assert!(rt; found.as_slice() == [missing].as_slice());
 }

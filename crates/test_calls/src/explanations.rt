@@ -67,7 +67,7 @@ fn said(rt: &impl Abort, alloc: Global, text: &str) -> String {
 #[test]
 fn findings_are_explained(rt: HostRuntime) {
     for (text, wanted) in TEXTS {
-        assert_eq!(rt; said(&rt, rt.alloc(), text).as_str(), wanted);
+        assert!(rt; said(&rt, rt.alloc(), text).as_str() == wanted);
     }
 }
 

@@ -37,14 +37,14 @@ const MASKS: [(u32, u32, Option<u64>); 6] = [
 pub(crate) fn expect_counted(rt: &impl Abort, cert: &Cert) {
     expect_masks(rt, cert);
     for (task, length) in LENGTHS {
-        assert_eq!(rt; cert.list(task).len(), length, "task {task}");
+        assert!(rt; cert.list(task).len() == length, "task {task}");
     }
 }
 
 fn expect_masks(rt: &impl Abort, cert: &Cert) {
     for (task, index, bits) in MASKS {
         let found = cert.mask(task, index).map(RegSet::bits);
-        assert_eq!(rt; found, bits, "task {task} index {index}");
+        assert!(rt; found == bits, "task {task} index {index}");
     }
 }
 
@@ -87,7 +87,7 @@ impl Long<'_> {
             .iter()
             .filter(|byte| **byte == b'\n')
             .count();
-        assert_eq!(rt; lines, self.lines);
+        assert!(rt; lines == self.lines);
         assert!(rt; said.ends_with(self.end), "{}", self.end);
     }
 }

@@ -22,7 +22,7 @@ fn expect_line(rt: &impl Abort, alloc: Global, fault: &Fault, line: &str) {
     let (output, errors, status) = told(rt, alloc, fault);
     assert!(rt; output.is_empty(), "{line}");
     assert!(rt; errors.as_slice() == line.as_bytes(), "{line}");
-    assert_eq!(rt; status, 2, "{line}");
+    assert!(rt; status == 2, "{line}");
 }
 
 fn text(rt: &impl Abort, alloc: Global, text: &str) -> String {
@@ -75,5 +75,5 @@ fn helps_on_standard_output(rt: HostRuntime) {
     let (output, errors, status) = told(&rt, rt.alloc(), &help);
     assert!(rt; output.as_slice() == "Usage: multiscalar\n".as_bytes());
     assert!(rt; errors.is_empty());
-    assert_eq!(rt; status, 0);
+    assert!(rt; status == 0);
 }

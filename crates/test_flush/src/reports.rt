@@ -109,5 +109,5 @@ fn fails_to_flush(rt: HostRuntime) {
     let texts = texts(&rt, rt.alloc());
     let mut writer = Stuck;
     let answer = serve(&rt, rt.alloc(), &Job::Print, &texts, &mut writer);
-    assert_eq!(rt; answer, Err(ServeFault::Write));
+    assert!(rt; answer == Err(ServeFault::Write));
 }

@@ -52,11 +52,20 @@ fn loads(rt: HostRuntime) {
     let memory = memory(&rt, rt.alloc());
     for (kind, offset, word) in LOADS {
         let offset = u32::from(offset);
-        for region in [0x1000_0000u32, 0x1001_0000] {
-            let address = region.wrapping_add(offset);
-            assert_eq!(rt; load(&rt, &memory, kind, address), Ok(word), "{address:#x}");
-        }
+        expect_loaded(&rt, &memory, kind, 0x1000_0000 + offset, Ok(word));
+        expect_loaded(&rt, &memory, kind, 0x1001_0000 + offset, Ok(word));
     }
+}
+
+// Asserts what a load answers.
+fn expect_loaded(
+    rt: &impl Abort,
+    memory: &Memory,
+    kind: LoadKind,
+    address: u32,
+    answer: Result<u32, Trap>,
+) {
+    assert!(rt; load(rt, memory, kind, address) == answer, "{address:#x}");
 }
 
 #[test]
@@ -73,9 +82,8 @@ fn loads_of_read_only_data(rt: HostRuntime) {
 
 // Asserts what a load of read-only data gives.
 fn expect_fixed(rt: &impl Abort, kind: LoadKind, address: u32, fixed: &[u8], answer: Option<u32>) {
-    assert_eq!(rt;
-        loaded_from_fixed(rt, kind, address, fixed),
-        answer,
+    assert!(rt;
+        loaded_from_fixed(rt, kind, address, fixed) == answer,
         "{address:#x}"
     );
 }
@@ -95,8 +103,7 @@ const LOAD_TRAPS: [(u32, Trap); 7] = [
 fn loads_that_trap(rt: HostRuntime) {
     let memory = memory(&rt, rt.alloc());
     for (address, trap) in LOAD_TRAPS {
-        let answer = load(&rt, &memory, LoadKind::Lw, address);
-        assert_eq!(rt; answer, Err(trap), "{address:#x}");
+        expect_loaded(&rt, &memory, LoadKind::Lw, address, Err(trap));
     }
 }
 
@@ -107,12 +114,26 @@ const STORE_TRAPS: [(u32, Trap); 3] = [
     (0x1000_0000, Trap::ReadOnly),
 ];
 
+// Asserts what a store answers.
+fn expect_stored(
+    rt: &impl Abort,
+    memory: &mut Memory,
+    kind: StoreKind,
+    address: u32,
+    word: u32,
+    answer: Result<(), Trap>,
+) {
+    assert!(rt;
+        store(rt, memory, kind, address, word) == answer,
+        "{address:#x}"
+    );
+}
+
 #[test]
 fn stores_that_trap(rt: HostRuntime) {
     let mut memory = memory(&rt, rt.alloc());
     for (address, trap) in STORE_TRAPS {
-        let answer = store(&rt, &mut memory, StoreKind::Sh, address, 0);
-        assert_eq!(rt; answer, Err(trap), "{address:#x}");
+        expect_stored(&rt, &mut memory, StoreKind::Sh, address, 0, Err(trap));
     }
     expect_as_made(&rt, &memory);
 }
@@ -120,8 +141,7 @@ fn stores_that_trap(rt: HostRuntime) {
 // Asserts that the first word of either region is that of the bytes.
 fn expect_as_made(rt: &impl Abort, memory: &Memory) {
     for address in [0x1000_0000, 0x1001_0000] {
-        let word = load(rt, memory, LoadKind::Lw, address);
-        assert_eq!(rt; word, Ok(0x017f_ff80), "{address:#x}");
+        expect_loaded(rt, memory, LoadKind::Lw, address, Ok(0x017f_ff80));
     }
 }
 
@@ -154,18 +174,17 @@ const STORES: [(StoreKind, u32, u32, u32, u32); 3] = [
 fn stores(rt: HostRuntime) {
     let mut memory = memory(&rt, rt.alloc());
     for (kind, address, word, at, loaded) in STORES {
-        let answer = store(&rt, &mut memory, kind, address, word);
-        assert!(rt; answer.is_ok(), "{address:#x}");
-        assert_eq!(rt; load(&rt, &memory, LoadKind::Lw, at), Ok(loaded), "{at:#x}");
+        expect_stored(&rt, &mut memory, kind, address, word, Ok(()));
+        expect_loaded(&rt, &memory, LoadKind::Lw, at, Ok(loaded));
     }
-    assert_eq!(rt; memory.bytes().len(), 65_536);
+    assert!(rt; memory.bytes().len() == 65_536);
 }
 
 #[test]
 fn too_many_bytes(rt: HostRuntime) {
     for (size, fault) in [(65_536, None), (65_537, Some(MemoryFault::TooMuch))] {
         let bytes = zeros(&rt, rt.alloc(), size);
-        assert_eq!(rt; Memory::new(rt.alloc(), &bytes, &[]).err(), fault);
+        assert!(rt; Memory::new(rt.alloc(), &bytes, &[]).err() == fault);
     }
 }
 

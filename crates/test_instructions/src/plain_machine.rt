@@ -14,12 +14,14 @@ use std::process::Abort;
 #[test]
 fn moves(rt: HostRuntime) {
     let from = Op::MoveFrom(MoveFromKind::Mfhi, gpr(&rt, 8));
-    assert_eq!(rt; from.sources(), (Some(Reg::HI), None));
-    assert_eq!(rt; from.alu(7, 0, 0x0040_0000, reg(&rt, 8)), Some(7));
+    let (first, second) = from.sources();
+    assert!(rt; first == Some(Reg::HI));
+    assert!(rt; second == None);
+    assert!(rt; from.alu(7, 0, 0x0040_0000, reg(&rt, 8)) == Some(7));
     let to = Op::MoveTo(MoveToKind::Mtlo, gpr(&rt, 8));
-    assert_eq!(rt; to.dests().bits(), 1 << 33);
-    assert_eq!(rt; to.alu(7, 0, 0x0040_0000, Reg::LO), Some(7));
-    assert_eq!(rt; to.alu(7, 0, 0x0040_0000, Reg::HI), None);
+    assert!(rt; to.dests().bits() == 1 << 33);
+    assert!(rt; to.alu(7, 0, 0x0040_0000, Reg::LO) == Some(7));
+    assert!(rt; to.alu(7, 0, 0x0040_0000, Reg::HI) == None);
 }
 
 // The link is the address behind the jump, also where the register of the jump is that of the link.
@@ -30,9 +32,13 @@ fn links(rt: HostRuntime) {
         (Op::JumpLink(place(&rt, 2)), 0, Reg::LINK, 0x0040_0008),
         (through, 0x0040_0010, reg(&rt, 9), 0x0040_0010),
     ] {
-        assert_eq!(rt; jump.alu(a, 0, 0x0040_0000, link), Some(0x0040_0004));
-        assert_eq!(rt; jump.turn(a, 0, 0x0040_0000), to);
+        expect_linked(&rt, &jump, a, link, to);
     }
+}
+
+fn expect_linked(rt: &impl Abort, jump: &Op, a: u32, link: Reg, to: u32) {
+    assert!(rt; jump.alu(a, 0, 0x0040_0000, link) == Some(0x0040_0004));
+    assert!(rt; jump.turn(a, 0, 0x0040_0000) == to);
 }
 
 // Register 0 is no destination, but may be waited for.
@@ -40,9 +46,9 @@ fn links(rt: HostRuntime) {
 fn waits_for_registers(rt: HostRuntime) {
     let nothing = Op::Three(ThreeKind::Addu, gpr(&rt, 0), gpr(&rt, 0), gpr(&rt, 5));
     assert!(rt; nothing.dests().is_empty());
-    assert_eq!(rt; nothing.waits().bits(), 0b10_0001);
+    assert!(rt; nothing.waits().bits() == 0b10_0001);
     let named = RegSet::empty().insert(reg(&rt, 3)).insert(Reg::HI);
-    assert_eq!(rt; Op::Release(named).waits(), named);
+    assert!(rt; Op::Release(named).waits() == named);
 }
 
 #[test]
@@ -51,9 +57,9 @@ fn sets(rt: HostRuntime) {
     let named = three.insert(Reg::HI);
     assert!(rt; named.has(reg(&rt, 3)) && !named.has(reg(&rt, 4)));
     assert!(rt; three.is_subset(named) && !named.is_subset(three));
-    assert_eq!(rt; named.minus(three).union(three), named);
-    assert_eq!(rt; RegSet::from_bits(1 << 33).map(RegSet::bits), Some(1 << 33));
-    assert_eq!(rt; RegSet::from_bits(1 << 34), None);
+    assert!(rt; named.minus(three).union(three) == named);
+    assert!(rt; RegSet::from_bits(1 << 33).map(RegSet::bits) == Some(1 << 33));
+    assert!(rt; RegSet::from_bits(1 << 34) == None);
 }
 
 // A machine with this code and no data, at the start.
@@ -87,37 +93,43 @@ fn count(rt: &impl Abort, alloc: Global) -> Vec<Op> {
     code.to_vec(alloc).ok().expect(rt, "room for code")
 }
 
+// Asserts how many steps a machine has taken, and its address.
+fn expect_at(rt: &impl Abort, machine: &Plain, count: u64, pc: u32) {
+    assert!(rt; machine.count() == count);
+    assert!(rt; machine.pc() == pc);
+}
+
 #[test]
 fn runs_to_the_end(rt: HostRuntime) {
     let code = count(&rt, rt.alloc());
     let mut machine = machine(&rt, rt.alloc(), code, 0);
-    assert_eq!(rt; step(&rt, &mut machine), Ok(()));
-    assert_eq!(rt; machine.reg(reg(&rt, 8)), 1);
-    assert_eq!(rt; (machine.count(), machine.pc()), (1, 0x0040_0004));
+    assert!(rt; step(&rt, &mut machine) == Ok(()));
+    assert!(rt; machine.reg(reg(&rt, 8)) == 1);
+    expect_at(&rt, &machine, 1, 0x0040_0004);
     run_to_the_halt(&rt, &mut machine);
-    assert_eq!(rt; machine.output(), [10].as_slice());
-    assert_eq!(rt; (machine.count(), machine.pc()), (18, 0x0040_0014));
-    assert_eq!(rt; machine.memory().bytes().len(), 65_536);
-    assert_eq!(rt; run(&rt, &mut machine, u64::MAX / 2), Ok(()));
-    assert_eq!(rt; machine.count(), 18);
+    assert!(rt; machine.output() == [10].as_slice());
+    expect_at(&rt, &machine, 18, 0x0040_0014);
+    assert!(rt; machine.memory().bytes().len() == 65_536);
+    assert!(rt; run(&rt, &mut machine, u64::MAX / 2) == Ok(()));
+    assert!(rt; machine.count() == 18);
 }
 
 // Where the output finds no room, the step that was refused can be made again.
 fn run_to_the_halt(rt: &impl Abort, machine: &mut Plain) {
     if run(rt, machine, 100).is_err() {
-        assert_eq!(rt; machine.count(), 16);
-        assert_eq!(rt; machine.outcome(), Outcome::Running);
-        assert_eq!(rt; run(rt, machine, 100), Ok(()));
+        assert!(rt; machine.count() == 16);
+        assert!(rt; machine.outcome() == Outcome::Running);
+        assert!(rt; run(rt, machine, 100) == Ok(()));
     }
-    assert_eq!(rt; machine.outcome(), Outcome::Halted);
+    assert!(rt; machine.outcome() == Outcome::Halted);
 }
 
 #[test]
 fn a_fetch_of_nothing_traps(rt: HostRuntime) {
     let mut machine = machine(&rt, rt.alloc(), Vec::new(rt.alloc()), 4096);
-    assert_eq!(rt; run(&rt, &mut machine, 5), Ok(()));
-    assert_eq!(rt; machine.outcome(), Outcome::Trapped(Trap::BadPc));
-    assert_eq!(rt; (machine.count(), machine.pc()), (1, 0x0040_4000));
+    assert!(rt; run(&rt, &mut machine, 5) == Ok(()));
+    assert!(rt; machine.outcome() == Outcome::Trapped(Trap::BadPc));
+    expect_at(&rt, &machine, 1, 0x0040_4000);
 }
 
 // So many instructions, each a halt.
@@ -134,14 +146,19 @@ fn refusals(rt: HostRuntime) {
         (4097, 0, PlainFault::TooMany),
         (6, 65_537, PlainFault::TooMuch),
     ] {
-        let code = halts(&rt, rt.alloc(), count);
-        let data = zeros(&rt, rt.alloc(), size);
-        match Plain::new(rt.alloc(), code, &[], &data, place(&rt, 0)) {
-            Ok(_) => panic!(rt; "{count} instructions and {size} bytes were taken"),
-            Err(refused) => {
-                assert_eq!(rt; refused.fault, fault);
-                assert_eq!(rt; refused.code.len(), count);
-            }
+        expect_refused(&rt, rt.alloc(), count, size, fault);
+    }
+}
+
+// Asserts that so many instructions and so many bytes are too many, and that the code comes back.
+fn expect_refused(rt: &impl Abort, alloc: Global, count: usize, size: usize, fault: PlainFault) {
+    let code = halts(rt, alloc, count);
+    let data = zeros(rt, alloc, size);
+    match Plain::new(alloc, code, &[], &data, place(rt, 0)) {
+        Ok(_) => panic!(rt; "{count} instructions and {size} bytes were taken"),
+        Err(refused) => {
+            assert!(rt; refused.fault == fault);
+            assert!(rt; refused.code.len() == count);
         }
     }
 }

@@ -1,6 +1,6 @@
 //! `annotate`: what is proposed, and what `check` says of it.
 
-use crate::answers::{Bench, EMPTY, Row, answer, expect, texts_of};
+use crate::answers::{Bench, EMPTY, Row, answer, expect, expect_of, run_all, texts_of};
 use std::alloc::Global;
 use std::process::Abort;
 use test_programs::certificates::COUNT_CERTIFICATE_WIDE;
@@ -52,9 +52,7 @@ const LAID_OUT_MARKED: &str =
 
 #[test]
 fn annotates_count(rt: HostRuntime) {
-    for row in &PROPOSALS {
-        row.runs(&rt, rt.alloc());
-    }
+    run_all(&rt, rt.alloc(), &PROPOSALS);
 }
 
 const REFUSING: [&str; 4] = [
@@ -66,15 +64,9 @@ const REFUSING: [&str; 4] = [
 
 #[test]
 fn refuses_texts(rt: HostRuntime) {
+    let expected = "program refused: 4 Mnemonic line 1\n";
     for &words in &REFUSING {
-        let row = Row {
-            words,
-            program: "foo $8",
-            expected: "program refused: 4 Mnemonic line 1\n",
-            status: 1,
-            ..EMPTY
-        };
-        row.runs(&rt, rt.alloc());
+        expect_of(&rt, rt.alloc(), words, "foo $8", expected, 1);
     }
 }
 
@@ -82,7 +74,7 @@ fn refuses_texts(rt: HostRuntime) {
 fn annotated(rt: &impl Bench, alloc: Global, words: &str, program: &[u8]) -> Vec<u8> {
     let texts = texts_of(rt, alloc, program, b"", b"");
     let (written, status) = answer(rt, alloc, words, &texts);
-    assert_eq!(rt; status, 0, "{words}");
+    assert!(rt; status == 0, "{words}");
     written
 }
 

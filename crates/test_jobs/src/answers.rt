@@ -44,20 +44,78 @@ pub const EMPTY: Row<'static> = Row {
 impl Row<'_> {
     /// Asserts the answer, and that a certificate in `cert 1` gives the same in `cert 2`.
     pub fn runs(&self, rt: &impl Bench, alloc: Global) {
-        self.runs_with(rt, alloc, self.certificate);
+        self.runs_as(rt, alloc, self.words);
+    }
+
+    /// The same where the words are these.
+    pub fn runs_as(&self, rt: &impl Bench, alloc: Global, words: &str) {
+        self.runs_with(rt, alloc, words, self.certificate);
         if self.certificate.starts_with("cert 1") {
             let wide = widened(rt, alloc, self.certificate);
-            self.runs_with(rt, alloc, wide.as_str());
+            self.runs_with(rt, alloc, words, wide.as_str());
         }
     }
 
-    // Asserts the answer where the certificate is this one.
-    fn runs_with(&self, rt: &impl Bench, alloc: Global, certificate: &str) {
+    // Asserts the answer where the words and the certificate are these.
+    fn runs_with(&self, rt: &impl Bench, alloc: Global, words: &str, certificate: &str) {
         let program = self.program.as_bytes();
         let script = self.script.as_bytes();
         let texts = texts_of(rt, alloc, program, certificate.as_bytes(), script);
-        expect(rt, alloc, self.words, &texts, self.expected, self.status);
+        expect(rt, alloc, words, &texts, self.expected, self.status);
     }
+}
+
+/// Asserts the answer of each row.
+pub fn run_all(rt: &impl Bench, alloc: Global, rows: &[Row<'_>]) {
+    for row in rows {
+        row.runs(rt, alloc);
+    }
+}
+
+/// Asserts what the words write of each program of a table, and the status.
+pub fn expect_of_each(
+    rt: &impl Bench,
+    alloc: Global,
+    words: &str,
+    programs: &[(&str, &str)],
+    status: u8,
+) {
+    for (program, expected) in programs {
+        expect_of(rt, alloc, words, *program, *expected, status);
+    }
+}
+
+/// Asserts what the words write of a program alone, and the status.
+pub fn expect_of(
+    rt: &impl Bench,
+    alloc: Global,
+    words: &str,
+    program: &str,
+    expected: &str,
+    status: u8,
+) {
+    expect_with(rt, alloc, words, program, "", expected, status);
+}
+
+/// Asserts what the words write of a program with a certificate, and the status.
+pub fn expect_with(
+    rt: &impl Bench,
+    alloc: Global,
+    words: &str,
+    program: &str,
+    certificate: &str,
+    expected: &str,
+    status: u8,
+) {
+    let row = Row {
+        words,
+        program,
+        certificate,
+        script: "",
+        expected,
+        status,
+    };
+    row.runs(rt, alloc);
 }
 
 // A certificate in `cert 1` as it is spelled in `cert 2`: each mask with eight zeros before it.
@@ -108,7 +166,7 @@ pub fn expect(
         written.as_slice() == expected.as_bytes(),
         "{words}: {expected}"
     );
-    assert_eq!(rt; answered, status, "{words}: {expected}");
+    assert!(rt; answered == status, "{words}: {expected}");
 }
 
 /// What the words write of texts, and the status.

@@ -1,6 +1,6 @@
 //! `check`: what it writes of programs and certificates.
 
-use crate::answers::{EMPTY, Row};
+use crate::answers::{EMPTY, Row, run_all};
 use test_programs::certificates::{
     COUNT_CERTIFICATE, COUNT_CERTIFICATE_LACKING, FIVE_FINDINGS_CERTIFICATE, PRODUCT_CERTIFICATE,
     READ_ONLY_CERTIFICATE, RELEASE_CERTIFICATE,
@@ -64,9 +64,7 @@ const ACCEPTANCES: [Row<'static>; 4] = [
 
 #[test]
 fn accepts_programs(rt: HostRuntime) {
-    for row in &ACCEPTANCES {
-        row.runs(&rt, rt.alloc());
-    }
+    run_all(&rt, rt.alloc(), &ACCEPTANCES);
 }
 
 const FINDINGS: [Row<'static>; 14] = [
@@ -162,9 +160,7 @@ const FINDINGS: [Row<'static>; 14] = [
 
 #[test]
 fn finds_what_is_wrong(rt: HostRuntime) {
-    for row in &FINDINGS {
-        row.runs(&rt, rt.alloc());
-    }
+    run_all(&rt, rt.alloc(), &FINDINGS);
 }
 
 const REFUSALS: [Row<'static>; 8] = [
@@ -216,7 +212,5 @@ const REFUSALS: [Row<'static>; 8] = [
 
 #[test]
 fn refuses_certificates(rt: HostRuntime) {
-    for row in &REFUSALS {
-        row.runs(&rt, rt.alloc());
-    }
+    run_all(&rt, rt.alloc(), &REFUSALS);
 }

@@ -1,8 +1,8 @@
 //! `curve`: what runs in steps come to on 1, 2, 3 units and more. The steps on 1, 2 and 4 units were counted by
-//! hand (`test_steps`). The other numbers are those of a model that shares nothing with the program
+//! hand (`test_machine`). The other numbers are those of a model that shares nothing with the program
 //! (`fuzz/curve.py`), and so are the pictures (`fuzz/curve_picture.py`).
 
-use crate::answers::{Bench, EMPTY, Row, answer, texts_of};
+use crate::answers::{Bench, EMPTY, Row, answer, run_all, texts_of};
 use crate::run::READ_ONLY_TRAPS;
 use std::alloc::Global;
 use test_programs::certificates::{
@@ -108,9 +108,7 @@ const CURVES: [Row<'static>; 8] = [
 
 #[test]
 fn compares_runs(rt: HostRuntime) {
-    for row in &CURVES {
-        row.runs(&rt, rt.alloc());
-    }
+    run_all(&rt, rt.alloc(), &CURVES);
 }
 
 // The texts are judged before anything runs.
@@ -135,9 +133,7 @@ const REFUSED: [Row<'static>; 2] = [
 
 #[test]
 fn judges_before_it_runs(rt: HostRuntime) {
-    for row in &REFUSED {
-        row.runs(&rt, rt.alloc());
-    }
+    run_all(&rt, rt.alloc(), &REFUSED);
 }
 
 // What stands in a picture behind its legend.
@@ -204,5 +200,5 @@ fn expect_drawn(rt: &impl Bench, alloc: Global, row: &Row<'_>) {
     let parts = written.as_str().split_once(">units</text>\n");
     let (_, drawn) = parts.expect(rt, "a legend");
     assert!(rt; drawn == row.expected, "{drawn}");
-    assert_eq!(rt; status, row.status);
+    assert!(rt; status == row.status);
 }

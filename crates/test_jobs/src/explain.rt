@@ -1,7 +1,7 @@
 //! `explain`: what is said of wrong marks, of refused texts and of marks that cost speed, and nothing of marks
 //! that are right and cost nothing.
 
-use crate::answers::{EMPTY, Row};
+use crate::answers::{expect_of, expect_of_each, expect_with};
 use std::alloc::Global;
 use std::process::Abort;
 use test_programs::programs::{
@@ -9,16 +9,10 @@ use test_programs::programs::{
     RELEASE, RELEASE_CREATES_MORE, SPIN, UNLISTED_JUMP,
 };
 
-const EXPLAIN: Row<'static> = Row {
-    words: "explain a.s",
-    ..EMPTY
-};
-
 #[test]
 fn says_nothing_of_right_marks(rt: HostRuntime) {
     for program in [COUNT_FORWARDED, DIAMOND, PRODUCT, READ_ONLY, RELEASE, SPIN] {
-        let row = Row { program, ..EXPLAIN };
-        row.runs(&rt, rt.alloc());
+        expect_of(&rt, rt.alloc(), "explain a.s", program, "", 0);
     }
 }
 
@@ -53,25 +47,13 @@ a.s:4:1: help: remove it up to the next instruction that a task reaches, or let 
 
 #[test]
 fn warns_of_marks_that_cost_speed(rt: HostRuntime) {
-    for &(program, expected) in &COSTLY {
-        let row = Row {
-            program,
-            expected,
-            ..EXPLAIN
-        };
-        row.runs(&rt, rt.alloc());
-    }
+    expect_of_each(&rt, rt.alloc(), "explain a.s", &COSTLY, 0);
 }
 
 #[test]
 fn says_nothing_of_them_without_warnings(rt: HostRuntime) {
     for program in [COUNT, RELEASE_CREATES_MORE, UNLISTED_JUMP] {
-        let row = Row {
-            words: "explain --no-warnings a.s",
-            program,
-            ..EMPTY
-        };
-        row.runs(&rt, rt.alloc());
+        expect_of(&rt, rt.alloc(), "explain --no-warnings a.s", program, "", 0);
     }
 }
 
@@ -121,15 +103,7 @@ a.s:2:27: help: let a task begin there, or remove the target: targets=-
 
 #[test]
 fn explains_wrong_marks(rt: HostRuntime) {
-    for &(program, expected) in &WRONG {
-        let row = Row {
-            program,
-            expected,
-            status: 1,
-            ..EXPLAIN
-        };
-        row.runs(&rt, rt.alloc());
-    }
+    expect_of_each(&rt, rt.alloc(), "explain a.s", &WRONG, 1);
 }
 
 // Texts that are refused, and what is said of them.
@@ -287,15 +261,7 @@ a.s:1:35: help: did you mean Loop?
 
 #[test]
 fn explains_refused_texts(rt: HostRuntime) {
-    for &(program, expected) in &REFUSED {
-        let row = Row {
-            program,
-            expected,
-            status: 1,
-            ..EXPLAIN
-        };
-        row.runs(&rt, rt.alloc());
-    }
+    expect_of_each(&rt, rt.alloc(), "explain a.s", &REFUSED, 1);
 }
 
 // One program for each of the rules 5 to 12: the same marks, right but for one.
@@ -444,15 +410,7 @@ a.s:1:34: help: let a task begin there, or remove the target: targets=A,B
 
 #[test]
 fn explains_each_rule(rt: HostRuntime) {
-    for &(program, expected) in &BY_RULE {
-        let row = Row {
-            program,
-            expected,
-            status: 1,
-            ..EXPLAIN
-        };
-        row.runs(&rt, rt.alloc());
-    }
+    expect_of_each(&rt, rt.alloc(), "explain a.s", &BY_RULE, 1);
 }
 
 // Certificates of `spin`, and what is said of them: the right one, one that is none from its first or from its
@@ -488,15 +446,8 @@ a.cert: help: make it anew: multiscalar annotate --emit keep a.s > a.cert
 #[test]
 fn explains_certificates(rt: HostRuntime) {
     for &(certificate, expected, status) in &CERTIFICATES {
-        let row = Row {
-            words: "explain a.s a.cert",
-            program: SPIN,
-            certificate,
-            expected,
-            status,
-            ..EMPTY
-        };
-        row.runs(&rt, rt.alloc());
+        let words = "explain a.s a.cert";
+        expect_with(&rt, rt.alloc(), words, SPIN, certificate, expected, status);
     }
 }
 
@@ -553,14 +504,15 @@ fn names_files_that_a_shell_takes(rt: HostRuntime) {
         let mut words = String::new(rt.alloc());
         assert!(rt; write!(words, "explain {program} {certificate}").is_ok());
         let said = said_of_names(&rt, rt.alloc(), program, certificate, named);
-        let row = Row {
-            words: words.as_str(),
-            program: SPIN,
-            certificate: "cert 2\ntask A\n",
-            expected: said.as_str(),
-            status: 1,
-            ..EMPTY
-        };
-        row.runs(&rt, rt.alloc());
+        let certificate = "cert 2\ntask A\n";
+        expect_with(
+            &rt,
+            rt.alloc(),
+            words.as_str(),
+            SPIN,
+            certificate,
+            said.as_str(),
+            1,
+        );
     }
 }

@@ -1,6 +1,6 @@
 //! `--least`: the jobs with the least certificate write what they write with that certificate's text.
 
-use crate::answers::{EMPTY, Row};
+use crate::answers::{EMPTY, Row, expect_of, run_all};
 use crate::replay::replays;
 use crate::scripts::COUNT_WAITS;
 use test_programs::programs::{COUNT, COUNT_CREATES_LESS};
@@ -50,9 +50,7 @@ const RIGHT: [Row<'static>; 5] = [
 
 #[test]
 fn accepts_right_marks(rt: HostRuntime) {
-    for row in &RIGHT {
-        row.runs(&rt, rt.alloc());
-    }
+    run_all(&rt, rt.alloc(), &RIGHT);
 }
 
 #[test]
@@ -76,28 +74,16 @@ const JOBS: [&str; 4] = [
 // A writes $10 and its create mask lacks it.
 #[test]
 fn finds_wrong_marks(rt: HostRuntime) {
+    let expected = "A 0 rule 5 $10\nrefused 1\n";
     for words in JOBS {
-        let row = Row {
-            words,
-            program: COUNT_CREATES_LESS,
-            expected: "A 0 rule 5 $10\nrefused 1\n",
-            status: 1,
-            ..EMPTY
-        };
-        row.runs(&rt, rt.alloc());
+        expect_of(&rt, rt.alloc(), words, COUNT_CREATES_LESS, expected, 1);
     }
 }
 
 #[test]
 fn refuses_texts(rt: HostRuntime) {
+    let expected = "program refused: 4 Mnemonic line 1\n";
     for words in JOBS {
-        let row = Row {
-            words,
-            program: "foo",
-            expected: "program refused: 4 Mnemonic line 1\n",
-            status: 1,
-            ..EMPTY
-        };
-        row.runs(&rt, rt.alloc());
+        expect_of(&rt, rt.alloc(), words, "foo", expected, 1);
     }
 }

@@ -30,8 +30,6 @@ mod ranges;
 #[cfg(test)]
 mod replay;
 #[cfg(test)]
-mod replayed_values;
-#[cfg(test)]
 mod run;
 #[cfg(test)]
 mod scripts;

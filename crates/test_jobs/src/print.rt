@@ -1,16 +1,11 @@
 //! `print`.
 
-use crate::answers::{EMPTY, Row, expect, texts_of};
+use crate::answers::{EMPTY, Row, expect, expect_of_each, run_all, texts_of};
 use test_programs::programs::{COUNT, COUNT_OTHERWISE};
 
 const PRINTED: Row<'static> = Row {
     words: "print a.s",
     ..EMPTY
-};
-
-const REFUSED: Row<'static> = Row {
-    status: 1,
-    ..PRINTED
 };
 
 const SPELLINGS: [Row<'static>; 3] = [
@@ -46,9 +41,7 @@ sll $0,$0,0
 
 #[test]
 fn prints_canonical_text(rt: HostRuntime) {
-    for row in &SPELLINGS {
-        row.runs(&rt, rt.alloc());
-    }
+    run_all(&rt, rt.alloc(), &SPELLINGS);
 }
 
 const REFUSALS: [(&str, &str); 11] = [
@@ -76,14 +69,7 @@ const REFUSALS: [(&str, &str); 11] = [
 
 #[test]
 fn refuses_texts(rt: HostRuntime) {
-    for &(program, expected) in &REFUSALS {
-        let row = Row {
-            program,
-            expected,
-            ..REFUSED
-        };
-        row.runs(&rt, rt.alloc());
-    }
+    expect_of_each(&rt, rt.alloc(), "print a.s", &REFUSALS, 1);
 }
 
 // One byte, which alone is no `str`.

@@ -24,6 +24,12 @@ pub fn replays(rt: &impl Bench, alloc: Global, row: &Row<'_>) {
     row.runs(rt, alloc);
 }
 
+fn replay_all(rt: &impl Bench, alloc: Global, rows: &[Row<'_>]) {
+    for row in rows {
+        replays(rt, alloc, row);
+    }
+}
+
 const ON_TWO_UNITS: Row<'static> = Row {
     words: "replay --units 2 a.s a.cert a.events",
     ..EMPTY
@@ -61,9 +67,7 @@ const COUNTS: [Row<'static>; 4] = [
 
 #[test]
 fn replays_count(rt: HostRuntime) {
-    for row in &COUNTS {
-        replays(&rt, rt.alloc(), row);
-    }
+    replay_all(&rt, rt.alloc(), &COUNTS);
 }
 
 const WRONG_PATHS: [Row<'static>; 4] = [
@@ -101,9 +105,7 @@ const WRONG_PATHS: [Row<'static>; 4] = [
 
 #[test]
 fn replays_wrong_paths(rt: HostRuntime) {
-    for row in &WRONG_PATHS {
-        replays(&rt, rt.alloc(), row);
-    }
+    replay_all(&rt, rt.alloc(), &WRONG_PATHS);
 }
 
 // The tables of scripts: an event that is refused counts nowhere.
@@ -161,13 +163,18 @@ const SUMMARIES: [Row<'static>; 4] = [
 #[test]
 fn sums_up_scripts(rt: HostRuntime) {
     for row in &SUMMARIES {
-        let script = events_of(&rt, rt.alloc(), row.script);
-        let row = Row {
-            script: script.as_str(),
-            ..*row
-        };
-        row.runs(&rt, rt.alloc());
+        plays(&rt, rt.alloc(), row);
     }
+}
+
+// Asserts a row whose script stands with its answers, where what is expected has none of them.
+fn plays(rt: &impl Bench, alloc: Global, row: &Row<'_>) {
+    let script = events_of(rt, alloc, row.script);
+    let row = Row {
+        script: script.as_str(),
+        ..*row
+    };
+    row.runs(rt, alloc);
 }
 
 // Scripts of no event, of one that no machine has, and of none.
@@ -192,14 +199,19 @@ const ODD_SCRIPTS: [(&str, &str, u8); 7] = [
 #[test]
 fn replays_odd_scripts(rt: HostRuntime) {
     for &(script, expected, status) in &ODD_SCRIPTS {
-        let row = Row {
-            script,
-            expected,
-            status,
-            ..OF_COUNT
-        };
-        row.runs(&rt, rt.alloc());
+        expect_of_count(&rt, rt.alloc(), script, expected, status);
     }
+}
+
+// Asserts what a script gives on `COUNT`.
+fn expect_of_count(rt: &impl Bench, alloc: Global, script: &str, expected: &str, status: u8) {
+    let row = Row {
+        script,
+        expected,
+        status,
+        ..OF_COUNT
+    };
+    row.runs(rt, alloc);
 }
 
 // The certificate and what the rules find come before the script.
@@ -221,33 +233,35 @@ const JUDGED_BEFORE: [(&str, &str, &str); 4] = [
 #[test]
 fn judges_before_the_script(rt: HostRuntime) {
     for &(certificate, script, expected) in &JUDGED_BEFORE {
-        for words in [ON_TWO_UNITS.words, SUMMARIES[0].words] {
-            let row = Row {
-                words,
-                certificate,
-                script,
-                expected,
-                status: 1,
-                ..OF_COUNT
-            };
-            row.runs(&rt, rt.alloc());
-        }
+        expect_judged(&rt, rt.alloc(), certificate, script, expected);
     }
+}
+
+// Asserts what is written of `COUNT` with a certificate and a script, as answers and as a summary.
+fn expect_judged(rt: &impl Bench, alloc: Global, certificate: &str, script: &str, expected: &str) {
+    let row = Row {
+        certificate,
+        script,
+        expected,
+        status: 1,
+        ..OF_COUNT
+    };
+    row.runs(rt, alloc);
+    row.runs_as(rt, alloc, SUMMARIES[0].words);
 }
 
 // Each event with what it changed; the jump leads to line 5, which A does not list.
 #[test]
 fn traces_a_script(rt: HostRuntime) {
-    let script = events_of(&rt, rt.alloc(), JUMP_UNLISTED);
     let row = Row {
         words: "replay --units 1 --emit trace a.s a.cert a.events",
         program: UNLISTED_JUMP,
         certificate: UNLISTED_JUMP_CERTIFICATE,
-        script: script.as_str(),
+        script: JUMP_UNLISTED,
         expected: TRACE,
         status: 1,
     };
-    row.runs(&rt, rt.alloc());
+    plays(&rt, rt.alloc(), &row);
 }
 
 const TRACE: &str = "1 assign A: ok
@@ -277,16 +291,15 @@ at the end: the run is unlisted: 0x400010
 // The same in JSON.
 #[test]
 fn writes_json_of_a_script(rt: HostRuntime) {
-    let script = events_of(&rt, rt.alloc(), JUMP_UNLISTED);
     let row = Row {
         words: "replay --units 1 --emit json a.s a.cert a.events",
         program: UNLISTED_JUMP,
         certificate: UNLISTED_JUMP_CERTIFICATE,
-        script: script.as_str(),
+        script: JUMP_UNLISTED,
         expected: LINES,
         status: 1,
     };
-    row.runs(&rt, rt.alloc());
+    plays(&rt, rt.alloc(), &row);
 }
 
 const LINES: &str =

@@ -1,12 +1,13 @@
 //! `run`: what threads come to is the same whatever their order.
 
-use crate::answers::{Bench, EMPTY, Row, answer, expect, texts_of};
+use crate::answers::{Bench, EMPTY, Row, answer, expect, expect_with, run_all, texts_of};
 use std::alloc::Global;
+use std::process::Abort;
 use test_programs::certificates::{
     COUNT_CERTIFICATE, COUNT_CERTIFICATE_LACKING, DIAMOND_CERTIFICATE, PRODUCT_CERTIFICATE,
     READ_ONLY_CERTIFICATE, RELEASE_CERTIFICATE, SPIN_CERTIFICATE, UNLISTED_JUMP_CERTIFICATE,
 };
-use test_programs::programs::{COUNT, DIAMOND, PRODUCT, READ_ONLY, RELEASE, SPIN, UNLISTED_JUMP};
+use test_programs::programs::{COUNT, DIAMOND, PRODUCT, RELEASE, SPIN, UNLISTED_JUMP};
 
 const RUN: Row<'static> = Row {
     words: "run a.s a.cert",
@@ -27,24 +28,32 @@ const PREDICTIONS: [&str; 3] = ["first", "last", "1,0"];
 // Asserts a row with these units, by one thread for each unit and by one thread alone.
 fn runs_on(rt: &impl Bench, alloc: Global, row: &Row<'_>, units: u32, predict: &str) {
     for workers in ["", " --workers 1", " --workers 16"] {
-        let words = format!(in alloc;
-            "run a.s a.cert --units {units}{workers} --predict {predict}"
-        );
-        let words = words.ok().expect(rt, "room for words");
-        let row = Row {
-            words: words.as_str(),
-            ..*row
-        };
-        row.runs(rt, alloc);
+        let words = words_of_run(rt, alloc, units, workers, predict);
+        row.runs_as(rt, alloc, words.as_str());
+    }
+}
+
+fn words_of_run(
+    rt: &impl Abort,
+    alloc: Global,
+    units: u32,
+    workers: &str,
+    predict: &str,
+) -> String {
+    let words = format!(in alloc; "run a.s a.cert --units {units}{workers} --predict {predict}");
+    words.ok().expect(rt, "room for words")
+}
+
+fn runs_on_each(rt: &impl Bench, alloc: Global, row: &Row<'_>, predict: &str) {
+    for &units in &UNITS {
+        runs_on(rt, alloc, row, units, predict);
     }
 }
 
 #[test]
 fn runs_count(rt: HostRuntime) {
-    for &units in &UNITS {
-        for predict in PREDICTIONS {
-            runs_on(&rt, rt.alloc(), &COUNTED, units, predict);
-        }
+    for &predict in &PREDICTIONS {
+        runs_on_each(&rt, rt.alloc(), &COUNTED, predict);
     }
 }
 
@@ -120,26 +129,17 @@ halt
 
 #[test]
 fn runs_programs(rt: HostRuntime) {
+    run_all(&rt, rt.alloc(), &PROGRAMS);
     for row in &PROGRAMS {
-        row.runs(&rt, rt.alloc());
-        for &units in &UNITS {
-            runs_on(&rt, rt.alloc(), row, units, "last");
-        }
+        runs_on_each(&rt, rt.alloc(), row, "last");
     }
 }
 
-const SPUN: Row<'static> = Row {
-    words: "run --budget 100 a.s a.cert",
-    program: SPIN,
-    certificate: SPIN_CERTIFICATE,
-    expected: "out of budget\n",
-    status: 3,
-    ..EMPTY
-};
-
 #[test]
 fn runs_out_of_budget(rt: HostRuntime) {
-    SPUN.runs(&rt, rt.alloc());
+    let words = "run --budget 100 a.s a.cert";
+    let expected = "out of budget\n";
+    expect_with(&rt, rt.alloc(), words, SPIN, SPIN_CERTIFICATE, expected, 3);
 }
 
 // The texts are judged before anything runs.
@@ -156,17 +156,13 @@ const JUDGED_BEFORE: [(&str, &str, &str); 3] = [
 #[test]
 fn judges_before_the_run(rt: HostRuntime) {
     for &(program, certificate, expected) in &JUDGED_BEFORE {
-        for words in ["run a.s a.cert", "run --emit script a.s a.cert"] {
-            let row = Row {
-                words,
-                program,
-                certificate,
-                expected,
-                status: 1,
-                ..EMPTY
-            };
-            row.runs(&rt, rt.alloc());
-        }
+        expect_judged(&rt, rt.alloc(), program, certificate, expected);
+    }
+}
+
+fn expect_judged(rt: &impl Bench, alloc: Global, program: &str, certificate: &str, expected: &str) {
+    for words in ["run a.s a.cert", "run --emit script a.s a.cert"] {
+        expect_with(rt, alloc, words, program, certificate, expected, 1);
     }
 }
 
@@ -177,7 +173,7 @@ fn replays_run(rt: &impl Bench, alloc: Global, row: &Row<'_>, units: u32) {
     let (program, certificate) = (row.program.as_bytes(), row.certificate.as_bytes());
     let texts = texts_of(rt, alloc, program, certificate, b"");
     let (script, status) = answer(rt, alloc, words.as_str(), &texts);
-    assert_eq!(rt; status, row.status, "{units} units");
+    assert!(rt; status == row.status, "{units} units");
     let events = script.iter().filter(|byte| **byte == b'\n').count();
     let words = format!(in alloc; "replay --units {units} a.s a.cert a.events");
     let words = words.ok().expect(rt, "room for words");
@@ -193,6 +189,12 @@ fn replays_run(rt: &impl Bench, alloc: Global, row: &Row<'_>, units: u32) {
     );
 }
 
+fn replays_on_each(rt: &impl Bench, alloc: Global, row: &Row<'_>) {
+    for &units in &UNITS {
+        replays_run(rt, alloc, row, units);
+    }
+}
+
 // The answers to so many events that are allowed, and then the closing lines.
 fn allowed(rt: &impl Bench, alloc: Global, events: usize, closing: &str) -> String {
     let mut text = String::new(alloc);
@@ -205,23 +207,17 @@ fn allowed(rt: &impl Bench, alloc: Global, events: usize, closing: &str) -> Stri
 
 #[test]
 fn replays_what_was_run(rt: HostRuntime) {
-    for &units in &UNITS {
-        replays_run(&rt, rt.alloc(), &COUNTED, units);
-        for row in &PROGRAMS {
-            replays_run(&rt, rt.alloc(), row, units);
-        }
+    replays_on_each(&rt, rt.alloc(), &COUNTED);
+    for row in &PROGRAMS {
+        replays_on_each(&rt, rt.alloc(), row);
     }
 }
 
 // One unit guesses nothing: four rounds retire, and the last task halts, so it never does.
 #[test]
 fn sums_up_count(rt: HostRuntime) {
-    let row = Row {
-        words: "run --units 1 --emit summary a.s a.cert",
-        expected: SUMMARY,
-        ..COUNTED
-    };
-    row.runs(&rt, rt.alloc());
+    let words = "run --units 1 --emit summary a.s a.cert";
+    expect_with(&rt, rt.alloc(), words, COUNT, COUNT_CERTIFICATE, SUMMARY, 0);
 }
 
 const SUMMARY: &str = "assigned  retired  squashed  dropped  unfinished  useful  wasted  task
@@ -233,12 +229,16 @@ const SUMMARY: &str = "assigned  retired  squashed  dropped  unfinished  useful 
 // The same run in steps: each unit does one event a step, and there is one unit.
 #[test]
 fn counts_the_steps_of_count(rt: HostRuntime) {
-    let row = Row {
-        words: "run --units 1 --schedule steps --emit summary a.s a.cert",
-        expected: SUMMARY_IN_STEPS,
-        ..COUNTED
-    };
-    row.runs(&rt, rt.alloc());
+    let words = "run --units 1 --schedule steps --emit summary a.s a.cert";
+    expect_with(
+        &rt,
+        rt.alloc(),
+        words,
+        COUNT,
+        COUNT_CERTIFICATE,
+        SUMMARY_IN_STEPS,
+        0,
+    );
 }
 
 const SUMMARY_IN_STEPS: &str =
@@ -252,15 +252,8 @@ steps 31, retired instructions 16
 // A run in steps that comes to its budget, with what each event changed: `j A` goes on at itself.
 #[test]
 fn traces_a_run(rt: HostRuntime) {
-    let row = Row {
-        words: "run --units 1 --schedule steps --budget 2 --emit trace a.s a.cert",
-        program: SPIN,
-        certificate: SPIN_CERTIFICATE,
-        expected: TRACE,
-        status: 3,
-        ..RUN
-    };
-    row.runs(&rt, rt.alloc());
+    let words = "run --units 1 --schedule steps --budget 2 --emit trace a.s a.cert";
+    expect_with(&rt, rt.alloc(), words, SPIN, SPIN_CERTIFICATE, TRACE, 3);
 }
 
 const TRACE: &str = "1 assign A: ok
@@ -274,15 +267,8 @@ at the end: the run goes on
 // The same in JSON.
 #[test]
 fn writes_json_of_a_run(rt: HostRuntime) {
-    let row = Row {
-        words: "run --units 1 --schedule steps --budget 2 --emit json a.s a.cert",
-        program: SPIN,
-        certificate: SPIN_CERTIFICATE,
-        expected: LINES,
-        status: 3,
-        ..RUN
-    };
-    row.runs(&rt, rt.alloc());
+    let words = "run --units 1 --schedule steps --budget 2 --emit json a.s a.cert";
+    expect_with(&rt, rt.alloc(), words, SPIN, SPIN_CERTIFICATE, LINES, 3);
 }
 
 const LINES: &str =

@@ -150,11 +150,3 @@ retire -> ok
 exec 0 -> ok
 exec 0 -> ok
 ";
-
-/// The beginning of `READ_AHEAD`.
-pub const READ_AHEAD_BEGUN: &str = "assign A -> ok
-assign B -> ok
-exec 1 -> ok
-exec 1 -> ok
-exec 1 -> ok
-";

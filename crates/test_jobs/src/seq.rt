@@ -1,6 +1,6 @@
 //! `seq`.
 
-use crate::answers::{EMPTY, Row};
+use crate::answers::{EMPTY, Row, run_all};
 use test_programs::programs::{
     COUNT, COUNT_WITHOUT_HALT, END_OF_CODE, PRODUCT, READ_ONLY, UNLISTED_JUMP,
 };
@@ -56,9 +56,7 @@ const PROGRAMS: [Row<'static>; 7] = [
 
 #[test]
 fn runs_programs(rt: HostRuntime) {
-    for row in &PROGRAMS {
-        row.runs(&rt, rt.alloc());
-    }
+    run_all(&rt, rt.alloc(), &PROGRAMS);
 }
 
 const ORDER_OF_TRAPS: [Row<'static>; 4] = [
@@ -86,9 +84,7 @@ const ORDER_OF_TRAPS: [Row<'static>; 4] = [
 
 #[test]
 fn traps_in_order(rt: HostRuntime) {
-    for row in &ORDER_OF_TRAPS {
-        row.runs(&rt, rt.alloc());
-    }
+    run_all(&rt, rt.alloc(), &ORDER_OF_TRAPS);
 }
 
 const READ_ONLY_DATA: [Row<'static>; 3] = [
@@ -111,9 +107,7 @@ const READ_ONLY_DATA: [Row<'static>; 3] = [
 
 #[test]
 fn keeps_read_only_data(rt: HostRuntime) {
-    for row in &READ_ONLY_DATA {
-        row.runs(&rt, rt.alloc());
-    }
+    run_all(&rt, rt.alloc(), &READ_ONLY_DATA);
 }
 
 const WORDS: [Row<'static>; 2] = [
@@ -154,7 +148,5 @@ halt
 
 #[test]
 fn computes_words(rt: HostRuntime) {
-    for row in &WORDS {
-        row.runs(&rt, rt.alloc());
-    }
+    run_all(&rt, rt.alloc(), &WORDS);
 }

@@ -414,9 +414,14 @@ const NO_JOBS: [&str; 43] = [
 #[test]
 fn refuses_words(rt: HostRuntime) {
     for &line in &NO_JOBS {
-        let refused = read(&rt, rt.alloc(), line);
-        assert!(rt; matches!(refused, Err(UsageFault::Words(_))), "{line}");
+        expect_refused(&rt, rt.alloc(), line);
     }
+}
+
+// Asserts that the words are none of the program's.
+fn expect_refused(rt: &impl Abort, alloc: Global, line: &str) {
+    let refused = read(rt, alloc, line);
+    assert!(rt; matches!(refused, Err(UsageFault::Words(_))), "{line}");
 }
 
 // Files that do not fit `--least`, or its absence.
@@ -434,8 +439,7 @@ const MISFITS: [&str; 8] = [
 #[test]
 fn refuses_files_that_do_not_fit(rt: HostRuntime) {
     for &line in &MISFITS {
-        let refused = read(&rt, rt.alloc(), line);
-        assert!(rt; matches!(refused, Err(UsageFault::Words(_))), "{line}");
+        expect_refused(&rt, rt.alloc(), line);
     }
 }
 
@@ -448,9 +452,13 @@ const NO_EMIT: [&str; 3] = [
 #[test]
 fn refuses_other_values_of_emit(rt: HostRuntime) {
     for &line in &NO_EMIT {
-        let refused = read(&rt, rt.alloc(), line);
-        assert!(rt; matches!(refused, Err(UsageFault::Emit)), "{line}");
+        expect_no_emit(&rt, rt.alloc(), line);
     }
+}
+
+fn expect_no_emit(rt: &impl Abort, alloc: Global, line: &str) {
+    let refused = read(rt, alloc, line);
+    assert!(rt; matches!(refused, Err(UsageFault::Emit)), "{line}");
 }
 
 const NO_PREDICTION: [&str; 4] = [
@@ -463,9 +471,13 @@ const NO_PREDICTION: [&str; 4] = [
 #[test]
 fn refuses_other_values_of_predict(rt: HostRuntime) {
     for &line in &NO_PREDICTION {
-        let refused = read(&rt, rt.alloc(), line);
-        assert!(rt; matches!(refused, Err(UsageFault::Predict)), "{line}");
+        expect_no_prediction(&rt, rt.alloc(), line);
     }
+}
+
+fn expect_no_prediction(rt: &impl Abort, alloc: Global, line: &str) {
+    let refused = read(rt, alloc, line);
+    assert!(rt; matches!(refused, Err(UsageFault::Predict)), "{line}");
 }
 
 // What `clap` decides comes before the value of `--predict`, and so does that of `--emit` of `run`.
@@ -475,7 +487,6 @@ fn refuses_words_first(rt: HostRuntime) {
         "run a.s a.cert --units 17 --predict 1,,0",
         "run a.s a.cert --predict 1,,0 --emit xml",
     ] {
-        let refused = read(&rt, rt.alloc(), line);
-        assert!(rt; matches!(refused, Err(UsageFault::Words(_))), "{line}");
+        expect_refused(&rt, rt.alloc(), line);
     }
 }

@@ -2,7 +2,7 @@
 
 use crate::facts::Fact;
 use crate::given::Told;
-use crate::trial::{Act, Row};
+use crate::trial::{Act, Row, run_all};
 use test_programs::certificates::{COUNT_CERTIFICATE, DIAMOND_CERTIFICATE, LOAD_CERTIFICATE};
 use test_programs::programs::{
     COUNT, COUNT_FORWARDED, COUNT_WITH_THREE_TARGETS, DIAMOND, LOAD_OF_7, LOAD_OF_8,
@@ -25,7 +25,7 @@ const STALE: [Act<'static>; 17] = [
     Act::See(Fact::Value {
         position: 2,
         register: 9,
-        value: 0,
+        value: Some(0),
     }),
     ONE_STEP_ON_UNIT_2,
     Act::HandIn(1),
@@ -33,7 +33,7 @@ const STALE: [Act<'static>; 17] = [
     Act::See(Fact::Value {
         position: 2,
         register: 9,
-        value: 7,
+        value: Some(7),
     }),
 ];
 
@@ -91,7 +91,7 @@ const OF_THE_SAME_STRETCH: [Act<'static>; 6] = [
     Act::See(Fact::Value {
         position: 0,
         register: 8,
-        value: 1,
+        value: Some(1),
     }),
 ];
 
@@ -132,7 +132,7 @@ const OF_OTHER_DATA: [Act<'static>; 12] = [
     Act::See(Fact::Value {
         position: 0,
         register: 8,
-        value: 8,
+        value: Some(8),
     }),
 ];
 
@@ -200,7 +200,5 @@ const ROWS: [Row<'static>; 7] = [
 
 #[test]
 fn bursts(rt: HostRuntime) {
-    for row in &ROWS {
-        row.runs(&rt, rt.alloc());
-    }
+    run_all(&rt, rt.alloc(), &ROWS);
 }

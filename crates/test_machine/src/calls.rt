@@ -1,10 +1,12 @@
 //! The numbers of units, the program of a machine, and the predictors.
 
+use crate::given::{accepted, machine};
+use mark_checker::accept::Accepted;
 use mips_instructions::number::Place;
 use sequencer::machine::{Machine, MachineFault};
 use sequencer::predict::{First, Last, Listed, Predict};
+use std::alloc::Global;
 use std::process::Abort;
-use test_programs::acceptance::accepted;
 use test_programs::certificates::COUNT_CERTIFICATE;
 use test_programs::programs::{COUNT, COUNT_FORWARDED};
 
@@ -18,10 +20,20 @@ const UNITS: [(u32, Option<MachineFault>); 4] = [
 
 #[test]
 fn machine_has_one_to_sixteen_units(rt: HostRuntime) {
-    let accepted = accepted(rt.alloc(), COUNT, COUNT_CERTIFICATE).expect(&rt, "accepted");
+    let accepted = accepted(&rt, rt.alloc(), COUNT, COUNT_CERTIFICATE);
     for (units, fault) in UNITS {
-        assert_eq!(rt; Machine::new(rt.alloc(), &accepted, units).err(), fault);
+        expect_fault(&rt, rt.alloc(), &accepted, units, fault);
     }
+}
+
+fn expect_fault(
+    rt: &impl Abort,
+    alloc: Global,
+    accepted: &Accepted,
+    units: u32,
+    fault: Option<MachineFault>,
+) {
+    assert!(rt; Machine::new(alloc, accepted, units).err() == fault);
 }
 
 // A program and a number of units, and whether a machine over `COUNT` on two units is over them.
@@ -34,13 +46,22 @@ const OVER: [(&str, u32, bool); 3] = [
 // Program and certificate are compared by value.
 #[test]
 fn machine_is_over_its_program(rt: HostRuntime) {
-    let count = accepted(rt.alloc(), COUNT, COUNT_CERTIFICATE).expect(&rt, "accepted");
-    let machine = Machine::new(rt.alloc(), &count, 2).ok();
-    let machine = machine.expect(&rt, "a machine");
+    let count = accepted(&rt, rt.alloc(), COUNT, COUNT_CERTIFICATE);
+    let machine = machine(&rt, rt.alloc(), &count, 2);
     for (program, units, is_over) in OVER {
-        let accepted = accepted(rt.alloc(), program, COUNT_CERTIFICATE).expect(&rt, "accepted");
-        assert_eq!(rt; machine.is_over(&accepted, units), is_over);
+        let accepted = accepted(&rt, rt.alloc(), program, COUNT_CERTIFICATE);
+        expect_over(&rt, &machine, &accepted, units, is_over);
     }
+}
+
+fn expect_over(
+    rt: &impl Abort,
+    machine: &Machine<'_>,
+    accepted: &Accepted,
+    units: u32,
+    is_over: bool,
+) {
+    assert!(rt; machine.is_over(accepted, units) == is_over);
 }
 
 fn place(rt: &impl Abort, index: u32) -> Place {
@@ -52,7 +73,7 @@ fn expect_chosen<P: Predict>(rt: &impl Abort, predictor: P, expected: &[u32]) {
     let mut predictor = predictor;
     let targets = [place(rt, 0), place(rt, 4), place(rt, 5)];
     for answer in expected {
-        assert_eq!(rt; predictor.choose(&targets), *answer);
+        assert!(rt; predictor.choose(&targets) == *answer);
     }
 }
 

@@ -1,11 +1,37 @@
-//! Registers, and events as a table can name them.
+//! Registers, accepted programs, machines, and events as a table can name them.
 
 use machine_events::event::Event;
+use mark_checker::accept::Accepted;
 use mips_instructions::number::Reg;
+use sequencer::machine::Machine;
+use std::alloc::Global;
 use std::process::Abort;
+use test_programs::acceptance;
 
 pub(crate) fn register(rt: &impl Abort, number: u8) -> Reg {
     Reg::new(number).expect(rt, "a register")
+}
+
+/// A program, accepted with its certificate.
+pub(crate) fn accepted(
+    rt: &impl Abort,
+    alloc: Global,
+    program: &str,
+    certificate: &str,
+) -> Accepted {
+    acceptance::accepted(alloc, program, certificate).expect(rt, "accepted")
+}
+
+/// A machine of so many units at the start of its program.
+pub(crate) fn machine<'a>(
+    rt: &impl Abort,
+    alloc: Global,
+    accepted: &'a Accepted,
+    units: u32,
+) -> Machine<'a> {
+    Machine::new(alloc, accepted, units)
+        .ok()
+        .expect(rt, "a machine")
 }
 
 /// An event, whose register is a number.

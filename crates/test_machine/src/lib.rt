@@ -1,4 +1,5 @@
-//! Tests of the machine.
+//! Tests of the calls of a port, of a unit and of the machine, and of runs in steps. The expected values are
+//! those of the machine's own rules, worked out by hand.
 #![tactic(auto)]
 
 #[cfg(test)]
@@ -10,6 +11,18 @@ mod facts;
 #[cfg(test)]
 mod given;
 #[cfg(test)]
+mod ports;
+#[cfg(test)]
+mod programs;
+#[cfg(test)]
+mod read_logs;
+#[cfg(test)]
 mod runs;
 #[cfg(test)]
+mod steps;
+#[cfg(test)]
 mod trial;
+#[cfg(test)]
+mod units;
+#[cfg(test)]
+mod values;

@@ -2,7 +2,7 @@
 
 use crate::facts::Fact;
 use crate::given::Told;
-use crate::trial::{Act, Row};
+use crate::trial::{Act, Row, run_all};
 use machine_events::event::Commit;
 use mips_plain::outcome::Read;
 use test_programs::certificates::{COUNT_CERTIFICATE, DIAMOND_CERTIFICATE};
@@ -204,7 +204,5 @@ const ROWS: [Row<'static>; 7] = [
 
 #[test]
 fn runs(rt: HostRuntime) {
-    for row in &ROWS {
-        row.runs(&rt, rt.alloc());
-    }
+    run_all(&rt, rt.alloc(), &ROWS);
 }

@@ -1,13 +1,11 @@
 //! A machine to which one thing after another is done.
 
 use crate::facts::Fact;
-use crate::given::{Told, register};
+use crate::given::{Told, accepted, machine, register};
 use machine_events::event::{Event, Refused};
-use mark_checker::accept::Accepted;
 use sequencer::machine::Machine;
 use std::alloc::Global;
 use std::process::Abort;
-use test_programs::acceptance::accepted;
 use unit_core::burst::{Burst, MOST_STEPS};
 
 /// What is done to a machine.
@@ -16,6 +14,8 @@ pub(crate) enum Act<'a> {
     Apply(Told),
     /// The event is applied to the other machine.
     ApplyToOther(Told),
+    /// The event is refused.
+    Refuse(Told),
     /// The unit at this position waits for this register.
     Wait(u32, u8),
     /// Head events are applied until h has grown by so much.
@@ -41,11 +41,18 @@ pub(crate) struct Row<'a> {
     pub(crate) acts: &'a [Act<'a>],
 }
 
+/// Does what each row says.
+pub(crate) fn run_all(rt: &impl Abort, alloc: Global, rows: &[Row<'_>]) {
+    for row in rows {
+        row.runs(rt, alloc);
+    }
+}
+
 impl Row<'_> {
     /// Does it all.
-    pub(crate) fn runs(&self, rt: &impl Abort, alloc: Global) {
-        let own = accepted(alloc, self.program, self.certificate).expect(rt, "accepted");
-        let other = accepted(alloc, self.other, self.certificate).expect(rt, "accepted");
+    fn runs(&self, rt: &impl Abort, alloc: Global) {
+        let own = accepted(rt, alloc, self.program, self.certificate);
+        let other = accepted(rt, alloc, self.other, self.certificate);
         let mut trial = Trial {
             machine: machine(rt, alloc, &own, self.units),
             other: machine(rt, alloc, &other, self.units),
@@ -55,12 +62,6 @@ impl Row<'_> {
             trial.does(rt, act);
         }
     }
-}
-
-fn machine<'a>(rt: &impl Abort, alloc: Global, accepted: &'a Accepted, units: u32) -> Machine<'a> {
-    Machine::new(alloc, accepted, units)
-        .ok()
-        .expect(rt, "a machine")
 }
 
 /// Two machines, and a burst that was made and not handed in.
@@ -76,8 +77,9 @@ impl Trial<'_> {
         match act {
             Act::Apply(told) => apply(rt, &mut self.machine, &told.event(rt)),
             Act::ApplyToOther(told) => apply(rt, &mut self.other, &told.event(rt)),
+            Act::Refuse(told) => refuse(rt, &mut self.machine, &told.event(rt)),
             Act::Wait(position, number) => wait(rt, &mut self.machine, *position, *number),
-            Act::Finish(k) => assert!(rt; self.machine.finish(*k).is_ok()),
+            Act::Finish(k) => finish(rt, &mut self.machine, *k),
             Act::Lend { unit, most, steps } => {
                 self.burst = Some(burst(rt, &self.machine, *unit, *most, *steps));
             }
@@ -91,7 +93,7 @@ impl Trial<'_> {
 
     fn hands_in(&mut self, rt: &impl Abort, events: u32) {
         let burst = self.burst.take().expect(rt, "a burst");
-        assert_eq!(rt; self.machine.apply_burst(burst).ok(), Some(events));
+        assert!(rt; self.machine.apply_burst(burst).ok() == Some(events));
     }
 }
 
@@ -101,10 +103,19 @@ fn apply(rt: &impl Abort, machine: &mut Machine<'_>, event: &Event) {
     assert!(rt; machine.apply(*event).is_ok());
 }
 
+fn refuse(rt: &impl Abort, machine: &mut Machine<'_>, event: &Event) {
+    assert!(rt; !machine.enabled(*event));
+    assert!(rt; machine.apply(*event).is_err());
+}
+
+fn finish(rt: &impl Abort, machine: &mut Machine<'_>, k: u64) {
+    assert!(rt; machine.finish(k).is_ok());
+}
+
 fn wait(rt: &impl Abort, machine: &mut Machine<'_>, position: u32, number: u8) {
     assert!(rt; !machine.enabled(Event::Exec(position)));
     let why = machine.apply(Event::Exec(position)).err();
-    assert_eq!(rt; why, Some(Refused::Waiting(register(rt, number))));
+    assert!(rt; why == Some(Refused::Waiting(register(rt, number))));
 }
 
 fn burst<'a>(
@@ -116,6 +127,6 @@ fn burst<'a>(
 ) -> Burst<'a> {
     assert!(rt; most <= MOST_STEPS);
     let burst = Burst::run(machine.lease(unit).expect(rt, "a unit at work"), most);
-    assert_eq!(rt; burst.steps(), steps);
+    assert!(rt; burst.steps() == steps);
     burst
 }

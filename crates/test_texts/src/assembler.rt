@@ -24,9 +24,9 @@ halt";
 #[test]
 fn two_tasks(rt: HostRuntime) {
     let program = assembled(&rt, rt.alloc(), COUNT);
-    assert_eq!(rt; program.code().len(), 6);
-    assert_eq!(rt; program.tasks().len(), 2);
-    assert_eq!(rt; program.start().get(), 0);
+    assert!(rt; program.code().len() == 6);
+    assert!(rt; program.tasks().len() == 2);
+    assert!(rt; program.start().get() == 0);
 }
 
 const PSEUDO: &str = ".task A create=$8 targets=-
@@ -53,13 +53,13 @@ fn pseudo_instructions(rt: HostRuntime) {
         Op::Halt,
     ];
     expect_ops(&rt, &program, &wanted);
-    assert_eq!(rt; program.bytes(), [0, 0, 0, 2, 1, 0, 0].as_slice());
+    assert!(rt; program.bytes() == [0, 0, 0, 2, 1, 0, 0].as_slice());
 }
 
 // Asserts the instructions, of which the second alone is to forward: there stands the mark of the first
 // pseudo-instruction, which is two.
 fn expect_ops(rt: &impl Abort, program: &Program, wanted: &[Op]) {
-    assert_eq!(rt; program.code().len(), wanted.len());
+    assert!(rt; program.code().len() == wanted.len());
     for (index, (marked, op)) in program.code().iter().zip(wanted).enumerate() {
         assert!(rt; marked.op == *op, "{op:?}");
         assert!(rt; marked.forward == (index == 1), "{op:?}");
@@ -76,7 +76,7 @@ const FAULTS: [(&str, AsmFault); 3] = [
 fn faults(rt: HostRuntime) {
     for (text, fault) in FAULTS {
         let answer = assemble(rt.alloc(), text.as_bytes()).err();
-        assert_eq!(rt; answer, Some(fault));
+        assert!(rt; answer == Some(fault));
     }
 }
 
@@ -97,9 +97,9 @@ fn labels_chosen_to_collide(rt: HostRuntime) -> Result<(), Fail> {
     let text = labels_of_one_hash(rt.alloc())?;
     for _ in 0..4 {
         let program = assembled(&rt, rt.alloc(), text.as_str());
-        assert_eq!(rt; program.code().len(), 1);
-        assert_eq!(rt; program.tasks().len(), 1);
-        assert_eq!(rt; program.start().get(), 0);
+        assert!(rt; program.code().len() == 1);
+        assert!(rt; program.tasks().len() == 1);
+        assert!(rt; program.start().get() == 0);
     }
     Ok(())
 }

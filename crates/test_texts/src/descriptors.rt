@@ -49,24 +49,24 @@ fn builds_parts_made_by_hand(rt: HostRuntime) {
     let built = Program::build(parts(&rt, rt.alloc()));
     let program = built.ok().expect(&rt, "a program");
     expect_parts(&rt, &program);
-    assert_eq!(rt; program.tasks().len(), 1);
+    assert!(rt; program.tasks().len() == 1);
     expect_task(&rt, &program.tasks()[0]);
 }
 
 // Asserts that a program has the code and data of the parts.
 fn expect_parts(rt: &impl Abort, program: &Program) {
-    assert_eq!(rt; program.code(), [last_jump(rt)].as_slice());
-    assert_eq!(rt; program.bytes(), [5].as_slice());
-    assert_eq!(rt; program.fixed(), [7].as_slice());
-    assert_eq!(rt; program.start(), place(rt, 0));
+    assert!(rt; program.code() == [last_jump(rt)].as_slice());
+    assert!(rt; program.bytes() == [5].as_slice());
+    assert!(rt; program.fixed() == [7].as_slice());
+    assert!(rt; program.start() == place(rt, 0));
 }
 
 // Asserts that a task is that of the parts.
 fn expect_task(rt: &impl Abort, task: &Descriptor) {
-    assert_eq!(rt; task.name.bytes(), b"A".as_slice());
-    assert_eq!(rt; task.entry, place(rt, 0));
-    assert_eq!(rt; task.create.bits(), 0x100);
-    assert_eq!(rt; task.targets.as_slice(), [place(rt, 0)].as_slice());
+    assert!(rt; task.name.bytes() == b"A".as_slice());
+    assert!(rt; task.entry == place(rt, 0));
+    assert!(rt; task.create.bits() == 0x100);
+    assert!(rt; task.targets.as_slice() == [place(rt, 0)].as_slice());
 }
 
 #[test]
@@ -76,21 +76,23 @@ fn builds_and_reads(rt: HostRuntime) {
     expect_sizes(&rt, &program);
     expect_indices(&rt, &program);
     expect_beginning(&rt, rt.alloc(), &program);
-    assert_eq!(rt; program.parts().code.len(), 6);
+    assert!(rt; program.parts().code.len() == 6);
 }
 
 fn expect_sizes(rt: &impl Abort, program: &Program) {
-    assert_eq!(rt; (program.code().len(), program.tasks().len()), (6, 2));
-    assert_eq!(rt; program.start().get(), 0);
+    assert!(rt; program.code().len() == 6);
+    assert!(rt; program.tasks().len() == 2);
+    assert!(rt; program.start().get() == 0);
     assert!(rt; program.bytes().is_empty());
-    assert_eq!(rt; program.fixed(), [7].as_slice());
+    assert!(rt; program.fixed() == [7].as_slice());
 }
 
 // Asserts that the plain machine of a program begins with its first instruction.
 fn expect_beginning(rt: &impl Abort, alloc: Global, program: &Program) {
     let machine = program.plain(alloc).ok();
     let machine = machine.expect(rt, "room for a machine");
-    assert_eq!(rt; (machine.pc(), machine.count()), (0x0040_0000, 0));
+    assert!(rt; machine.pc() == 0x0040_0000);
+    assert!(rt; machine.count() == 0);
 }
 
 // Addresses, and the instruction that is there.
@@ -102,11 +104,11 @@ const INDICES: [(u32, Option<u32>); 3] = [
 
 fn expect_indices(rt: &impl Abort, program: &Program) {
     for (address, index) in INDICES {
-        assert_eq!(rt; program.index(address), index, "{address:#x}");
+        assert!(rt; program.index(address) == index, "{address:#x}");
     }
-    assert_eq!(rt; program.address(place(rt, 4)), 0x0040_0010);
-    assert_eq!(rt; program.task_at(4), Some(1));
-    assert_eq!(rt; program.task_at(5), None);
+    assert!(rt; program.address(place(rt, 4)) == 0x0040_0010);
+    assert!(rt; program.task_at(4) == Some(1));
+    assert!(rt; program.task_at(5) == None);
 }
 
 #[test]
@@ -129,8 +131,8 @@ fn refuses_a_forward_bit_on_halt(rt: HostRuntime) {
     match Program::build(parts) {
         Ok(_) => panic!(rt; "accepted"),
         Err((parts, fault)) => {
-            assert_eq!(rt; fault, BuildFault::BadMark(6));
-            assert_eq!(rt; parts.code.len(), 7);
+            assert!(rt; fault == BuildFault::BadMark(6));
+            assert!(rt; parts.code.len() == 7);
         }
     }
 }
@@ -142,10 +144,10 @@ const NAMES: [(&str, bool); 3] = [("_loop1", true), ("1loop", false), ("", false
 fn names(rt: HostRuntime) {
     for (text, is_name) in NAMES {
         let name = Name::new(text.as_bytes());
-        assert_eq!(rt; name.is_some(), is_name);
+        assert!(rt; name.is_some() == is_name);
         if let Some(name) = name {
-            assert_eq!(rt; name.bytes(), text.as_bytes());
-            assert_eq!(rt; name.as_str(), text);
+            assert!(rt; name.bytes() == text.as_bytes());
+            assert!(rt; name.as_str() == text);
         }
     }
 }
@@ -160,8 +162,8 @@ const BYTES: [(u8, bool, bool); 3] = [
 #[test]
 fn bytes_of_names(rt: HostRuntime) {
     for (byte, begins, continues) in BYTES {
-        assert_eq!(rt; begins_name(byte), begins);
-        assert_eq!(rt; continues_name(byte), continues);
+        assert!(rt; begins_name(byte) == begins);
+        assert!(rt; continues_name(byte) == continues);
     }
 }
 
@@ -169,6 +171,6 @@ fn bytes_of_names(rt: HostRuntime) {
 fn places(rt: HostRuntime) {
     let three = place(&rt, 3);
     let places = Places::new(one(&rt, rt.alloc(), three));
-    assert_eq!(rt; places.as_slice(), [three].as_slice());
-    assert_eq!(rt; places.into_vec().len(), 1);
+    assert!(rt; places.as_slice() == [three].as_slice());
+    assert!(rt; places.into_vec().len() == 1);
 }

@@ -45,7 +45,8 @@ fn an_instruction_with_marks(rt: HostRuntime) {
     };
     match statement(&rt, rt.alloc(), Section::Text, "bne $8,$0,A !s!f") {
         Statement::Code(instruction, found) => {
-            assert_eq!(rt; (instruction, found), (branch, marks));
+            assert!(rt; instruction == branch);
+            assert!(rt; found == marks);
         }
         _ => panic!(rt; "no instruction"),
     }
@@ -56,7 +57,7 @@ fn words(rt: HostRuntime) {
     match statement(&rt, rt.alloc(), Section::Data, ".word 258,-1") {
         Statement::Bytes(bytes) => {
             let wanted = [2, 1, 0, 0, 255, 255, 255, 255];
-            assert_eq!(rt; bytes.as_slice(), wanted.as_slice());
+            assert!(rt; bytes.as_slice() == wanted.as_slice());
         }
         _ => panic!(rt; "no bytes"),
     }
@@ -68,9 +69,9 @@ fn a_task(rt: HostRuntime) {
     let line = ".task A create=$8,$0 targets=A,@2";
     match statement(&rt, rt.alloc(), Section::Rodata, line) {
         Statement::Task(task) => {
-            assert_eq!(rt; task.name, name(&rt));
-            assert_eq!(rt; task.create.bits(), 0x101);
-            assert_eq!(rt; task.targets.as_slice(), targets.as_slice());
+            assert!(rt; task.name == name(&rt));
+            assert!(rt; task.create.bits() == 0x101);
+            assert!(rt; task.targets.as_slice() == targets.as_slice());
         }
         _ => panic!(rt; "no task"),
     }
@@ -85,7 +86,7 @@ const FAULTS: [(&str, StatementFault); 2] = [
 fn faults(rt: HostRuntime) {
     for (line, fault) in FAULTS {
         match answer(&rt, rt.alloc(), Section::Text, line) {
-            Err(StatementError::Fault(found)) => assert_eq!(rt; found, fault),
+            Err(StatementError::Fault(found)) => assert!(rt; found == fault),
             _ => panic!(rt; "{fault:?} is wanted"),
         }
     }

@@ -17,15 +17,15 @@ fn an_instruction(rt: HostRuntime) {
         Token::Number(Number::Small(-1)),
         Token::Mark(Mark::Forward),
     ];
-    assert_eq!(rt; tokens.get(1..), Some(behind_the_name.as_slice()));
+    assert!(rt; tokens.get(1..) == Some(behind_the_name.as_slice()));
 }
 
 #[test]
 fn lines_of_a_text(rt: HostRuntime) {
     let (line, rest) = first_line(b".word1,2\r\n1a");
-    assert_eq!(rt; line, b".word1,2\r".as_slice());
+    assert!(rt; line == b".word1,2\r".as_slice());
     let (line, rest) = first_line(rest.expect(&rt, "a second line"));
-    assert_eq!(rt; line, b"1a".as_slice());
+    assert!(rt; line == b"1a".as_slice());
     assert!(rt; rest.is_none());
 }
 
@@ -64,8 +64,8 @@ fn reads_lines(rt: HostRuntime) {
     let mut tokens = Vec::new(rt.alloc());
     for line in &LINES {
         let answer = read_tokens(&mut tokens, line.text);
-        assert_eq!(rt; answer.err(), line.fault);
-        assert_eq!(rt; tokens.len(), line.tokens);
-        assert_eq!(rt; tokens.first().copied(), line.first);
+        assert!(rt; answer.err() == line.fault);
+        assert!(rt; tokens.len() == line.tokens);
+        assert!(rt; tokens.first().copied() == line.first);
     }
 }

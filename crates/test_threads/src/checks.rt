@@ -8,6 +8,7 @@ use parallel_check::checking::{accepts_shared, verdict_shared};
 use parallel_check::fault::ShareFault;
 use parallel_check::gate::Open;
 use std::alloc::Global;
+use std::process::Abort;
 use task_descriptor::program::Program;
 use test_programs::acceptance::parts;
 use test_programs::certificates::{COUNT_CERTIFICATE, FIVE_FINDINGS_CERTIFICATE};
@@ -92,7 +93,7 @@ impl Row<'_> {
         self.expect_findings(rt, alloc, &program, &cert, workers);
         let accepts = accepts_shared(rt, alloc, &program, &cert, workers, &Open);
         let is_accepted = self.findings.is_empty();
-        assert_eq!(rt; accepts, Ok(is_accepted), "{workers} workers");
+        assert!(rt; accepts == Ok(is_accepted), "{workers} workers");
     }
 
     fn expect_findings(
@@ -105,11 +106,15 @@ impl Row<'_> {
     ) {
         let verdict = verdict_shared(rt, alloc, program, cert, workers, &Open).ok();
         let found = verdict.expect(rt, "room for findings").findings;
-        assert_eq!(rt; found.as_slice().len(), self.findings.len());
+        assert!(rt; found.as_slice().len() == self.findings.len());
         for (found, wanted) in found.as_slice().iter().zip(self.findings) {
-            assert_eq!(rt; *found, wanted.finding(), "{workers} workers");
+            expect_found(rt, found, wanted, workers);
         }
     }
+}
+
+fn expect_found(rt: &impl Abort, found: &Finding, wanted: &Wanted, workers: u32) {
+    assert!(rt; *found == wanted.finding(), "{workers} workers");
 }
 
 #[test]
@@ -131,7 +136,7 @@ fn refuses_other_numbers_of_workers(rt: HostRuntime) {
 
 fn expect_refused(rt: &impl Bench, alloc: Global, program: &Program, cert: &Cert, workers: u32) {
     let verdict = verdict_shared(rt, alloc, program, cert, workers, &Open).err();
-    assert_eq!(rt; verdict, Some(ShareFault::Workers), "{workers} workers");
+    assert!(rt; verdict == Some(ShareFault::Workers), "{workers} workers");
     let accepts = accepts_shared(rt, alloc, program, cert, workers, &Open).err();
-    assert_eq!(rt; accepts, Some(ShareFault::Workers), "{workers} workers");
+    assert!(rt; accepts == Some(ShareFault::Workers), "{workers} workers");
 }

@@ -88,14 +88,19 @@ fn several_workers_read_what_one_reads(rt: HostRuntime) {
     let whole = whole.expect(&rt, "a certificate");
     for (pieces, workers) in SHARES {
         let text = in_pieces(&rt, rt.alloc(), text.as_str(), pieces);
-        let cert = read_shared(&rt, rt.alloc(), &text, &program, workers).ok();
-        expect_same(&rt, &cert.expect(&rt, "a certificate"), &whole);
+        let cert = read_by(&rt, rt.alloc(), &program, &text, workers);
+        expect_same(&rt, &cert, &whole);
     }
+}
+
+fn read_by(rt: &impl Bench, alloc: Global, program: &Program, text: &Text, workers: u32) -> Cert {
+    let cert = read_shared(rt, alloc, text, program, workers).ok();
+    cert.expect(rt, "a certificate")
 }
 
 fn expect_same(rt: &impl Abort, cert: &Cert, whole: &Cert) {
     for task in [0, 1] {
-        assert_eq!(rt; cert.list(task).len(), 4096);
+        assert!(rt; cert.list(task).len() == 4096);
         assert!(rt; cert.list(task) == whole.list(task));
     }
 }
@@ -169,26 +174,30 @@ const LONG: [Long<'static>; 11] = [
 fn several_workers_find_the_first_fault(rt: HostRuntime) {
     let (program, _) = parts(rt.alloc(), COUNT, COUNT_CERTIFICATE).expect(&rt, "parts");
     for long in &LONG {
-        let text = long.text(&rt, rt.alloc());
-        let fault = read(rt.alloc(), text.as_bytes(), &program).err();
-        assert_eq!(rt; fault, long.fault);
-        expect_fault(&rt, rt.alloc(), &program, text.as_str(), fault);
+        expect_fault(&rt, rt.alloc(), &program, long);
     }
 }
 
-// Asserts that all numbers of pieces and of workers give the same.
-fn expect_fault(
+// Asserts the fault of a text, and that all numbers of pieces and of workers give the same.
+fn expect_fault(rt: &impl Bench, alloc: Global, program: &Program, long: &Long<'_>) {
+    let text = long.text(rt, alloc);
+    let fault = read(alloc, text.as_bytes(), program).err();
+    assert!(rt; fault == long.fault);
+    for pieces in [1, 2, 7] {
+        let text = in_pieces(rt, alloc, text.as_str(), pieces);
+        expect_fault_by_any(rt, alloc, program, &text, fault);
+    }
+}
+
+fn expect_fault_by_any(
     rt: &impl Bench,
     alloc: Global,
     program: &Program,
-    text: &str,
+    text: &Text,
     fault: Option<CertFault>,
 ) {
-    for pieces in [1, 2, 7] {
-        let text = in_pieces(rt, alloc, text, pieces);
-        for workers in [1, 2, 3, 16] {
-            let again = read_shared(rt, alloc, &text, program, workers).err();
-            assert_eq!(rt; again, fault, "{workers} workers, {pieces} pieces");
-        }
+    for workers in [1, 2, 3, 16] {
+        let again = read_shared(rt, alloc, text, program, workers).err();
+        assert!(rt; again == fault, "{workers} workers");
     }
 }

@@ -95,23 +95,38 @@ impl Row<'_> {
         expect_counts(rt, &report, units);
     }
 
-    fn expect_report(&self, rt: &impl Abort, report: &Report<'_>) {
-        assert_eq!(rt; report.how, How::Ended);
-        assert_eq!(rt; report.machine.outcome(), self.standing);
-        assert_eq!(rt; report.machine.output(), self.output);
-        assert_eq!(rt; report.machine.commits().len(), self.commits);
-        assert_eq!(rt; report.machine.counts(), self.counts);
+    // Asserts how a run on four units ends that has so many workers.
+    fn runs_by(&self, rt: &impl Bench, alloc: Global, accepted: &Accepted, workers: u32) {
+        let report = run_workers(rt, alloc, accepted, 4, workers, 1_000_000, Last, &Open);
+        let report = report.ok().expect(rt, "a report");
+        self.expect_report(rt, &report);
+        expect_counts(rt, &report, workers);
     }
+
+    fn expect_report(&self, rt: &impl Abort, report: &Report<'_>) {
+        assert!(rt; report.how == How::Ended);
+        assert!(rt; report.machine.outcome() == self.standing);
+        assert!(rt; report.machine.output() == self.output);
+        assert!(rt; report.machine.commits().len() == self.commits);
+        expect_c_and_h(rt, report, self.counts);
+    }
+}
+
+/// Asserts c and h of a run's machine.
+pub(crate) fn expect_c_and_h(rt: &impl Abort, report: &Report<'_>, expected: (u64, u64)) {
+    let (c, h) = report.machine.counts();
+    assert!(rt; c == expected.0);
+    assert!(rt; h == expected.1);
 }
 
 /// Asserts that each event of the history is counted for one of so many workers.
 pub(crate) fn expect_counts(rt: &impl Abort, report: &Report<'_>, workers: u32) {
-    assert_eq!(rt; report.counts.len(), workers as usize);
+    assert!(rt; report.counts.len() == workers as usize);
     let mut all: u64 = 0;
     for count in &report.counts {
         all = all.wrapping_add(*count);
     }
-    assert_eq!(rt; all, report.machine.length() as u64);
+    assert!(rt; all == report.machine.length() as u64);
 }
 
 #[test]
@@ -128,16 +143,17 @@ fn runs_programs(rt: HostRuntime) {
 fn runs_out_of_budget(rt: HostRuntime) {
     let accepted = accepted(rt.alloc(), SPIN, SPIN_CERTIFICATE).expect(&rt, "accepted");
     for units in UNITS {
-        let report = run_threads(&rt, rt.alloc(), &accepted, units, 100, First, &Open);
-        expect_spun(&rt, &report.ok().expect(&rt, "a report"), units);
+        expect_spun(&rt, rt.alloc(), &accepted, units);
     }
 }
 
-fn expect_spun(rt: &impl Abort, report: &Report<'_>, units: u32) {
-    assert_eq!(rt; report.how, How::OutOfBudget);
-    assert_eq!(rt; report.machine.outcome(), Standing::Running);
+fn expect_spun(rt: &impl Bench, alloc: Global, accepted: &Accepted, units: u32) {
+    let report = run_threads(rt, alloc, accepted, units, 100, First, &Open);
+    let report = report.ok().expect(rt, "a report");
+    assert!(rt; report.how == How::OutOfBudget);
+    assert!(rt; report.machine.outcome() == Standing::Running);
     assert!(rt; report.machine.length() >= 100);
-    expect_counts(rt, report, units);
+    expect_counts(rt, &report, units);
 }
 
 /// The numbers of a run, and what is wrong with them.
@@ -192,10 +208,15 @@ const BAD_NUMBERS: [Numbers; 6] = [
 fn bad_numbers(rt: HostRuntime) {
     let accepted = COUNTED.accepted(&rt, rt.alloc());
     for bad in &BAD_NUMBERS {
-        let (units, workers, budget) = (bad.units, bad.workers, bad.budget);
-        let alloc = rt.alloc();
-        let answer = run_workers(&rt, alloc, &accepted, units, workers, budget, First, &Open);
-        assert_eq!(rt; answer.err(), Some(bad.fault));
+        bad.are_refused(&rt, rt.alloc(), &accepted);
+    }
+}
+
+impl Numbers {
+    fn are_refused(&self, rt: &impl Bench, alloc: Global, accepted: &Accepted) {
+        let (units, workers, budget) = (self.units, self.workers, self.budget);
+        let answer = run_workers(rt, alloc, accepted, units, workers, budget, First, &Open);
+        assert!(rt; answer.err() == Some(self.fault));
     }
 }
 
@@ -203,16 +224,12 @@ fn bad_numbers(rt: HostRuntime) {
 fn fewer_workers_than_units(rt: HostRuntime) {
     let accepted = COUNTED.accepted(&rt, rt.alloc());
     for workers in [1, 2, 3] {
-        let alloc = rt.alloc();
-        let report = run_workers(&rt, alloc, &accepted, 4, workers, 1_000_000, Last, &Open);
-        let report = report.ok().expect(&rt, "a report");
-        COUNTED.expect_report(&rt, &report);
-        expect_counts(&rt, &report, workers);
+        COUNTED.runs_by(&rt, rt.alloc(), &accepted, workers);
     }
 }
 
 /// Answers a number that is beyond every list of targets.
-#[derive(Clone, Copy, Debug)]
+#[derive(Drop)]
 struct Large;
 
 impl Predict for Large {

@@ -1,26 +1,30 @@
 //! Events that are played and traced.
 
+use crate::given::machine;
 use annotated_asm::assembler::assemble;
 use annotator::certify::certify;
 use event_json::lines::lines;
 use event_trace::trace::trace;
 use machine_events::event::Event;
 use mark_checker::accept::Accepted;
-use mips_instructions::number::Reg;
 use sequencer::machine::Machine;
 use std::alloc::Global;
 use std::process::Abort;
 
-pub(crate) fn register(rt: &impl Abort, number: u8) -> Reg {
-    Reg::new(number).expect(rt, "a register")
-}
-
-fn accepted(rt: &impl Abort, alloc: Global, program: &str) -> Accepted {
+// A program, accepted with its least certificate.
+fn certified(rt: &impl Abort, alloc: Global, program: &str) -> Accepted {
     let program = assemble(alloc, program.as_bytes()).ok();
     let program = program.expect(rt, "a program");
     let cert = certify(alloc, &program).ok();
     let cert = cert.expect(rt, "a certificate");
     Accepted::new(program, cert).ok().expect(rt, "accepted")
+}
+
+// Plays the events; some may be refused.
+fn play(machine: &mut Machine<'_>, events: &[Event]) {
+    for event in events {
+        let _ = machine.apply(*event);
+    }
 }
 
 /// Plays the events on a machine of so many units, and compares their trace.
@@ -32,12 +36,9 @@ pub(crate) fn expect_trace(
     events: &[Event],
     expected: &str,
 ) {
-    let accepted = accepted(rt, alloc, program);
-    let machine = Machine::new(alloc, &accepted, units).ok();
-    let mut machine = machine.expect(rt, "a machine");
-    for event in events {
-        let _ = machine.apply(*event);
-    }
+    let accepted = certified(rt, alloc, program);
+    let mut machine = machine(rt, alloc, &accepted, units);
+    play(&mut machine, events);
     let text = trace(
         alloc,
         &accepted,
@@ -47,7 +48,7 @@ pub(crate) fn expect_trace(
         &machine,
     );
     let text = text.ok().expect(rt, "room for a trace");
-    assert_eq!(rt; text.as_str(), expected);
+    assert!(rt; text.as_str() == expected);
 }
 
 /// Plays the events on a machine of so many units, and compares their lines of JSON.
@@ -59,12 +60,9 @@ pub(crate) fn expect_lines(
     events: &[Event],
     expected: &str,
 ) {
-    let accepted = accepted(rt, alloc, program);
-    let machine = Machine::new(alloc, &accepted, units).ok();
-    let mut machine = machine.expect(rt, "a machine");
-    for event in events {
-        let _ = machine.apply(*event);
-    }
+    let accepted = certified(rt, alloc, program);
+    let mut machine = machine(rt, alloc, &accepted, units);
+    play(&mut machine, events);
     let text = lines(
         alloc,
         &accepted,
@@ -74,5 +72,5 @@ pub(crate) fn expect_lines(
         &machine,
     );
     let text = text.ok().expect(rt, "room for lines");
-    assert_eq!(rt; text.as_str(), expected);
+    assert!(rt; text.as_str() == expected);
 }

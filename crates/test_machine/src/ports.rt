@@ -1,5 +1,6 @@
 //! The worked example of the port: the same calls on a plain form of it, two arrays of options.
 
+use crate::given::register;
 use mips_instructions::number::{Reg, RegSet};
 use register_ring::held::RegisterWords;
 use register_ring::members::next_member;
@@ -91,14 +92,14 @@ fn mask(rt: &impl Abort, draw: u32) -> RegSet {
 
 /// One call on both, by a drawn number, with the same answer.
 fn call(rt: &impl Abort, port: &mut Port, plain: &mut PlainPort, create: RegSet, draw: u32) {
-    let register = Reg::new(((draw >> 16) % 34) as u8).expect(rt, "a register");
+    let register = register(rt, ((draw >> 16) % 34) as u8);
     match (draw >> 8) % 32 {
-        0..=9 => assert_eq!(rt; port.arrive(register, draw), plain.arrive(register, draw)),
+        0..=9 => assert!(rt; port.arrive(register, draw) == plain.arrive(register, draw)),
         10..=19 => {
             port.send(register, draw);
             plain.send(register, draw);
         }
-        20..=30 => assert_eq!(rt; port.pass(create, register), plain.pass(create, register)),
+        20..=30 => assert!(rt; port.pass(create, register) == plain.pass(create, register)),
         _ => {
             let words = words_from(draw);
             port.fill(&words);
@@ -110,9 +111,9 @@ fn call(rt: &impl Abort, port: &mut Port, plain: &mut PlainPort, create: RegSet,
 /// Both hold the same of each register.
 fn compare(rt: &impl Abort, port: &Port, plain: &PlainPort) {
     for index in 0..34usize {
-        let register = Reg::new(index as u8).expect(rt, "a register");
-        assert_eq!(rt; port.arrived(register), plain.arrived[index]);
-        assert_eq!(rt; port.sent(register), plain.sent[index]);
+        let register = register(rt, index as u8);
+        assert!(rt; port.arrived(register) == plain.arrived[index]);
+        assert!(rt; port.sent(register) == plain.sent[index]);
     }
 }
 
@@ -152,16 +153,16 @@ fn down_to_five() -> [u32; 34] {
 
 #[test]
 fn each_call_of_a_port_once(rt: HostRuntime) {
-    let (r8, r33) = (Reg::new(8).expect(&rt, "a register"), Reg::LO);
+    let (r8, r33) = (register(&rt, 8), Reg::LO);
     let eight = RegSet::empty().insert(r8);
     let mut port = Port::fresh(&down_to_five(), Port::accum(&[RegSet::empty(), eight]));
-    assert_eq!(rt; port.arrived(r8), None);
-    assert_eq!(rt; port.arrive(r8, 2), Ok(()));
-    assert_eq!(rt; port.arrive(r8, 3), Err(AlreadyThere));
+    assert!(rt; port.arrived(r8) == None);
+    assert!(rt; port.arrive(r8, 2) == Ok(()));
+    assert!(rt; port.arrive(r8, 3) == Err(AlreadyThere));
     port.send(r33, 7);
     port.send(r33, 9);
-    assert_eq!(rt; port.pass(eight.insert(r33), r33), Some(7));
-    assert_eq!(rt; port.pass(eight, r33), Some(5));
+    assert!(rt; port.pass(eight.insert(r33), r33) == Some(7));
+    assert!(rt; port.pass(eight, r33) == Some(5));
     expect_sets(&rt, &port, r8, r33);
     let fresh = Port::fresh(&down_to_five(), eight);
     assert!(rt; fresh.with_sent(&port).is_within(&port));
@@ -175,13 +176,13 @@ fn expect_sets(rt: &impl Abort, port: &Port, arrived: Reg, sent: Reg) {
 
 #[test]
 fn each_call_of_a_set_and_words_once(rt: HostRuntime) {
-    let r8 = Reg::new(8).expect(&rt, "a register");
+    let r8 = register(&rt, 8);
     let eight = RegSet::empty().insert(r8);
-    assert_eq!(rt; next_member(eight, 0), Some(r8));
-    assert_eq!(rt; next_member(eight, 9), None);
+    assert!(rt; next_member(eight, 0) == Some(r8));
+    assert!(rt; next_member(eight, 9) == None);
     let mut words = RegisterWords::all_but(&[1; 34], eight);
     assert!(rt; !words.is_same(&RegisterWords::none()));
     words.put(r8, 4);
     words.fill(&[6; 34]);
-    assert_eq!(rt; words.get(r8), Some(4));
+    assert!(rt; words.get(r8) == Some(4));
 }

@@ -2,7 +2,7 @@
 
 ghost use Rattle.std.specs.Prelude.{◌<◌};
 
-use crate::given::{A_DROP, apply_all, life, machine, two_rounds};
+use crate::given::{A_DROP, accepted, life, played, two_rounds};
 use machine_events::event::Event;
 use mark_checker::accept::Accepted;
 use run_summary::summary::write;
@@ -13,60 +13,75 @@ use std::process::Abort;
 use task_lives::laws::histories_fit;
 use task_lives::life::Ending;
 use task_lives::lives::lives_of_runs;
-use test_programs::acceptance::accepted;
 use test_programs::certificates::{COUNT_CERTIFICATE, DIAMOND_CERTIFICATE};
 use test_programs::programs::{COUNT, DIAMOND};
 
+// Asserts the summary of a machine of so many units after some events.
 fn expect_summary(
+    rt: &impl Abort,
+    alloc: Global,
+    program: &str,
+    certificate: &str,
+    units: u32,
+    events: &[Event],
+    expected: &str,
+) {
+    let accepted = accepted(rt, alloc, program, certificate);
+    let machine = played(rt, alloc, &accepted, units, events);
+    let text = summary(rt, alloc, &accepted, &machine, units);
+    assert!(rt; text.as_slice() == expected.as_bytes());
+}
+
+fn summary(
     rt: &impl Abort,
     alloc: Global,
     accepted: &Accepted,
     machine: &Machine<'_>,
     units: u32,
-    expected: &str,
-)
+) -> Vec<u8>
     requires { 0 < units }
 {
     histories_fit();
     let lives = lives_of_runs(alloc, machine.history(), units).ok();
     let lives = lives.expect(rt, "room for lives");
     let text = write(alloc, accepted.program(), &lives).ok();
-    let text = text.expect(rt, "room for a summary");
-    assert_eq!(rt; text.as_slice(), expected.as_bytes());
+    text.expect(rt, "room for a summary")
 }
 
 // Nothing was assigned.
 #[test]
 fn no_events(rt: HostRuntime) {
-    let accepted = accepted(rt.alloc(), COUNT, COUNT_CERTIFICATE).expect(&rt, "accepted");
-    let machine = machine(&rt, rt.alloc(), &accepted, 2);
     let expected = "assigned  retired  squashed  dropped  unfinished  useful  wasted  task
        0        0         0        0           0       0       0  A
        0        0         0        0           0       0       0  B
        0        0         0        0           0       0       0  (all)
 ";
-    expect_summary(&rt, rt.alloc(), &accepted, &machine, 2, expected);
+    expect_summary(&rt, rt.alloc(), COUNT, COUNT_CERTIFICATE, 2, &[], expected);
 }
 
 // The instructions of the unfinished round are of no column.
 #[test]
 fn rounds_and_a_squash(rt: HostRuntime) {
-    let accepted = accepted(rt.alloc(), COUNT, COUNT_CERTIFICATE).expect(&rt, "accepted");
-    let mut machine = machine(&rt, rt.alloc(), &accepted, 2);
-    two_rounds(&rt, &mut machine);
+    let events = two_rounds(&rt);
     let expected = "assigned  retired  squashed  dropped  unfinished  useful  wasted  task
        2        1         0        0           1       4       0  A
        1        0         1        0           0       0       0  B
        3        1         1        0           1       4       0  (all)
 ";
-    expect_summary(&rt, rt.alloc(), &accepted, &machine, 2, expected);
+    expect_summary(
+        &rt,
+        rt.alloc(),
+        COUNT,
+        COUNT_CERTIFICATE,
+        2,
+        &events,
+        expected,
+    );
 }
 
 // The wrong side of `DIAMOND` and what stands behind it execute an instruction each, and are squashed.
 #[test]
 fn wasted_work(rt: HostRuntime) {
-    let accepted = accepted(rt.alloc(), DIAMOND, DIAMOND_CERTIFICATE).expect(&rt, "accepted");
-    let mut machine = machine(&rt, rt.alloc(), &accepted, 3);
     let events = [
         Event::Assign(0),
         Event::Assign(1),
@@ -85,7 +100,6 @@ fn wasted_work(rt: HostRuntime) {
         Event::Exec(0),
         Event::Exec(0),
     ];
-    apply_all(&rt, &mut machine, &events);
     let expected = "assigned  retired  squashed  dropped  unfinished  useful  wasted  task
        1        1         0        0           0       2       0  A
        1        0         1        0           0       0       1  B
@@ -93,21 +107,34 @@ fn wasted_work(rt: HostRuntime) {
        2        0         1        0           1       0       1  D
        5        2         2        0           1       3       2  (all)
 ";
-    expect_summary(&rt, rt.alloc(), &accepted, &machine, 3, expected);
+    expect_summary(
+        &rt,
+        rt.alloc(),
+        DIAMOND,
+        DIAMOND_CERTIFICATE,
+        3,
+        &events,
+        expected,
+    );
 }
 
 // A Drop takes two of four tasks.
 #[test]
 fn a_drop(rt: HostRuntime) {
-    let accepted = accepted(rt.alloc(), COUNT, COUNT_CERTIFICATE).expect(&rt, "accepted");
-    let mut machine = machine(&rt, rt.alloc(), &accepted, 3);
-    apply_all(&rt, &mut machine, &A_DROP);
     let expected = "assigned  retired  squashed  dropped  unfinished  useful  wasted  task
        3        0         0        1           2       0       0  A
        1        0         0        1           0       0       0  B
        4        0         0        2           2       0       0  (all)
 ";
-    expect_summary(&rt, rt.alloc(), &accepted, &machine, 3, expected);
+    expect_summary(
+        &rt,
+        rt.alloc(),
+        COUNT,
+        COUNT_CERTIFICATE,
+        3,
+        &A_DROP,
+        expected,
+    );
 }
 
 // Four lives, one of each ending, of which the last is of a task behind the others.
@@ -128,7 +155,7 @@ fn tallies_of_four_lives(rt: HostRuntime) {
         useful: 10,
         wasted: 70,
     };
-    assert_eq!(rt; add_up(&lives), all);
+    assert!(rt; add_up(&lives) == all);
     let first = Tally {
         assigned: 1,
         retired: 0,
@@ -149,5 +176,5 @@ fn tallies_of_four_lives(rt: HostRuntime) {
     };
     let tallies = by_task(rt.alloc(), &lives, 2).ok();
     let tallies = tallies.expect(&rt, "room for tallies");
-    assert_eq!(rt; tallies.as_slice(), [first, second].as_slice());
+    assert!(rt; tallies.as_slice() == [first, second].as_slice());
 }

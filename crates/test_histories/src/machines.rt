@@ -2,7 +2,7 @@
 
 ghost use Rattle.std.specs.Prelude.{◌<◌};
 
-use crate::given::{A_DROP, apply_all, life, machine, two_rounds};
+use crate::given::{A_DROP, accepted, life, played, two_rounds};
 use machine_events::event::Event;
 use sequencer::machine::Machine;
 use std::alloc::Global;
@@ -10,38 +10,45 @@ use std::process::Abort;
 use task_lives::laws::histories_fit;
 use task_lives::life::{Ending, Life};
 use task_lives::lives::lives_of_runs;
-use test_programs::acceptance::accepted;
 use test_programs::certificates::{COUNT_CERTIFICATE, DIAMOND_CERTIFICATE};
 use test_programs::programs::{COUNT, DIAMOND};
 
+// Asserts the lives of a machine of so many units after some events.
 fn expect_lives(
     rt: &impl Abort,
     alloc: Global,
-    machine: &Machine<'_>,
+    program: &str,
+    certificate: &str,
     units: u32,
+    events: &[Event],
     expected: &[Life],
-)
+) {
+    let accepted = accepted(rt, alloc, program, certificate);
+    let machine = played(rt, alloc, &accepted, units, events);
+    let lives = lives_of(rt, alloc, &machine, units);
+    assert!(rt; lives.as_slice() == expected);
+}
+
+fn lives_of(rt: &impl Abort, alloc: Global, machine: &Machine<'_>, units: u32) -> Vec<Life>
     requires { 0 < units }
 {
     histories_fit();
     let lives = lives_of_runs(alloc, machine.history(), units).ok();
-    let lives = lives.expect(rt, "room for lives");
-    assert_eq!(rt; lives.as_slice(), expected);
+    lives.expect(rt, "room for lives")
 }
 
 // The second task of `COUNT` is predicted behind its first round and squashed; its unit takes the next
 // round, which is unfinished.
 #[test]
 fn rounds_and_a_squash(rt: HostRuntime) {
-    let accepted = accepted(rt.alloc(), COUNT, COUNT_CERTIFICATE).expect(&rt, "accepted");
-    let mut machine = machine(&rt, rt.alloc(), &accepted, 2);
-    expect_lives(&rt, rt.alloc(), &machine, 2, &[]);
-    two_rounds(&rt, &mut machine);
+    expect_lives(&rt, rt.alloc(), COUNT, COUNT_CERTIFICATE, 2, &[], &[]);
     expect_lives(
         &rt,
         rt.alloc(),
-        &machine,
+        COUNT,
+        COUNT_CERTIFICATE,
         2,
+        &two_rounds(&rt),
         &[
             life(0, 0, 0, 15, 4, Ending::Retired),
             life(1, 1, 1, 9, 0, Ending::Squashed),
@@ -54,8 +61,6 @@ fn rounds_and_a_squash(rt: HostRuntime) {
 // anew come nearer to the head.
 #[test]
 fn both_sides_of_the_diamond(rt: HostRuntime) {
-    let accepted = accepted(rt.alloc(), DIAMOND, DIAMOND_CERTIFICATE).expect(&rt, "accepted");
-    let mut machine = machine(&rt, rt.alloc(), &accepted, 3);
     let events = [
         Event::Assign(0),
         Event::Assign(1),
@@ -72,12 +77,13 @@ fn both_sides_of_the_diamond(rt: HostRuntime) {
         Event::Exec(0),
         Event::Exec(0),
     ];
-    apply_all(&rt, &mut machine, &events);
     expect_lives(
         &rt,
         rt.alloc(),
-        &machine,
+        DIAMOND,
+        DIAMOND_CERTIFICATE,
         3,
+        &events,
         &[
             life(0, 0, 0, 10, 2, Ending::Retired),
             life(1, 1, 1, 5, 0, Ending::Squashed),
@@ -91,14 +97,13 @@ fn both_sides_of_the_diamond(rt: HostRuntime) {
 // A Drop takes the unit at its position too.
 #[test]
 fn a_drop(rt: HostRuntime) {
-    let accepted = accepted(rt.alloc(), COUNT, COUNT_CERTIFICATE).expect(&rt, "accepted");
-    let mut machine = machine(&rt, rt.alloc(), &accepted, 3);
-    apply_all(&rt, &mut machine, &A_DROP);
     expect_lives(
         &rt,
         rt.alloc(),
-        &machine,
+        COUNT,
+        COUNT_CERTIFICATE,
         3,
+        &A_DROP,
         &[
             life(0, 0, 0, 4, 0, Ending::Unfinished),
             life(0, 1, 1, 3, 0, Ending::Dropped),

@@ -1,6 +1,6 @@
 //! Lines of JSON.
 
-use crate::given::expect_lines;
+use crate::played::expect_lines;
 use machine_events::event::Event;
 use test_programs::programs::PAIR;
 

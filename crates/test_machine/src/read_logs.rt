@@ -9,6 +9,11 @@ fn read_at(pc: u32) -> Read {
     Read { pc, a: 0, b: 0 }
 }
 
+/// Asserts which read of the log stands at an index of a chunk.
+fn expect_read(rt: &impl Abort, chunk: &[Read], index: usize, pc: u32) {
+    assert!(rt; chunk.get(index).copied() == Some(read_at(pc)));
+}
+
 /// A log of so many reads, the addresses counting up from 0.
 fn log_of(rt: &impl Abort, alloc: Global, count: u32) -> ReadLog {
     let mut log = ReadLog::new(alloc);
@@ -25,12 +30,13 @@ fn short_logs_are_joined(rt: HostRuntime) {
     let mut log = log_of(&rt, rt.alloc(), 3);
     let mut other = log_of(&rt, rt.alloc(), 4);
     assert!(rt; log.append(&mut other).is_ok());
-    assert_eq!(rt; (log.len(), other.len()), (7, 0));
+    assert!(rt; log.len() == 7);
+    assert!(rt; other.len() == 0);
     let (closed, current) = log.chunks();
     assert!(rt; closed.is_empty());
-    assert_eq!(rt; current.get(2).copied(), Some(read_at(2)));
-    assert_eq!(rt; current.get(3).copied(), Some(read_at(0)));
-    assert_eq!(rt; current.last().copied(), Some(read_at(3)));
+    expect_read(&rt, current, 2, 2);
+    expect_read(&rt, current, 3, 0);
+    expect_read(&rt, current, 6, 3);
 }
 
 #[test]
@@ -38,12 +44,13 @@ fn long_log_is_moved(rt: HostRuntime) {
     let mut log = log_of(&rt, rt.alloc(), 3);
     let mut other = log_of(&rt, rt.alloc(), 1_200);
     assert!(rt; log.append(&mut other).is_ok());
-    assert_eq!(rt; (log.len(), other.len()), (1_203, 0));
+    assert!(rt; log.len() == 1_203);
+    assert!(rt; other.len() == 0);
     let (closed, current) = log.chunks();
-    assert_eq!(rt; closed.len(), 1);
-    assert_eq!(rt; closed.last().map(|chunk| chunk.len()), Some(3));
-    assert_eq!(rt; current.len(), 1_200);
-    assert_eq!(rt; current.last().copied(), Some(read_at(1_199)));
+    assert!(rt; closed.len() == 1);
+    assert!(rt; closed[0].len() == 3);
+    assert!(rt; current.len() == 1_200);
+    expect_read(&rt, current, 1_199, 1_199);
 }
 
 #[test]
@@ -53,7 +60,7 @@ fn short_log_goes_behind_a_long_one(rt: HostRuntime) {
     assert!(rt; log.append(&mut other).is_ok());
     assert!(rt; log.append(&mut other).is_ok());
     let (closed, current) = log.chunks();
-    assert_eq!(rt; closed.len(), 1);
-    assert_eq!(rt; current.len(), 2);
-    assert_eq!(rt; current.last().copied(), Some(read_at(1)));
+    assert!(rt; closed.len() == 1);
+    assert!(rt; current.len() == 2);
+    expect_read(&rt, current, 1, 1);
 }

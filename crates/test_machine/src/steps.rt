@@ -1,13 +1,15 @@
 //! How many steps the test programs take on 1, 2 and 4 units.
 
+use crate::facts::expect_run;
+use crate::given::accepted;
 use machine_events::event::{Event, Standing};
+use mark_checker::accept::Accepted;
 use sequencer::predict::Listed;
 use std::alloc::Global;
 use std::process::Abort;
 use synchronous_runner::predictor::Predictor;
 use synchronous_runner::report::{How, StepsFault, StepsReport};
 use synchronous_runner::runner::run_steps;
-use test_programs::acceptance::accepted;
 use test_programs::certificates::{
     COUNT_CERTIFICATE, DIAMOND_CERTIFICATE, PAIR_CERTIFICATE, SPIN_CERTIFICATE,
 };
@@ -50,17 +52,17 @@ struct Row<'a> {
 
 impl Row<'_> {
     fn runs(&self, rt: &impl Abort, alloc: Global) {
-        let accepted = accepted(alloc, self.program, self.certificate).expect(rt, "accepted");
+        let accepted = accepted(rt, alloc, self.program, self.certificate);
         let predictor = self.follows.predictor(rt, alloc);
         let report = run_steps(alloc, &accepted, self.units, self.budget, predictor).ok();
         self.expect_report(rt, &report.expect(rt, "a report"));
     }
 
     fn expect_report(&self, rt: &impl Abort, report: &StepsReport<'_>) {
-        assert_eq!(rt; report.how, self.how);
-        assert_eq!(rt; report.machine.outcome(), self.standing);
-        assert_eq!(rt; report.steps, self.steps);
-        assert_eq!(rt; report.machine.length(), self.events);
+        assert!(rt; report.how == self.how);
+        assert!(rt; report.machine.outcome() == self.standing);
+        assert!(rt; report.steps == self.steps);
+        assert!(rt; report.machine.length() == self.events);
     }
 }
 
@@ -217,13 +219,13 @@ const EVENTS_OF_PAIR: [Event; 8] = [
 // In each step the free unit comes first and the head last.
 #[test]
 fn events_of_pair(rt: HostRuntime) {
-    let accepted = accepted(rt.alloc(), PAIR, PAIR_CERTIFICATE).expect(&rt, "accepted");
+    let accepted = accepted(&rt, rt.alloc(), PAIR, PAIR_CERTIFICATE);
     let report = run_steps(rt.alloc(), &accepted, 2, 1_000_000, Predictor::First).ok();
     let report = report.expect(&rt, "a report");
     let history = report.machine.history();
-    assert_eq!(rt; history.len(), EVENTS_OF_PAIR.len());
+    assert!(rt; history.len() == EVENTS_OF_PAIR.len());
     for (run, event) in history.iter().zip(&EVENTS_OF_PAIR) {
-        assert_eq!(rt; (run.event, run.count), (*event, 1));
+        expect_run(&rt, run, *event, 1);
     }
 }
 
@@ -238,9 +240,20 @@ const NUMBERS: [(u32, u32, Option<StepsFault>); 5] = [
 
 #[test]
 fn faults(rt: HostRuntime) {
-    let accepted = accepted(rt.alloc(), SPIN, SPIN_CERTIFICATE).expect(&rt, "accepted");
+    let accepted = accepted(&rt, rt.alloc(), SPIN, SPIN_CERTIFICATE);
     for (units, budget, fault) in NUMBERS {
-        let answer = run_steps(rt.alloc(), &accepted, units, budget, Predictor::First);
-        assert_eq!(rt; answer.err(), fault);
+        expect_fault(&rt, rt.alloc(), &accepted, units, budget, fault);
     }
+}
+
+fn expect_fault(
+    rt: &impl Abort,
+    alloc: Global,
+    accepted: &Accepted,
+    units: u32,
+    budget: u32,
+    fault: Option<StepsFault>,
+) {
+    let answer = run_steps(alloc, accepted, units, budget, Predictor::First);
+    assert!(rt; answer.err() == fault);
 }

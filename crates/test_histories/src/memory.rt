@@ -1,6 +1,6 @@
 //! Instructions that load and store, and how they end.
 
-use crate::given::expect_trace;
+use crate::played::expect_trace;
 use machine_events::event::Event;
 
 /// Loads a word, subtracts 7, and stores the result whole and its low byte; the last load is unaligned.

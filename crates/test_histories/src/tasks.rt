@@ -1,6 +1,7 @@
 //! Tasks that begin, pass registers on, are squashed and retire.
 
-use crate::given::{expect_trace, register};
+use crate::given::register;
+use crate::played::expect_trace;
 use machine_events::event::Event;
 use test_programs::programs::{COUNT, DIAMOND, PAIR};
 

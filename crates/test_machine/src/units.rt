@@ -1,5 +1,6 @@
 //! The worked examples of one unit, on task A of two programs.
 
+use crate::given::register;
 use crate::programs::{count, release};
 use machine_events::event::Spot;
 use mark_checker::accept::Accepted;
@@ -13,10 +14,6 @@ use unit_core::burst::{Burst, MOST_STEPS};
 use unit_core::unit::Unit;
 use unit_core::wait::{DrainFault, Wait};
 use unit_core::world::World;
-
-fn register(rt: &impl Abort, number: u8) -> Reg {
-    Reg::new(number).expect(rt, "a register")
-}
 
 /// Registers of 0, but for a reserved set.
 fn zeros(rt: &impl Abort, reserved: u64) -> Port {
@@ -90,7 +87,7 @@ impl<'a> Trial<'a> {
 /// Asserts how the head's next instructions are answered.
 fn expect_steps(rt: &impl Abort, trial: &mut Trial<'_>, answers: &[Option<Wait>]) {
     for answer in answers {
-        assert_eq!(rt; trial.step(rt), *answer);
+        assert!(rt; trial.step(rt) == *answer);
     }
 }
 
@@ -98,14 +95,14 @@ fn expect_steps(rt: &impl Abort, trial: &mut Trial<'_>, answers: &[Option<Wait>]
 fn expect_drains(rt: &impl Abort, trial: &mut Trial<'_>, drains: &[(u8, Option<DrainFault>)]) {
     for (number, answer) in drains {
         let register = register(rt, *number);
-        assert_eq!(rt; trial.drain(register), *answer, "register {number}");
+        assert!(rt; trial.drain(register) == *answer, "register {number}");
     }
 }
 
 /// Asserts the value of a register.
 fn expect_value(rt: &impl Abort, unit: &Unit, number: u8, value: u32) {
     let register = register(rt, number);
-    assert_eq!(rt; unit.value(register), Some(value), "register {number}");
+    assert!(rt; unit.value(register) == Some(value), "register {number}");
 }
 
 #[test]
@@ -113,8 +110,8 @@ fn unit_runs_task(rt: HostRuntime) {
     let accepted = count(&rt, rt.alloc());
     let mut trial = Trial::new(&rt, rt.alloc(), &accepted, zeros(&rt, 0));
     expect_steps(&rt, &mut trial, &[None, None, None, None]);
-    assert_eq!(rt; trial.unit.spot(), Spot::Stopped(0x0040_0000));
-    assert_eq!(rt; trial.unit.reads().len(), 4);
+    assert!(rt; trial.unit.spot() == Spot::Stopped(0x0040_0000));
+    assert!(rt; trial.unit.reads().len() == 4);
     for number in 8..11 {
         expect_value(&rt, &trial.unit, number, 1);
     }
@@ -150,7 +147,7 @@ fn unit_waits(rt: HostRuntime) {
     expect_drains(&rt, &mut trial, &[(8, Some(DrainFault::NotStopped))]);
     let waiting = Some(Wait::Waiting(register(&rt, 8)));
     expect_steps(&rt, &mut trial, &[waiting]);
-    assert_eq!(rt; trial.step_ahead(), waiting);
+    assert!(rt; trial.step_ahead() == waiting);
 }
 
 #[test]
@@ -158,7 +155,7 @@ fn texts_of_answers(rt: HostRuntime) {
     let waiting = Wait::Waiting(register(&rt, 33));
     let text = format!(in rt.alloc(); "{waiting}, {}", DrainFault::NoValue).ok();
     let text = text.expect(&rt, "room for a text");
-    assert_eq!(rt; text.as_str(), "2 Waiting $33, 4 NoValue");
+    assert!(rt; text.as_str() == "2 Waiting $33, 4 NoValue");
 }
 
 #[test]
@@ -168,7 +165,7 @@ fn arrived_register_is_used(rt: HostRuntime) {
     expect_steps(&rt, &mut head, &[None]);
     expect_value(&rt, &head.unit, 8, 3);
     let mut ahead = Trial::new(&rt, rt.alloc(), &accepted, two_in_register_8(&rt));
-    assert_eq!(rt; ahead.step_ahead(), None);
+    assert!(rt; ahead.step_ahead() == None);
     expect_value(&rt, &ahead.unit, 8, 3);
 }
 
@@ -190,16 +187,16 @@ fn burst_is_taken_once(rt: HostRuntime) {
     let burst = trial.burst(&rt, 64);
     let again = trial.burst(&rt, 1);
     let Trial { mut unit, .. } = trial;
-    assert_eq!(rt; unit.arrive(register(&rt, 5), 9), Ok(()));
+    assert!(rt; unit.arrive(register(&rt, 5), 9) == Ok(()));
     expect_taken(&rt, &mut unit, burst, 2, 2);
     expect_taken(&rt, &mut unit, again, 1, 0);
     expect_value(&rt, &unit, 5, 9);
-    assert_eq!(rt; unit.reads().len(), 4);
+    assert!(rt; unit.reads().len() == 4);
 }
 
 /// Asserts how many steps a burst has, and how many of them a unit takes over.
 fn expect_taken(rt: &impl Abort, unit: &mut Unit, burst: Burst<'_>, steps: u32, taken: u32) {
-    assert_eq!(rt; burst.steps(), steps);
-    assert_eq!(rt; burst.after().reads().len(), steps as usize);
-    assert_eq!(rt; unit.take(burst).ok(), Some(taken));
+    assert!(rt; burst.steps() == steps);
+    assert!(rt; burst.after().reads().len() == steps as usize);
+    assert!(rt; unit.take(burst).ok() == Some(taken));
 }

@@ -1,5 +1,0 @@
-//! Tests of runs in steps. The steps were counted by hand.
-#![tactic(auto)]
-
-#[cfg(test)]
-mod runs;
