@@ -44,9 +44,9 @@ impl Processor {
         self.assigns += 1;
     }
 
-    /// The unit at a position goes on as a burst did, which is left without a step. The caller sees to it
-    /// that the burst was made on that unit, which since has at most more registers arrived. Where no unit
-    /// is there, only the number of units and read-only data are promised.
+    /// The unit at a position goes on as a burst did, which is left without a step where its reads are many.
+    /// The caller sees to it that the burst was made on that unit, which since has at most more registers
+    /// arrived. Where no unit is there, only the number of units and read-only data are promised.
     ///
     /// # Errors
     ///

@@ -257,7 +257,7 @@ impl Queue {
         let Some(unit) = self.ring.get_mut(position) else {
             return Ok(());
         };
-        match unit.carry_on(burst) {
+        match unit.go_on_from(burst) {
             Ok(()) => return Ok(()),
             Err(refused) => return Err(refused),
         }

@@ -130,15 +130,13 @@ impl Port {
         self.sent.set()
     }
 
-    /// The port with what another sent in place of what it sent itself.
-    pub fn with_sent(&self, other: &Port) -> Port
-        ensures arrived { arrived_of result ≡ arrived_of self.now }
-        ensures sent { sent_of result ≡ sent_of other.now }
+    /// Takes what another one sent, in place of what it sent itself.
+    #[inline]
+    pub fn take_sent(&mut self, other: &Port)
+        ensures arrived { arrived_of self.new ≡ arrived_of self.old }
+        ensures sent { sent_of self.new ≡ sent_of other.now }
     {
-        Port {
-            arrived: self.arrived,
-            sent: other.sent,
-        }
+        self.sent = other.sent;
     }
 
     /// Whether each register that has arrived here has arrived there with the same word, and both

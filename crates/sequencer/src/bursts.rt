@@ -7,9 +7,10 @@ use machine_model::laws::bursts_are_events;
 use mips_plain::outcome::OutOfMemory;
 use processor_steps::processor::MOST_EVENTS;
 use unit_core::burst::{Burst, Lease};
+use unit_core::unit::Unit;
 
 impl<'a> Machine<'a> {
-    ghost use Rattle.std.specs.Prelude.{◌≡◌, ℕ, ◌+◌, ◌%◌, ◌<◌, ◌≤◌, [], length, slice_get, Some, IfOk, IfErr, IfSome, IfNone, IsOk, IsTrue, ◌↔◌};
+    ghost use Rattle.std.specs.Prelude.{◌≡◌, ℕ, ◌+◌, ◌%◌, ◌<◌, ◌≤◌, [], length, slice_get, Some, IfOk, IfErr, IfSome, IfNone, IsOk, IsTrue, ◌↔◌, false};
     ghost use Rattle.std.specs.Option.{option_map};
     ghost use Rattle.machine_model.specs.Machine.{Active};
     ghost use Rattle.machine_model.specs.Unit.{with_log};
@@ -32,6 +33,33 @@ impl<'a> Machine<'a> {
         ensures none { IfNone result ((u : Active) → IsAtWork self.now unit u → ⊥) }
     {
         self.law_replay();
+        match self.unit_at_work(unit) {
+            Some(found) => Some(found.lease(self.accepted)),
+            None => None,
+        }
+    }
+
+    /// Lends as `lease` does, into a burst that lies with the caller, which then has no step and keeps the room
+    /// of its reads. Says whether it did; else the burst stays as it is.
+    pub fn lend(&self, unit: u32, burst: &mut Burst<'a>) -> bool
+        ensures lent { IsTrue result → (burst.new.accepted ≡ self.now.accepted) × (burst.new.steps ≡ 0)
+            × ((u : Active) × IsAtWork self.now unit u × (active_of burst.new.before ≡ with_log u [])) }
+        ensures none { result ≡ false → (burst.new ≡ burst.old) × ((u : Active) → IsAtWork self.now unit u → ⊥) }
+    {
+        self.law_replay();
+        let Some(found) = self.unit_at_work(unit) else {
+            return false;
+        };
+        burst.begin(self.accepted, found);
+        true
+    }
+
+    /// The unit of the ring with this number, where it is at work and has not stopped.
+    fn unit_at_work(&self, unit: u32) -> Option<&Unit>
+        ensures some { IfSome result (λ found. IsAtWork self.now unit (active_of found.now)) }
+        ensures none { IfNone result ((u : Active) → IsAtWork self.now unit u → ⊥) }
+    {
+        self.law_replay();
         let Some(position) = self.position(unit) else {
             return None;
         };
@@ -39,7 +67,7 @@ impl<'a> Machine<'a> {
             return None;
         };
         match found.spot() {
-            Spot::Inside(_) => Some(found.lease(self.accepted)),
+            Spot::Inside(_) => Some(found),
             Spot::Stopped(_) => None,
         }
     }
@@ -89,7 +117,6 @@ impl<'a> Machine<'a> {
     /// # Errors
     ///
     /// Those of `apply_burst`.
-    #[tactic(auto, using(crate::proofs::TakenBursts::own_is_of))]
     pub fn apply_own_burst<'b>(&mut self, mut burst: Burst<'b>) -> Result<u32, (Burst<'b>, Refused)>
         requires { burst.accepted.program ≡ self.old.accepted.program }
         ensures running { IsOk result → (state self.old).outcome ≡ standing.Running }
@@ -98,14 +125,32 @@ impl<'a> Machine<'a> {
         ensures refused { IfErr result (λ back. (back.0 ≡ burst.entry) × (self.new ≡ self.old) × IsRefusedBurst self.old burst.entry back.1) }
         ensures kept { SameRing self.old self.new }
     {
-        match self.take_over(&mut burst, true) {
+        match self.take_own_burst(&mut burst) {
             Ok(events) => Ok(events),
             Err(why) => Err((burst, why)),
         }
     }
 
+    /// The same, where the burst lies with the caller: it stays there as it is, but one that is taken over may
+    /// be left without a step.
+    ///
+    /// # Errors
+    ///
+    /// Those of `apply_burst`.
+    #[tactic(auto, using(crate::proofs::TakenBursts::own_is_of))]
+    pub fn take_own_burst(&mut self, burst: &mut Burst<'_>) -> Result<u32, Refused>
+        requires { burst.old.accepted.program ≡ self.old.accepted.program }
+        ensures running { IsOk result → (state self.old).outcome ≡ standing.Running }
+        ensures taken { IfOk result (λ events. 0 < events → (events ≡ burst.old.steps) × Takes self.old burst.old self.new) }
+        ensures stale { IfOk result (λ events. events ≡ 0 → (IsFresh self.old burst.old → ⊥) × (self.new ≡ self.old)) }
+        ensures refused { IfErr result (λ why. (burst.new ≡ burst.old) × (self.new ≡ self.old) × IsRefusedBurst self.old burst.old why) }
+        ensures kept { SameRing self.old self.new }
+    {
+        self.take_over(burst, true)
+    }
+
     /// Hands in a burst of which it is known whether its part of the program is this machine's; where it is
-    /// taken over, it is left without a step.
+    /// taken over, it may be left without a step.
     fn take_over(&mut self, burst: &mut Burst<'_>, is_own: bool) -> Result<u32, Refused>
         requires { IsTrue is_own ↔ IsOf burst.old self.old.accepted.program }
         ensures running { IsOk result → (state self.old).outcome ≡ standing.Running }

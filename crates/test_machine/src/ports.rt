@@ -164,8 +164,9 @@ fn each_call_of_a_port_once(rt: HostRuntime) {
     assert!(rt; port.pass(eight.insert(r33), r33) == Some(7));
     assert!(rt; port.pass(eight, r33) == Some(5));
     expect_sets(&rt, &port, r8, r33);
-    let fresh = Port::fresh(&down_to_five(), eight);
-    assert!(rt; fresh.with_sent(&port).is_within(&port));
+    let mut fresh = Port::fresh(&down_to_five(), eight);
+    fresh.take_sent(&port);
+    assert!(rt; fresh.is_within(&port));
 }
 
 /// Asserts that one register has arrived, and that another was sent.

@@ -1,6 +1,6 @@
 -- A step reads no log, and of its program only its own instruction and, for a load, read-only data. So
 -- what was made on one program and a unit without a log holds of another with the same stretch, too.
-use Rattle.std.specs.Prelude.{◌≡◌, ℕ, ◌+◌, ◌||◌, ◌++◌, ◌∷◌, [], List, Bool, true, false, Option, Some, ◌-◌, ◌*◌, ◌%◌, nat_eq, nat_le, slice_get, unwrap_or}
+use Rattle.std.specs.Prelude.{◌≡◌, ℕ, ◌+◌, ◌||◌, ◌++◌, ◌∷◌, [], List, Bool, true, false, Option, Some, ◌-◌, ◌*◌, ◌%◌, nat_eq, nat_le, slice_get, is_some, unwrap_or}
 use Rattle.std.proofs.Common.{refl, sym, ap, ◌∙◌, subst, arith, append_assoc, add-one}
 use Rattle.std.proofs.Math.Path.{fun_ext}
 use Rattle.std.proofs.lemmas.Bool.{cond-true, le-leb, eq-eqb, and_from}
@@ -64,6 +64,27 @@ same_step p q u u' step same fixed log =
 pub none_made : (p : Listing) (s : Stretch) (u : UnitView) → u.log ≡ [] → Makes p s u 0 u
 none_made p s u none q same log =
     ap (λ (l : List Read). with_log (active_of u) l) (ap (λ (l : List Read). log ++ l) none ∙ append-nil log)
+
+-- a unit after no step is the one before it, and what is made on it is made on that one
+itself : (p : Listing) (s : Stretch) → SameStretch s p p
+itself p s = record { code = λ i from to. refl; fixed = λ loads. refl }
+
+pub begins_empty : (p : Listing) (s : Stretch) (u v : UnitView) → Makes p s u 0 v → v.log ≡ []
+begins_empty p s u v made = ap (λ (a : Active). a.log) (made p (itself p s) [])
+
+pub begins_as : (p : Listing) (s : Stretch) (u v : UnitView) → Makes p s u 0 v → (log : List Read) → with_log (active_of v) log ≡ with_log (active_of u) log
+begins_as p s u v made log = ap (λ (a : Active). with_log a log) (made p (itself p s) [])
+
+pub made_on : (p : Listing) (s : Stretch) (u v w : UnitView) (n : ℕ) → ((log : List Read) → with_log (active_of v) log ≡ with_log (active_of u) log) → Makes p s v n w → Makes p s u n w
+made_on p s u v w n same made q at log = subst (λ (a : Active). Burst q a n (with_log (active_of w) (log ++ w.log))) (same log) (made q at log)
+
+pub sends_on : (p : Listing) (s : Stretch) (u v : UnitView) (k : ℕ) → ((log : List Read) → with_log (active_of v) log ≡ with_log (active_of u) log) → SendsLast p s v k → SendsLast p s u k
+sends_on p s u v k same last n is =
+    let mid = last n is in (
+      mid.0,
+      made_on p s u v mid.0 n same mid.1,
+      λ r. mid.2 r ∙ ap (λ (a : Active). is_some (a.sent r)) (same []),
+    )
 
 pub more_made : (p : Listing) (s s' : Stretch) (u mid after : UnitView) (n : ℕ) → Makes p s u n mid → ((q : Listing) → SameStretch s' p q → SameStretch s p q)
     → ((q : Listing) → SameStretch s' p q → (log : List Read) → StepsAlone q (with_log (active_of mid) (log ++ mid.log)) (with_log (active_of after) (log ++ after.log)))

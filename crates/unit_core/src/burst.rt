@@ -107,21 +107,55 @@ impl<'a> Burst<'a> {
         ensures made { IsMade result }
         ensures sends_last { SendsLast result.accepted.program result.stretch result.before result.steps }
     {
-        let Lease {
-            accepted,
-            state,
-            alloc,
-        } = lease;
-        let mut after = Unit::with_state(alloc, &state);
-        // Where this growth is refused, each step asks for room of its own.
-        let _ = after.reserve_reads(most.min(RESERVED_READS) as usize);
-        let steps = run_ahead(accepted, &mut after, most);
+        let mut burst = Burst::new(lease);
+        burst.go(most);
+        burst
+    }
+
+    /// A burst without a step on a lent unit.
+    pub fn new(lease: Lease<'a>) -> Burst<'a>
+        ensures accepted { result.accepted ≡ lease.entry.accepted }
+        ensures before { result.before ≡ lease.entry.unit }
+        ensures none { result.steps ≡ 0 }
+    {
         Burst {
-            accepted,
-            before: state,
-            steps,
-            after,
+            accepted: lease.accepted,
+            before: lease.state,
+            steps: 0,
+            after: Unit::with_state(lease.alloc, &lease.state),
         }
+    }
+
+    /// Becomes a burst without a step on a unit as it is, its log aside. The caller sees to it that the unit is
+    /// one of this program and certificate. It lies where an earlier burst did, and keeps the room of that
+    /// one's reads; so it takes no memory, and nothing is moved.
+    #[inline]
+    pub fn begin(&mut self, accepted: &'a Accepted, unit: &Unit)
+        requires { IsPlaced accepted.now (active_of unit.now) }
+        ensures accepted { self.new.accepted ≡ accepted.now }
+        ensures before { self.new.before ≡ record unit.now { log = [] } }
+        ensures none { self.new.steps ≡ 0 }
+    {
+        self.accepted = accepted;
+        unit.write_state(&mut self.before);
+        self.steps = 0;
+        self.after.begin_as(unit);
+    }
+
+    /// Executes at most `most` instructions, 1..=65,536, on the unit of a burst without a step, as `run` does
+    /// on a lent one.
+    pub fn go(&mut self, most: u32)
+        requires few { most ≤ 65536 }
+        requires none { self.old.steps ≡ 0 }
+        ensures accepted { self.new.accepted ≡ self.old.accepted }
+        ensures before { self.new.before ≡ self.old.before }
+        ensures few { self.new.steps ≤ most }
+        ensures made { IsMade self.new }
+        ensures sends_last { SendsLast self.new.accepted.program self.new.stretch self.new.before self.new.steps }
+    {
+        // Where this growth is refused, each step asks for room of its own.
+        let _ = self.after.reserve_reads(most.min(RESERVED_READS) as usize);
+        self.steps = run_ahead(self.accepted, &mut self.after, most);
     }
 
     /// The program and the certificate of its lease.
@@ -231,5 +265,22 @@ impl Unit {
         burst.before = burst.after.state();
         burst.steps = 0;
         Ok(())
+    }
+
+    /// Goes on as `carry_on` does, but a burst of few reads, which are copied, may stay as it is: so the unit
+    /// before it is not written anew.
+    ///
+    /// # Errors
+    ///
+    /// `OutOfMemory` where the reads find no room; nothing is changed then.
+    pub fn go_on_from(&mut self, burst: &mut Burst<'_>) -> Result<(), OutOfMemory>
+        ensures ok { OnOk result (active_of self.new ≡ carried_on (active_of burst.old.after) (active_of self.old)) }
+        ensures err { OnErr result ((self.new ≡ self.old) × (burst.new ≡ burst.old)) }
+    {
+        if self.copy_reads_of(&burst.after)? {
+            self.go_on_as(&burst.after);
+            return Ok(());
+        }
+        self.carry_on(burst)
     }
 }

@@ -1,6 +1,6 @@
 //! A log of reads in chunks, so that a long log joins another one without being copied.
 
-ghost use Rattle.std.specs.Prelude.{◌≡◌, ℕ, ◌+◌, ◌^◌, ◌<◌, ◌≤◌, [], ◌∷◌, ◌++◌, length, flat_map, IfOk, OnOk, OnErr, vec_len, vec_capacity};
+ghost use Rattle.std.specs.Prelude.{◌≡◌, ℕ, ◌+◌, ◌^◌, ◌<◌, ◌≤◌, [], ◌∷◌, ◌++◌, true, false, length, flat_map, IfOk, OnOk, OnErr, vec_len, vec_capacity};
 
 use mips_plain::outcome::{OutOfMemory, Read};
 use std::alloc::{AllocError, Global};
@@ -121,6 +121,27 @@ impl ReadLog {
             return Ok(());
         }
         self.move_from(other)
+    }
+
+    /// Puts copies of the reads of another log behind its own, where both are short, and says whether it did.
+    ///
+    /// # Errors
+    ///
+    /// `AllocError` where a growth is refused; nothing is changed then.
+    #[inline]
+    pub(crate) fn copy_short(&mut self, other: &ReadLog) -> Result<bool, AllocError>
+        ensures copied { IfOk result (λ is_copied. is_copied ≡ true → self.new.reads ≡ self.old.reads ++ other.now.reads) }
+        ensures left { IfOk result (λ is_copied. is_copied ≡ false → self.new.reads ≡ self.old.reads) }
+        ensures err { OnErr result (self.new.reads ≡ self.old.reads) }
+    {
+        if !other.closed.is_empty() {
+            return Ok(false);
+        }
+        if self.current.len().saturating_add(other.current.len()) > SHORT {
+            return Ok(false);
+        }
+        self.current.extend_from_slice(&other.current)?;
+        Ok(true)
     }
 
     /// Its length with `more` further reads. If no memory could hold them, it asks for the room, and that is

@@ -14,7 +14,7 @@ returns-in-Ok-clause-active c = λ u at.
     let x = c.in-Some.unit.now in
     let after = active_of c.args.burst.now.after in
     let is : active_of x ≡ u = unit_is items c.args.self.now c.args.position x u same c.in-Some.ensures.value at in
-    changed items c.args.self.now c.args.position c.carry_on.new.self (carried_on after u) same
+    changed items c.args.self.now c.args.position c.go_on_from.new.self (carried_on after u) same
     (c.in-Ok.ensures.ok ∙ ap (carried_on after) is)
 
 pub returns-in-Err-clause-err : goal.returns-in-Err-clause-err
