@@ -15,7 +15,7 @@ use crate::report::{How, Report, RunFault};
 use crate::share::Share;
 use crate::worker::{ring_all, serve};
 use mark_checker::accept::Accepted;
-use sequencer::machine::{MOST_BUDGET, MOST_UNITS, Machine};
+use sequencer::machine::{MOST_BUDGET, MOST_UNITS, Machine, MachineFault};
 use sequencer::predict::Predict;
 use std::alloc::{AllocError, Global};
 use std::marker::Brand;
@@ -108,8 +108,9 @@ fn run_named<'a, P: Predict, J: Naming + Send + Sync, G: RunGate, R: Threads + W
     ensures ended { IfOk result (λ report. (report.how ≡ How.Ended) ↔ ((state report.machine).outcome ≡ standing.Running → ⊥)) }
     ensures spent { IfOk result (λ report. report.how ≡ How.OutOfBudget → budget ≤ length report.machine.history) }
 {
-    let Ok(bells) = new_bells(alloc, workers) else {
-        return Err(RunFault::OutOfMemory);
+    let bells = match new_bells(alloc, workers) {
+        Ok(bells) => bells,
+        Err(AllocError) => return Err(RunFault::OutOfMemory),
     };
     let desk: Desk<'a, P, J> = new_desk(alloc, accepted, units, workers, predictor)?;
     let shared = Mutex::new(desk);
@@ -130,8 +131,10 @@ fn new_desk<'a, P: Predict, J: Naming>(
     requires workers { (0 < workers) × (workers ≡ J.workers) }
     ensures { IfErr result (λ fault. fault ≡ RunFault.OutOfMemory) }
 {
-    let Ok(machine) = Machine::new(alloc, accepted, units) else {
-        return Err(RunFault::OutOfMemory);
+    let machine = match Machine::new(alloc, accepted, units) {
+        Ok(machine) => machine,
+        Err(MachineFault::OutOfMemory) => return Err(RunFault::OutOfMemory),
+        Err(MachineFault::Units) => unreachable!(),
     };
     match Desk::new(alloc, machine, predictor, workers) {
         Ok(desk) => Ok(desk),
