@@ -155,8 +155,8 @@ impl<'a, P: Predict, J: Naming> Desk<'a, P, J> {
     /// # Errors
     ///
     /// What the machine refuses the burst by; nothing is changed then.
-    pub(crate) fn check_in(&mut self, burst: Burst<'_>) -> Result<u32, Refused>
-        requires own { burst.accepted ≡ J.accepted }
+    pub(crate) fn check_in(&mut self, burst: &mut Burst<'_>) -> Result<u32, Refused>
+        requires own { burst.old.accepted ≡ J.accepted }
         ensures stale { IfOk result (λ events. events ≡ 0 → self.new ≡ self.old) }
         ensures err { OnErr result (self.new ≡ self.old) }
         ensures workers { length self.new.counts ≡ length self.old.counts }
@@ -165,7 +165,7 @@ impl<'a, P: Predict, J: Naming> Desk<'a, P, J> {
         let Some(unit) = self.machine.unit_with(burst.before().serial()) else {
             return Ok(0);
         };
-        let events = hand_in(&mut self.machine, burst)?;
+        let events = self.machine.take_own_burst(burst)?;
         if events > 0 {
             law_replay(&self.machine);
             add(&mut self.counts, unit, events);
@@ -315,19 +315,4 @@ fn exec_head(machine: &mut Machine<'_>, most: u32) -> u32
         steps += 1;
     }
     steps
-}
-
-/// Hands a burst in; one that is refused is gone.
-fn hand_in(machine: &mut Machine<'_>, burst: Burst<'_>) -> Result<u32, Refused>
-    requires { burst.accepted.program ≡ machine.old.accepted.program }
-    ensures taken { IfOk result (λ events. 0 < events → (events ≡ burst.entry.steps) × Takes machine.old burst.entry machine.new) }
-    ensures stale { IfOk result (λ events. events ≡ 0 → machine.new ≡ machine.old) }
-    ensures err { OnErr result (machine.new ≡ machine.old) }
-    ensures kept { SameRing machine.old machine.new }
-{
-    let answer = machine.apply_own_burst(burst);
-    match &answer {
-        Ok(events) => Ok(*events),
-        Err((_, refused)) => Err(*refused),
-    }
 }

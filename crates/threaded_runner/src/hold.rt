@@ -279,9 +279,9 @@ impl Worker {
         &mut self,
         desk: &mut Desk<'_, P, J>,
         next: &NextBurst,
-        burst: Burst<'_>,
+        burst: &mut Burst<'_>,
     )
-        requires { burst.accepted ≡ J.accepted }
+        requires { burst.old.accepted ≡ J.accepted }
     {
         let steps = burst.steps();
         let answer = desk.check_in(burst);

@@ -1,6 +1,6 @@
 //! A worker's thread: events under the lock, bursts away from it.
 
-ghost use Rattle.std.specs.Prelude.{◌≡◌, IfSome};
+ghost use Rattle.std.specs.Prelude.{◌≡◌, IfSome, IsTrue};
 
 use crate::bell::Bell;
 use crate::called::Called;
@@ -8,10 +8,11 @@ use crate::desk::Desk;
 use crate::gate::RunGate;
 use crate::hold::{NextBurst, Then, Worker};
 use crate::naming::Naming;
+use sequencer::machine::Machine;
 use sequencer::predict::Predict;
 use std::sync::{Mutex, MutexGuard, Wait};
 use std::{hint, thread};
-use unit_core::burst::{Burst, Lease};
+use unit_core::burst::Burst;
 
 /// How often a worker tries for the lock before it leaves its core to another thread for a moment.
 const TRIES: u32 = 5;
@@ -21,9 +22,9 @@ const ROUNDS: u32 = 100;
 
 /// Serves a worker's units until the run is over. A hold of the lock that changed the machine rings for the
 /// workers that wait and now have something to do, once the lock is free; the end rings for all.
-pub(crate) fn serve<P: Predict, J: Naming, G: RunGate, R: Wait>(
+pub(crate) fn serve<'a, P: Predict, J: Naming, G: RunGate, R: Wait>(
     rt: &R,
-    shared: &Mutex<Desk<'_, P, J>>,
+    shared: &Mutex<Desk<'a, P, J>>,
     bells: &[Bell],
     gate: &G,
     mut worker: Worker,
@@ -32,15 +33,20 @@ pub(crate) fn serve<P: Predict, J: Naming, G: RunGate, R: Wait>(
     let Some(bell) = bells.get(share.worker as usize) else {
         return;
     };
+    let mut slot = None;
     let mut desk = take_lock(rt, shared);
     for _ in rt.forever() {
         let then = worker.hold(&mut *desk);
         let called = desk.call(share);
         match then {
             Then::Burst(next) => {
-                let lease = desk.machine().lease(next.unit);
+                let is_lent = lend(desk.machine(), next.unit, &mut slot);
                 let_go(desk, &called, bells);
-                desk = burst_on(rt, shared, gate, &mut worker, &next, lease);
+                if is_lent {
+                    desk = burst_on(rt, shared, gate, &mut worker, &next, &mut slot);
+                } else {
+                    desk = take_lock(rt, shared);
+                }
             }
             Then::BurstInPlace(next) => {
                 drop(desk);
@@ -71,23 +77,47 @@ fn let_go<P: Predict, J: Naming>(
     called.ring(bells);
 }
 
-/// Makes a burst on a unit that was lent, and takes the lock to hand it in.
+/// Lends a unit into the slot, which keeps the room of the burst before; says whether it did.
+fn lend<'a>(machine: &Machine<'a>, unit: u32, slot: &mut Option<Burst<'a>>) -> bool
+    ensures { IsTrue result → IfSome slot.new (λ burst. (burst.accepted ≡ machine.now.accepted) × (burst.steps ≡ 0)) }
+{
+    match slot {
+        Some(burst) => machine.lend(unit, burst),
+        None => lend_first(machine, unit, slot),
+    }
+}
+
+/// The same where the slot is empty, out of line, since it moves the burst there.
+#[inline(never)]
+fn lend_first<'a>(machine: &Machine<'a>, unit: u32, slot: &mut Option<Burst<'a>>) -> bool
+    ensures { IsTrue result → IfSome slot.new (λ burst. (burst.accepted ≡ machine.now.accepted) × (burst.steps ≡ 0)) }
+{
+    match machine.lease(unit) {
+        Some(lease) => {
+            *slot = Some(Burst::new(lease));
+            true
+        }
+        None => false,
+    }
+}
+
+/// Makes a burst on the unit that was lent into the slot, and takes the lock to hand it in.
 fn burst_on<'l, 'a, P: Predict, J: Naming, G: RunGate, R: Wait>(
     rt: &R,
     shared: &'l Mutex<Desk<'a, P, J>>,
     gate: &G,
     worker: &mut Worker,
     next: &NextBurst,
-    lease: Option<Lease<'a>>,
+    slot: &mut Option<Burst<'a>>,
 ) -> MutexGuard<'l, Desk<'a, P, J>>
-    requires { IfSome lease (λ lease. lease.accepted ≡ J.accepted) }
+    requires { IfSome slot.old (λ burst. (burst.accepted ≡ J.accepted) × (burst.steps ≡ 0)) }
 {
     let number = worker.share().worker;
-    let Some(lease) = lease else {
+    let Some(burst) = slot else {
         return take_lock(rt, shared);
     };
     gate.before(number);
-    let burst = Burst::run(lease, next.most);
+    burst.go(next.most);
     gate.after(number, burst.steps());
     let mut desk = take_lock(rt, shared);
     worker.check_in(&mut *desk, next, burst);
