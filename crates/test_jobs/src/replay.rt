@@ -204,7 +204,13 @@ fn replays_odd_scripts(rt: HostRuntime) {
 }
 
 // Asserts what a script gives on `COUNT`.
-fn expect_of_count(rt: &impl Bench, alloc: Global, script: &str, expected: &str, status: u8) {
+fn expect_of_count<'a>(
+    rt: &impl Bench,
+    alloc: Global,
+    script: &'a str,
+    expected: &'a str,
+    status: u8,
+) {
     let row = Row {
         script,
         expected,
@@ -238,7 +244,13 @@ fn judges_before_the_script(rt: HostRuntime) {
 }
 
 // Asserts what is written of `COUNT` with a certificate and a script, as answers and as a summary.
-fn expect_judged(rt: &impl Bench, alloc: Global, certificate: &str, script: &str, expected: &str) {
+fn expect_judged<'a>(
+    rt: &impl Bench,
+    alloc: Global,
+    certificate: &'a str,
+    script: &'a str,
+    expected: &'a str,
+) {
     let row = Row {
         certificate,
         script,
