@@ -19,7 +19,7 @@ ALLOWED = {
     # Noted when a call or a thread was refused.
     "threaded_runner/src/desk.rt": 1,
     # A test that says what is told of this fault.
-    "test_flush/src/faults.rt": 2,
+    "test_jobs/src/told_faults.rt": 2,
 }
 
 FAULT = re.compile(r"(AllocError|OutOfMemory)([);,]|$)")

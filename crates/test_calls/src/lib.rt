@@ -16,6 +16,8 @@ mod given;
 #[cfg(test)]
 mod graph;
 #[cfg(test)]
+mod marks_in_text;
+#[cfg(test)]
 mod proposals;
 #[cfg(test)]
 mod speed_marks;

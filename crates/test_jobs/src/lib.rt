@@ -1,6 +1,6 @@
 //! Tests of the program's jobs, from the words of a command line to the bytes that are written and
 //! the status. The expected bytes are those of the formats and of the instructions' own rules, worked
-//! out by hand.
+//! out by hand. Writers that keep back what is not flushed show that reports, and what is told of faults, arrive.
 #![tactic(auto)]
 
 #[cfg(test)]
@@ -17,6 +17,10 @@ mod curve;
 mod explain;
 #[cfg(test)]
 mod files;
+#[cfg(test)]
+mod flushed_reports;
+#[cfg(test)]
+mod held_back;
 #[cfg(test)]
 mod least;
 #[cfg(test)]
@@ -37,5 +41,7 @@ mod scripts;
 mod seq;
 #[cfg(test)]
 mod shared_check;
+#[cfg(test)]
+mod told_faults;
 #[cfg(test)]
 mod words;
