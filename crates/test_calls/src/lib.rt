@@ -16,7 +16,7 @@ mod given;
 #[cfg(test)]
 mod graph;
 #[cfg(test)]
-mod marks_in_text;
+mod marked_texts;
 #[cfg(test)]
 mod proposals;
 #[cfg(test)]
