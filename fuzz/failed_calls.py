@@ -11,6 +11,7 @@ runs as another user; it is no part of the tests.
 """
 import argparse
 import errno
+import multiprocessing
 import os
 import random
 import re
@@ -167,16 +168,17 @@ def inputs(every):
 
 
 class Part:
-    """One line of EXPECTED: its runs until the time is up."""
+    """One line of EXPECTED: its runs until the time is up, or one share of them, such as (0, 4), every fourth from the first."""
 
-    def __init__(self, name, bench, end):
-        self.row, self.bench, self.end = Row(name), bench, end
+    def __init__(self, name, bench, end, share=(0, 1)):
+        self.row, self.bench, self.end, self.share = Row(name), bench, end, share
 
     def over(self):
         return time.monotonic() > self.end
 
     def each(self, jobs, draw):
-        """The jobs in a drawn order, until the time is up."""
+        """The jobs of the share in a drawn order, until the time is up."""
+        jobs = jobs[self.share[0]::self.share[1]]
         draw.shuffle(jobs)
         for job in jobs:
             if self.over():
@@ -653,20 +655,29 @@ RUNS = [short_reads, interrupted_read, interrupted_reads(1000), interrupted_read
         no_size, wrong_size]
 
 
-def run(program, minutes, seed, only=""):
-    """The rows of all parts, in about so many minutes; time that a part leaves goes to those after it, so the
-    parts with the most runs come last."""
+def run(program, minutes, seed, only="", share=(0, 1), which=None):
+    """The rows of all parts, or of the one named `which`, in about so many minutes; time that a part leaves goes to those after
+    it, so the parts with the most runs come last."""
     end, draw, rows = time.monotonic() + 60 * minutes, random.Random(seed), {}
     resource.setrlimit(resource.RLIMIT_CORE, (0, resource.getrlimit(resource.RLIMIT_CORE)[1]))
-    chosen = sorted(((name, runs) for name, runs in zip(EXPECTED, RUNS) if only in name), key=lambda one: one[0] in MANY_RUNS)
+    chosen = sorted(((name, runs) for name, runs in zip(EXPECTED, RUNS) if only in name and which in (None, name)), key=lambda one: one[0] in MANY_RUNS)
     with faults.Bench(program) as bench:
         every = list(cases(bench))
         for left, (name, runs) in zip(range(len(chosen), 0, -1), chosen):
             now = time.monotonic()
-            part = Part(name, bench, now + max(end - now, 0) / left)
+            part = Part(name, bench, now + max(end - now, 0) / left, share)
             runs(part, every, draw)
             rows[name] = part.row.line()
     return [rows[name] for name in EXPECTED if name in rows]
+
+
+def whole(program, seed):
+    """The rows of all runs of all parts, in as many processes at once as there are cores. A part with many runs has a row for each share."""
+    many = len(os.sched_getaffinity(0))
+    shares = [(name, (k, many)) for name in MANY_RUNS for k in range(many)] + [(name, (0, 1)) for name in EXPECTED if name not in MANY_RUNS]
+    with multiprocessing.Pool(many) as parts:
+        found = parts.starmap(run, [(program, 1e9, seed, "", share, name) for name, share in shares], chunksize=1)
+    return [row for name in EXPECTED for (of, _), rows in zip(shares, found) if of == name for row in rows]
 
 
 def main():

@@ -15,6 +15,7 @@ second. Where the answer grows more than the input does, as that of `explain` wi
 """
 import argparse
 import collections
+import concurrent.futures
 import hashlib
 import multiprocessing
 import os
@@ -457,9 +458,9 @@ def compare(program, end, cases):
 
 
 def compared(program, kept, minutes, seed, whole=False):
-    """The kept cases, all of them, beside the model; without such, seeds, all of them or until the minutes are over."""
+    """The kept cases, or seeds where there are none, beside the model: all of them, or until the minutes are over."""
     cases = [p.read_bytes() for folder in kept.split(os.pathsep) for p in sorted(pathlib.Path(folder).iterdir())] if kept else list(seeds.cases(2000, seed))
-    end = float("inf") if kept or whole else time.monotonic() + 60 * minutes
+    end = float("inf") if whole else time.monotonic() + 60 * minutes
     random.Random(seed).shuffle(cases)
     many = int(subprocess.run(["nproc"], capture_output=True, check=True).stdout)  # pypy3 cannot say how many cores it may use
     parts = [(program, end, cases[k::8 * many]) for k in range(8 * many)]
@@ -521,17 +522,36 @@ class Rounds:
             for it in sorted(self.told.glob(f"found-{number}-{kind}-*")):
                 self.differences.append(f"{why.group().decode('latin-1') if why else 'ended'}: case {it.read_bytes().hex()}")
 
-    def row(self):
-        name = f"fuzzed in one process, by libFuzzer: {self.cases:,} cases, at most {self.most[0]:.2f} s and {self.most[1] / 1e6:.0f} MB of heap"
-        return name, self.calls, dict(self.answers), self.differences
+
+def row_of(every):
+    """The row of all that some fuzzers did."""
+    cases, calls = sum(it.cases for it in every), sum(it.calls for it in every)
+    seconds, heap = (max(it.most[k] for it in every) for k in (0, 1))
+    name = f"fuzzed, the program whole in one process, by libFuzzer: {cases:,} cases, at most {seconds:.2f} s and {heap / 1e6:.0f} MB of heap"
+    answers = sum((it.answers for it in every), collections.Counter())
+    return name, calls, dict(answers), [one for it in every for one in it.differences]
 
 
-def fuzzed(fuzzer, kept, minutes, seed, cases=None, keep=None):
-    """libFuzzer for some minutes, or until so many cases are made: the calls of the program, by job and status. What it
-    keeps goes to the folder `keep`, if one is named, and a later call with that folder goes on from there."""
+def corpora(folder, many):
+    """The folders in which so many fuzzers keep their cases."""
+    return [folder if many == 1 else f"{folder}-{k}" for k in range(1, many + 1)]
+
+
+def fuzzed(fuzzer, kept, minutes, seed, cases=None, keep=None, many=1):
+    """The row of so many fuzzers at once, each with a seed of its own, for some minutes, or until they have made so many cases together:
+    the calls of the program, by job and status. What they keep goes to the folders of `corpora`, if `keep` names one, and a later
+    call goes on from there."""
+    with tempfile.TemporaryDirectory() as name, concurrent.futures.ThreadPoolExecutor(many) as lanes:
+        folders = corpora(keep or f"{name}/corpus", many)
+        each = cases and -(-cases // many)
+        return row_of([*lanes.map(lambda k: fuzz(fuzzer, kept, minutes, seed + 100 * k, each, folders[k]), range(many))])
+
+
+def fuzz(fuzzer, kept, minutes, seed, cases, keep):
+    """One fuzzer."""
     end = float("inf") if cases else time.monotonic() + 60 * minutes
     with tempfile.TemporaryDirectory() as name:
-        corpus, dictionary = pathlib.Path(keep or f"{name}/corpus"), pathlib.Path(name) / "dictionary"
+        corpus, dictionary = pathlib.Path(keep), pathlib.Path(name) / "dictionary"
         corpus.mkdir(exist_ok=True)
         if not any(corpus.iterdir()):
             begun(corpus, kept, seed)
@@ -542,7 +562,7 @@ def fuzzed(fuzzer, kept, minutes, seed, cases=None, keep=None):
             if not rounds.another(length, dictionary, seed):
                 rounds.differences.append("the fuzzer ends before its first case")
                 break
-        return rounds.row()
+        return rounds
 
 
 ALL = ",".join(f"${k}" for k in range(8, 28))

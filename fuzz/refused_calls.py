@@ -16,6 +16,7 @@ Needs python3, cc, rt unless there is --program, and Linux; it is no part of the
 """
 import argparse
 import collections
+import multiprocessing
 import os
 import pathlib
 import shutil
@@ -318,6 +319,15 @@ def run(program, minutes, seed=0, only=""):
             if only in ("", case.call):
                 tried(bench, case, rows.setdefault(case.call, Row(case.call)), end)
     return [rows[call] for call in sorted(rows)]
+
+
+def whole(program):
+    """The rows of all calls, in as many processes at once as there are cores, those with threads first, which take longest."""
+    with tempfile.TemporaryDirectory(prefix="multiscalar-calls-") as name:
+        calls = sorted({case.call for case in cases(pathlib.Path(name))}, key=lambda call: (call not in IN_THREADS, call))
+    with multiprocessing.Pool(len(os.sched_getaffinity(0))) as parts:
+        found = parts.starmap(run, [(program, 1e9, 0, call) for call in calls], chunksize=1)
+    return sorted((row for rows in found for row in rows), key=lambda row: row.call)
 
 
 def table(rows):

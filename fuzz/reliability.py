@@ -2,7 +2,7 @@
 """Runs everything that looks for faults, and prints one table.
 
     reliability.py --program PATH [--minutes M] [--seed N] [--lanes N] [--rows FOLDER] [--only PART] [--whole] [--calls FILE]
-                   [--fuzzer FILE] [--kept FOLDERS] [--cases N] [--runs N] [--module FILE] [--patience N] [--write DOCUMENT]
+                   [--fuzzer FILE] [--fuzzers N] [--kept FOLDERS] [--cases N] [--runs N] [--module FILE] [--patience N] [--write DOCUMENT]
 
 The parts of SHARES are run each as a process of its own, `--lanes` at once, the longest first, each for its share of
 the minutes. What they find stands in the table in the order of SHARES. `--rows` names a folder that keeps the rows of each part as
@@ -10,12 +10,12 @@ soon as it is done, with the program's SHA-256 and the seed: a later call with t
 and its table has all that is kept of this program; parts of several seeds add up. A part that cannot be run, or of
 which something is missing, is named with the reason, in the table's heading.
 
-`--fuzzer` is the libFuzzer program that entry/build.sh makes; it goes on for its minutes, or with `--cases` until so many are made, from
-the cases of the folders `--kept` (parted by colons) or else from seeds. All cases that are kept are then run beside the model,
-however long that takes. `--module` is the LLVM module of the program (entry/capture.py), for the thread sanitizer; `--calls` is the
-program of public calls that `refused_calls.py --keep` keeps. With `--runs`, threads under load go on until there are so many
+`--fuzzer` is the libFuzzer program that entry/build.sh makes; one, or so many at once as `--fuzzers` says, go on for their minutes,
+or with `--cases` until so many are made, from the cases of the folders `--kept` (parted by colons) or else from seeds. The cases that
+are kept are then run beside the model. `--module` is the LLVM module of the program (entry/capture.py), for the thread sanitizer;
+`--calls` is the program of public calls that `refused_calls.py --keep` keeps. With `--runs`, threads under load go on until there are so many
 runs of `run`. With `--whole`, nothing is drawn where all can be made: each growth of the examples and of those calls, several
-growths in a row, each call that fails, all seeds of hostile bytes, all inputs that are worst for time, however long that takes.
+growths in a row, each call that fails, all seeds and kept cases of hostile bytes, all inputs that are worst for time, however long that takes.
 
 Each part answers rows: the part, the number of runs, how often each answer was seen, and the differences, one line each with what
 reproduces it; they go to standard error as soon as a part is done. The table is printed in the form of docs/RELIABILITY.md;
@@ -116,7 +116,7 @@ def beside_model(program, minutes, seed):
 
 def call_by_call(calls, minutes, whole):
     """The row of refused_calls.py: the growths of public calls, one by one."""
-    rows = part("refused_calls").run(calls, 1e9 if whole else minutes)
+    rows = part("refused_calls").whole(calls) if whole else part("refused_calls").run(calls, minutes)
     cases, runs = sum(row.cases for row in rows), sum(row.runs for row in rows)
     growths = sum(row.growths for row in rows)
     answers = sum((row.answers for row in rows), collections.Counter())
@@ -132,21 +132,21 @@ def part(name):
 def runs_of(args):
     """What makes the rows of each part; each is given the program, the minutes and a seed."""
     corpus = str(args.rows / "corpus")
-    kept = corpus if args.fuzzer else args.kept
+    kept = os.pathsep.join(part("hostile").corpora(corpus, args.fuzzers)) if args.fuzzer else args.kept
     return {
         "every_growth": lambda program, _, seed: [part("refused_growths").whole(program, "each growth refused alone", seed)],
         "growths_in_a_row": lambda program, _, seed: [part("refused_growths").whole(program, "several in a row, or all, from each on", seed)],
         "refused_growths": lambda *given: part("refused_growths").run(*given, rest=args.whole),
         "refused_calls": lambda _, minutes, __: call_by_call(args.calls, minutes, args.whole),
         "limits": lambda program, *_: part("limits").by_subcommand(program),
-        "failed_calls": lambda program, minutes, seed: part("failed_calls").run(program, 1e9 if args.whole else minutes, seed),
+        "failed_calls": lambda program, minutes, seed: part("failed_calls").whole(program, seed) if args.whole else part("failed_calls").run(program, minutes, seed),
         "ended_runs": lambda *given: part("ended_runs").run(*given),
         "schedules": lambda *given: part("schedules").run(*given),
         "load": lambda *given: part("load").run(*given, runs=args.runs),
         "races": lambda *given: part("races").run(*given, args.module),
         "model": beside_models,
-        "fuzzer": lambda _, minutes, seed: [part("hostile").fuzzed(args.fuzzer, args.kept, minutes, seed, args.cases, corpus)],
-        "kept_cases": lambda program, minutes, seed: [part("hostile").compared(program, kept, minutes, seed)],
+        "fuzzer": lambda _, minutes, seed: [part("hostile").fuzzed(args.fuzzer, args.kept, minutes, seed, args.cases, corpus, args.fuzzers)],
+        "kept_cases": lambda program, minutes, seed: [part("hostile").compared(program, kept, minutes, seed, args.whole)],
         "seeds": lambda program, minutes, seed: [part("hostile").compared(program, None, minutes, seed, args.whole)],
         "worst_times": lambda program, minutes, seed: [part("hostile").timed(program, 1e9 if args.whole else minutes, seed)],
         "selftest": lambda *given: part("selftest").run(*given, args.fuzzer, args.calls, args.patience),
@@ -296,6 +296,7 @@ def arguments():
     parser.add_argument("--whole", action="store_true", help="draw nothing where all can be made")
     parser.add_argument("--calls", type=os.path.abspath, help="the program that refused_calls.py keeps")
     parser.add_argument("--fuzzer", type=os.path.abspath, help="the libFuzzer program")
+    parser.add_argument("--fuzzers", default=1, type=int, help="so many fuzzers at once, which share the cases out")
     parser.add_argument("--kept", help="folders of kept cases, parted by colons")
     parser.add_argument("--cases", type=int, help="go on fuzzing until so many cases are made")
     parser.add_argument("--runs", type=int, help="go on with load until there are so many runs of `run`")
