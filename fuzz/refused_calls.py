@@ -3,8 +3,8 @@
 
     refused_calls.py [--program BUILT] [--keep BUILT] [--unproved] [--only CALL] [--minutes M]
 
-It puts calls.rt.txt into the repository as a crate of its own, builds it (proved, which takes some minutes, or
-with --unproved by `rt try` and clang), and takes it away again; --keep keeps the built program, and --program
+It puts calls.rt.txt into the repository as a crate of its own, builds it (proved over the libraries that `rt ci` left, which takes
+some ten minutes, or with --unproved by `rt try` and clang), and takes it away again; --keep keeps the built program, and --program
 takes one that was kept. That program makes one public call on the texts of an example. A library that is
 loaded before the C library refuses the growths inside the call: each alone, and each with the four behind it.
 Where the call then says that memory ran out, what it was given must be as its contract says (as a rule
@@ -128,10 +128,8 @@ Ran = collections.namedtuple("Ran", "status faults notes answer growths refusals
 def compiled(crate, folder, unproved):
     """The program that was built in the crate's folder."""
     if not unproved:
-        run = subprocess.run(["rt", "run", "--", "none"], cwd=crate, capture_output=True, text=True)
-        if (crate / "out" / NAME).exists():
-            return shutil.copy(crate / "out" / NAME, folder)
-        raise SystemExit(run.stdout + run.stderr)
+        subprocess.run([sys.executable, HERE / "entry" / "proved.py", folder / NAME, folder / "module.bc", NAME], check=True, stdout=subprocess.DEVNULL)
+        return folder / NAME
     module, kit = folder / "module.bc", pathlib.Path(shutil.which("rt")).resolve().parent.parent
     subprocess.run([sys.executable, HERE / "entry" / "capture.py", module, NAME], check=True, stdout=subprocess.DEVNULL, stderr=subprocess.DEVNULL)
     words = ["--target=x86_64-unknown-linux-gnu", "--no-default-config", "-Wno-override-module", "-x", "ir", module, "-O1", "-fPIE",
