@@ -100,14 +100,16 @@ def named(words, path, why):
 
 
 def unnamed(words, out):
-    """What was written, without the names of the files that `explain` puts before a diagnostic and into those of a certificate."""
+    """What was written, without the names of the files that `explain` puts before a diagnostic and into those of a certificate, and
+    without the command that it suggests, which names the two files where a shell takes them as they stand."""
     if words[0] != "explain":
         return out
     if "sarif" in words:
         out = re.sub(rb'"uri":"[^"]*"', b'"uri":"FILE"', out)
         out = re.sub(rb'(\\n|"text":")\S+?:(?=\d+:| )', rb"\1FILE:", out)
     out = re.sub(rb"(?m)^\S+?:(?=\d+:| )", b"FILE:", out)
-    return re.sub(rb"--emit keep \S+ > \S+|a certificate of \S+ as it stands", b"FILE", out)
+    out = re.sub(rb"make (?:it anew|a certificate): multiscalar annotate --emit keep \S+ > [^\s\\]+", b"COMMAND", out)
+    return re.sub(rb"a certificate of \S+ as it stands", b"FILE", out)
 
 
 # Examples over which each way of running is tried, beside the subcommands that are tried over all.
