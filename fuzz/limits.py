@@ -33,6 +33,7 @@ BOUNDS = {"seq": 410, "print": 410, "annotate": 410, "explain": 490, "check": 54
 # long line: the text, a token of 48 bytes and a place of 16 for each byte, and for each two a target that is kept twice in
 # 48: 4.2 + 201.3 + 67.1 + 201.3 MB. Where a label stands a second time, each label with its place has 112 bytes: 4.2 +
 # 201.3 + 234.9 MB. The process takes 3 MB, and of what was given back before, the C library keeps up to 10 MB.
+# With a certificate it takes what `check` takes.
 # The same where a trace is written, and where it is written as lines of JSON.
 TRACED = {"run": 700, "replay": 1900}
 AS_JSON = {"run": 1020, "replay": 3450}
@@ -142,19 +143,22 @@ def certificates(folder):
              ["run", program, path], ["run", program, path, "--schedule", "steps", "--emit", "svg"],
              ["curve", program, path], ["replay", program, path, COUNT / "script.events"], ["explain", "--no-warnings", program, path]]
 
+    def bound(words):
+        return BOUNDS["check" if words[0] == "explain" else words[0]]
+
     def refused(words, told, line=""):
         return f"{path}:{line} error: ".encode() if words[0] == "explain" else f"certificate refused: {told}\n".encode()
 
     for name, mask in (("the longest certificate", "0" * 16), ("the longest certificate, short lines", "0" * 8)):
         certificate(path, mask)
         for words in kinds:
-            yield name, words, 1, refused(words, "5 Shape"), BOUNDS[words[0]]
+            yield name, words, 1, refused(words, "5 Shape"), bound(words)
     lines = certificate(path)
     with open(path, "rb+") as file:
         file.seek(-1, os.SEEK_END)
         file.write(b" ")
     for words in kinds:
-        yield "the longest certificate, its last line wrong", words, 1, refused(words, f"2 Line {lines}", f"{lines}:"), BOUNDS[words[0]]
+        yield "the longest certificate, its last line wrong", words, 1, refused(words, f"2 Line {lines}", f"{lines}:"), bound(words)
     certificate(path, size=FILE_LIMIT + 1)
     for words in kinds:
         yield "a certificate of one byte more", words, 2, path, ENDLESS
