@@ -399,10 +399,10 @@ def allowed_seconds(words, out):
 
 
 class Runner:
-    """Runs the program in a folder that holds the three texts. `worst` is the longest time, as a part of what is allowed."""
+    """Runs the program in a folder that holds the three texts. `worst` is the longest time, as a part of what is allowed, and its words."""
 
     def __init__(self, program, folder):
-        self.bench, self.folder, self.worst, self.seconds = faults.Bench(program, folder), folder, 0.0, 0.0
+        self.bench, self.folder, self.worst, self.seconds = faults.Bench(program, folder), folder, (0.0, []), 0.0
 
     def __enter__(self):
         return self
@@ -416,7 +416,8 @@ class Runner:
         ended = self.bench.forked(words, given=str(self.folder / "p"))
         if ended.status is not None:
             self.seconds = self.bench.seconds
-            self.worst = max(self.worst, self.seconds / allowed_seconds([os.fsencode(w) for w in words], ended.out))
+            part = self.seconds / allowed_seconds([os.fsencode(w) for w in words], ended.out)
+            self.worst = max(self.worst, (part, words), key=lambda it: it[0])
         return ended[:3]
 
 
@@ -464,12 +465,12 @@ def compared(program, kept, minutes, seed, whole=False):
     random.Random(seed).shuffle(cases)
     many = int(subprocess.run(["nproc"], capture_output=True, check=True).stdout)  # pypy3 cannot say how many cores it may use
     parts = [(program, end, cases[k::8 * many]) for k in range(8 * many)]
-    done, answers, differences, worst = 0, collections.Counter(), [], 0.0
+    done, answers, differences, worst = 0, collections.Counter(), [], (0.0, [])
     with multiprocessing.Pool(many) as pool:
         for count, seen, faults, slowest in pool.starmap(compare, parts, chunksize=1):
-            done, answers, differences, worst = done + count, answers + seen, differences + faults, max(worst, slowest)
-    if worst > 1:
-        differences.append(f"{worst:.2f} times the seconds that are allowed, for one case")
+            done, answers, differences, worst = done + count, answers + seen, differences + faults, max(worst, slowest, key=lambda it: it[0])
+    if worst[0] > 1:
+        differences.append(f"{worst[0]:.2f} times the seconds that are allowed: {worst[1]}")
     return f"{'kept cases of hostile bytes' if kept else 'seeds of hostile bytes'} beside the model ({done:,} of {len(cases):,})", sum(answers.values()), dict(answers), differences
 
 
