@@ -13,12 +13,10 @@ ghost use Rattle.unit_core.specs.Bursts.{carried_on};
 
 use crate::listing::created;
 use crate::processor::Processor;
-use crate::queue::Queue;
 use machine_events::event::{Commit, Standing};
 use mark_checker::accept::Accepted;
-use mips_instructions::number::{Reg, RegSet};
+use mips_instructions::number::Reg;
 use mips_plain::outcome::OutOfMemory;
-use register_ring::members::next_member;
 use register_ring::port::Port;
 use std::alloc::Global;
 use std::mem;
@@ -131,57 +129,22 @@ impl Processor {
         let Some(head) = self.queue.get(0) else {
             return Ok(());
         };
+        let create = created(program, head.task());
         let commit = Commit {
             task: head.task(),
             exit,
             count: head.reads().len() as u32,
         };
-        let mut registers = self.registers;
-        hand_over(head, created(program, head.task()), &mut registers);
-        keep(
-            &mut self.queue,
+        self.commits.reserve(1)?;
+        self.queue.pop_into(
+            create,
+            &mut self.registers,
             &mut self.reads,
             &mut self.spare,
-            &mut self.commits,
-            commit,
         )?;
-        self.registers = registers;
+        self.commits.push_reserved(commit);
         self.queue.fill_head(&self.registers);
         self.next = exit;
         Ok(())
-    }
-}
-
-ghost use Rattle.std.specs.Prelude.{◌++◌, ◌∷◌, [], if◌then◌else◌, unwrap_or};
-ghost use Rattle.mips_instructions.specs.Words.{has};
-
-/// The head goes, and what it read is kept, and its commit; nothing where there is no room for both.
-fn keep(
-    queue: &mut Queue,
-    reads: &mut ReadLog,
-    spare: &mut ReadLog,
-    commits: &mut Vec<Commit>,
-    commit: Commit,
-) -> Result<(), OutOfMemory>
-    ensures queue { OnOk result (queue.new ≡ record queue.old { units = drop 1 queue.old.units }) }
-    ensures reads { OnOk result ((u : Active) → slice_get (actives queue.old) 0 ≡ Some u → reads.new.reads ≡ reads.old.reads ++ u.log) }
-    ensures commits { OnOk result (commits.new.items ≡ commits.old.items ++ commit ∷ []) }
-    ensures err { OnErr result ((queue.new ≡ queue.old) × (reads.new.reads ≡ reads.old.reads) × (commits.new.items ≡ commits.old.items)) }
-{
-    commits.reserve(1)?;
-    queue.pop_into(reads, spare)?;
-    commits.push_reserved(commit);
-    Ok(())
-}
-
-/// Puts the words that a unit sent of its create mask into the registers.
-fn hand_over(head: &Unit, create: RegSet, registers: &mut [u32; 34])
-    ensures { (r : ℕ) → slice_index registers.new r ≡ unwrap_or (if has create r then (active_of head.now).sent r else None) (slice_index registers.old r) }
-{
-    let mut from = 0;
-    while let Some(register) = next_member(create, from) {
-        let place = usize::from(register.get());
-        registers[place] = head.sent(register).unwrap_or(registers[place]);
-        from = register.get() + 1;
     }
 }

@@ -7,6 +7,7 @@ use machine_events::event::Refused;
 use mark_checker::accept::Accepted;
 use mips_instructions::number::{Reg, RegSet};
 use mips_plain::outcome::OutOfMemory;
+use register_ring::members::next_member;
 use std::alloc::{AllocError, Global};
 use std::marker::Model;
 use task_descriptor::program::Program;
@@ -34,7 +35,7 @@ impl Model for Queue {
 }
 
 impl Queue {
-    ghost use Rattle.std.specs.Prelude.{◌≡◌, ℕ, ◌<◌, ◌≤◌, ◌↔◌, IsTrue, [], ◌∷◌, ◌++◌, None, Some, length, take, drop, nat_eq, slice_get, slice_set, slice_index, true, false, IfOk, IfErr, OnOk, OnErr};
+    ghost use Rattle.std.specs.Prelude.{◌≡◌, ℕ, ◌<◌, ◌≤◌, ◌↔◌, IsTrue, [], ◌∷◌, ◌++◌, None, Some, length, take, drop, nat_eq, slice_get, slice_set, slice_index, true, false, if◌then◌else◌, unwrap_or, IfOk, IfErr, OnOk, OnErr};
     ghost use Rattle.std.specs.Option.{option_copied, option_map};
     ghost use Rattle.std.specs.List.{last_or};
     ghost use Rattle.mips_instructions.specs.Words.{has};
@@ -108,22 +109,27 @@ impl Queue {
         let _ = self.ring.pop_front();
     }
 
-    /// The head hands its reads over, behind others, and goes; its empty log becomes the spare one. Nothing
-    /// is changed where they find no room.
+    /// The head hands over what it sent of a create mask, and its reads, behind others, and goes; its empty log
+    /// becomes the spare one. Nothing is changed where the reads find no room.
     pub(crate) fn pop_into(
         &mut self,
+        create: RegSet,
+        registers: &mut [u32; 34],
         reads: &mut ReadLog,
         spare: &mut ReadLog,
     ) -> Result<(), OutOfMemory>
+        ensures registers { OnOk result ((u : Active) → slice_get (actives self.old) 0 ≡ Some u
+            → (r : ℕ) → slice_index registers.new r ≡ unwrap_or (if has create r then u.sent r else None) (slice_index registers.old r)) }
         ensures reads { OnOk result ((u : Active) → slice_get (actives self.old) 0 ≡ Some u → reads.new.reads ≡ reads.old.reads ++ u.log) }
         ensures queue { OnOk result (self.new ≡ record self.old { units = drop 1 self.old.units }) }
-        ensures err { OnErr result ((self.new ≡ self.old) × (reads.new.reads ≡ reads.old.reads)) }
+        ensures err { OnErr result ((self.new ≡ self.old) × (registers.new ≡ registers.old) × (reads.new.reads ≡ reads.old.reads)) }
     {
         let Some(head) = self.ring.get_mut(0) else {
             self.pop();
             return Ok(());
         };
         head.hand_over_reads(reads)?;
+        hand_over(head, create, registers);
         head.swap_log(spare);
         self.pop();
         Ok(())
@@ -183,7 +189,7 @@ impl Queue {
     }
 
     /// The head executes one instruction.
-    #[inline]
+    #[inline(always)]
     pub(crate) fn exec_head(
         &mut self,
         accepted: &Accepted,
@@ -206,7 +212,7 @@ impl Queue {
     }
 
     /// The unit at a position behind the head executes one instruction.
-    #[inline]
+    #[inline(always)]
     pub(crate) fn exec_ahead(&mut self, position: usize, accepted: &Accepted) -> Result<(), Refused>
         requires behind { 0 < position }
         requires placed { ArePlaced accepted.now (actives self.old) }
@@ -278,7 +284,7 @@ impl Queue {
     }
 }
 
-ghost use Rattle.std.specs.Prelude.{◌≡◌, ℕ, map};
+ghost use Rattle.std.specs.Prelude.{◌≡◌, ℕ, None, if◌then◌else◌, map, slice_index, unwrap_or};
 ghost use Rattle.mips_instructions.specs.Words.{has};
 ghost use Rattle.machine_model.specs.Step.{is_reserved};
 ghost use Rattle.unit_core.specs.Units.{active_of};
@@ -305,5 +311,17 @@ pub(crate) fn refused_by(wait: Wait) -> Refused
         Wait::Waiting(register) => Refused::Waiting(register),
         Wait::NotHead => Refused::NotHead,
         Wait::OutOfMemory => Refused::OutOfMemory,
+    }
+}
+
+/// Puts the words that a unit sent of its create mask into the registers.
+fn hand_over(head: &Unit, create: RegSet, registers: &mut [u32; 34])
+    ensures { (r : ℕ) → slice_index registers.new r ≡ unwrap_or (if has create r then (active_of head.now).sent r else None) (slice_index registers.old r) }
+{
+    let mut from = 0;
+    while let Some(register) = next_member(create, from) {
+        let place = usize::from(register.get());
+        registers[place] = head.sent(register).unwrap_or(registers[place]);
+        from = register.get() + 1;
     }
 }

@@ -113,14 +113,38 @@ impl Processor {
         Ok(())
     }
 
-    /// One instruction of the unit at a position, where the run goes on, behind so many events: `step` for an
-    /// Exec. It is a call of its own because most events are of this kind, so it pays not to look for others.
+    /// One instruction of the head, where the run goes on, behind so many events: `step` for an Exec at
+    /// position 0. It is a call of its own because most events are of this kind, so it pays not to look for
+    /// others.
     ///
     /// # Errors
     ///
     /// The first refusal that holds, `Full` the last of them, else `OutOfMemory`; nothing is changed then.
     #[inline(always)]
-    pub fn exec(&mut self, accepted: &Accepted, count: usize, position: u32) -> Result<(), Refused>
+    pub fn exec_head(&mut self, accepted: &Accepted, count: usize) -> Result<(), Refused>
+        requires runs { self.old.world.outcome ≡ standing.Running }
+        requires placed { ArePlaced accepted.now (state_of self.old).queue }
+        ensures { Steps accepted.now.program self.old count (events.Exec 0) result self.new }
+    {
+        if count >= MOST_EVENTS {
+            return Err(self.exec_when_full(accepted, 0));
+        }
+        self.queue.exec_head(accepted, &mut self.world)
+    }
+
+    /// The same for the unit at a position behind the head.
+    ///
+    /// # Errors
+    ///
+    /// Those of `exec_head`.
+    #[inline(always)]
+    pub fn exec_ahead(
+        &mut self,
+        accepted: &Accepted,
+        count: usize,
+        position: u32,
+    ) -> Result<(), Refused>
+        requires behind { 0 < position }
         requires runs { self.old.world.outcome ≡ standing.Running }
         requires placed { ArePlaced accepted.now (state_of self.old).queue }
         ensures { Steps accepted.now.program self.old count (events.Exec position) result self.new }
@@ -129,10 +153,20 @@ impl Processor {
         if count >= MOST_EVENTS {
             return Err(self.exec_when_full(accepted, position));
         }
+        self.queue.exec_ahead(position as usize, accepted)
+    }
+
+    /// The same for the unit at any position.
+    #[inline(never)]
+    fn exec(&mut self, accepted: &Accepted, count: usize, position: u32) -> Result<(), Refused>
+        requires runs { self.old.world.outcome ≡ standing.Running }
+        requires placed { ArePlaced accepted.now (state_of self.old).queue }
+        ensures { Steps accepted.now.program self.old count (events.Exec position) result self.new }
+    {
         if position == 0 {
-            self.queue.exec_head(accepted, &mut self.world)
+            self.exec_head(accepted, count)
         } else {
-            self.queue.exec_ahead(position as usize, accepted)
+            self.exec_ahead(accepted, count, position)
         }
     }
 

@@ -117,6 +117,7 @@ impl<'a> Machine<'a> {
     ///
     /// The first refusal of 1 to 16 whose condition holds, else for Exec and Retire alone
     /// `OutOfMemory` where a growth was refused; nothing is changed then.
+    #[inline(always)]
     pub fn apply(&mut self, event: Event) -> Result<(), Refused>
         ensures answer { IsAnswered self.old event result }
         ensures ok { OnOk result (Applies self.old event self.new) }
@@ -127,15 +128,34 @@ impl<'a> Machine<'a> {
             return Err(Refused::Ended);
         }
         match event {
-            Event::Exec(position) => self.apply_exec(position),
+            Event::Exec(0) => self.apply_at_head(),
+            Event::Exec(position) => self.apply_ahead(position),
             _ => self.apply_other(event),
         }
     }
 
-    /// The same for an Exec where the run goes on.
-    #[inline(always)]
-    fn apply_exec(&mut self, position: u32) -> Result<(), Refused>
+    /// The same for an Exec of the head where the run goes on. Most events are Exec events, so those have calls
+    /// of their own, in which what they touch stays in registers.
+    #[inline(never)]
+    fn apply_at_head(&mut self) -> Result<(), Refused>
         requires { (state self.old).outcome ≡ standing.Running }
+        ensures answer { IsAnswered self.old (Exec 0) result }
+        ensures ok { OnOk result (Applies self.old (Exec 0) self.new) }
+        ensures err { OnErr result (self.new ≡ self.old) }
+        ensures kept { SameRing self.old self.new }
+    {
+        self.law_replay();
+        let count = self.length();
+        self.processor.exec_head(self.accepted, count)?;
+        self.history.push(Event::Exec(0));
+        Ok(())
+    }
+
+    /// The same for an Exec of a unit behind the head.
+    #[inline(never)]
+    fn apply_ahead(&mut self, position: u32) -> Result<(), Refused>
+        requires behind { 0 < position }
+        requires runs { (state self.old).outcome ≡ standing.Running }
         ensures answer { IsAnswered self.old (Exec position) result }
         ensures ok { OnOk result (Applies self.old (Exec position) self.new) }
         ensures err { OnErr result (self.new ≡ self.old) }
@@ -143,12 +163,12 @@ impl<'a> Machine<'a> {
     {
         self.law_replay();
         let count = self.length();
-        self.processor.exec(self.accepted, count, position)?;
+        self.processor.exec_ahead(self.accepted, count, position)?;
         self.history.push(Event::Exec(position));
         Ok(())
     }
 
-    /// The same for any event where the run goes on, out of line, since most are Exec events.
+    /// The same for any event.
     #[inline(never)]
     fn apply_other(&mut self, event: Event) -> Result<(), Refused>
         requires { (state self.old).outcome ≡ standing.Running }

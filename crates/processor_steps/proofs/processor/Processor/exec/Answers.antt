@@ -1,41 +1,9 @@
-use Rattle.std.proofs.Common.{◌≡◌, ◌<◌, ℕ, refl, sym, ap, ◌∙◌, subst, arith}
-use Rattle.machine_model.specs.Answer.{most_events}
+use Rattle.std.proofs.Common.{ℕ, sym, subst}
 use Rattle.machine_events.specs.declared.event.Event.TheVariants.{Exec}
-use Rattle.machine_events.specs.declared.event.Standing.TheVariants.{Running}
-use Rattle.processor_steps.specs.Processors.{QueueView, ProcessorView, actives, ArePlaced, Steps}
-use Rattle.processor_steps.proofs.Executions.{LeavesRest, head_tried, ahead_tried, on_err, not_zero}
+use Rattle.processor_steps.specs.Processors.{Steps}
 use Rattle.processor_steps.proofs.processor.Processor.exec.Goals as goal
-
-pub exec_head-requires-clause-placed : goal.exec_head-requires-clause-placed
-exec_head-requires-clause-placed c = subst (λ (v : ProcessorView). ArePlaced c.args.accepted.now (actives v.queue)) (sym c.self.view_is) c.requires.placed
-
-pub exec_ahead-requires-clause-placed : goal.exec_ahead-requires-clause-placed
-exec_ahead-requires-clause-placed c = subst (λ (v : ProcessorView). ArePlaced c.args.accepted.now (actives v.queue)) (sym c.self.view_is) c.requires.placed
 
 pub returns-then-position-eq0 : goal.returns-then-position-eq0
 returns-then-position-eq0 c =
-    let i = c.self.inside in
-    let v : ProcessorView = record { queue = i.queue; registers = i.registers; world = i.world; next = i.next; reads = i.reads.reads; commits = i.commits.items; assigns = i.assigns } in
-    let new : ProcessorView = record v { queue = c.exec_head.new.self; world = c.exec_head.new.world } in
-    let p = c.args.accepted.now.program in
-    let room : c.args.count < most_events = omega arith in
-    let runs : v.world.outcome ≡ Running = ap (λ (x : ProcessorView). x.world.outcome) c.self.view_is ∙ c.requires.runs in
-    let rest : LeavesRest v new = record { registers = refl; next = refl; reads = refl; commits = refl; assigns = refl; capacity = c.exec_head.ensures.capacity } in
-    let err = on_err c.exec_head.result ((c.exec_head.new.self ≡ i.queue) × (c.exec_head.new.world ≡ i.world)) (new ≡ v) c.exec_head.ensures.err (λ e. λ j. record v { queue = e.0 j; world = e.1 j }) in
-    subst (λ (x : ProcessorView). Steps p x c.args.count (Exec c.args.position) c.exec_head.result new) c.self.view_is
-    (subst (λ (k : ℕ). Steps p v c.args.count (Exec k) c.exec_head.result new) (sym c.if-position-eq0.true)
-    (head_tried p v new c.args.count c.exec_head.result room runs rest c.exec_head.ensures.ok c.exec_head.ensures.refused err))
-
-pub returns-else-position-eq0 : goal.returns-else-position-eq0
-returns-else-position-eq0 c =
-    let i = c.self.inside in
-    let v : ProcessorView = record { queue = i.queue; registers = i.registers; world = i.world; next = i.next; reads = i.reads.reads; commits = i.commits.items; assigns = i.assigns } in
-    let new : ProcessorView = record v { queue = c.exec_ahead.new.self } in
-    let p = c.args.accepted.now.program in
-    let room : c.args.count < most_events = omega arith in
-    let behind : 0 < c.args.position = omega arith in
-    let runs : v.world.outcome ≡ Running = ap (λ (x : ProcessorView). x.world.outcome) c.self.view_is ∙ c.requires.runs in
-    let rest : LeavesRest v new = record { registers = refl; next = refl; reads = refl; commits = refl; assigns = refl; capacity = c.exec_ahead.ensures.capacity } in
-    let err = on_err c.exec_ahead.result (c.exec_ahead.new.self ≡ i.queue) (new ≡ v) c.exec_ahead.ensures.err (λ e. ap (λ (q : QueueView). record v { queue = q }) e) in
-    subst (λ (x : ProcessorView). Steps p x c.args.count (Exec c.args.position) c.exec_ahead.result new) c.self.view_is
-    (ahead_tried c.bursts_are_events.ensures p v new c.args.count c.args.position c.exec_ahead.result room (not_zero c.args.position behind) runs rest refl c.exec_ahead.ensures.ok c.exec_ahead.ensures.refused err)
+    subst (λ (k : ℕ). Steps c.args.accepted.now.program c.args.self.now c.args.count (Exec k) c.exec_head.result c.exec_head.new.self) (sym c.if-position-eq0.true)
+    c.exec_head.ensures

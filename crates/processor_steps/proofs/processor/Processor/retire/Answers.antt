@@ -25,16 +25,16 @@ returns-clause-state c =
     let v : ProcessorView = record { queue = i.queue; registers = i.registers; world = i.world; next = i.next; reads = i.reads.reads; commits = i.commits.items; assigns = i.assigns } in
     let p = c.args.program.now in
     let u = active_of c.in-Some.head.now in
-    let regs = c.hand_over.new.registers in
+    let regs = c.pop_into.new.registers in
     let fill : List Active → List Active = filled (λ r. slice_index regs r) in
     let there : slice_get (actives i.queue) 0 ≡ Some u = sym c.in-Some.ensures.active in
-    let create = c.created.ensures ∙ ap (λ (t : ℕ). (task_at p t).create) c.task-2.ensures in
+    let create = c.created-create.ensures ∙ ap (λ (t : ℕ). (task_at p t).create) c.task.ensures in
     let rest : actives c.fill_head.new.self ≡ fill (drop 1 (actives i.queue)) =
     c.fill_head.ensures.active
-    ∙ ap (λ (q : QueueView). fill (actives q)) c.in_ok-keep.ensures.queue
+    ∙ ap (λ (q : QueueView). fill (actives q)) c.in_ok-pop_into.ensures.queue
     ∙ ap fill (sym (drop-map active_of 1 i.queue.units)) in
     let count : c.len.result ≡ length u.log = c.len.ensures ∙ ap (λ (x : List Read). length x) c.reads.ensures in
     let commit_of : ℕ → ℕ → Commit = λ task count. record { task = task; exit = c.args.exit; count = count } in
-    let listed : c.keep.new.commits.items ≡ i.commits.items ++ commit_of u.task (length u.log) ∷ [] =
-    c.in_ok-keep.ensures.commits ∙ (λ j. i.commits.items ++ commit_of (c.task.ensures j) (count j) ∷ []) in
-    retired p v c.args.self.now u c.fill_head.new.self regs c.args.exit c.created.result c.keep.new.reads.reads c.keep.new.commits.items c.self.view_is there c.requires.exit create c.hand_over.ensures rest (c.in_ok-keep.ensures.reads u there) listed
+    let listed : c.push_reserved.new.self.items ≡ i.commits.items ++ commit_of u.task (length u.log) ∷ [] =
+    c.push_reserved.ensures.items ∙ (λ j. c.reserve.ensures.items j ++ commit_of (c.task-2.ensures j) (count j) ∷ []) in
+    retired p v c.args.self.now u c.fill_head.new.self regs c.args.exit c.created-create.result c.pop_into.new.reads.reads c.push_reserved.new.self.items c.self.view_is there c.requires.exit create (c.in_ok-pop_into.ensures.registers u there) rest (c.in_ok-pop_into.ensures.reads u there) listed

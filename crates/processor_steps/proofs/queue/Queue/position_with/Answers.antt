@@ -1,8 +1,7 @@
-use Rattle.std.proofs.Common.{◌≡◌, ℕ, ◌<◌, ◌∙◌, inl, inr, Some, length, sym, ap, subst, arith}
+use Rattle.std.proofs.Common.{◌≡◌, ℕ, inl, inr, Some, length, sym, subst, arith}
 use Rattle.std.specs.Prelude.{slice_get}
 use Rattle.std.proofs.lemmas.Bool.{cases_lt}
 use Rattle.std.proofs.lemmas.List.{length-map}
-use Rattle.machine_model.specs.Machine.{Active}
 use Rattle.unit_core.specs.Units.{active_of}
 use Rattle.processor_steps.specs.Processors.{actives}
 use Rattle.processor_steps.proofs.Positions.{first_with, none_with}

@@ -1,6 +1,5 @@
-use Rattle.std.proofs.Common.{◌≡◌, List, sym, ap, ◌∙◌, subst}
+use Rattle.std.proofs.Common.{◌≡◌, List, ap, ◌∙◌}
 use Rattle.std.specs.Prelude.{slice_set}
-use Rattle.machine_model.specs.Machine.{Active}
 use Rattle.unit_core.specs.Units.{UnitView, active_of}
 use Rattle.unit_core.specs.Bursts.{carried_on}
 use Rattle.processor_steps.specs.Processors.{QueueView, actives}

@@ -3,7 +3,7 @@ use Rattle.std.specs.Prelude.{slice_index, slice_set}
 use Rattle.mips_instructions.specs.Words.{has}
 use Rattle.unit_core.specs.Units.{active_of}
 use Rattle.processor_steps.proofs.Changed.{handed_more, rest_more, handed_all}
-use Rattle.processor_steps.proofs.changes.hand_over.Goals as goal
+use Rattle.processor_steps.proofs.queue.hand_over.Goals as goal
 
 pub loop-register-preserved : goal.loop-register-preserved
 loop-register-preserved c =

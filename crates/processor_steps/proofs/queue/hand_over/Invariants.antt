@@ -4,7 +4,7 @@ use Rattle.std.specs.Prelude.{slice_index}
 use Rattle.mips_instructions.specs.Words.{has}
 use Rattle.unit_core.specs.Units.{active_of}
 use Rattle.processor_steps.proofs.Changed.{handed}
-use Rattle.processor_steps.proofs.changes.hand_over.Given as goal
+use Rattle.processor_steps.proofs.queue.hand_over.Given as goal
 
 abbrev pub invariant-loop-register : goal.invariant-loop-register
 invariant-loop-register l = record {
