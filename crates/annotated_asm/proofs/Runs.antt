@@ -1,5 +1,6 @@
 -- Bytes behind bytes of the same section may stand in one item: layout, names and program are the same.
-use Rattle.std.proofs.Common.{◌≡◌, ℕ, ◌+◌, ◌∷◌, ◌++◌, [], Bool, true, false, List, Result, Ok, Err, refl, ap, sym, ◌∙◌, length, append_assoc, length-append, if◌then◌else◌, arith, ◌≤◌}
+use Rattle.std.specs.Prelude.{slice_index_or, slice_set}
+use Rattle.std.proofs.Common.{◌≡◌, ℕ, ◌+◌, ◌-◌, ◌∷◌, ◌++◌, [], suc, ◌<◌, Bool, true, false, List, Result, Ok, Err, refl, ap, sym, ◌∙◌, length, append_assoc, length-append, if◌then◌else◌, arith, ◌≤◌}
 use Rattle.task_descriptor.specs.Listing.{Listing, build_fault}
 use Rattle.program_statements.specs.Steps.{◌>>=◌}
 use Rattle.program_statements.specs.declared.statement.Section.{Section}
@@ -110,6 +111,23 @@ one_blob first line here a b = record {
   names = λ labels. refl;
   program = λ labels front. ap (λ (p : Listing). let made : Result Listing AsmFault = Ok p in made) (data_twice front here a b);
 }
+
+-- the last of a list, changed where it stands
+set_from : {X : Type 0} (z : X) (ws : List X) (x y : X) → x ≡ slice_index_or (z ∷ ws) (length ws) x
+    → (front : List X) × ((z ∷ ws ≡ front ++ x ∷ []) × (slice_set (z ∷ ws) (length ws) y ≡ front ++ y ∷ []))
+set_from {X} z [] x y e = ([], (ap (λ (v : X). v ∷ []) (sym e), refl))
+set_from {X} z (w ∷ ws) x y e =
+    let rest = set_from w ws x y e in
+    (z ∷ rest.0, (ap (λ (vs : List X). z ∷ vs) rest.1.0, ap (λ (vs : List X). z ∷ vs) rest.1.1))
+
+pub set_last : {X : Type 0} (xs : List X) (n : ℕ) (x y : X) → 0 < length xs → n ≡ length xs - 1 → x ≡ slice_index_or xs n x
+    → (front : List X) × ((xs ≡ front ++ x ∷ []) × (slice_set xs n y ≡ front ++ y ∷ []))
+set_last [] n x y some is e = absurd (omega (arith, some))
+set_last {X} (z ∷ ws) n x y some is e =
+    let last : suc (length ws) - 1 ≡ length ws = omega arith in
+    let same : n ≡ length ws = is ∙ last in
+    let rest = set_from z ws x y (e ∙ ap (λ (k : ℕ). slice_index_or (z ∷ ws) k x) same) in
+    (rest.0, (rest.1.0, ap (λ (k : ℕ). slice_set (z ∷ ws) k y) same ∙ rest.1.1))
 
 -- bytes added to those of the last item
 pub blob_joined : (items : List Item) (first line : ℕ) (here : Section) (a b : List ℕ)

@@ -97,30 +97,15 @@ fn add_bytes(
 ) -> Result<(), AllocError>
     ensures { OnOk result (AreAlike items.new.items (items.old.items ++ blob line section more ∷ [])) }
 {
-    let Some(last) = items.pop() else {
-        items.push(bytes_item(line, section, more))?;
-        return Ok(());
-    };
-    let Item {
-        line: first,
-        section: here,
-        statement,
-    } = last;
-    match statement {
-        Statement::Bytes(front) if here == section => {
-            let mut run = front;
-            run.append(more.as_slice())?;
-            items.push(bytes_item(first, section, run))?;
-        }
-        statement => {
-            items.push(Item {
-                line: first,
-                section: here,
-                statement,
-            })?;
-            items.push(bytes_item(line, section, more))?;
+    if let Some(last) = items.last_mut() {
+        if let Statement::Bytes(front) = &mut last.statement {
+            if last.section == section {
+                front.append(more.as_slice())?;
+                return Ok(());
+            }
         }
     }
+    items.push(bytes_item(line, section, more))?;
     Ok(())
 }
 
@@ -135,11 +120,22 @@ fn bytes_item(line: u32, section: Section, bytes: Blob) -> Item
     }
 }
 
+/// Whether the last item has bytes.
+fn ends_in_bytes(items: &[Item]) -> bool {
+    match items.last() {
+        Some(item) => matches!(item.statement, Statement::Bytes(_)),
+        None => false,
+    }
+}
+
 /// Puts the bytes of the last item into the one before it, where that has bytes of the same section, so
 /// that a run of data takes one item and not one a line.
 fn join_last(items: &mut Vec<Item>) -> Result<(), AllocError>
     ensures { OnOk result (AreAlike items.new.items items.old.items) }
 {
+    if !ends_in_bytes(items) {
+        return Ok(());
+    }
     let Some(last) = items.pop() else {
         return Ok(());
     };
