@@ -4,3 +4,5 @@ pub mod Members
 pub mod DataLines
 pub mod Parts
 pub mod TableLemmas
+pub mod Digits
+pub mod Names

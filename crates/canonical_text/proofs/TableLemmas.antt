@@ -43,7 +43,7 @@ one_before tasks first k place task sized within entry less is before =
           ∙ sym (ap (find p) cons ∙ find_behind p task (drop (suc k) tasks) (ne_eqb task.entry place other)))
     ]
 
--- the task that `get` lends
-pub copied_get : (tasks : List Descriptor) (i : ℕ) (task : Option (Bor Descriptor)) → IsItemAt tasks i task → option_copied task ≡ slice_get tasks i
-copied_get tasks i None item = sym (slice_get_past tasks i item.3)
-copied_get tasks i (Some task) item = sym (slice_get_read tasks (length tasks) i task.now refl item.3.0 item.1)
+-- what `get` lends
+pub copied_get : {X : Type 0} (xs : List X) (i : ℕ) (x : Option (Bor X)) → IsItemAt xs i x → option_copied x ≡ slice_get xs i
+copied_get xs i None item = sym (slice_get_past xs i item.3)
+copied_get xs i (Some x) item = sym (slice_get_read xs (length xs) i x.now refl item.3.0 item.1)

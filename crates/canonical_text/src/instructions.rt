@@ -4,7 +4,7 @@ ghost use Rattle.std.specs.Prelude.{◌≡◌, ◌++◌, OnOk, string_bytes, map
 ghost use Rattle.canonical_text.specs.CanonicalText.{spelled, before_operand, operand_text, op_text, forward_text, stop_text, marked_text};
 
 use crate::labels::Labels;
-use crate::pieces::{write_place, write_registers};
+use crate::pieces::{write_place, write_register, write_registers};
 use mips_instructions::instruction::{InstructionOperand, Op};
 use std::alloc::AllocError;
 use task_descriptor::descriptor::{Marked, Stop};
@@ -17,10 +17,7 @@ fn write_operand(
     ensures { OnOk result (string_bytes text.new ≡ string_bytes text.old ++ operand_text labels.now operand) }
 {
     match operand {
-        InstructionOperand::Register(register) => {
-            let number = register.get();
-            write!(text, "${number}")
-        }
+        InstructionOperand::Register(register) => write_register(text, register.get()),
         InstructionOperand::Amount(amount) => {
             let amount = amount.get();
             write!(text, "{amount}")

@@ -1,6 +1,6 @@
 //! Pieces of a line: registers, places, numbers, with commas between them.
 
-ghost use Rattle.std.specs.Prelude.{◌≡◌, ℕ, ◌++◌, ◌∷◌, ◌<◌, [], false, not, OnOk, IfOk, string_bytes, map, ◌%◌};
+ghost use Rattle.std.specs.Prelude.{◌≡◌, ℕ, ◌++◌, ◌∷◌, ◌<◌, ◌+◌, [], false, not, OnOk, IfOk, string_bytes, map, ◌%◌};
 ghost use Rattle.mips_instructions.specs.Words.{has};
 ghost use Rattle.std.specs.Fmt.{digit_glyph};
 ghost use Rattle.canonical_text.specs.CanonicalText.{comma_unless as comma_text, no_pieces, commas, listed, members, register_text, place_named, place_text, hexadecimal};
@@ -9,6 +9,7 @@ use crate::labels::Labels;
 use mips_instructions::number::{Place, Reg, RegSet};
 use std::alloc::AllocError;
 
+#[tactic(auto, using(crate::proofs::Names::named, crate::proofs::Names::nameless))]
 pub(crate) fn write_place(
     text: &mut String,
     labels: &Labels,
@@ -17,8 +18,8 @@ pub(crate) fn write_place(
     ensures { OnOk result (string_bytes text.new ≡ string_bytes text.old ++ place_text labels.now place) }
 {
     let index = place.get();
-    match labels.task_at(index) {
-        Some(task) => text.push_str(task.name.as_str()),
+    match labels.name_at(index) {
+        Some(name) => text.push_str(name),
         None => write!(text, "@{index}"),
     }
 }
@@ -31,18 +32,41 @@ pub(crate) fn write_registers(text: &mut String, set: RegSet) -> Result<bool, Al
     let mut is_first = true;
     for number in 0..34u8 {
         if has_number(set, number) {
-            write_register(text, is_first, number)?;
+            write_next_register(text, is_first, number)?;
             is_first = false;
         }
     }
     Ok(!is_first)
 }
 
-fn write_register(text: &mut String, is_first: bool, number: u8) -> Result<(), AllocError>
+fn write_next_register(text: &mut String, is_first: bool, number: u8) -> Result<(), AllocError>
+    requires { number < 34 }
     ensures { OnOk result (string_bytes text.new ≡ string_bytes text.old ++ (comma_text is_first ++ register_text number)) }
 {
-    let comma = comma_unless(is_first);
-    write!(text, "{comma}${number}")
+    if !is_first {
+        text.push(',')?;
+    }
+    write_register(text, number)
+}
+
+/// A register. Its digits are written one by one: a formatter would take longer.
+pub(crate) fn write_register(text: &mut String, number: u8) -> Result<(), AllocError>
+    requires { number < 34 }
+    ensures { OnOk result (string_bytes text.new ≡ string_bytes text.old ++ register_text number) }
+{
+    text.push('$')?;
+    if number < 10 {
+        return write_digit(text, number);
+    }
+    write_digit(text, number / 10)?;
+    write_digit(text, number % 10)
+}
+
+fn write_digit(text: &mut String, value: u8) -> Result<(), AllocError>
+    requires { value < 10 }
+    ensures { OnOk result (string_bytes text.new ≡ string_bytes text.old ++ (48 + value) ∷ []) }
+{
+    text.push(char::from(b'0' + value))
 }
 
 fn comma_unless(is_first: bool) -> &'static str

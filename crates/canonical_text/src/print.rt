@@ -52,13 +52,15 @@ fn write_tasks(text: &mut String, labels: &Labels) -> Result<(), AllocError>
     Ok(())
 }
 
-fn write_label(text: &mut String, task: Option<&Descriptor>) -> Result<(), AllocError>
-    ensures { OnOk result (string_bytes text.new ≡ string_bytes text.old ++ label_line (option_copied task.entry)) }
+#[tactic(auto, using(crate::proofs::Names::named_label, crate::proofs::Names::no_label))]
+fn write_label(text: &mut String, labels: &Labels, index: u32) -> Result<(), AllocError>
+    requires { index ≤ 4096 }
+    ensures { OnOk result (string_bytes text.new ≡ string_bytes text.old ++ label_line (find (λ t. t.entry == index) labels.now)) }
 {
-    match task {
-        Some(task) => {
-            let name = task.name.as_str();
-            writeln!(text, "{name}:")
+    match labels.name_at(index) {
+        Some(name) => {
+            text.push_str(name)?;
+            text.push_str(":\n")
         }
         None => Ok(()),
     }
@@ -73,7 +75,7 @@ fn write_instruction(
     requires { index ≤ 4096 }
     ensures { OnOk result (string_bytes text.new ≡ string_bytes text.old ++ code_line labels.now index marked.now) }
 {
-    write_label(text, labels.task_at(index))?;
+    write_label(text, labels, index)?;
     write_marked(text, labels, marked)?;
     text.push('\n')
 }
@@ -161,13 +163,24 @@ fn write_start(text: &mut String, task: Option<&Descriptor>) -> Result<(), Alloc
     }
 }
 
+/// How much room the text of a program takes, about: a line for each instruction and each word of data, and
+/// for each task its descriptor and label.
+fn room_for(program: &Program) -> usize {
+    let words = program.bytes().len() / 4 + program.fixed().len() / 4;
+    let mut room = program.code().len() * 40 + words * 17;
+    for task in program.tasks() {
+        room = room.saturating_add(160 + task.targets.as_slice().len() * 34);
+    }
+    room
+}
+
 /// The canonical text of a program (own choice): `.start`, the tasks in order, the instructions, one a
 /// line, each task's label alone on the line before, then the bytes of data and of read-only data.
 pub fn print(alloc: Global, program: &Program) -> Result<Vec<u8>, AllocError>
     ensures { IfOk result (λ text. text.items ≡ canonical_text program.now) }
 {
-    let labels = Labels::new(program.tasks());
-    let mut text = String::new(alloc);
+    let labels = Labels::new(alloc, program.tasks())?;
+    let mut text = String::with_capacity(alloc, room_for(program))?;
     write_start(&mut text, labels.task_at(program.start().get()))?;
     write_tasks(&mut text, &labels)?;
     write_code(&mut text, &labels, program.code())?;

@@ -4,15 +4,15 @@ use Rattle.canonical_text.specs.CanonicalText.{commas}
 use Rattle.canonical_text.proofs.Members.{member_written, member_not_first, members_without, texts_below, all_members}
 use Rattle.canonical_text.specs.CanonicalText.{no_pieces}
 use Rattle.canonical_text.proofs.pieces.write_registers.Goals as goal
-use Rattle.canonical_text.proofs.pieces.write_registers.Goals.{then-has_number+in_ok-write_register, else-has_number}
+use Rattle.canonical_text.proofs.pieces.write_registers.Goals.{then-has_number+in_ok-write_next_register, else-has_number}
 
 pub loop-number-preserved : goal.loop-number-preserved
 loop-number-preserved c =
     elim c.if-has_number.branch [
-      | then-has_number+in_ok-write_register w ↦
+      | then-has_number+in_ok-write_next_register w ↦
           let is_member = sym c.has_number.ensures ∙ w.if-has_number.true in (
             ap string_bytes w.text-is ∙ member_written _ _ _ c.args.set c.loop-number.number c.loop-number.is_first is_member
-                c.loop-number.invariant.1 c.loop-number.invariant.0 w.in_ok-write_register.ensures,
+                c.loop-number.invariant.1 c.loop-number.invariant.0 w.in_ok-write_next_register.ensures,
             w.is_first-is ∙ member_not_first c.args.set c.loop-number.number is_member,
           )
       | else-has_number w ↦

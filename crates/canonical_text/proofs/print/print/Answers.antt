@@ -7,10 +7,10 @@ use Rattle.canonical_text.proofs.print.print.Goals as goal
 
 pub returns : goal.returns
 returns c =
-    program_written c.args.program.now c.new-labels.result c.code.result.now c.bytes.result.now c.fixed.result.now c.get.result _
-    _ _ _ _ _ _ (c.new-labels.ensures ∙ c.tasks.ensures.value) c.code.ensures.value c.bytes.ensures.value c.fixed.ensures.value
+    program_written c.args.program.now c.in_ok-labels.labels c.code.result.now c.bytes.result.now c.fixed.result.now c.get.result _
+    _ _ _ _ _ _ (c.in_ok-labels.ensures ∙ c.tasks.ensures.value) c.code.ensures.value c.bytes.ensures.value c.fixed.ensures.value
     (c.get.ensures.value ∙ c.start.ensures.value) c.task_at.ensures c.in_ok-write_start.ensures c.in_ok-write_tasks.ensures
     c.in_ok-write_code.ensures
     (c.in_ok-write_section.ensures ∙ ap (λ (t : Vec ℕ). t.items ++ section (codes ".data") c.bytes.result.now) c.into_bytes-text.ensures.value)
     c.in_ok-write_section-2.ensures
-    ∙ ap (λ (front : List ℕ). front ++ canonical_text c.args.program.now) c.new-text.ensures.bytes
+    ∙ ap (λ (front : List ℕ). front ++ canonical_text c.args.program.now) c.in_ok-text.ensures.bytes

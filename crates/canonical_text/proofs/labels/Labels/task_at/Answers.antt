@@ -7,5 +7,5 @@ use Rattle.canonical_text.proofs.labels.Labels.task_at.Goals as goal
 pub returns : goal.returns
 returns c =
     copied_get c.self.inside.tasks.now (slice_index c.self.inside.first c.args.place) c.get.result c.get.ensures.lookup
-    ∙ (c.self.invariant.at c.args.place c.requires
+    ∙ (c.self.invariant.0.at c.args.place c.requires
     ∙ ap (λ (tasks : List Descriptor). find (λ (t : Descriptor). t.entry == c.args.place) tasks) c.self.view_is)
