@@ -42,7 +42,7 @@ rest_too front all bytes text rest new first second is within =
     ∙ (sym (take-add front (all - front) bytes) ∙ ap (λ (k : ℕ). take k bytes) (omega arith)))
 
 -- no more is read than is still asked for
-pub reads_within : (n count more most len wanted chunk buffer : ℕ) → n + count ≡ more → count ≤ buffer → buffer ≡ min wanted chunk → wanted ≡ min 16384 (most - len) → len ≡ n → n ≤ most → more ≤ most
+pub reads_within : (n count more most len wanted chunk buffer : ℕ) → n + count ≡ more → count ≤ buffer → buffer ≡ min wanted chunk → wanted ≡ min 65536 (most - len) → len ≡ n → n ≤ most → more ≤ most
 reads_within n count more most len wanted chunk buffer sum few is asked now before = omega arith
 
 pub rest_within : (text rest front length most : ℕ) → text ≡ front → rest ≤ most + 1 - front → front ≤ length → length ≤ most → text + rest ≤ most + 1

@@ -18,7 +18,11 @@ pub enum FetchFault {
 }
 
 // How many bytes are read at a time.
-pub(crate) const CHUNK: usize = 16_384;
+pub(crate) const CHUNK: usize = 65_536;
+
+// The room that is asked for first: most texts fit, so that they are not copied while they grow. What is not
+// written to takes no memory.
+const FIRST_ROOM: usize = 2_097_152;
 
 // How often a reader may be interrupted.
 const MOST_INTERRUPTIONS: u32 = 1000;
@@ -32,10 +36,12 @@ pub fn fetch<R: Read>(alloc: Global, reader: &mut R, most: u64) -> Result<Vec<u8
         v.items ≡ take (most + 1) bytes) }
     ensures within { IfOk result (λ v. vec_len v ≤ most + 1) }
 {
+    let limit = most as usize + 1;
     let mut all = Vec::new(alloc);
+    all.reserve(limit.min(FIRST_ROOM))
+        .map_err(|_: AllocError| FetchFault::OutOfMemory)?;
     let mut chunk = [0; CHUNK];
     let mut interruptions = 0;
-    let limit = most as usize + 1;
     while all.len() < limit {
         let room = CHUNK.min(limit - all.len());
         match reader.read(&mut chunk[..room]) {
