@@ -3,6 +3,7 @@
 #![tactic(auto)]
 
 pub mod burst;
+mod execution;
 pub mod laws;
 pub mod read_log;
 pub mod state;

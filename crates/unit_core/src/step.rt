@@ -22,6 +22,7 @@ use crate::wait::Wait;
 use machine_events::event::Spot;
 use mips_instructions::instruction::Op;
 use mips_instructions::number::{Gpr, Reg, RegSet};
+use mips_instructions::places::address_of;
 use mips_plain::memory::fixed_load;
 use mips_plain::outcome::Read;
 use register_ring::held::RegisterWords;
@@ -30,15 +31,15 @@ use register_ring::port::Port;
 use task_descriptor::descriptor::{Marked, Stop};
 use task_graph::edges::{ends_task, leads_to};
 
-/// What an instruction does, where that is found together with its operands.
+/// What an instruction does, where that is found together with its operands. The instructions that are
+/// executed most have a variant of their own; with more variants they would be told apart by an indirect
+/// jump.
 #[derive(Clone, Copy)]
 pub(crate) enum Effect {
     /// It writes a word to one general register, and goes on at the following instruction.
     Writes(Gpr, u32),
     /// It writes nothing, and goes on at an index; a conditional branch is taken or isn't.
     Goes(bool, u32),
-    /// It sends the registers of a set, and goes on at the following instruction.
-    Releases(RegSet),
     /// Its operation has to be looked at once more.
     Other,
 }
@@ -61,7 +62,22 @@ pub(crate) struct Next<'a> {
     pub(crate) b: u32,
 }
 
-impl Next<'_> {
+impl<'a> Next<'a> {
+    /// The instruction at an index, with its operands.
+    #[inline(always)]
+    pub(crate) fn at(index: u32, marked: &'a Marked, a: u32, b: u32) -> Next<'a>
+        requires { index < 4096 }
+        ensures { result ≡ record { index = index; pc = address index; marked = marked.entry; a = a; b = b } }
+    {
+        Next {
+            index,
+            pc: address_of(index),
+            marked,
+            a,
+            b,
+        }
+    }
+
     /// What the instruction reads.
     #[inline(always)]
     pub(crate) fn read(&self) -> Read
@@ -122,7 +138,6 @@ pub(crate) fn load_ahead(
     match *effect {
         Effect::Writes(..) => Ok(None),
         Effect::Goes(..) => Ok(None),
-        Effect::Releases(_) => Ok(None),
         Effect::Other => load_by_operation(&next.marked.op, next.a, fixed),
     }
 }
