@@ -22,6 +22,7 @@ use task_descriptor::program::Program;
 
 impl Processor {
     /// Assign, behind so many events.
+    #[inline(always)]
     pub(crate) fn try_assign(
         &mut self,
         alloc: Global,
@@ -182,6 +183,7 @@ impl Processor {
     }
 
     /// Retire, behind so many events.
+    #[inline(always)]
     pub(crate) fn try_retire(&mut self, accepted: &Accepted, count: usize) -> Result<(), Refused>
         requires runs { self.old.world.outcome ≡ standing.Running }
         requires executed { executed_by (state_of self.old) < 2 ^ 32 }
@@ -203,7 +205,7 @@ impl Processor {
     ///
     /// The first refusal that holds, `Full` the last of them, else for Exec and Retire alone
     /// `OutOfMemory`; nothing is changed then.
-    #[inline]
+    #[inline(always)]
     pub fn step(
         &mut self,
         alloc: Global,

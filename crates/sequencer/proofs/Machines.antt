@@ -46,6 +46,17 @@ applied m e done p' h steps more =
     let room : length m.history < most_events = ltb-true (length m.history) most_events (room_left _ (nat_lt (length m.history) most_events) steps.allowed) in
     goes_on m (e ∷ []) p' h (state_of p', steps.next, refl) steps.kept (omega arith) more
 
+-- the same from the law of a machine v, for the parts m that a call has of it
+pub pushed : (v m : MachineView) (count : ℕ) (e : Event) (p' : ProcessorView) (history : List Event) → m ≡ v
+    → ((e : Event) (done : Unit {0}) (p : ProcessorView) → Steps v.accepted.program v.processor (length v.history) e (Ok done) p → IsMachine (record v { processor = p; history = v.history ++ e ∷ [] }))
+    → count ≡ length v.history → Steps m.accepted.program m.processor count e (Ok tt) p' → history ≡ m.history ++ e ∷ []
+    → IsMachine (record m { processor = p'; history = history })
+pushed v m count e p' history is law counted steps more =
+    let law' = subst (λ (x : MachineView). (e : Event) (done : Unit {0}) (p : ProcessorView) → Steps x.accepted.program x.processor (length x.history) e (Ok done) p → IsMachine (record x { processor = p; history = x.history ++ e ∷ [] })) (sym is) law in
+    let steps' : Steps m.accepted.program m.processor (length m.history) e (Ok tt) p' =
+    subst (λ (n : ℕ). Steps m.accepted.program m.processor n e (Ok tt) p') (counted ∙ ap (λ (x : MachineView). length x.history) (sym is)) steps in
+    subst (λ (h : List Event). IsMachine (record m { processor = p'; history = h })) (sym more) (law' e tt p' steps')
+
 -- the answers
 
 pub answered_ok : (m : MachineView) (e : Event) (p' : ProcessorView) (done : Unit {0}) → (state m).outcome ≡ Running → Steps m.accepted.program m.processor (length m.history) e (Ok done) p' → IsAnswered m e (Ok done)

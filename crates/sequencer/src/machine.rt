@@ -61,7 +61,7 @@ impl<'a> Machine<'a> {
     ghost use Rattle.machine_model.specs.HeadEvent.{head_event as head_event_of, event_of_queue, growth};
     ghost use Rattle.machine_events.specs.Runs.{events_of};
     ghost use Rattle.machine_events.specs.declared.event.Event.{Event};
-    ghost use Rattle.machine_events.specs.declared.event.Event.TheVariants.{Assign, Exec, Retire};
+    ghost use Rattle.machine_events.specs.declared.event.Event.TheVariants.{Assign, Exec, Transfer, Retire};
     ghost use Rattle.machine_events.specs.declared.event.Refused.TheVariants as refused;
     ghost use Rattle.machine_events.specs.declared.event.Standing.TheVariants as standing;
     ghost use Rattle.machine_model.specs.Replay.{Replays, ReplaysFrom};
@@ -127,10 +127,14 @@ impl<'a> Machine<'a> {
         if !self.is_running() {
             return Err(Refused::Ended);
         }
-        match event {
+        let event = &event;
+        match *event {
             Event::Exec(0) => self.apply_at_head(),
             Event::Exec(position) => self.apply_ahead(position),
-            _ => self.apply_other(event),
+            Event::Transfer(position, register) => self.apply_transfer(position, register),
+            Event::Retire => self.apply_retire(),
+            Event::Assign(task) => self.apply_assign(task),
+            _ => self.apply_other(*event),
         }
     }
 
@@ -168,9 +172,58 @@ impl<'a> Machine<'a> {
         Ok(())
     }
 
-    /// The same for any event.
+    /// The same for a Transfer. It, Retire and Assign come once or more for each task, so each has a call in
+    /// which nothing else is looked for.
+    #[inline(never)]
+    fn apply_transfer(&mut self, position: u32, register: Reg) -> Result<(), Refused>
+        requires { (state self.old).outcome ≡ standing.Running }
+        ensures answer { IsAnswered self.old (Transfer position register) result }
+        ensures ok { OnOk result (Applies self.old (Transfer position register) self.new) }
+        ensures err { OnErr result (self.new ≡ self.old) }
+        ensures kept { SameRing self.old self.new }
+    {
+        self.apply_any(Event::Transfer(position, register))
+    }
+
+    /// The same for a Retire.
+    #[inline(never)]
+    fn apply_retire(&mut self) -> Result<(), Refused>
+        requires { (state self.old).outcome ≡ standing.Running }
+        ensures answer { IsAnswered self.old Retire result }
+        ensures ok { OnOk result (Applies self.old Retire self.new) }
+        ensures err { OnErr result (self.new ≡ self.old) }
+        ensures kept { SameRing self.old self.new }
+    {
+        self.apply_any(Event::Retire)
+    }
+
+    /// The same for an Assign.
+    #[inline(never)]
+    fn apply_assign(&mut self, task: u32) -> Result<(), Refused>
+        requires { (state self.old).outcome ≡ standing.Running }
+        ensures answer { IsAnswered self.old (Assign task) result }
+        ensures ok { OnOk result (Applies self.old (Assign task) self.new) }
+        ensures err { OnErr result (self.new ≡ self.old) }
+        ensures kept { SameRing self.old self.new }
+    {
+        self.apply_any(Event::Assign(task))
+    }
+
+    /// The same for any other event.
     #[inline(never)]
     fn apply_other(&mut self, event: Event) -> Result<(), Refused>
+        requires { (state self.old).outcome ≡ standing.Running }
+        ensures answer { IsAnswered self.old event result }
+        ensures ok { OnOk result (Applies self.old event self.new) }
+        ensures err { OnErr result (self.new ≡ self.old) }
+        ensures kept { SameRing self.old self.new }
+    {
+        self.apply_any(event)
+    }
+
+    /// The same for any event. It is compiled into its callers, which mostly know the kind of the event.
+    #[inline(always)]
+    fn apply_any(&mut self, event: Event) -> Result<(), Refused>
         requires { (state self.old).outcome ≡ standing.Running }
         ensures answer { IsAnswered self.old event result }
         ensures ok { OnOk result (Applies self.old event self.new) }

@@ -1,8 +1,9 @@
-use Rattle.std.proofs.Common.{ℕ, List, length, ◌++◌, ◌∷◌, [], Ok, sym, ap, ◌∙◌, subst}
-use Rattle.machine_events.specs.declared.event.Event.{Event}
+-- The processor took the event, and the history has it behind the others.
+use Rattle.std.proofs.Common.{sym, subst}
 use Rattle.machine_events.specs.declared.event.Event.TheVariants.{Exec}
-use Rattle.processor_steps.specs.Processors.{ProcessorView, Steps, ArePlaced}
-use Rattle.sequencer.specs.Machines.{MachineView, IsMachine, state}
+use Rattle.processor_steps.specs.Processors.{ArePlaced}
+use Rattle.sequencer.specs.Machines.{MachineView, state}
+use Rattle.sequencer.proofs.Machines.{pushed}
 use Rattle.sequencer.proofs.machine.Machine.apply_ahead.Goals as goal
 
 pub exec_ahead-requires-clause-placed : goal.exec_ahead-requires-clause-placed
@@ -11,10 +12,5 @@ exec_ahead-requires-clause-placed c = subst (λ (m : MachineView). ArePlaced m.a
 pub invariant_of-self-2 : goal.invariant_of-self-2
 invariant_of-self-2 c =
     let i = c.self.inside in
-    let a = i.accepted.now in
-    let m : MachineView = record { accepted = a; processor = i.processor; history = i.history } in
-    let law = subst (λ (x : MachineView). (e : Event) (done : Unit {0}) (p : ProcessorView) → Steps x.accepted.program x.processor (length x.history) e (Ok done) p → IsMachine (record x { processor = p; history = x.history ++ e ∷ [] })) (sym c.self.view_is) c.law_replay.ensures.applied in
-    let steps : Steps a.program i.processor (length i.history) (Exec c.args.position) (Ok tt) c.exec_ahead.new.self =
-    subst (λ (n : ℕ). Steps a.program i.processor n (Exec c.args.position) (Ok tt) c.exec_ahead.new.self) (c.length-count.ensures ∙ ap (λ (x : MachineView). length x.history) (sym c.self.view_is)) c.in_ok-exec_ahead.ensures in
-    subst (λ (h : List Event). IsMachine (record { accepted = a; processor = c.exec_ahead.new.self; history = h })) (sym c.push.ensures)
-    (law (Exec c.args.position) tt c.exec_ahead.new.self steps)
+    let m : MachineView = record { accepted = i.accepted.now; processor = i.processor; history = i.history } in
+    pushed c.args.self.now m c.length-count.result (Exec c.args.position) c.exec_ahead.new.self c.push.new.self c.self.view_is c.law_replay.ensures.applied c.length-count.ensures c.in_ok-exec_ahead.ensures c.push.ensures
