@@ -54,7 +54,7 @@ EXPECTED = {
     "words that are not UTF-8": "status 2, nothing on standard output, `multiscalar: 1 Words`",
     "positioned reads: short": "of 1, 7, 100 or 4,096 bytes: the answer of one worker",
     "positioned reads: failed or interrupted": "one, all from one on, or one in some: the answer of one worker, since one thread then reads the file from its beginning",
-    "positioned reads: one fails, then a read": "status 2, nothing on standard output, `multiscalar: file PATH` of that file, for `explain` with the reason",
+    "positioned reads: one fails, then a read": "status 2, nothing on standard output, `multiscalar: file PATH` of that file, for `explain` with the reason; as ever, where not so many are made",
     "positioned reads: the end too early": "in a part: the answer of one worker, as before; behind the parts: the answer for the bytes that were read",
     "positioned reads: the file is cut": "the answer for the bytes that were read: those that are left, where a part was short; else all parts and what was read behind them",
     "positioned reads: the file grows": "the answer for the longer file",
@@ -573,8 +573,12 @@ def failing_pread(part, every, draw):
 def failing_pread_and_read(part, every, draw):
     jobs = [(case, n, error) for case in shared_cases(part.bench) for n in range(1, 12) for error in READ_ERRORS]
     for case, n, error in part.each(jobs, draw):
-        first = case.right.read_of.index(2) + draw.randrange(1, 20)
-        with_preads(part, case, named(case.words, case.files[1], 0), fault(PREAD, n, n, "e", draw.choice([INTERRUPTED, *READ_ERRORS])), fault(READ, first, EVERY, "e", error))
+        # one of the reads of one worker, but for that which finds the end
+        first = case.right.read_of.index(2) + draw.randrange(1, case.right.read_of.count(2))
+        which = fault(PREAD, n, n, "e", draw.choice([INTERRUPTED, *READ_ERRORS])), fault(READ, first, EVERY, "e", error)
+        ended = part.bench.forked(case.words, *which, counts=True)
+        wanted = named(case.words, case.files[1], 0) if ended.counts and ended.counts[PREAD] >= n else case.right[:3]
+        part.expect(case.words, "".join(which), ended, wanted)
 
 
 def told_sizes(case):
