@@ -17,7 +17,6 @@ use machine_events::event::{Commit, Standing};
 use mark_checker::accept::Accepted;
 use mips_instructions::number::Reg;
 use mips_plain::outcome::OutOfMemory;
-use register_ring::port::Port;
 use std::alloc::Global;
 use std::mem;
 use task_descriptor::program::Program;
@@ -35,10 +34,15 @@ impl Processor {
         ensures kept { Keeps self.old self.new }
     {
         let reserved = self.queue.reserved(accepted.program());
-        let port = Port::fresh(&self.registers, reserved);
         let log = mem::replace(&mut self.spare, ReadLog::new(alloc));
-        self.queue
-            .push(Unit::with_room(log, accepted, task, self.assigns, port));
+        self.queue.push(Unit::with_room(
+            log,
+            accepted,
+            task,
+            self.assigns,
+            &self.registers,
+            reserved,
+        ));
         self.assigns += 1;
     }
 

@@ -95,6 +95,7 @@ impl Queue {
     }
 
     /// Puts a unit behind all others.
+    #[inline(always)]
     pub(crate) fn push(&mut self, unit: Unit)
         requires { length self.old.units < self.old.capacity }
         ensures { self.new ≡ record self.old { units = self.old.units ++ unit ∷ [] } }

@@ -30,6 +30,7 @@ impl RegisterWords {
     ghost use Rattle.register_ring.specs.Held.{pairs, no_pairs};
 
     /// No word for any register.
+    #[inline(always)]
     pub fn none() -> RegisterWords
         ensures { pairs result ≡ no_pairs }
     {
@@ -40,6 +41,7 @@ impl RegisterWords {
     }
 
     /// The words of all registers but those of a set.
+    #[inline(always)]
     pub fn all_but(words: &[u32; 34], absent: RegSet) -> RegisterWords
         ensures { (r : ℕ) → r < 34 → pairs result r ≡ (if has absent r then None else Some (slice_index words.now r)) }
     {

@@ -37,6 +37,7 @@ impl Model for Port {
 impl Port {
     /// A port to which each register outside the accumulated mask has arrived with its word, and that
     /// has sent nothing.
+    #[inline(always)]
     pub fn fresh(words: &[u32; 34], accum: RegSet) -> Port
         ensures arrived { arrived_of result ≡ arrived_fresh words.now accum }
         ensures sent { sent_of result ≡ no_pairs }

@@ -33,15 +33,16 @@ use task_graph::edges::{ends_task, leads_to};
 
 /// What an instruction does, where that is found together with its operands. The instructions that are
 /// executed most have a variant of their own; with more variants they would be told apart by an indirect
-/// jump.
+/// jump. Most of them write a word: that variant stands last, here and in `Unit::advance`, since the
+/// compiler then tests for it first.
 #[derive(Clone, Copy)]
 pub(crate) enum Effect {
-    /// It writes a word to one general register, and goes on at the following instruction.
-    Writes(Gpr, u32),
-    /// It writes nothing, and goes on at an index; a conditional branch is taken or isn't.
-    Goes(bool, u32),
     /// Its operation has to be looked at once more.
     Other,
+    /// It writes nothing, and goes on at an index; a conditional branch is taken or isn't.
+    Goes(bool, u32),
+    /// It writes a word to one general register, and goes on at the following instruction.
+    Writes(Gpr, u32),
 }
 
 /// The words of an instruction's operands, and what it does with them.
@@ -197,8 +198,18 @@ pub(crate) fn spot_at(next: &Next<'_>, taken: bool, to: u32) -> Spot
 {
     match next.marked.stop {
         Stop::None => Spot::Inside(to),
-        _ => spot_where(next, taken),
+        _ => spot_with_stop_bits(*next, taken),
     }
+}
+
+/// The same for an instruction with stop bits, which are rare. It is not inlined, so that no indirect jump over
+/// them is left in the ways of most instructions.
+#[inline(never)]
+fn spot_with_stop_bits(next: Next<'_>, taken: bool) -> Spot
+    requires { next.index < 4096 }
+    ensures { result ≡ place_after (leaves next.entry.marked.now.stop taken) (edge next.entry.marked.now.op next.entry.index taken) (turn next.entry.marked.now.op next.entry.a next.entry.b next.entry.pc) }
+{
+    spot_where(&next, taken)
 }
 
 /// Where a unit stands after an instruction that goes on at the following one, wherever the run is.

@@ -17,4 +17,4 @@ returns-clause-state c =
     λ r. c.reserved-reserved.ensures r ∙ ap (λ (q : Listing). is_reserved q (actives v.queue) r) c.program.ensures.value in
     let new : ProcessorView = record v { queue = c.push.new.self; assigns = i.assigns + 1 } in
     subst (λ (x : ProcessorView). state_of new ≡ after a.program (state_of x) (Assign c.args.task)) c.self.view_is
-    (assigned a v c.push.new.self c.args.task c.reserved-reserved.result (i.assigns + 1) c.fresh-port.result c.with_room.result c.push.ensures c.with_room.ensures.unit reserved c.fresh-port.ensures.arrived c.fresh-port.ensures.sent refl)
+    (assigned a v c.push.new.self c.args.task c.reserved-reserved.result (i.assigns + 1) c.with_room.result.port c.with_room.result c.push.ensures c.with_room.ensures.unit reserved c.with_room.ensures.arrived c.with_room.ensures.sent refl)
