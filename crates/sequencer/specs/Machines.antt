@@ -1,5 +1,5 @@
 -- The machine as contracts see it: its processor with the events that it is the replay of.
-use Rattle.std.specs.Prelude.{◌≡◌, ℕ, ◌<◌, ◌≤◌, ◌⊎◌, List, [], ◌∷◌, ◌++◌, length, true, Result, Ok, Err}
+use Rattle.std.specs.Prelude.{◌≡◌, ℕ, ◌<◌, ◌≤◌, ◌⊎◌, List, [], ◌∷◌, ◌++◌, length, true, Result, Ok, Err, OnOk, OnErr}
 use Rattle.mips_plain.specs.MemoryMap.{byte_of}
 use Rattle.mark_checker.specs.Places.{Checked}
 use Rattle.machine_model.specs.Machine.{State}
@@ -50,3 +50,10 @@ pub record Applies (old : MachineView) (e : Event) (new : MachineView) : Type 0 
 pub record SameRing (old new : MachineView) : Type 0 where
   pub accepted : new.accepted ≡ old.accepted
   pub units : units_of new ≡ units_of old
+
+-- a call for an event where the run goes on: the answer, and what it leaves (for private functions alone)
+pub record Tries (old : MachineView) (e : Event) (result : Result (Unit {0}) Refused) (new : MachineView) : Type 0 where
+  pub answer : IsAnswered old e result
+  pub ok : OnOk result (Applies old e new)
+  pub err : OnErr result (new ≡ old)
+  pub kept : SameRing old new

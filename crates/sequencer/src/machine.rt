@@ -68,7 +68,7 @@ impl<'a> Machine<'a> {
     ghost use Rattle.machine_model.specs.Claims.{Claims, EndsLike, count_c, count_h};
     ghost use Rattle.mips_plain.specs.MemoryMap.{byte_of};
     ghost use Rattle.processor_steps.specs.Processors.{ProcessorView, Keeps, Steps, ArePlaced, executed_by, state_of};
-    ghost use Rattle.sequencer.specs.Machines.{IsMachine, state, units_of, answer_to, IsAnswered, Applies, SameRing};
+    ghost use Rattle.sequencer.specs.Machines.{IsMachine, state, units_of, answer_to, IsAnswered, Applies, SameRing, Tries};
     ghost use Rattle.sequencer.specs.Choices.{choices_of, choice_of, MayFollow};
     ghost use Rattle.sequencer.specs.Finish.{RunsByHead, IsHeadRefused};
     ghost use Rattle.sequencer.specs.Rings.{unit_for, AreDistinct, EventFits};
@@ -143,10 +143,7 @@ impl<'a> Machine<'a> {
     #[inline(never)]
     fn apply_at_head(&mut self) -> Result<(), Refused>
         requires { (state self.old).outcome ≡ standing.Running }
-        ensures answer { IsAnswered self.old (Exec 0) result }
-        ensures ok { OnOk result (Applies self.old (Exec 0) self.new) }
-        ensures err { OnErr result (self.new ≡ self.old) }
-        ensures kept { SameRing self.old self.new }
+        ensures { Tries self.old (Exec 0) result self.new }
     {
         self.law_replay();
         let count = self.length();
@@ -160,10 +157,7 @@ impl<'a> Machine<'a> {
     fn apply_ahead(&mut self, position: u32) -> Result<(), Refused>
         requires behind { 0 < position }
         requires runs { (state self.old).outcome ≡ standing.Running }
-        ensures answer { IsAnswered self.old (Exec position) result }
-        ensures ok { OnOk result (Applies self.old (Exec position) self.new) }
-        ensures err { OnErr result (self.new ≡ self.old) }
-        ensures kept { SameRing self.old self.new }
+        ensures { Tries self.old (Exec position) result self.new }
     {
         self.law_replay();
         let count = self.length();
@@ -177,10 +171,7 @@ impl<'a> Machine<'a> {
     #[inline(never)]
     fn apply_transfer(&mut self, position: u32, register: Reg) -> Result<(), Refused>
         requires { (state self.old).outcome ≡ standing.Running }
-        ensures answer { IsAnswered self.old (Transfer position register) result }
-        ensures ok { OnOk result (Applies self.old (Transfer position register) self.new) }
-        ensures err { OnErr result (self.new ≡ self.old) }
-        ensures kept { SameRing self.old self.new }
+        ensures { Tries self.old (Transfer position register) result self.new }
     {
         self.apply_any(Event::Transfer(position, register))
     }
@@ -189,10 +180,7 @@ impl<'a> Machine<'a> {
     #[inline(never)]
     fn apply_retire(&mut self) -> Result<(), Refused>
         requires { (state self.old).outcome ≡ standing.Running }
-        ensures answer { IsAnswered self.old Retire result }
-        ensures ok { OnOk result (Applies self.old Retire self.new) }
-        ensures err { OnErr result (self.new ≡ self.old) }
-        ensures kept { SameRing self.old self.new }
+        ensures { Tries self.old Retire result self.new }
     {
         self.apply_any(Event::Retire)
     }
@@ -201,10 +189,7 @@ impl<'a> Machine<'a> {
     #[inline(never)]
     fn apply_assign(&mut self, task: u32) -> Result<(), Refused>
         requires { (state self.old).outcome ≡ standing.Running }
-        ensures answer { IsAnswered self.old (Assign task) result }
-        ensures ok { OnOk result (Applies self.old (Assign task) self.new) }
-        ensures err { OnErr result (self.new ≡ self.old) }
-        ensures kept { SameRing self.old self.new }
+        ensures { Tries self.old (Assign task) result self.new }
     {
         self.apply_any(Event::Assign(task))
     }
@@ -213,10 +198,7 @@ impl<'a> Machine<'a> {
     #[inline(never)]
     fn apply_other(&mut self, event: Event) -> Result<(), Refused>
         requires { (state self.old).outcome ≡ standing.Running }
-        ensures answer { IsAnswered self.old event result }
-        ensures ok { OnOk result (Applies self.old event self.new) }
-        ensures err { OnErr result (self.new ≡ self.old) }
-        ensures kept { SameRing self.old self.new }
+        ensures { Tries self.old event result self.new }
     {
         self.apply_any(event)
     }
@@ -225,10 +207,7 @@ impl<'a> Machine<'a> {
     #[inline(always)]
     fn apply_any(&mut self, event: Event) -> Result<(), Refused>
         requires { (state self.old).outcome ≡ standing.Running }
-        ensures answer { IsAnswered self.old event result }
-        ensures ok { OnOk result (Applies self.old event self.new) }
-        ensures err { OnErr result (self.new ≡ self.old) }
-        ensures kept { SameRing self.old self.new }
+        ensures { Tries self.old event result self.new }
     {
         self.law_replay();
         let alloc = self.alloc;
