@@ -112,7 +112,7 @@ def largest():
 
 
 def built(folder):
-    """Builds the program and leaves a copy of it in the folder."""
+    """Builds the program and leaves a copy of it, and of its object file, in the folder."""
     crate, listed = TOP / "crates" / NAME, TOP / "crates.txt"
     before, small = listed.read_text(), folder / "small"
     small.write_text(SMALL)
@@ -123,6 +123,7 @@ def built(folder):
         run = subprocess.run(["rt", "run", "--", str(small), "events", "1", "0"], cwd=crate, capture_output=True, text=True)
         if run.returncode:
             raise SystemExit(run.stdout + run.stderr)
+        shutil.copy(crate / "out" / f"{NAME}.o", folder)
         return shutil.copy(crate / "out" / NAME, folder)
     finally:
         listed.write_text(before)

@@ -13,15 +13,18 @@ user and system time, since most of it goes into memory that is touched for the
 first time; of the kernels and the printer the median.
 
 How a compiler lays out a loop moves its time by a third, so the programs of
-unproved/ are built several times, with the functions at other alignments: the
-median of the builds counts. Both machines of events write how many they applied;
-where these differ, the script ends.
---program PATH times a multiscalar that is built already; events build a program of their own.
+unproved/ are built several times, with the functions at other alignments, and the
+proved ones are linked as often, at the same alignments: the median of the builds
+counts. Both machines of events write how many they applied; where these differ,
+the script ends.
+--program PATH times a multiscalar that is built already, with its object file beside it, if there is one, else as it is; events
+build a program of their own.
 emulators.py runs the same kernels in SPIM and QEMU.
 """
 import argparse
 import pathlib
 import resource
+import shutil
 import statistics
 import subprocess
 import tempfile
@@ -42,6 +45,20 @@ def compiled(name, folder, build=0):
     words = ["rustc", "--edition", "2021", "-O", *layout, "-o", program, HERE / "unproved" / f"{name}.rs"]
     subprocess.run(words, check=True)
     return program
+
+
+def linked(program, folder, builds):
+    """A proved program as it was built and, where its object file lies beside it, linked again for each further build."""
+    program, kit = pathlib.Path(program), pathlib.Path(shutil.which("rt")).resolve().parent.parent
+    made = program.with_name(f"{program.name}.o")
+    programs = [program]
+    for build in range(1, builds if made.exists() else 1):
+        aligned, to = pathlib.Path(folder) / "aligned.o", pathlib.Path(folder) / f"{program.name}_{build}"
+        subprocess.run(["objcopy", "--set-section-alignment", f".text.*={16 << build}", made, aligned], check=True)
+        words = [kit / "bin" / "rattle-link", "--target", "x86_64-unknown-linux-gnu", "--toolchain", kit / "toolchain", "-o", to, aligned]
+        subprocess.run([*words, kit / "c" / "liblibc_c.a", kit / "c" / "libos_c.a"], check=True, stdout=subprocess.DEVNULL)
+        programs.append(to)
+    return programs
 
 
 def spent(words):
@@ -68,30 +85,29 @@ def kernels(rounds, builds, proved, folder):
     """The plain machine: nanoseconds an instruction, the same process with a program of 18 taken off."""
     folder = pathlib.Path(folder)
     small = HERE.parent / "examples" / "count" / "program.s"
-    plain = [compiled("plain", folder, build) for build in range(builds)]
+    ours = [[program, "seq"] for program in linked(proved, folder, builds)]
+    theirs = [[compiled("plain", folder, build)] for build in range(builds)]
     ratios = []
     for kernel in sorted((HERE / "kernels").glob("*.s")):
         first = subprocess.run([proved, "seq", kernel], capture_output=True, check=True, text=True).stdout.split()
         count = int(first[first.index("instructions") - 1])
-        commands = [[proved, "seq", small], [proved, "seq", kernel]]
-        commands += [[program, text] for program in plain for text in (small, kernel)]
-        times = medians(rounds, *commands)
+        times = medians(rounds, *([*words, text] for words in ours + theirs for text in (small, kernel)))
         each = [(full - base) / count * 1e9 for base, full in zip(times[::2], times[1::2])]
-        ours, theirs = each[0], statistics.median(each[1:])
-        ratios.append(ours / theirs)
-        print(f"{kernel.stem}: {ours:.2f} ns an instruction, without proofs {theirs:.2f} ns: {ours / theirs:.2f} times, "
-              f"{builds} builds, {rounds} rounds", flush=True)
-    print(f"all kernels: {statistics.geometric_mean(ratios):.2f} times, {builds} builds, {rounds} rounds")
+        own, other = statistics.median(each[:len(ours)]), statistics.median(each[len(ours):])
+        ratios.append(own / other)
+        print(f"{kernel.stem}: {own:.2f} ns an instruction, without proofs {other:.2f} ns: {own / other:.2f} times, "
+              f"{len(ours)} and {builds} builds, {rounds} rounds", flush=True)
+    print(f"all kernels: {statistics.geometric_mean(ratios):.2f} times, {len(ours)} and {builds} builds, {rounds} rounds")
 
 
 def printing(rounds, builds, proved, folder):
     program = pathlib.Path(folder) / "program.s"
     program.write_text(bench.maximal_program())
-    commands = [[proved, "print", program]] + [[compiled("printer", folder, build), program] for build in range(builds)]
-    ours, *others = medians(rounds, *commands)
-    theirs = statistics.median(others)
-    print(f"print of {program.stat().st_size} bytes: {ours * 1e3:.1f} ms, without proofs {theirs * 1e3:.1f} ms: "
-          f"{ours / theirs:.2f} times, {builds} builds, {rounds} rounds")
+    ours = [[each, "print", program] for each in linked(proved, folder, builds)]
+    times = medians(rounds, *ours, *([compiled("printer", folder, build), program] for build in range(builds)))
+    own, other = statistics.median(times[:len(ours)]), statistics.median(times[len(ours):])
+    print(f"print of {program.stat().st_size} bytes: {own * 1e3:.1f} ms, without proofs {other * 1e3:.1f} ms: "
+          f"{own / other:.2f} times, {len(ours)} and {builds} builds, {rounds} rounds")
 
 
 def event_cases(name):
@@ -118,29 +134,33 @@ def counts(few, many):
 
 
 def event_row(rounds, ours, theirs):
-    """How many events a row has, and the times of one of them; `theirs` has a pair of commands for each build."""
-    told, others = counts(*ours), [counts(*build) for build in theirs]
+    """The times of one event of a row; `ours` and `theirs` have a pair of commands for each build."""
+    told, *others = [counts(*build) for build in ours + theirs]
     if any(told != other for other in others):
-        raise SystemExit(f"{ours[1]}: {told}, without proofs {others}")
-    events = EVENTS if "events" in ours[1] else told[0]
-    times = least(rounds, *ours, *(words for build in theirs for words in build))
-    own, *each = [(full - base) / events for base, full in zip(times[::2], times[1::2])]
-    return own, statistics.median(each)
+        raise SystemExit(f"{ours[0][1]}: {told}, others {others}")
+    events = EVENTS if "events" in ours[0][1] else told[0]
+    times = least(rounds, *(words for build in ours + theirs for words in build))
+    each = [(full - base) / events for base, full in zip(times[::2], times[1::2])]
+    return each[:len(ours)], each[len(ours):]
 
 
 def events(rounds, builds, proved, folder):
     """Events round the ring; events of a unit behind the head, and a lease, a burst and its check-in; short tasks."""
     folder = pathlib.Path(folder)
-    plain = [compiled("machine", folder, build) for build in range(builds)]
+    own, plain = linked(proved, folder, builds), [compiled("machine", folder, build) for build in range(builds)]
     programs = {"small": machine.SMALL, "registers": machine.REGISTERS, "loop": machine.LOOP, "sending": machine.SENDING}
     for name, text in programs.items():
         file = folder / name
         file.write_text(text)
         for said, few, many, plain_few, plain_many in event_cases(name):
+            ours = [([program, file, *few], [program, file, *many]) for program in own]
             theirs = [([program, name, *plain_few], [program, name, *plain_many]) for program in plain]
-            own, other = event_row(rounds, ([proved, file, *few], [proved, file, *many]), theirs)
-            print(f"{name}, {said}: {own * 1e9:5.1f} ns an event, without proofs {other * 1e9:5.1f} ns: {own / other:.2f} times, "
-                  f"{builds} builds, {rounds} rounds", flush=True)
+            times = event_row(rounds, ours, theirs)
+            ns, plain_ns = (statistics.median(each) * 1e9 for each in times)
+            least_ratio, most_ratio = min(times[0]) / min(times[1]), max(times[0]) / max(times[1])
+            print(f"{name}, {said}: {ns:5.1f} ns an event, without proofs {plain_ns:5.1f} ns: {ns / plain_ns:.2f} times "
+                  f"(of the fastest builds {least_ratio:.2f}, of the slowest {most_ratio:.2f}), {len(own)} and {builds} builds, "
+                  f"{rounds} rounds", flush=True)
 
 
 def certificate(rounds, builds, proved, folder):
@@ -148,11 +168,11 @@ def certificate(rounds, builds, proved, folder):
     program.write_text(bench.maximal_program())
     text.write_text("".join(bench.maximal_certificate()))
     size = text.stat().st_size
-    commands = [[proved, "check", program, text]] + [[compiled("checker", folder, build), program, text] for build in range(builds)]
-    ours, *others = least(rounds, *commands)
-    theirs = statistics.median(others)
-    print(f"certificate of {size} bytes: {size / ours / 1e6:.0f} MB/s, without proofs {size / theirs / 1e6:.0f} MB/s: "
-          f"{ours / theirs:.2f} times, {builds} builds, {rounds} rounds")
+    ours = [[each, "check", program, text] for each in linked(proved, folder, builds)]
+    times = least(rounds, *ours, *([compiled("checker", folder, build), program, text] for build in range(builds)))
+    own, other = statistics.median(times[:len(ours)]), statistics.median(times[len(ours):])
+    print(f"certificate of {size} bytes: {size / own / 1e6:.0f} MB/s, without proofs {size / other / 1e6:.0f} MB/s: "
+          f"{own / other:.2f} times, {len(ours)} and {builds} builds, {rounds} rounds")
 
 
 def main():
