@@ -56,7 +56,7 @@ def linked(program, folder, builds):
         aligned, to = pathlib.Path(folder) / "aligned.o", pathlib.Path(folder) / f"{program.name}_{build}"
         subprocess.run(["objcopy", "--set-section-alignment", f".text.*={16 << build}", made, aligned], check=True)
         words = [kit / "bin" / "rattle-link", "--target", "x86_64-unknown-linux-gnu", "--toolchain", kit / "toolchain", "-o", to, aligned]
-        subprocess.run([*words, kit / "c" / "liblibc_c.a", kit / "c" / "libos_c.a"], check=True, stdout=subprocess.DEVNULL)
+        subprocess.run([*words, kit / "c" / "liblibc_c.a", kit / "c" / "libos_c.a"], check=True, capture_output=True)
         programs.append(to)
     return programs
 
