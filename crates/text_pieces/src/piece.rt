@@ -22,7 +22,7 @@ impl Model for Piece {
 }
 
 impl Piece {
-    ghost use Rattle.std.specs.Prelude.{◌≡◌, ◌≤◌, ◌<◌, ◌++◌, length, take, drop, vec_len, IfOk};
+    ghost use Rattle.std.specs.Prelude.{◌≡◌, ℕ, ◌+◌, ◌≤◌, ◌<◌, ◌++◌, length, take, drop, slice_index, vec_len, IfOk};
     ghost use Rattle.text_pieces.specs.Pieces.{IsLines};
 
     /// The bytes from a place on.
@@ -50,6 +50,8 @@ impl Piece {
         ensures within { IfOk result (λ count. count ≤ length more.now) }
         ensures bytes { IfOk result (λ count. self.new ≡ self.old ++ take count more.now) }
         ensures lines { IfOk result (λ count. count < length more.now → IsLines self.new) }
+        ensures none { IfOk result (λ count. IsLines self.old → count ≡ 0) }
+        ensures first { IfOk result (λ count. (i : ℕ) → i + 1 < count → slice_index more.now i ≡ 10 → ⊥) }
     {
         let count = if is_lines(self.as_slice()) {
             0
@@ -61,7 +63,7 @@ impl Piece {
     }
 }
 
-ghost use Rattle.std.specs.Prelude.{◌≡◌, ◌≤◌, ◌<◌, ◌-◌, ◌↔◌, true, length, slice_index};
+ghost use Rattle.std.specs.Prelude.{◌≡◌, ℕ, ◌+◌, ◌≤◌, ◌<◌, ◌-◌, ◌↔◌, true, length, slice_index};
 ghost use Rattle.text_pieces.specs.Pieces.{IsLines};
 
 /// Whether nothing stands behind the last LF.
@@ -75,6 +77,7 @@ fn is_lines(bytes: &[u8]) -> bool
 fn first_line_length(bytes: &[u8]) -> usize
     ensures within { result ≤ length bytes.now }
     ensures line { result < length bytes.now → (0 < result) × (slice_index bytes.now (result - 1) ≡ 10) }
+    ensures first { (i : ℕ) → i + 1 < result → slice_index bytes.now i ≡ 10 → ⊥ }
 {
     match bytes.iter().position(|byte| *byte == b'\n') {
         Some(place) => place + 1,
