@@ -1,4 +1,2 @@
 pub mod Counting
-pub mod HeadUnits
-pub mod Assigning
 pub mod Locked

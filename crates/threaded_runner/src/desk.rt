@@ -3,7 +3,7 @@
 
 use crate::called::Called;
 use crate::counts::{add, zeros};
-use crate::machine_laws::{law_head_unit, law_replay};
+use crate::machine_laws::law_replay;
 use crate::naming::Naming;
 use crate::report::{How, Report, RunFault};
 use crate::share::Share;
@@ -13,6 +13,7 @@ use sequencer::predict::Predict;
 use std::alloc::{AllocError, Global};
 use std::marker::{Model, PhantomData};
 use unit_core::burst::Burst;
+use unit_turns::laws::law_head_unit;
 
 /// What the lock holds: the machine of the run, and what else its workers share.
 #[derive(Drop)]
@@ -43,7 +44,7 @@ impl<'a, P: Predict, J: Naming> Desk<'a, P, J> {
     ghost use Rattle.machine_model.specs.Answer.{most_events};
     ghost use Rattle.machine_model.specs.Replay.{Replays};
     ghost use Rattle.threaded_runner.specs.Counts.{IsCounted};
-    ghost use Rattle.threaded_runner.specs.Turns.{MayChoose};
+    ghost use Rattle.unit_turns.specs.Turns.{MayChoose};
     ghost use Rattle.machine_events.specs.declared.event.Event.TheVariants.{Exec};
     ghost use Rattle.machine_events.specs.declared.event.Standing.TheVariants as standing;
 

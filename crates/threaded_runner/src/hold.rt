@@ -2,14 +2,14 @@
 
 ghost use Rattle.std.specs.Prelude.{◌≡◌, ◌≤◌};
 ghost use Rattle.sequencer.specs.Rings.{unit_for};
-ghost use Rattle.threaded_runner.specs.Turns.{MayChoose};
+ghost use Rattle.unit_turns.specs.Turns.{MayChoose};
 
-use crate::deciding::turn_at_head;
+use unit_turns::deciding::turn_at_head;
 use crate::desk::Desk;
 use crate::naming::Naming;
 use crate::pace::Pace;
 use crate::share::Share;
-use crate::turn::Turn;
+use unit_turns::turn::Turn;
 use machine_events::event::{Event, Refused, Spot};
 use sequencer::machine::Machine;
 use sequencer::predict::Predict;

@@ -4,7 +4,6 @@
 mod bell;
 mod called;
 mod counts;
-pub mod deciding;
 mod desk;
 pub mod gate;
 mod hold;
@@ -15,5 +14,4 @@ mod pace;
 pub mod report;
 pub mod runner;
 mod share;
-pub mod turn;
 mod worker;

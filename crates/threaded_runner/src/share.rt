@@ -1,10 +1,10 @@
 //! Which units a worker serves, and the first of them that has something to do.
 
 ghost use Rattle.std.specs.Prelude.{◌≡◌, IfSome, IfNone};
-ghost use Rattle.threaded_runner.specs.Turns.{IsTurn};
+ghost use Rattle.unit_turns.specs.Turns.{IsTurn};
 
-use crate::deciding::{turn, turn_at_head};
-use crate::turn::Turn;
+use unit_turns::deciding::{turn, turn_at_head};
+use unit_turns::turn::Turn;
 use sequencer::machine::Machine;
 
 /// The units of one worker: those whose number, modulo the number of workers, is the worker's.

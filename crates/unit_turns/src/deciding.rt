@@ -6,9 +6,9 @@ ghost use Rattle.machine_events.specs.declared.event.Event.TheVariants.{Exec};
 ghost use Rattle.machine_events.specs.declared.event.Standing.TheVariants as standing;
 ghost use Rattle.sequencer.specs.Machines.{state};
 ghost use Rattle.sequencer.specs.Rings.{unit_for};
-ghost use Rattle.threaded_runner.specs.Turns.{IsTurn, IsOwn, CanGoOn, Pauses};
+ghost use Rattle.unit_turns.specs.Turns.{IsTurn, IsOwn, turn_of};
 
-use crate::machine_laws::{law_head_unit, law_own_event};
+use crate::laws::{law_head_unit, law_own_event};
 use crate::turn::Turn;
 use machine_events::event::{Event, Spot, Standing};
 use processor_steps::processor::MOST_EVENTS;

@@ -5,8 +5,8 @@ use Rattle.machine_events.specs.declared.event.Event.{Event}
 use Rattle.machine_events.specs.declared.event.Event.TheVariants.{Assign}
 use Rattle.sequencer.specs.Machines.{state, units_of}
 use Rattle.sequencer.specs.Rings.{unit_for}
-use Rattle.threaded_runner.proofs.Assigning.{assign_allowed, next_is}
-use Rattle.threaded_runner.proofs.deciding.turn_of_free.Goals as goal
+use Rattle.unit_turns.proofs.Assigning.{assign_allowed, next_is}
+use Rattle.unit_turns.proofs.deciding.turn_of_free.Goals as goal
 
 pub returns-then-not-is_empty-clause-own : goal.returns-then-not-is_empty-clause-own
 returns-then-not-is_empty-clause-own c =

@@ -1,0 +1,2 @@
+pub mod HeadUnits
+pub mod Assigning

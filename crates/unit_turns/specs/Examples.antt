@@ -1,0 +1,1 @@
+-- Worked examples, computed by the checker: turns on the loop `count`.

@@ -1,0 +1,3 @@
+pub mod FirstAllowed
+pub mod Turns
+pub mod Examples
