@@ -69,6 +69,13 @@ impl Worker {
         self.share
     }
 
+    /// How many events the history may have, bursts aside that are handed in late.
+    pub(crate) fn budget(&self) -> u32
+        ensures { result ≡ self.now.budget }
+    {
+        self.budget
+    }
+
     /// Takes turns of the worker's units, at most 64.
     pub(crate) fn hold<P: Predict, J: Naming>(&mut self, desk: &mut Desk<'_, P, J>) -> Then {
         for _ in 0..EVENTS_OF_A_HOLD {

@@ -1,11 +1,10 @@
 //! Threads over one machine: one lock, a worker for each unit or for several, bursts away from the lock.
 #![tactic(auto)]
 
-mod bell;
-mod called;
 mod counts;
 mod desk;
 pub mod gate;
+mod held;
 mod hold;
 pub mod laws;
 mod machine_laws;

@@ -6,14 +6,14 @@ ghost use Rattle.machine_model.specs.Replay.{Replays};
 ghost use Rattle.sequencer.specs.Machines.{state, units_of};
 ghost use Rattle.threaded_runner.specs.Counts.{IsCounted};
 
-use crate::bell::Bell;
 use crate::desk::Desk;
 use crate::gate::RunGate;
+use crate::held::take;
 use crate::hold::Worker;
 use crate::naming::Naming;
 use crate::report::{How, Report, RunFault};
 use crate::share::Share;
-use crate::worker::{ring_all, serve};
+use crate::worker::{ring_and_let_go, serve};
 use mark_checker::accept::Accepted;
 use sequencer::machine::{MOST_BUDGET, MOST_UNITS, Machine, MachineFault};
 use sequencer::predict::Predict;
@@ -22,6 +22,7 @@ use std::marker::Brand;
 use std::sync::{Mutex, Wait};
 use std::thread;
 use std::thread::Threads;
+use worker_bells::bell::Bell;
 
 /// Runs the accepted program on a machine of so many units, 1 to 16, with one thread for each unit, until
 /// the run has ended or the history has `budget` events, 1 to 1,000,000; a burst that is handed in late may
@@ -173,14 +174,21 @@ fn work<'a, 't, P: Predict, J: Naming + Send + Sync, G: RunGate, R: Threads + Wa
                 .spawn(move || serve(rt, shared, bells, gate, worker))
                 .is_err()
             {
-                give_up(rt, shared, bells);
+                give_up(rt, shared, bells, share, budget);
             }
         }
     });
 }
 
-/// Notes that a thread could not be made, and rings for all workers.
-fn give_up<P: Predict, J: Naming, R: Wait>(rt: &R, shared: &Mutex<Desk<'_, P, J>>, bells: &[Bell]) {
-    shared.lock(rt).stop();
-    ring_all(bells);
+/// Notes that the thread of a worker could not be made, and rings for all others.
+fn give_up<P: Predict, J: Naming, R: Wait>(
+    rt: &R,
+    shared: &Mutex<Desk<'_, P, J>>,
+    bells: &[Bell],
+    share: Share,
+    budget: u32,
+) {
+    let mut held = take(rt, shared);
+    held.desk.stop();
+    ring_and_let_go(held, bells, share, budget);
 }

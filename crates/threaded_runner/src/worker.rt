@@ -2,26 +2,20 @@
 
 ghost use Rattle.std.specs.Prelude.{◌≡◌, IfSome, IsTrue};
 
-use crate::bell::Bell;
-use crate::called::Called;
 use crate::desk::Desk;
 use crate::gate::RunGate;
+use crate::held::{Held, let_go, sleep, take};
 use crate::hold::{NextBurst, Then, Worker};
 use crate::naming::Naming;
+use crate::share::Share;
 use sequencer::machine::Machine;
 use sequencer::predict::Predict;
-use std::sync::{Mutex, MutexGuard, Wait};
-use std::{hint, thread};
+use std::sync::{Mutex, Wait};
 use unit_core::burst::Burst;
+use worker_bells::bell::Bell;
 
-/// How often a worker tries for the lock before it leaves its core to another thread for a moment.
-const TRIES: u32 = 5;
-
-/// How often it does so before it waits asleep.
-const ROUNDS: u32 = 100;
-
-/// Serves a worker's units until the run is over. A hold of the lock that changed the machine rings for the
-/// workers that wait and now have something to do, once the lock is free; the end rings for all.
+/// Serves a worker's units until the run is over. Whenever it lets go of the lock it rings for the workers
+/// that wait and now have something to do.
 pub(crate) fn serve<'a, P: Predict, J: Naming, G: RunGate, R: Wait>(
     rt: &R,
     shared: &Mutex<Desk<'a, P, J>>,
@@ -30,51 +24,50 @@ pub(crate) fn serve<'a, P: Predict, J: Naming, G: RunGate, R: Wait>(
     mut worker: Worker,
 ) {
     let share = worker.share();
+    let budget = worker.budget();
     let Some(bell) = bells.get(share.worker as usize) else {
         return;
     };
     let mut slot = None;
-    let mut desk = take_lock(rt, shared);
+    let mut held = take(rt, shared);
     for _ in rt.forever() {
-        let then = worker.hold(&mut *desk);
-        let called = desk.call(share);
-        match then {
+        match worker.hold(&mut *held.desk) {
             Then::Burst(next) => {
-                let is_lent = lend(desk.machine(), next.unit, &mut slot);
-                let_go(desk, &called, bells);
-                if is_lent {
-                    desk = burst_on(rt, shared, gate, &mut worker, &next, &mut slot);
+                let is_lent = lend(held.desk.machine(), next.unit, &mut slot);
+                ring_and_let_go(held, bells, share, budget);
+                held = if is_lent {
+                    burst_on(rt, shared, gate, &mut worker, &next, &mut slot)
                 } else {
-                    desk = take_lock(rt, shared);
-                }
+                    take(rt, shared)
+                };
             }
             Then::BurstInPlace(next) => {
-                drop(desk);
-                desk = burst_in_place(rt, shared, gate, &mut worker, &next);
+                ring_and_let_go(held, bells, share, budget);
+                held = burst_in_place(rt, shared, bells, gate, &mut worker, &next);
             }
-            Then::Wait => {
-                desk = wait_for(desk, &called, bells, bell, rt, shared, share.worker);
-            }
+            Then::Wait => held = wait_for(held, bells, bell, rt, shared, share, budget),
             Then::GoOn => {
-                let_go(desk, &called, bells);
-                desk = take_lock(rt, shared);
+                ring_and_let_go(held, bells, share, budget);
+                held = take(rt, shared);
             }
-            Then::End => break,
+            Then::End => {
+                ring_and_let_go(held, bells, share, budget);
+                return;
+            }
         }
     }
-    desk.wake_all();
-    drop(desk);
-    ring_all(bells);
+    unreachable!()
 }
 
 /// Lets go of the lock, and rings for the workers that now have something to do.
-fn let_go<P: Predict, J: Naming>(
-    desk: MutexGuard<'_, Desk<'_, P, J>>,
-    called: &Called,
+pub(crate) fn ring_and_let_go<P: Predict, J: Naming>(
+    mut held: Held<'_, '_, P, J>,
     bells: &[Bell],
+    share: Share,
+    budget: u32,
 ) {
-    drop(desk);
-    called.ring(bells);
+    let called = held.desk.call(share, budget);
+    let_go(held, called, bells, share.worker, budget);
 }
 
 /// Lends a unit into the slot, which keeps the room of the burst before; says whether it did.
@@ -87,7 +80,7 @@ fn lend<'a>(machine: &Machine<'a>, unit: u32, slot: &mut Option<Burst<'a>>) -> b
     }
 }
 
-/// The same where the slot is empty, out of line, since it moves the burst there.
+/// Lends a unit into the empty slot; out of line, since it moves the burst there.
 #[inline(never)]
 fn lend_first<'a>(machine: &Machine<'a>, unit: u32, slot: &mut Option<Burst<'a>>) -> bool
     ensures { IsTrue result → IfSome slot.new (λ burst. (burst.accepted ≡ machine.now.accepted) × (burst.steps ≡ 0)) }
@@ -109,19 +102,19 @@ fn burst_on<'l, 'a, P: Predict, J: Naming, G: RunGate, R: Wait>(
     worker: &mut Worker,
     next: &NextBurst,
     slot: &mut Option<Burst<'a>>,
-) -> MutexGuard<'l, Desk<'a, P, J>>
+) -> Held<'l, 'a, P, J>
     requires { IfSome slot.old (λ burst. (burst.accepted ≡ J.accepted) × (burst.steps ≡ 0)) }
 {
     let number = worker.share().worker;
     let Some(burst) = slot else {
-        return take_lock(rt, shared);
+        return take(rt, shared);
     };
     gate.before(number);
     burst.go(next.most);
     gate.after(number, burst.steps());
-    let mut desk = take_lock(rt, shared);
-    worker.check_in(&mut *desk, next, burst);
-    desk
+    let mut held = take(rt, shared);
+    worker.check_in(&mut *held.desk, next, burst);
+    held
 }
 
 /// Makes a burst on the head itself, under the lock, which is free while the gate is called; then takes the
@@ -129,65 +122,39 @@ fn burst_on<'l, 'a, P: Predict, J: Naming, G: RunGate, R: Wait>(
 fn burst_in_place<'l, 'a, P: Predict, J: Naming, G: RunGate, R: Wait>(
     rt: &R,
     shared: &'l Mutex<Desk<'a, P, J>>,
+    bells: &[Bell],
     gate: &G,
     worker: &mut Worker,
     next: &NextBurst,
-) -> MutexGuard<'l, Desk<'a, P, J>> {
-    let number = worker.share().worker;
-    gate.before(number);
-    let steps = worker.run_in_place(&mut *take_lock(rt, shared), next);
-    gate.after(number, steps);
-    take_lock(rt, shared)
+) -> Held<'l, 'a, P, J> {
+    let share = worker.share();
+    gate.before(share.worker);
+    let mut held = take(rt, shared);
+    let steps = worker.run_in_place(&mut *held.desk, next);
+    ring_and_let_go(held, bells, share, worker.budget());
+    gate.after(share.worker, steps);
+    take(rt, shared)
 }
 
 /// Lets go of the lock, waits until the worker's bell has rung since, and takes the lock again.
 fn wait_for<'l, 'a, P: Predict, J: Naming, R: Wait>(
-    mut desk: MutexGuard<'l, Desk<'a, P, J>>,
-    called: &Called,
+    mut held: Held<'l, 'a, P, J>,
     bells: &[Bell],
     bell: &Bell,
     rt: &R,
     shared: &'l Mutex<Desk<'a, P, J>>,
-    number: u32,
-) -> MutexGuard<'l, Desk<'a, P, J>> {
-    desk.fall_asleep(number);
+    share: Share,
+    budget: u32,
+) -> Held<'l, 'a, P, J> {
+    let called = held.desk.call(share, budget);
+    held.desk.fall_asleep(share.worker);
     let heard = bell.rings();
-    let_go(desk, called, bells);
+    let_go(held, called, bells, share.worker, budget);
     bell.listen(heard);
-    let mut desk = take_lock(rt, shared);
-    if desk.is_asleep(number) {
-        desk = bell.sleep(rt, desk);
-        desk.awake(number);
+    let mut held = take(rt, shared);
+    if held.desk.is_asleep(share.worker) {
+        held = sleep(rt, held, bell, share.worker);
+        held.desk.awake(share.worker);
     }
-    desk
-}
-
-/// Takes the lock. A hold is short and waking a thread is slow, so a worker tries for a while before it
-/// sleeps.
-fn take_lock<'l, T, R: Wait>(rt: &R, shared: &'l Mutex<T>) -> MutexGuard<'l, T> {
-    for _ in 0..ROUNDS {
-        if let Some(guard) = try_lock_soon(shared) {
-            return guard;
-        }
-        thread::yield_now();
-    }
-    shared.lock(rt)
-}
-
-/// The lock, if it is free within a few looks.
-fn try_lock_soon<T>(shared: &Mutex<T>) -> Option<MutexGuard<'_, T>> {
-    for _ in 0..TRIES {
-        if let Some(guard) = shared.try_lock() {
-            return Some(guard);
-        }
-        hint::spin_loop();
-    }
-    None
-}
-
-/// Rings for all workers.
-pub(crate) fn ring_all(bells: &[Bell]) {
-    for bell in bells {
-        bell.ring();
-    }
+    held
 }

@@ -1,7 +1,7 @@
 //! What a worker with nothing to do waits for.
 
 use std::sync::atomic::{AtomicU64, Ordering};
-use std::sync::{Condvar, Mutex, MutexGuard, Wait};
+use std::sync::{Condvar, MutexGuard, Wait};
 use std::{hint, thread};
 
 /// How often a worker looks whether its bell has rung before it leaves its core to another thread for a
@@ -13,14 +13,14 @@ const ROUNDS: u32 = 2_000;
 
 /// What a worker with nothing to do waits for.
 #[derive(Drop)]
-pub(crate) struct Bell {
+pub struct Bell {
     rings: AtomicU64,
     sleeper: Condvar,
 }
 
 impl Bell {
     /// A bell that has not rung.
-    pub(crate) fn new() -> Bell {
+    pub fn new() -> Bell {
         Bell {
             rings: AtomicU64::new(0),
             sleeper: Condvar::new(),
@@ -28,18 +28,18 @@ impl Bell {
     }
 
     /// Rings, for whoever waits.
-    pub(crate) fn ring(&self) {
+    pub fn ring(&self) {
         self.rings.fetch_add(1, Ordering::SeqCst);
         self.sleeper.notify_all();
     }
 
     /// How often it has rung.
-    pub(crate) fn rings(&self) -> u64 {
+    pub fn rings(&self) -> u64 {
         self.rings.load(Ordering::SeqCst)
     }
 
     /// Looks for a while, without the lock, whether it has rung more often than so.
-    pub(crate) fn listen(&self, heard: u64) {
+    pub fn listen(&self, heard: u64) {
         for _ in 0..ROUNDS {
             if self.rings_soon(heard) {
                 return;
@@ -60,11 +60,7 @@ impl Bell {
     }
 
     /// Sleeps until it rings, or for no reason not so long; the lock is free meanwhile.
-    pub(crate) fn sleep<'l, T, R: Wait>(
-        &self,
-        rt: &R,
-        guard: MutexGuard<'l, T>,
-    ) -> MutexGuard<'l, T> {
+    pub fn sleep<'l, T, R: Wait>(&self, rt: &R, guard: MutexGuard<'l, T>) -> MutexGuard<'l, T> {
         self.sleeper.wait(rt, guard)
     }
 }

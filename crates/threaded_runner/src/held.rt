@@ -1,0 +1,85 @@
+//! The lock, while a worker holds it.
+
+ghost use Rattle.std.specs.Prelude.{◌≡◌, Some, true, slice_get};
+ghost use Rattle.core.specs.Sync.Mutex.{mutex_guard_value};
+ghost use Rattle.threaded_runner.specs.Desks.{AreCalled};
+
+use crate::desk::Desk;
+use crate::naming::Naming;
+use sequencer::predict::Predict;
+use std::sync::{Mutex, MutexGuard, Wait};
+use std::{hint, thread};
+use worker_bells::bell::Bell;
+use worker_bells::called::Called;
+
+/// How often a worker tries for the lock before it leaves its core to another thread for a moment.
+const TRIES: u32 = 5;
+
+/// How often it does so before it waits asleep.
+const ROUNDS: u32 = 100;
+
+/// The lock, while a worker holds it. It has no `Drop`: so a worker lets go of it by `let_go` alone, which
+/// rings for those that have something to do, or sleeps.
+pub(crate) struct Held<'l, 'a, P: Predict, J: Naming> {
+    pub(crate) desk: MutexGuard<'l, Desk<'a, P, J>>,
+}
+
+/// Takes the lock. A hold is short and waking a thread is slow, so a worker tries for a while before it
+/// sleeps.
+pub(crate) fn take<'l, 'a, P: Predict, J: Naming, R: Wait>(
+    rt: &R,
+    shared: &'l Mutex<Desk<'a, P, J>>,
+) -> Held<'l, 'a, P, J> {
+    for _ in 0..ROUNDS {
+        if let Some(desk) = try_soon(shared) {
+            return Held { desk };
+        }
+        thread::yield_now();
+    }
+    Held {
+        desk: shared.lock(rt),
+    }
+}
+
+/// The lock, if it is free within a few looks.
+fn try_soon<T>(shared: &Mutex<T>) -> Option<MutexGuard<'_, T>> {
+    for _ in 0..TRIES {
+        if let Some(guard) = shared.try_lock() {
+            return Some(guard);
+        }
+        hint::spin_loop();
+    }
+    None
+}
+
+/// Lets go of the lock, and rings for the workers that now have something to do: of all workers but this one
+/// nobody sleeps who has a turn, or whose run is over.
+pub(crate) fn let_go<P: Predict, J: Naming>(
+    held: Held<'_, '_, P, J>,
+    called: Called,
+    bells: &[Bell],
+    worker: u32,
+    budget: u32,
+)
+    requires { AreCalled budget worker (mutex_guard_value held.desk) }
+{
+    let Held { desk } = held;
+    drop(desk);
+    called.ring(bells);
+}
+
+/// Sleeps until the worker's bell rings, or for no reason not so long; the lock is free meanwhile. A worker
+/// that was called before it sleeps would not hear its bell.
+pub(crate) fn sleep<'l, 'a, P: Predict, J: Naming, R: Wait>(
+    rt: &R,
+    held: Held<'l, 'a, P, J>,
+    bell: &Bell,
+    worker: u32,
+) -> Held<'l, 'a, P, J>
+    requires { slice_get (mutex_guard_value held.desk).asleep worker ≡ Some true }
+{
+    let Held { desk } = held;
+    Held {
+        desk: bell.sleep(rt, desk),
+    }
+}

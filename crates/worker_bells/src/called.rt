@@ -1,0 +1,62 @@
+//! Workers that have waited and now have something to do.
+
+use crate::bell::Bell;
+use std::marker::Model;
+
+/// The most workers.
+const MOST_WORKERS: usize = 16;
+
+/// The workers for whom a bell is to be rung once the lock is free, each by its number, 0..=15. It has no
+/// `Drop`, so nobody can forget to ring: `ring` alone takes it.
+pub struct Called {
+    is_called: [bool; 16],
+}
+
+impl Model for Called {
+    ghost use Rattle.std.specs.Prelude.{Bool, List};
+
+    ghost Value = { List Bool };
+
+    ghost view = { λ c. c.is_called };
+}
+
+impl Called {
+    ghost use Rattle.std.specs.Prelude.{◌≡◌, ℕ, ◌<◌, true, false, IsTrue, ◌↔◌, replicate, slice_set, slice_get, Some};
+
+    /// No worker.
+    pub fn none() -> Called
+        ensures { result ≡ replicate 16 false }
+    {
+        Called {
+            is_called: [false; MOST_WORKERS],
+        }
+    }
+
+    /// One worker more.
+    pub fn add(&mut self, worker: u32)
+        requires { worker < 16 }
+        ensures { self.new ≡ slice_set self.old worker true }
+    {
+        self.is_called[worker as usize] = true;
+    }
+
+    /// Whether a worker is among them.
+    pub fn has(&self, worker: u32) -> bool
+        ensures { IsTrue result ↔ (slice_get self.now worker ≡ Some true) }
+    {
+        match self.is_called.get(worker as usize) {
+            Some(is_called) => *is_called,
+            None => false,
+        }
+    }
+
+    /// Rings for each of them: the bell at the place of its number.
+    pub fn ring(self, bells: &[Bell]) {
+        let Called { is_called } = self;
+        for (bell, is_called) in bells.iter().zip(is_called) {
+            if is_called {
+                bell.ring();
+            }
+        }
+    }
+}
