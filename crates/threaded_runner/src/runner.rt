@@ -160,23 +160,32 @@ fn work<'a, 't, P: Predict, J: Naming + Send + Sync, G: RunGate, R: Threads + Wa
     units: u32,
     workers: u32,
     budget: u32,
-) {
-    thread::scope(thread::scope_env(), rt, |scope| {
-        for number in 0..workers {
-            let share = Share {
-                units,
-                workers,
-                worker: number,
-            };
-            let worker = Worker::new(share, budget);
-            if scope
-                .spawn(move || serve(rt, shared, bells, gate, worker))
-                .is_err()
-            {
-                give_up(rt, shared, bells);
+)
+    requires units { units ≡ J.units }
+    requires workers { workers ≡ J.workers }
+{
+    thread::scope(
+        thread::scope_env(),
+        rt,
+        |scope|
+            requires { (units ≡ J.units) × (workers ≡ J.workers) }
+        {
+            for number in 0..workers {
+                let share = Share {
+                    units,
+                    workers,
+                    worker: number,
+                };
+                let worker = Worker::new(share, budget);
+                if scope
+                    .spawn(move || serve(rt, shared, bells, gate, worker))
+                    .is_err()
+                {
+                    give_up(rt, shared, bells);
+                }
             }
-        }
-    });
+        },
+    );
 }
 
 /// Notes that a thread could not be made, and rings for all workers.

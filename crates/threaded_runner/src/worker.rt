@@ -27,7 +27,7 @@ pub(crate) fn serve<'a, P: Predict, J: Naming, G: RunGate, R: Wait>(
     shared: &Mutex<Desk<'a, P, J>>,
     bells: &[Bell],
     gate: &G,
-    mut worker: Worker,
+    mut worker: Worker<J>,
 ) {
     let share = worker.share();
     let Some(bell) = bells.get(share.worker as usize) else {
@@ -106,7 +106,7 @@ fn burst_on<'l, 'a, P: Predict, J: Naming, G: RunGate, R: Wait>(
     rt: &R,
     shared: &'l Mutex<Desk<'a, P, J>>,
     gate: &G,
-    worker: &mut Worker,
+    worker: &mut Worker<J>,
     next: &NextBurst,
     slot: &mut Option<Burst<'a>>,
 ) -> MutexGuard<'l, Desk<'a, P, J>>
@@ -130,9 +130,11 @@ fn burst_in_place<'l, 'a, P: Predict, J: Naming, G: RunGate, R: Wait>(
     rt: &R,
     shared: &'l Mutex<Desk<'a, P, J>>,
     gate: &G,
-    worker: &mut Worker,
+    worker: &mut Worker<J>,
     next: &NextBurst,
-) -> MutexGuard<'l, Desk<'a, P, J>> {
+) -> MutexGuard<'l, Desk<'a, P, J>>
+    requires { worker.old.share.workers ≡ 1 }
+{
     let number = worker.share().worker;
     gate.before(number);
     let steps = worker.run_in_place(&mut *take_lock(rt, shared), next);
