@@ -1,2 +1,6 @@
 pub mod Counting
 pub mod Locked
+pub mod Rounds
+pub mod Sharing
+pub mod Turning
+pub mod Going

@@ -34,13 +34,13 @@ execs_own m workers unit k n retired active belongs w =
     events_of_execs (units_of m) workers w (retired_by m.history) (active_by m.history) k n
     ∙ ap (λ (u : ℕ). n * (if nat_eq (u % workers) w then 1 else 0)) (unit_by m (Exec k) unit retired active belongs)
 
-pub more : (m m' : MachineView) (counts counts' : List ℕ) (es : List Event) (unit n workers : ℕ) (stopped : Bool)
-    → IsDesk (record { machine = m; counts = counts; is_stopped = stopped })
+pub more : (m m' : MachineView) (counts counts' : List ℕ) (es : List Event) (unit n workers : ℕ) (stopped : Bool) (asleep : List Bool)
+    → IsDesk (record { machine = m; counts = counts; is_stopped = stopped; asleep = asleep })
     → ((w : ℕ) → events_from (units_of m) (length counts) w (retired_by m.history) (active_by m.history) es ≡ n * (if nat_eq (unit % length counts) w then 1 else 0))
     → length es ≡ n → m'.history ≡ m.history ++ es → units_of m' ≡ units_of m → workers ≡ length counts
     → counts' ≡ slice_set counts (unit % workers) (slice_index counts (unit % workers) + n)
-    → IsDesk (record { machine = m'; counts = counts'; is_stopped = stopped })
-more m m' counts counts' es unit n workers stopped d own long history units same is =
+    → IsDesk (record { machine = m'; counts = counts'; is_stopped = stopped; asleep = asleep })
+more m m' counts counts' es unit n workers stopped asleep d own long history units same is =
     let now : counts' ≡ slice_set counts (unit % length counts) (slice_index counts (unit % length counts) + n) =
     is ∙ ap (λ (k : ℕ). slice_set counts (unit % k) (slice_index counts (unit % k) + n)) same in
     let size : length counts' ≡ length counts =

@@ -1,3 +1,8 @@
 pub mod Counts
 pub mod Desks
+pub mod Shares
+pub mod Calls
+pub mod Paces
+pub mod Holds
+pub mod Workers
 pub mod Examples

@@ -1,7 +1,6 @@
 //! What the lock holds: the machine, the predictor, how many events each worker applied, and the note that
 //! the run must stop for want of memory.
 
-use crate::called::Called;
 use crate::counts::{add, zeros};
 use crate::machine_laws::law_replay;
 use crate::naming::Naming;
@@ -31,20 +30,26 @@ impl<'a, P: Predict, J: Naming> Model for Desk<'a, P, J> {
 
     ghost Value = { DeskView };
 
-    ghost view = { λ d. record { machine = d.machine; counts = d.counts.items; is_stopped = d.is_stopped } };
+    ghost view = { λ d. record { machine = d.machine; counts = d.counts.items; is_stopped = d.is_stopped; asleep = d.asleep } };
 
-    ghost invariant = { λ d. IsDesk (record { machine = d.machine; counts = d.counts.items; is_stopped = d.is_stopped })
-        × IsOfRun J.accepted J.units J.workers (record { machine = d.machine; counts = d.counts.items; is_stopped = d.is_stopped }) };
+    ghost invariant = { λ d. IsDesk (record { machine = d.machine; counts = d.counts.items; is_stopped = d.is_stopped; asleep = d.asleep })
+        × IsOfRun J.accepted J.units J.workers (record { machine = d.machine; counts = d.counts.items; is_stopped = d.is_stopped; asleep = d.asleep }) };
 }
 
 impl<'a, P: Predict, J: Naming> Desk<'a, P, J> {
-    ghost use Rattle.std.specs.Prelude.{◌≡◌, ◌+◌, ◌<◌, ◌≤◌, ◌⊎◌, ◌↔◌, [], ◌++◌, replicate, IfOk, IfErr, OnOk, OnErr, IsTrue, length, true};
-    ghost use Rattle.sequencer.specs.Machines.{state, units_of, SameRing, Applies};
+    ghost use Rattle.std.specs.Prelude.{◌≡◌, ℕ, ◌+◌, ◌<◌, ◌≤◌, ◌⊎◌, ◌↔◌, [], ◌++◌, replicate, slice_get, slice_set, unwrap_or, IfOk, IfErr, OnOk, OnErr, IsTrue, length, true, false, Ok, Some};
+    ghost use Rattle.sequencer.specs.Machines.{state, units_of, SameRing, Applies, IsAnswered, answer_to};
     ghost use Rattle.sequencer.specs.Rings.{unit_for};
+    ghost use Rattle.sequencer.specs.Choices.{choice_of};
+    ghost use Rattle.sequencer.specs.Bursts.{IsFresh, IsRefusedBurst, Takes};
     ghost use Rattle.machine_model.specs.Answer.{most_events};
     ghost use Rattle.machine_model.specs.Replay.{Replays};
     ghost use Rattle.threaded_runner.specs.Counts.{IsCounted};
+    ghost use Rattle.threaded_runner.specs.Desks.{IsDone, SameNotes, nobody, stopped};
+    ghost use Rattle.threaded_runner.specs.Holds.{IsStoppedAt, RunsHead};
+    ghost use Rattle.threaded_runner.specs.Shares.{AllWait, IsShareOf};
     ghost use Rattle.unit_turns.specs.Turns.{MayChoose};
+    ghost use Rattle.machine_events.specs.declared.event.Event.{Event};
     ghost use Rattle.machine_events.specs.declared.event.Event.TheVariants.{Exec};
     ghost use Rattle.machine_events.specs.declared.event.Standing.TheVariants as standing;
 
@@ -58,7 +63,7 @@ impl<'a, P: Predict, J: Naming> Desk<'a, P, J> {
         requires workers { (0 < workers) × (workers ≡ J.workers) }
         requires over { (machine.accepted ≡ J.accepted) × (units_of machine ≡ J.units) }
         requires start { machine.history ≡ [] }
-        ensures { IfOk result (λ desk. (desk.machine ≡ machine.entry) × (length desk.counts ≡ workers)) }
+        ensures { IfOk result (λ desk. (desk.machine ≡ machine.entry) × (length desk.counts ≡ workers) × (desk.is_stopped ≡ false) × (desk.asleep ≡ nobody)) }
     {
         let counts = zeros(alloc, workers)?;
         Ok(Desk {
@@ -76,6 +81,7 @@ impl<'a, P: Predict, J: Naming> Desk<'a, P, J> {
     pub(crate) fn machine(&self) -> &Machine<'a>
         ensures machine { result.now ≡ self.now.machine }
         ensures over { result.now.accepted ≡ J.accepted }
+        ensures units { units_of result.now ≡ J.units }
     {
         &self.machine
     }
@@ -84,7 +90,7 @@ impl<'a, P: Predict, J: Naming> Desk<'a, P, J> {
     /// budget.
     #[inline]
     pub(crate) fn is_done(&self, budget: u32) -> bool
-        ensures { IsTrue result ↔ ((self.now.is_stopped ≡ true) ⊎ ((state self.now.machine).outcome ≡ standing.Running → ⊥) ⊎ (budget ≤ length self.now.machine.history)) }
+        ensures { IsTrue result ↔ IsDone budget self.now }
     {
         self.is_stopped
             || self.machine.outcome() != Standing::Running
@@ -93,10 +99,9 @@ impl<'a, P: Predict, J: Naming> Desk<'a, P, J> {
 
     /// Notes that the run must stop for want of memory.
     pub(crate) fn stop(&mut self)
-        ensures { self.new ≡ record self.old { is_stopped = true } }
+        ensures { self.new ≡ stopped self.old }
     {
         self.is_stopped = true;
-        self.wake_all();
     }
 
     /// Applies an event of a unit, and counts it for the worker of that unit.
@@ -107,9 +112,11 @@ impl<'a, P: Predict, J: Naming> Desk<'a, P, J> {
     #[inline]
     pub(crate) fn apply(&mut self, unit: u32, event: Event) -> Result<(), Refused>
         requires { unit_for self.old.machine event ≡ unit }
+        ensures answer { IsAnswered self.old.machine event result }
         ensures ok { OnOk result (Applies self.old.machine event self.new.machine) }
         ensures err { OnErr result (self.new ≡ self.old) }
         ensures kept { SameRing self.old.machine self.new.machine }
+        ensures notes { SameNotes self.old self.new }
         ensures workers { length self.new.counts ≡ length self.old.counts }
     {
         law_replay(&self.machine);
@@ -123,8 +130,11 @@ impl<'a, P: Predict, J: Naming> Desk<'a, P, J> {
     /// many. It ends before that where one is refused.
     pub(crate) fn run_head(&mut self, most: u32) -> u32
         ensures few { result ≤ most }
-        ensures ran { self.new.machine.history ≡ self.old.machine.history ++ replicate result (Exec 0) }
+        ensures ran { RunsHead self.old.machine result self.new.machine }
+        ensures until { result < most → IsStoppedAt self.new.machine (Exec 0) }
+        ensures history { self.new.machine.history ≡ self.old.machine.history ++ replicate result (Exec 0) }
         ensures kept { SameRing self.old.machine self.new.machine }
+        ensures notes { SameNotes self.old self.new }
         ensures workers { length self.new.counts ≡ length self.old.counts }
     {
         law_replay(&self.machine);
@@ -134,19 +144,30 @@ impl<'a, P: Predict, J: Naming> Desk<'a, P, J> {
         steps
     }
 
-    /// Asks the predictor which target comes next, and applies the Assign of it, which is the unit's.
-    ///
-    /// # Errors
-    ///
-    /// What the machine refuses the event by; nothing is changed then but the predictor.
-    pub(crate) fn choose(&mut self, unit: u32) -> Result<(), Refused>
+    /// Asks the predictor which target comes next, and applies the Assign of it, which is the unit's. Such an
+    /// event takes no memory and is not refused.
+    pub(crate) fn choose(&mut self, unit: u32)
         requires { MayChoose self.old.machine unit }
+        ensures chosen { (answer : ℕ) × (e : Event) × (choice_of self.old.machine.accepted.program (state self.old.machine) answer ≡ Some e) × Applies self.old.machine e self.new.machine }
+        ensures kept { SameRing self.old.machine self.new.machine }
+        ensures notes { SameNotes self.old self.new }
     {
         let targets = self.machine.choices();
         let answer = self.predictor.choose(targets);
-        match self.machine.choice(answer) {
-            Some(event) => self.apply(unit, event),
-            None => Ok(()),
+        self.assign(unit, answer);
+    }
+
+    /// Applies the Assign that an answer chooses, which is the unit's.
+    fn assign(&mut self, unit: u32, answer: u32)
+        requires { MayChoose self.old.machine unit }
+        ensures chosen { (e : Event) × (choice_of self.old.machine.accepted.program (state self.old.machine) answer ≡ Some e) × Applies self.old.machine e self.new.machine }
+        ensures kept { SameRing self.old.machine self.new.machine }
+        ensures notes { SameNotes self.old self.new }
+    {
+        let event = assign_of(&self.machine, unit, answer);
+        match self.apply(unit, event) {
+            Ok(()) => {}
+            Err(_) => unreachable!(),
         }
     }
 
@@ -158,14 +179,16 @@ impl<'a, P: Predict, J: Naming> Desk<'a, P, J> {
     /// What the machine refuses the burst by; nothing is changed then.
     pub(crate) fn check_in(&mut self, burst: &mut Burst<'_>) -> Result<u32, Refused>
         requires own { burst.old.accepted ≡ J.accepted }
-        ensures stale { IfOk result (λ events. events ≡ 0 → self.new ≡ self.old) }
-        ensures err { OnErr result (self.new ≡ self.old) }
+        ensures running { IfOk result (λ events. (state self.old.machine).outcome ≡ standing.Running) }
+        ensures stale { IfOk result (λ events. events ≡ 0 → (IsFresh self.old.machine burst.old → ⊥) × (self.new ≡ self.old)) }
+        ensures taken { IfOk result (λ events. 0 < events → (events ≡ burst.old.steps) × Takes self.old.machine burst.old self.new.machine) }
+        ensures refused { IfErr result (λ why. (self.new ≡ self.old) × IsRefusedBurst self.old.machine burst.old why) }
+        ensures kept { SameRing self.old.machine self.new.machine }
+        ensures notes { SameNotes self.old self.new }
         ensures workers { length self.new.counts ≡ length self.old.counts }
     {
         law_replay(&self.machine);
-        let Some(unit) = self.machine.unit_with(burst.before().serial()) else {
-            return Ok(0);
-        };
+        let unit = self.machine.unit_with(burst.before().serial()).unwrap_or(0);
         let events = self.machine.take_own_burst(burst)?;
         if events > 0 {
             law_replay(&self.machine);
@@ -194,7 +217,7 @@ impl<'a, P: Predict, J: Naming> Desk<'a, P, J> {
 
     /// Goes on by head events until no worker would; where one is refused the note stands.
     fn finish(&mut self, budget: u32)
-        ensures done { (self.new.is_stopped ≡ true) ⊎ ((state self.new.machine).outcome ≡ standing.Running → ⊥) ⊎ (budget ≤ length self.new.machine.history) }
+        ensures done { IsDone budget self.new }
         ensures workers { length self.new.counts ≡ length self.old.counts }
     {
         while !self.is_done(budget) {
@@ -243,17 +266,19 @@ impl<'a, P: Predict, J: Naming> Desk<'a, P, J> {
         })
     }
 
-    /// The workers that wait and now have something to do; they count as awake from here on.
-    pub(crate) fn call(&mut self, share: Share) -> Called
-        ensures { self.new ≡ self.old }
+    /// The workers that wait and now have something to do, a turn or the end of the run; they count as awake from
+    /// here on.
+    pub(crate) fn call(&mut self, share: Share, budget: u32) -> Called
+        requires { IsShareOf J.units J.workers share }
+        ensures others { self.new ≡ record self.old { asleep = self.new.asleep } }
+        ensures called { AreCalled budget share self.new }
+        ensures rung { AreRung self.old.asleep self.new.asleep result }
     {
+        let is_over = self.is_done(budget);
         let mut called = Called::none();
-        if share.is_all() {
-            return called;
-        }
         for worker in 0..share.workers {
             let theirs = Share { worker, ..share };
-            if self.is_asleep(worker) && theirs.first_turn(&self.machine).is_some() {
+            if self.is_asleep(worker) && (is_over || theirs.first_turn(&self.machine).is_some()) {
                 self.awake(worker);
                 called.add(worker);
             }
@@ -261,16 +286,9 @@ impl<'a, P: Predict, J: Naming> Desk<'a, P, J> {
         called
     }
 
-    /// Notes that no worker waits.
-    pub(crate) fn wake_all(&mut self)
-        ensures { self.new ≡ self.old }
-    {
-        self.asleep = [false; 16];
-    }
-
     /// Notes that a worker waits.
     pub(crate) fn fall_asleep(&mut self, worker: u32)
-        ensures { self.new ≡ self.old }
+        ensures { self.new ≡ record self.old { asleep = slice_set self.old.asleep worker true } }
     {
         if let Some(asleep) = self.asleep.get_mut(worker as usize) {
             *asleep = true;
@@ -279,7 +297,7 @@ impl<'a, P: Predict, J: Naming> Desk<'a, P, J> {
 
     /// Notes that a worker does not wait.
     pub(crate) fn awake(&mut self, worker: u32)
-        ensures { self.new ≡ self.old }
+        ensures { self.new ≡ record self.old { asleep = slice_set self.old.asleep worker false } }
     {
         if let Some(asleep) = self.asleep.get_mut(worker as usize) {
             *asleep = false;
@@ -287,7 +305,9 @@ impl<'a, P: Predict, J: Naming> Desk<'a, P, J> {
     }
 
     /// Whether a worker waits.
-    pub(crate) fn is_asleep(&self, worker: u32) -> bool {
+    pub(crate) fn is_asleep(&self, worker: u32) -> bool
+        ensures { result ≡ unwrap_or (slice_get self.now.asleep worker) false }
+    {
         match self.asleep.get(worker as usize) {
             Some(asleep) => *asleep,
             None => false,
@@ -295,25 +315,41 @@ impl<'a, P: Predict, J: Naming> Desk<'a, P, J> {
     }
 }
 
-ghost use Rattle.std.specs.Prelude.{◌≡◌, ◌<◌, ◌≤◌, ◌++◌, replicate, IfOk, OnErr};
+ghost use Rattle.std.specs.Prelude.{◌≡◌, ◌<◌, ◌≤◌, ◌++◌, replicate, Some};
 ghost use Rattle.machine_events.specs.declared.event.Event.TheVariants.{Exec};
-ghost use Rattle.sequencer.specs.Machines.{SameRing};
-ghost use Rattle.sequencer.specs.Bursts.{Takes};
+ghost use Rattle.machine_model.specs.Answer.{most_events};
+ghost use Rattle.sequencer.specs.Machines.{state, SameRing};
+ghost use Rattle.sequencer.specs.Choices.{choice_of};
+ghost use Rattle.unit_turns.specs.Turns.{IsOwn, MayChoose};
+ghost use Rattle.threaded_runner.specs.Holds.{IsStoppedAt, RunsHead};
 
-/// The head executes instructions, at most so many; answers how many. It ends before that where one is
+/// The Assign that an answer chooses, where the unit is the one that may take a task that is chosen.
+fn assign_of(machine: &Machine<'_>, unit: u32, answer: u32) -> Event
+    requires { MayChoose machine.now unit }
+    ensures chosen { choice_of machine.now.accepted.program (state machine.now) answer ≡ Some result }
+    ensures own { IsOwn machine.now unit result }
+{
+    machine.law_answers();
+    match machine.choice(answer) {
+        Some(event) => event,
+        None => unreachable!(),
+    }
+}
+
+/// The head executes instructions, at most so many; answers how many. It ends before that only where one is
 /// refused.
 #[tactic(auto, using(crate::proofs::Locked::one_more))]
 fn exec_head(machine: &mut Machine<'_>, most: u32) -> u32
     ensures few { result ≤ most }
-    ensures ran { machine.new.history ≡ machine.old.history ++ replicate result (Exec 0) }
+    ensures ran { RunsHead machine.old result machine.new }
+    ensures until { result < most → IsStoppedAt machine.new (Exec 0) }
+    ensures history { machine.new.history ≡ machine.old.history ++ replicate result (Exec 0) }
     ensures kept { SameRing machine.old machine.new }
 {
-    let mut steps = 0;
-    for _ in 0..most {
+    for steps in 0..most {
         if machine.apply(Event::Exec(0)).is_err() {
-            break;
+            return steps;
         }
-        steps += 1;
     }
-    steps
+    most
 }

@@ -1,11 +1,12 @@
 //! The lock, while a worker holds it.
 
 ghost use Rattle.std.specs.Prelude.{◌≡◌, Some, true, slice_get};
-ghost use Rattle.core.specs.Sync.Mutex.{mutex_guard_value};
-ghost use Rattle.threaded_runner.specs.Desks.{AreCalled};
+ghost use Rattle.std.specs.Sync.Mutex.{mutex_guard_value};
+ghost use Rattle.threaded_runner.specs.Calls.{AreCalled};
 
 use crate::desk::Desk;
 use crate::naming::Naming;
+use crate::share::Share;
 use sequencer::predict::Predict;
 use std::sync::{Mutex, MutexGuard, Wait};
 use std::{hint, thread};
@@ -58,10 +59,10 @@ pub(crate) fn let_go<P: Predict, J: Naming>(
     held: Held<'_, '_, P, J>,
     called: Called,
     bells: &[Bell],
-    worker: u32,
+    share: Share,
     budget: u32,
 )
-    requires { AreCalled budget worker (mutex_guard_value held.desk) }
+    requires { AreCalled budget share (mutex_guard_value held.desk) }
 {
     let Held { desk } = held;
     drop(desk);

@@ -1,154 +1,200 @@
 //! What a worker does while it holds the lock.
 
-ghost use Rattle.std.specs.Prelude.{◌≡◌, ◌≤◌};
-ghost use Rattle.sequencer.specs.Rings.{unit_for};
-ghost use Rattle.unit_turns.specs.Turns.{MayChoose};
-
-use unit_turns::deciding::turn_at_head;
 use crate::desk::Desk;
+use crate::machine_laws::law_drop;
 use crate::naming::Naming;
+pub(crate) use crate::next::{NextBurst, Then};
 use crate::pace::Pace;
 use crate::share::Share;
-use unit_turns::turn::Turn;
 use machine_events::event::{Event, Refused, Spot};
 use sequencer::machine::Machine;
 use sequencer::predict::Predict;
+use std::marker::{Model, PhantomData};
 use unit_core::burst::{Burst, MOST_STEPS};
+use unit_turns::deciding::turn_at_head;
+use unit_turns::turn::Turn;
 
-/// The most turns of one hold of the lock, and the most instructions that one of them executes.
-const EVENTS_OF_A_HOLD: u32 = 64;
+/// The most turns of one hold of the lock.
+const TURNS_OF_A_HOLD: u32 = 64;
 
 /// The most events by which a worker that serves all units goes on with the head where it is.
 const EVENTS_IN_PLACE: u32 = 1_024;
 
-/// The burst that is made next of a unit.
+/// A worker of a run: which units it serves, and how it goes on with each.
 #[derive(Drop)]
-pub(crate) struct NextBurst {
-    /// The number of the unit.
-    pub(crate) unit: u32,
-    /// How many instructions at most.
-    pub(crate) most: u32,
-    ghost few: { most ≤ 65536 },
-}
-
-/// What a worker does once it lets go of the lock.
-#[derive(Drop)]
-pub(crate) enum Then {
-    /// Makes a burst on the unit, which is to be lent.
-    Burst(NextBurst),
-    /// Goes on with the head where it is, by as many events as the burst may have instructions.
-    BurstInPlace(NextBurst),
-    /// Waits until the machine has changed.
-    Wait,
-    /// Takes the lock again, since there may be more to do.
-    GoOn,
-    /// Ends.
-    End,
-}
-
-/// A worker: which units it serves, and how it goes on with each.
-#[derive(Drop)]
-pub(crate) struct Worker {
+pub(crate) struct Worker<J: Naming> {
     share: Share,
     budget: u32,
     paces: [Pace; 16],
+    run: PhantomData<J>,
 }
 
-impl Worker {
+impl<J: Naming> Model for Worker<J> {
+    ghost use Rattle.threaded_runner.specs.Shares.{IsShareOf};
+    ghost use Rattle.threaded_runner.specs.Workers.{WorkerView};
+
+    ghost Value = { WorkerView };
+
+    ghost view = { λ w. record { share = w.share; budget = w.budget; paces = w.paces } };
+
+    ghost invariant = { λ w. IsShareOf J.units J.workers w.share };
+}
+
+impl<J: Naming> Worker<J> {
+    ghost use Rattle.std.specs.Prelude.{◌≡◌, ℕ, ◌+◌, ◌-◌, ◌<◌, ◌≤◌, ◌⊎◌, min, length, replicate, nat_eq, if◌then◌else◌, Result, Err};
+    ghost use Rattle.machine_model.specs.Answer.{most_events};
+    ghost use Rattle.machine_events.specs.declared.event.Event.TheVariants.{Exec};
+    ghost use Rattle.machine_events.specs.declared.event.Refused.{Refused};
+    ghost use Rattle.machine_events.specs.declared.event.Refused.TheVariants as refused;
+    ghost use Rattle.machine_events.specs.declared.event.Standing.TheVariants as standing;
+    ghost use Rattle.sequencer.specs.Machines.{state};
+    ghost use Rattle.sequencer.specs.Rings.{unit_for};
+    ghost use Rattle.unit_turns.specs.Turns.{IsTurn, IsOwn, MayChoose, MayBurst, turn_of};
+    ghost use Rattle.threaded_runner.specs.Shares.{IsFirst, IsServed, IsShareOf};
+    ghost use Rattle.threaded_runner.specs.Paces.{after_check_in, after_in_place, fresh_pace, is_held, next_task, pace_of};
+    ghost use Rattle.threaded_runner.specs.Desks.{DeskView};
+    ghost use Rattle.threaded_runner.specs.Holds.{TakesTurns};
+    ghost use Rattle.threaded_runner.specs.Workers.{DoesEvent, FollowsUp, GivesUp, IsHandedIn, IsNext, IsSameWorker, IsThenOf, IsTurnTaken, StopsRun, WorkerView, with_pace};
+
     /// A worker that has done nothing.
-    pub(crate) fn new(share: Share, budget: u32) -> Worker {
+    pub(crate) fn new(share: Share, budget: u32) -> Worker<J>
+        requires { IsShareOf J.units J.workers share }
+        ensures { result ≡ record { share = share; budget = budget; paces = replicate 16 fresh_pace } }
+    {
         Worker {
             share,
             budget,
             paces: [Pace::new(); 16],
+            run: PhantomData,
         }
     }
 
     /// Which units the worker serves.
-    pub(crate) fn share(&self) -> Share {
+    pub(crate) fn share(&self) -> Share
+        ensures value { result ≡ self.now.share }
+        ensures of_run { IsShareOf J.units J.workers result }
+    {
         self.share
     }
 
-    /// How many events the history may have, bursts aside that are handed in late.
+    /// How many events the history may have, but for those of a burst that is handed in late.
     pub(crate) fn budget(&self) -> u32
         ensures { result ≡ self.now.budget }
     {
         self.budget
     }
 
-    /// Takes turns of the worker's units, at most 64.
-    pub(crate) fn hold<P: Predict, J: Naming>(&mut self, desk: &mut Desk<'_, P, J>) -> Then {
-        for _ in 0..EVENTS_OF_A_HOLD {
+    /// Takes turns of the worker's units, at most 64. What that did is what `turn` says.
+    pub(crate) fn hold<P: Predict>(&mut self, desk: &mut Desk<'_, P, J>) -> Then
+        ensures next { IsNext self.new desk.new result }
+        ensures turns { TakesTurns self.old.share 0 desk.old desk.new }
+        ensures many { result ≡ Then.GoOn → TakesTurns self.old.share 64 desk.old desk.new }
+        ensures stays { IsSameWorker self.old self.new }
+    {
+        for _ in 0..TURNS_OF_A_HOLD {
             if desk.is_done(self.budget) {
                 return Then::End;
             }
             let Some((unit, turn)) = self.share.first_turn(desk.machine()) else {
                 return Then::Wait;
             };
-            match turn {
-                Turn::Apply(event) => {
-                    if !self.apply(desk, unit, event) {
-                        return Then::Wait;
-                    }
-                }
-                Turn::Choose => {
-                    if !self.choose(desk, unit) {
-                        return Then::Wait;
-                    }
-                }
-                Turn::Burst => {
-                    if let Some(then) = self.next_burst(desk, unit) {
-                        return then;
-                    }
-                }
-                Turn::Wait => return Then::Wait,
+            if let Some(then) = self.take_turn(desk, unit, turn) {
+                return then;
             }
         }
         Then::GoOn
     }
 
-    /// Applies an event of a unit, unless it is an Assign that has to wait; answers whether it did not
-    /// have to.
-    fn apply<P: Predict, J: Naming>(
+    /// Takes a turn of a unit; or changes nothing, and answers what the worker does without the lock.
+    fn take_turn<P: Predict>(
+        &mut self,
+        desk: &mut Desk<'_, P, J>,
+        unit: u32,
+        turn: Turn,
+    ) -> Option<Then>
+        requires first { IsFirst desk.old.machine self.old.share unit }
+        requires turn { turn ≡ turn_of desk.old.machine unit }
+        requires own { IsTurn desk.old.machine unit turn }
+        requires room { length desk.old.machine.history < self.old.budget }
+        ensures turn { IsTurnTaken self.old desk.old self.new desk.new result }
+        ensures stays { IsSameWorker self.old self.new }
+    {
+        match turn {
+            Turn::Apply(event) => self.apply(desk, unit, event),
+            Turn::Choose => self.choose(desk, unit),
+            Turn::Burst => self.next_burst(desk, unit),
+            Turn::Wait => unreachable!(),
+        }
+    }
+
+    /// Applies the event of a unit's turn, unless it is an Assign that has to wait.
+    fn apply<P: Predict>(
         &mut self,
         desk: &mut Desk<'_, P, J>,
         unit: u32,
         event: Event,
-    ) -> bool
-        requires { unit_for desk.old.machine event ≡ unit }
+    ) -> Option<Then>
+        requires first { IsFirst desk.old.machine self.old.share unit }
+        requires turn { Turn.Apply event ≡ turn_of desk.old.machine unit }
+        requires own { IsOwn desk.old.machine unit event }
+        ensures turn { IsTurnTaken self.old desk.old self.new desk.new result }
+        ensures stays { IsSameWorker self.old self.new }
     {
-        let assigns = matches!(&event, Event::Assign(_));
-        if assigns && self.is_held(desk.machine(), unit) {
-            return false;
+        if assigns(&event) && self.is_held(desk.machine(), unit) {
+            return Some(Then::Wait);
         }
-        match desk.apply(unit, event) {
-            Ok(()) => {
-                if assigns {
-                    self.begin(unit);
-                }
-            }
-            Err(_) => self.give_up(desk, unit),
-        }
-        true
+        self.apply_event(desk, unit, event);
+        None
     }
 
-    /// Assigns the task that the predictor chooses to a unit, unless it has to wait; answers whether it did
-    /// not have to.
-    fn choose<P: Predict, J: Naming>(&mut self, desk: &mut Desk<'_, P, J>, unit: u32) -> bool
-        requires { MayChoose desk.old.machine unit }
+    /// Applies the event of a unit's turn. Where memory is wanting for it, the unit gives up its task, and the
+    /// head the run.
+    fn apply_event<P: Predict>(&mut self, desk: &mut Desk<'_, P, J>, unit: u32, event: Event)
+        requires served { IsServed self.old.share unit }
+        requires turn { Turn.Apply event ≡ turn_of desk.old.machine unit }
+        requires own { IsOwn desk.old.machine unit event }
+        ensures turn { TakesTurns self.old.share 1 desk.old desk.new }
+        ensures did { DoesEvent self.old unit event desk.old self.new desk.new ⊎ GivesUp self.old unit desk.old self.new desk.new ⊎ StopsRun self.old unit desk.old self.new desk.new }
+        ensures few { length desk.new.machine.history ≤ length desk.old.machine.history + 1 }
+        ensures stays { IsSameWorker self.old self.new }
     {
-        if self.is_held(desk.machine(), unit) {
-            return false;
+        let begins = assigns(&event);
+        match desk.apply(unit, event) {
+            Ok(()) => self.after_event(unit, begins),
+            Err(_) => self.give_up(desk, unit),
         }
-        if desk.choose(unit).is_ok() {
+    }
+
+    /// After an event of a unit, which may begin a task of it.
+    fn after_event(&mut self, unit: u32, begins: bool)
+        ensures { self.new ≡ (if begins then with_pace self.old unit (next_task (pace_of self.old.paces unit)) else self.old) }
+    {
+        if begins {
             self.begin(unit);
         }
-        true
+    }
+
+    /// Assigns the task that the predictor chooses to a unit, unless it has to wait.
+    fn choose<P: Predict>(&mut self, desk: &mut Desk<'_, P, J>, unit: u32) -> Option<Then>
+        requires first { IsFirst desk.old.machine self.old.share unit }
+        requires turn { Turn.Choose ≡ turn_of desk.old.machine unit }
+        requires own { MayChoose desk.old.machine unit }
+        ensures turn { IsTurnTaken self.old desk.old self.new desk.new result }
+        ensures stays { IsSameWorker self.old self.new }
+    {
+        if self.is_held(desk.machine(), unit) {
+            return Some(Then::Wait);
+        }
+        desk.choose(unit);
+        self.begin(unit);
+        None
     }
 
     /// Whether a unit that was dropped for want of memory takes no task yet: no task has retired since, and
     /// the queue is not empty.
-    fn is_held(&self, machine: &Machine<'_>, unit: u32) -> bool {
+    fn is_held(&self, machine: &Machine<'_>, unit: u32) -> bool
+        ensures { result ≡ is_held self.now.paces machine.now unit }
+    {
         match self.pace(unit).dropped_at {
             Some(retired) => machine.commits().len() <= retired && machine.head_unit() != unit,
             None => false,
@@ -156,159 +202,271 @@ impl Worker {
     }
 
     /// How the worker goes on with a unit.
-    fn pace(&self, unit: u32) -> Pace {
+    fn pace(&self, unit: u32) -> Pace
+        ensures { result ≡ pace_of self.now.paces unit }
+    {
         match self.paces.get(unit as usize) {
             Some(pace) => *pace,
             None => Pace::new(),
         }
     }
 
-    /// The unit begins a task.
-    fn begin(&mut self, unit: u32) {
-        if let Some(pace) = self.paces.get_mut(unit as usize) {
-            *pace = pace.of_next_task();
+    /// The worker goes on with a unit at another pace.
+    fn set_pace(&mut self, unit: u32, pace: Pace)
+        ensures { self.new ≡ with_pace self.old unit pace }
+    {
+        if let Some(slot) = self.paces.get_mut(unit as usize) {
+            *slot = pace;
         }
     }
 
-    /// The burst that is made next of a unit whose next instruction may stand in one, unless instructions are
-    /// executed one by one here. A worker that serves all units makes short bursts in place: nobody else waits
-    /// for the lock.
-    fn next_burst<P: Predict, J: Naming>(
-        &mut self,
-        desk: &mut Desk<'_, P, J>,
-        unit: u32,
-    ) -> Option<Then> {
+    /// The unit begins a task.
+    fn begin(&mut self, unit: u32)
+        ensures { self.new ≡ with_pace self.old unit (next_task (pace_of self.old.paces unit)) }
+    {
+        let pace = self.pace(unit).of_next_task();
+        self.set_pace(unit, pace);
+    }
+
+    /// The burst that is made next of a unit, unless instructions are executed one by one here.
+    fn next_burst<P: Predict>(&mut self, desk: &mut Desk<'_, P, J>, unit: u32) -> Option<Then>
+        requires first { IsFirst desk.old.machine self.old.share unit }
+        requires turn { Turn.Burst ≡ turn_of desk.old.machine unit }
+        requires own { MayBurst desk.old.machine unit }
+        requires room { length desk.old.machine.history < self.old.budget }
+        ensures turn { IsTurnTaken self.old desk.old self.new desk.new result }
+        ensures stays { IsSameWorker self.old self.new }
+    {
         let pace = self.pace(unit);
         let room = self.room(desk.machine());
         if pace.single > 0 {
             self.execute(desk, unit, pace.single.min(room));
             return None;
         }
+        Some(self.burst_of(unit, pace, room))
+    }
+
+    /// A burst of a unit at this pace, where the budget leaves so much room. A worker that serves all units
+    /// makes short bursts in place: nobody else waits for the lock.
+    fn burst_of(&self, unit: u32, pace: Pace, room: u32) -> Then
+        requires { room ≤ 65536 }
+        ensures { IsThenOf self.now.share unit pace room result }
+    {
         if self.share.is_all() && pace.is_first() {
             let most = EVENTS_IN_PLACE.min(room);
-            Some(Then::BurstInPlace(NextBurst { unit, most }))
+            Then::BurstInPlace(NextBurst { unit, most })
         } else {
             let most = pace.most.min(room);
-            Some(Then::Burst(NextBurst { unit, most }))
+            Then::Burst(NextBurst { unit, most })
         }
     }
 
     /// How many events the budget leaves room for, at most as many as a burst may have.
     fn room(&self, machine: &Machine<'_>) -> u32
-        ensures { result ≤ 65536 }
+        ensures { result ≡ min (self.now.budget - length machine.now.history) 65536 }
     {
         let room = (self.budget as usize).saturating_sub(machine.length());
         room.min(MOST_STEPS as usize) as u32
     }
 
     /// The unit executes instructions under the lock: the head at most so many, another unit one.
-    fn execute<P: Predict, J: Naming>(&mut self, desk: &mut Desk<'_, P, J>, unit: u32, most: u32) {
-        let steps = match desk.machine().position(unit) {
-            Some(0) => desk.run_head(most),
-            Some(position) => u32::from(desk.apply(unit, Event::Exec(position)).is_ok()),
-            None => return,
-        };
+    fn execute<P: Predict>(&mut self, desk: &mut Desk<'_, P, J>, unit: u32, most: u32)
+        requires served { IsServed self.old.share unit }
+        requires turn { Turn.Burst ≡ turn_of desk.old.machine unit }
+        requires own { MayBurst desk.old.machine unit }
+        requires some { 0 < most }
+        ensures turn { TakesTurns self.old.share 1 desk.old desk.new }
+        ensures few { length desk.new.machine.history ≤ length desk.old.machine.history + most }
+        ensures stays { IsSameWorker self.old self.new }
+    {
+        let steps = self.exec(desk, unit, most);
+        let pace = self.pace(unit).after_single(steps);
+        self.set_pace(unit, pace);
         if steps == 0 {
             self.give_up(desk, unit);
         }
-        if let Some(pace) = self.paces.get_mut(unit as usize) {
-            pace.single = pace.single.saturating_sub(steps.max(1));
+    }
+
+    /// The instructions of `execute`; answers how many there were.
+    fn exec<P: Predict>(&self, desk: &mut Desk<'_, P, J>, unit: u32, most: u32) -> u32
+        requires served { IsServed self.now.share unit }
+        requires turn { Turn.Burst ≡ turn_of desk.old.machine unit }
+        requires own { MayBurst desk.old.machine unit }
+        requires some { 0 < most }
+        ensures few { result ≤ most }
+        ensures history { length desk.new.machine.history ≡ length desk.old.machine.history + result }
+        ensures none { result ≡ 0 → desk.new.machine ≡ desk.old.machine }
+        ensures turns { TakesTurns self.now.share result desk.old desk.new }
+    {
+        match desk.machine().position(unit) {
+            Some(0) => desk.run_head(most),
+            Some(position) => u32::from(desk.apply(unit, Event::Exec(position)).is_ok()),
+            None => unreachable!(),
         }
     }
 
     /// The head, which is the unit of this burst, executes its instructions where it is, and goes on from task
     /// to task by the events that `turn` names: so many events at most. Answers how many instructions that
     /// were.
-    pub(crate) fn run_in_place<P: Predict, J: Naming>(
+    pub(crate) fn run_in_place<P: Predict>(
         &mut self,
         desk: &mut Desk<'_, P, J>,
         next: &NextBurst,
-    ) -> u32 {
+    ) -> u32
+        requires { self.old.share.workers ≡ 1 }
+        ensures turns { TakesTurns self.old.share 0 desk.old desk.new }
+        ensures few { length desk.new.machine.history ≤ length desk.old.machine.history + next.now.most }
+        ensures steps { result ≤ next.now.most }
+        ensures paced { (mid : WorkerView) × (self.new ≡ with_pace mid next.now.unit (after_in_place next.now.most result (pace_of mid.paces next.now.unit))) }
+        ensures stays { IsSameWorker self.old self.new }
+    {
         let mut steps: u32 = 0;
         let mut left = next.most;
         for _ in 0..next.most {
-            let run = match desk.machine().spot(0) {
-                Some(Spot::Inside(_)) => desk.run_head(left),
-                _ => 0,
-            };
-            steps = steps.saturating_add(run);
+            let run = self.run_inside(desk, left);
+            steps += run;
             left -= run;
-            if left == 0 || !self.apply_at_head(desk) {
+            if left == 0 {
                 break;
             }
             left -= 1;
+            if !self.apply_at_head(desk) {
+                break;
+            }
         }
-        self.note_steps(next, steps);
+        let pace = self.pace(next.unit).after_in_place(next.most, steps);
+        self.set_pace(next.unit, pace);
         steps
+    }
+
+    /// The head executes instructions of its task, at most so many; answers how many.
+    fn run_inside<P: Predict>(&self, desk: &mut Desk<'_, P, J>, most: u32) -> u32
+        requires { self.now.share.workers ≡ 1 }
+        ensures few { result ≤ most }
+        ensures history { length desk.new.machine.history ≡ length desk.old.machine.history + result }
+        ensures turns { TakesTurns self.now.share 0 desk.old desk.new }
+    {
+        match desk.machine().spot(0) {
+            Some(Spot::Inside(_)) => desk.run_head(most),
+            _ => 0,
+        }
     }
 
     /// Applies the event that the turn of the head's unit names; answers whether it names one and the run goes
     /// on.
-    fn apply_at_head<P: Predict, J: Naming>(&mut self, desk: &mut Desk<'_, P, J>) -> bool {
+    fn apply_at_head<P: Predict>(&mut self, desk: &mut Desk<'_, P, J>) -> bool
+        requires { self.old.share.workers ≡ 1 }
+        ensures turns { TakesTurns self.old.share 0 desk.old desk.new }
+        ensures few { length desk.new.machine.history ≤ length desk.old.machine.history + 1 }
+        ensures stays { IsSameWorker self.old self.new }
+    {
         let machine = desk.machine();
         let head = machine.head_unit();
         match turn_at_head(machine, head) {
-            Turn::Apply(event) => self.apply(desk, head, event) && !desk.is_done(self.budget),
+            Turn::Apply(event) => {
+                self.apply_event(desk, head, event);
+                !desk.is_done(self.budget)
+            }
             _ => false,
-        }
-    }
-
-    /// After a burst in place with so many instructions: as many as there may be are all of one task, which
-    /// gets longer bursts from here on.
-    fn note_steps(&mut self, next: &NextBurst, steps: u32) {
-        let Some(pace) = self.paces.get_mut(next.unit as usize) else {
-            return;
-        };
-        if steps == 0 {
-            pace.single = EVENTS_OF_A_HOLD;
-        } else if steps == next.most {
-            pace.double();
         }
     }
 
     /// Want of memory for an event of a unit: one that is not the head is dropped, and at the head the run
     /// must stop.
-    fn give_up<P: Predict, J: Naming>(&mut self, desk: &mut Desk<'_, P, J>, unit: u32) {
+    fn give_up<P: Predict>(&mut self, desk: &mut Desk<'_, P, J>, unit: u32)
+        requires running { (state desk.old.machine).outcome ≡ standing.Running }
+        requires room { length desk.old.machine.history < most_events }
+        ensures { GivesUp self.old unit desk.old self.new desk.new ⊎ StopsRun self.old unit desk.old self.new desk.new }
+    {
         match desk.machine().position(unit) {
-            Some(position) if position > 0 => {
-                let retired = desk.machine().commits().len();
-                if let Some(pace) = self.paces.get_mut(unit as usize) {
-                    pace.dropped_at = Some(retired);
-                }
-                let _ = desk.apply(unit, Event::Drop(position));
-            }
+            Some(position) if position > 0 => self.drop_task(desk, unit, position),
             _ => desk.stop(),
         }
     }
 
-    /// Hands in the burst that was made as `next` says.
-    pub(crate) fn check_in<P: Predict, J: Naming>(
+    /// A unit ahead of the head gives up its task.
+    fn drop_task<P: Predict>(&mut self, desk: &mut Desk<'_, P, J>, unit: u32, position: u32)
+        requires running { (state desk.old.machine).outcome ≡ standing.Running }
+        requires room { length desk.old.machine.history < most_events }
+        requires ahead { 0 < position }
+        requires within { position < length (state desk.old.machine).queue }
+        requires belongs { unit_for desk.old.machine (Exec position) ≡ unit }
+        ensures { GivesUp self.old unit desk.old self.new desk.new }
+    {
+        law_drop(desk.machine(), position);
+        let retired = desk.machine().commits().len();
+        let mut pace = self.pace(unit);
+        pace.dropped_at = Some(retired);
+        self.set_pace(unit, pace);
+        match desk.apply(unit, Event::Drop(position)) {
+            Ok(()) => {}
+            Err(_) => unreachable!(),
+        }
+    }
+
+    /// Hands in the burst that was made as `next` says. Where memory is wanting for it, the unit gives up its
+    /// task if it is ahead of the head; the head goes on by single instructions.
+    pub(crate) fn check_in<P: Predict>(
         &mut self,
         desk: &mut Desk<'_, P, J>,
         next: &NextBurst,
         burst: &mut Burst<'_>,
     )
         requires { burst.old.accepted ≡ J.accepted }
+        ensures answered { (answer : Result ℕ Refused) × (mid : DeskView) × IsHandedIn desk.old burst.old answer mid
+            × FollowsUp self.old next.now burst.old.steps answer mid self.new desk.new }
+        ensures stays { IsSameWorker self.old self.new }
     {
         let steps = burst.steps();
         let answer = desk.check_in(burst);
-        if let Err(Refused::OutOfMemory) = answer {
-            if desk.machine().head_unit() != next.unit {
-                self.give_up(desk, next.unit);
-                return;
+        self.follow_up(desk, next, steps, answer);
+    }
+
+    /// After the answer to a burst of so many instructions.
+    fn follow_up<P: Predict>(
+        &mut self,
+        desk: &mut Desk<'_, P, J>,
+        next: &NextBurst,
+        steps: u32,
+        answer: Result<u32, Refused>,
+    )
+        requires running { answer ≡ Err refused.OutOfMemory → (state desk.old.machine).outcome ≡ standing.Running }
+        requires room { answer ≡ Err refused.OutOfMemory → length desk.old.machine.history < most_events }
+        ensures { FollowsUp self.old next.now steps answer desk.old self.new desk.new }
+    {
+        if desk.machine().head_unit() == next.unit {
+            return self.go_on(next, steps, answer);
+        }
+        match answer {
+            Ok(events) => self.go_on(next, steps, Ok(events)),
+            Err(why) => {
+                if why == Refused::OutOfMemory {
+                    self.give_up(desk, next.unit)
+                } else {
+                    self.go_on(next, steps, Err(why))
+                }
             }
         }
-        let Some(pace) = self.paces.get_mut(next.unit as usize) else {
-            return;
-        };
-        match answer {
-            Ok(0) if steps == 0 => pace.single = EVENTS_OF_A_HOLD,
-            Ok(0) => pace.begin_again(),
-            Ok(events) if events == next.most => pace.double(),
-            Ok(events) if !pace.is_short(events) => {}
-            Ok(_) if self.share.is_all() => pace.begin_again(),
-            Ok(_) => pace.single = EVENTS_OF_A_HOLD,
-            Err(_) => pace.single = EVENTS_OF_A_HOLD,
-        }
     }
+
+    /// Goes on with a unit after the answer to a burst of so many instructions.
+    fn go_on(&mut self, next: &NextBurst, steps: u32, answer: Result<u32, Refused>)
+        ensures { self.new ≡ with_pace self.old next.now.unit (after_check_in (nat_eq self.old.share.workers 1) next.now.most steps answer (pace_of self.old.paces next.now.unit)) }
+    {
+        let is_all = self.share.is_all();
+        let pace = self
+            .pace(next.unit)
+            .after_check_in(is_all, next.most, steps, answer);
+        self.set_pace(next.unit, pace);
+    }
+}
+
+ghost use Rattle.std.specs.Prelude.{◌≡◌};
+ghost use Rattle.threaded_runner.specs.Workers.{is_assign};
+
+/// Whether an event begins a task.
+fn assigns(event: &Event) -> bool
+    ensures { result ≡ is_assign event.now }
+{
+    matches!(event, Event::Assign(_))
 }

@@ -9,6 +9,7 @@ mod hold;
 pub mod laws;
 mod machine_laws;
 mod naming;
+mod next;
 mod pace;
 pub mod report;
 pub mod runner;

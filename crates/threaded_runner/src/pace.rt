@@ -1,9 +1,16 @@
 //! How a worker goes on with one of its units.
 
+ghost use Rattle.std.specs.Prelude.{◌≡◌, ◌<◌, ◌↔◌, IsTrue};
+ghost use Rattle.threaded_runner.specs.Paces.{after_check_in, after_in_place, after_single, after_taken, anew, doubled, fresh_pace, next_task, one_by_one};
+
+use machine_events::event::Refused;
 use unit_core::burst::MOST_STEPS;
 
 /// The most instructions of a task's first burst.
 const FIRST_STEPS: u32 = 64;
+
+/// How many instructions are executed one by one after a burst that ended early.
+const SINGLE_STEPS: u32 = 64;
 
 /// How a worker goes on with a unit.
 #[derive(Clone, Copy, Debug, PartialEq, Eq)]
@@ -18,7 +25,9 @@ pub(crate) struct Pace {
 
 impl Pace {
     /// The pace of a unit that has had no task.
-    pub(crate) fn new() -> Pace {
+    pub(crate) fn new() -> Pace
+        ensures { result ≡ fresh_pace }
+    {
         Pace {
             most: FIRST_STEPS,
             single: 0,
@@ -26,9 +35,11 @@ impl Pace {
         }
     }
 
-    /// The pace of the unit's next task: its bursts begin anew, behind the instructions that were still to be
+    /// The pace of the unit's next task: its bursts begin anew, after the instructions that were still to be
     /// executed one by one.
-    pub(crate) fn of_next_task(self) -> Pace {
+    pub(crate) fn of_next_task(self) -> Pace
+        ensures { result ≡ next_task self }
+    {
         Pace {
             most: FIRST_STEPS,
             single: self.single,
@@ -37,23 +48,96 @@ impl Pace {
     }
 
     /// Whether the next burst is as short as a task's first.
-    pub(crate) fn is_first(self) -> bool {
+    pub(crate) fn is_first(self) -> bool
+        ensures { IsTrue result ↔ (self.most ≡ 64) }
+    {
         self.most == FIRST_STEPS
     }
 
-    /// Whether a burst of so many steps is shorter than a task's first may be: to lend the unit and to hand
-    /// the burst in then costs more than to execute as many instructions one by one.
-    pub(crate) fn is_short(self, steps: u32) -> bool {
-        steps < FIRST_STEPS
+    /// The pace after so many instructions were executed one by one, or one was refused.
+    pub(crate) fn after_single(self, steps: u32) -> Pace
+        ensures { result ≡ after_single steps self }
+    {
+        Pace {
+            single: self.single.saturating_sub(steps.max(1)),
+            ..self
+        }
     }
 
-    /// After a burst that was taken over with as many steps as it was to have at most.
-    pub(crate) fn double(&mut self) {
-        self.most = self.most.saturating_mul(2).min(MOST_STEPS);
+    /// The pace after a burst in place of so many instructions, at most `most`.
+    pub(crate) fn after_in_place(self, most: u32, steps: u32) -> Pace
+        ensures { result ≡ after_in_place most steps self }
+    {
+        if steps == 0 {
+            self.one_by_one()
+        } else if steps == most {
+            self.doubled()
+        } else {
+            self
+        }
     }
 
-    /// After a stale burst.
-    pub(crate) fn begin_again(&mut self) {
-        self.most = FIRST_STEPS;
+    /// The pace after a burst of so many instructions, at most `most`, was handed in with this answer.
+    pub(crate) fn after_check_in(
+        self,
+        is_all: bool,
+        most: u32,
+        steps: u32,
+        answer: Result<u32, Refused>,
+    ) -> Pace
+        ensures { result ≡ after_check_in is_all most steps answer self }
+    {
+        match answer {
+            Ok(0) if steps == 0 => self.one_by_one(),
+            Ok(0) => self.anew(),
+            Ok(events) => self.after_taken(is_all, most, events),
+            Err(_) => self.one_by_one(),
+        }
+    }
+
+    /// The pace after a burst that was taken over with so many instructions. To lend a unit and to hand in a
+    /// burst shorter than a task's first costs more than to execute as many instructions one by one.
+    fn after_taken(self, is_all: bool, most: u32, events: u32) -> Pace
+        ensures { result ≡ after_taken is_all most events self }
+    {
+        if events == most {
+            self.doubled()
+        } else if events >= FIRST_STEPS {
+            self
+        } else if is_all {
+            self.anew()
+        } else {
+            self.one_by_one()
+        }
+    }
+
+    /// The next burst is twice as long.
+    fn doubled(self) -> Pace
+        ensures { result ≡ doubled self }
+    {
+        Pace {
+            most: self.most.saturating_mul(2).min(MOST_STEPS),
+            ..self
+        }
+    }
+
+    /// The next burst is as short as a task's first.
+    fn anew(self) -> Pace
+        ensures { result ≡ anew self }
+    {
+        Pace {
+            most: FIRST_STEPS,
+            ..self
+        }
+    }
+
+    /// The next instructions are executed one by one.
+    fn one_by_one(self) -> Pace
+        ensures { result ≡ one_by_one self }
+    {
+        Pace {
+            single: SINGLE_STEPS,
+            ..self
+        }
     }
 }

@@ -5,6 +5,7 @@ ghost use Rattle.machine_events.specs.declared.event.Standing.TheVariants as sta
 ghost use Rattle.machine_model.specs.Replay.{Replays};
 ghost use Rattle.sequencer.specs.Machines.{state, units_of};
 ghost use Rattle.threaded_runner.specs.Counts.{IsCounted};
+ghost use Rattle.threaded_runner.specs.Shares.{IsShareOf};
 
 use crate::desk::Desk;
 use crate::gate::RunGate;
@@ -161,23 +162,32 @@ fn work<'a, 't, P: Predict, J: Naming + Send + Sync, G: RunGate, R: Threads + Wa
     units: u32,
     workers: u32,
     budget: u32,
-) {
-    thread::scope(thread::scope_env(), rt, |scope| {
-        for number in 0..workers {
-            let share = Share {
-                units,
-                workers,
-                worker: number,
-            };
-            let worker = Worker::new(share, budget);
-            if scope
-                .spawn(move || serve(rt, shared, bells, gate, worker))
-                .is_err()
-            {
-                give_up(rt, shared, bells, share, budget);
+)
+    requires units { units ≡ J.units }
+    requires workers { workers ≡ J.workers }
+{
+    thread::scope(
+        thread::scope_env(),
+        rt,
+        |scope|
+            requires { (units ≡ J.units) × (workers ≡ J.workers) }
+        {
+            for number in 0..workers {
+                let share = Share {
+                    units,
+                    workers,
+                    worker: number,
+                };
+                let worker = Worker::new(share, budget);
+                if scope
+                    .spawn(move || serve(rt, shared, bells, gate, worker))
+                    .is_err()
+                {
+                    give_up(rt, shared, bells, share, budget);
+                }
             }
-        }
-    });
+        },
+    );
 }
 
 /// Notes that the thread of a worker could not be made, and rings for all others.
@@ -187,7 +197,9 @@ fn give_up<P: Predict, J: Naming, R: Wait>(
     bells: &[Bell],
     share: Share,
     budget: u32,
-) {
+)
+    requires { IsShareOf J.units J.workers share }
+{
     let mut held = take(rt, shared);
     held.desk.stop();
     ring_and_let_go(held, bells, share, budget);

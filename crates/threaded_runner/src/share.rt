@@ -1,11 +1,16 @@
 //! Which units a worker serves, and the first of them that has something to do.
 
-ghost use Rattle.std.specs.Prelude.{◌≡◌, IfSome, IfNone};
-ghost use Rattle.unit_turns.specs.Turns.{IsTurn};
+ghost use Rattle.std.specs.Prelude.{◌≡◌, ◌%◌, ◌<◌, ◌↔◌, IfSome, IfNone, IsTrue};
+ghost use Rattle.machine_events.specs.declared.event.Event.TheVariants.{Exec};
+ghost use Rattle.sequencer.specs.Machines.{units_of};
+ghost use Rattle.sequencer.specs.Rings.{unit_for};
+ghost use Rattle.unit_turns.specs.Turns.{IsTurn, turn_of};
+ghost use Rattle.threaded_runner.specs.Shares.{AllWait, IsFirst, IsFirstBetween, IsShareOf, WaitBetween};
 
+use crate::machine_laws::law_head_waits;
+use sequencer::machine::Machine;
 use unit_turns::deciding::{turn, turn_at_head};
 use unit_turns::turn::Turn;
-use sequencer::machine::Machine;
 
 /// The units of one worker: those whose number, modulo the number of workers, is the worker's.
 #[derive(Clone, Copy, Debug, PartialEq, Eq)]
@@ -20,45 +25,64 @@ pub(crate) struct Share {
 
 impl Share {
     /// Whether the worker serves a unit.
-    fn has(self, unit: u32) -> bool {
-        self.workers > 0 && unit % self.workers == self.worker
+    fn has(self, unit: u32) -> bool
+        requires { 0 < self.workers }
+        ensures { IsTrue result ↔ (unit % self.workers ≡ self.worker) }
+    {
+        unit % self.workers == self.worker
     }
 
     /// Whether one worker serves all units.
-    pub(crate) fn is_all(self) -> bool {
+    pub(crate) fn is_all(self) -> bool
+        ensures { IsTrue result ↔ (self.workers ≡ 1) }
+    {
         self.workers == 1
     }
 
-    /// The first of the worker's units, from the head on, that does not wait, with its turn. A worker that
-    /// serves all units has the head's: the head waits only where all do.
+    /// The first of the worker's units, from the head on round the ring, that does not wait, with its turn;
+    /// `None` exactly where all of them wait. A worker that serves all units looks at the head alone, which
+    /// waits only where all do.
     #[inline]
     pub(crate) fn first_turn(self, machine: &Machine<'_>) -> Option<(u32, Turn)>
-        ensures { IfSome result (λ found. IsTurn machine.now found.0 found.1) }
+        requires { IsShareOf (units_of machine.now) self.workers self }
+        ensures first { IfSome result (λ found. IsFirst machine.now self found.0 × (found.1 ≡ turn_of machine.now found.0)) }
+        ensures own { IfSome result (λ found. IsTurn machine.now found.0 found.1) }
+        ensures none { IfNone result (AllWait machine.now self) }
     {
         if self.workers == self.units {
             return ready(self.worker, turn(machine, self.worker));
         }
         let head = machine.head_unit();
         if self.is_all() {
+            law_head_waits(machine);
             ready(head, turn_at_head(machine, head))
         } else {
             self.first_turn_from(machine, head)
         }
     }
 
-    /// The first of the worker's units, from this one on round the ring, that does not wait, with its turn.
+    /// The first of the worker's units, from the head on round the ring, that does not wait, with its turn.
     fn first_turn_from(self, machine: &Machine<'_>, head: u32) -> Option<(u32, Turn)>
-        ensures { IfSome result (λ found. IsTurn machine.now found.0 found.1) }
+        requires share { IsShareOf (units_of machine.now) self.workers self }
+        requires head { unit_for machine.now (Exec 0) ≡ head }
+        ensures first { IfSome result (λ found. IsFirst machine.now self found.0 × (found.1 ≡ turn_of machine.now found.0)) }
+        ensures own { IfSome result (λ found. IsTurn machine.now found.0 found.1) }
+        ensures none { IfNone result (AllWait machine.now self) }
     {
-        for unit in head..self.units {
-            if self.has(unit) {
-                match turn(machine, unit) {
-                    Turn::Wait => {}
-                    ready => return Some((unit, ready)),
-                }
-            }
+        match self.first_between(machine, head, self.units) {
+            Some(found) => Some(found),
+            None => self.first_between(machine, 0, head),
         }
-        for unit in 0..head {
+    }
+
+    /// The first of the worker's units, from one number to below another, that does not wait, with its turn.
+    fn first_between(self, machine: &Machine<'_>, from: u32, to: u32) -> Option<(u32, Turn)>
+        requires { 0 < self.workers }
+        ensures first { IfSome result (λ found. IsFirstBetween machine.now self from to found.0 × (found.1 ≡ turn_of machine.now found.0)) }
+        ensures own { IfSome result (λ found. IsTurn machine.now found.0 found.1) }
+        ensures none { IfNone result (WaitBetween machine.now self from to) }
+    {
+        for unit in from..to {
             if self.has(unit) {
                 match turn(machine, unit) {
                     Turn::Wait => {}
@@ -73,7 +97,7 @@ impl Share {
 /// A unit with its turn, unless it waits.
 #[inline]
 fn ready(unit: u32, turn: Turn) -> Option<(u32, Turn)>
-    ensures some { IfSome result (λ found. (found.0 ≡ unit) × (found.1 ≡ turn)) }
+    ensures some { IfSome result (λ found. (found.0 ≡ unit) × (found.1 ≡ turn) × (turn ≡ Turn.Wait → ⊥)) }
     ensures none { IfNone result (turn ≡ Turn.Wait) }
 {
     match turn {

@@ -1,6 +1,7 @@
 //! A worker's thread: events under the lock, bursts away from it.
 
 ghost use Rattle.std.specs.Prelude.{◌≡◌, IfSome, IsTrue};
+ghost use Rattle.threaded_runner.specs.Shares.{IsShareOf};
 
 use crate::desk::Desk;
 use crate::gate::RunGate;
@@ -21,7 +22,7 @@ pub(crate) fn serve<'a, P: Predict, J: Naming, G: RunGate, R: Wait>(
     shared: &Mutex<Desk<'a, P, J>>,
     bells: &[Bell],
     gate: &G,
-    mut worker: Worker,
+    mut worker: Worker<J>,
 ) {
     let share = worker.share();
     let budget = worker.budget();
@@ -65,9 +66,11 @@ pub(crate) fn ring_and_let_go<P: Predict, J: Naming>(
     bells: &[Bell],
     share: Share,
     budget: u32,
-) {
+)
+    requires { IsShareOf J.units J.workers share }
+{
     let called = held.desk.call(share, budget);
-    let_go(held, called, bells, share.worker, budget);
+    let_go(held, called, bells, share, budget);
 }
 
 /// Lends a unit into the slot, which keeps the room of the burst before; says whether it did.
@@ -99,7 +102,7 @@ fn burst_on<'l, 'a, P: Predict, J: Naming, G: RunGate, R: Wait>(
     rt: &R,
     shared: &'l Mutex<Desk<'a, P, J>>,
     gate: &G,
-    worker: &mut Worker,
+    worker: &mut Worker<J>,
     next: &NextBurst,
     slot: &mut Option<Burst<'a>>,
 ) -> Held<'l, 'a, P, J>
@@ -124,9 +127,11 @@ fn burst_in_place<'l, 'a, P: Predict, J: Naming, G: RunGate, R: Wait>(
     shared: &'l Mutex<Desk<'a, P, J>>,
     bells: &[Bell],
     gate: &G,
-    worker: &mut Worker,
+    worker: &mut Worker<J>,
     next: &NextBurst,
-) -> Held<'l, 'a, P, J> {
+) -> Held<'l, 'a, P, J>
+    requires { worker.old.share.workers ≡ 1 }
+{
     let share = worker.share();
     gate.before(share.worker);
     let mut held = take(rt, shared);
@@ -145,11 +150,13 @@ fn wait_for<'l, 'a, P: Predict, J: Naming, R: Wait>(
     shared: &'l Mutex<Desk<'a, P, J>>,
     share: Share,
     budget: u32,
-) -> Held<'l, 'a, P, J> {
+) -> Held<'l, 'a, P, J>
+    requires { IsShareOf J.units J.workers share }
+{
     let called = held.desk.call(share, budget);
     held.desk.fall_asleep(share.worker);
     let heard = bell.rings();
-    let_go(held, called, bells, share.worker, budget);
+    let_go(held, called, bells, share, budget);
     bell.listen(heard);
     let mut held = take(rt, shared);
     if held.desk.is_asleep(share.worker) {

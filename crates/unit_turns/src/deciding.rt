@@ -1,16 +1,20 @@
 //! What a worker does next: one function of the machine and the number of the unit.
 
-ghost use Rattle.std.specs.Prelude.{◌≡◌, ◌<◌, ◌⊎◌, ◌↔◌, IsTrue, length};
+ghost use Rattle.std.specs.Prelude.{◌≡◌, ℕ, ◌<◌, ◌↔◌, IfSome, IsTrue, Some, length, if◌then◌else◌};
 ghost use Rattle.machine_model.specs.Answer.{most_events};
-ghost use Rattle.machine_events.specs.declared.event.Event.TheVariants.{Exec};
+ghost use Rattle.machine_model.specs.HeadEvent.{head_event};
+ghost use Rattle.machine_events.specs.declared.event.Event.TheVariants.{Assign, Exec};
 ghost use Rattle.machine_events.specs.declared.event.Standing.TheVariants as standing;
-ghost use Rattle.sequencer.specs.Machines.{state};
+ghost use Rattle.sequencer.specs.Machines.{state, units_of};
 ghost use Rattle.sequencer.specs.Rings.{unit_for};
-ghost use Rattle.unit_turns.specs.Turns.{IsTurn, IsOwn, turn_of};
+ghost use Rattle.sequencer.specs.Histories.{executed_in};
+ghost use Rattle.unit_turns.specs.FirstAllowed.{first_allowed};
+ghost use Rattle.sequencer.specs.Choices.{choices_of};
+ghost use Rattle.unit_turns.specs.Turns.{IsTurn, IsOwn, MayBurst, own_events, pauses as pauses_by, turn_of_free as free_turn, turn_at_position, turn_of};
 
-use crate::laws::{law_head_unit, law_own_event};
+use crate::laws::{law_head_unit, law_own_event, law_ring};
 use crate::turn::Turn;
-use machine_events::event::{Event, Spot, Standing};
+use machine_events::event::{Event, Standing};
 use processor_steps::processor::MOST_EVENTS;
 use sequencer::machine::Machine;
 
@@ -18,17 +22,18 @@ use sequencer::machine::Machine;
 /// of the head: with more, the units ahead of the head pause.
 const MOST_AHEAD: u64 = 65_536;
 
-/// What the worker of a unit of the ring does next. An event that it names is allowed and belongs to the
-/// unit; so does each that may be chosen. It is never `Wait` for the unit to which the head event belongs,
-/// as long as the history has room. A unit ahead of the head executes nothing while more than 65,536 + 2 h
-/// instructions beside h were executed, h being those of the retired tasks and of the head: so no wrong path
-/// uses up the history. Takes no memory.
+/// What the worker of a unit of the ring does next. The head does the event that it is ready for. A unit
+/// ahead of it takes a register, squashes the units behind it, sends a register or executes, whichever is the
+/// first that the machine allows. The free unit behind the tail takes the task that may follow, or asks for a
+/// choice. An instruction that needs nothing but registers and read-only data is executed in a burst, ahead
+/// of the head only while not more than 65,536 + 2 h instructions beside h were executed, h being those of
+/// the retired tasks and of the head: so no wrong path uses up the history. All else waits. An event that is
+/// named is allowed and belongs to the unit; so does each that may be chosen. Takes no memory.
 pub fn turn(machine: &Machine<'_>, unit: u32) -> Turn
     ensures own { IsTurn machine.now unit result }
-    ensures goes_on { CanGoOn machine.now unit → length machine.now.history < most_events → result ≡ Turn.Wait → ⊥ }
-    ensures pauses { result ≡ Turn.Burst → (unit_for machine.now (Exec 0) ≡ unit) ⊎ (Pauses machine.now → ⊥) }
+    ensures value { result ≡ turn_of machine.now unit }
 {
-    law_head_unit(machine);
+    law_ring(machine);
     if machine.head_unit() == unit {
         return turn_at_head(machine, unit);
     }
@@ -37,17 +42,18 @@ pub fn turn(machine: &Machine<'_>, unit: u32) -> Turn
     }
     match machine.position(unit) {
         Some(position) => turn_ahead(machine, unit, position),
-        None => turn_of_free(machine, unit),
+        None => turn_behind(machine, unit),
     }
 }
 
 /// What `turn` answers for the unit at position 0: the one to which the head event belongs.
 #[inline]
-pub(crate) fn turn_at_head(machine: &Machine<'_>, unit: u32) -> Turn
+pub fn turn_at_head(machine: &Machine<'_>, unit: u32) -> Turn
     requires { unit_for machine.now (Exec 0) ≡ unit }
     ensures own { IsTurn machine.now unit result }
-    ensures goes_on { CanGoOn machine.now unit → length machine.now.history < most_events → result ≡ Turn.Wait → ⊥ }
+    ensures value { result ≡ turn_of machine.now unit }
 {
+    law_ring(machine);
     law_own_event(machine);
     law_head_unit(machine);
     if machine.length() >= MOST_EVENTS {
@@ -59,77 +65,117 @@ pub(crate) fn turn_at_head(machine: &Machine<'_>, unit: u32) -> Turn
     }
 }
 
-/// The turn of the unit to which the head event belongs, which is this one. No other event than an Exec can
-/// stand in a burst.
+/// The turn of the unit to which the head event belongs, which is this one.
 #[inline]
 fn turn_of_head(machine: &Machine<'_>, unit: u32, event: Event) -> Turn
+    requires event { head_event machine.now.accepted.program (state machine.now) ≡ Some event }
     requires own { IsOwn machine.now unit event }
     requires head { unit_for machine.now (Exec 0) ≡ unit }
     requires running { (state machine.now).outcome ≡ standing.Running }
     requires room { length machine.now.history < most_events }
     ensures own { IsTurn machine.now unit result }
-    ensures goes_on { result ≡ Turn.Wait → ⊥ }
+    ensures value { result ≡ turn_at_position machine.now 0 }
 {
     law_own_event(machine);
-    if matches!(&event, Event::Exec(_)) && machine.can_run_ahead(0) {
-        Turn::Burst
-    } else {
-        Turn::Apply(event)
+    match event {
+        Event::Exec(_) => {
+            if machine.can_run_ahead(0) {
+                Turn::Burst
+            } else {
+                Turn::Apply(event)
+            }
+        }
+        _ => Turn::Apply(event),
     }
 }
 
-/// The turn of a unit at work behind the head.
+/// The turn of a unit at work ahead of the head.
 fn turn_ahead(machine: &Machine<'_>, unit: u32, position: u32) -> Turn
     requires at { unit_for machine.now (Exec position) ≡ unit }
+    requires ahead { 0 < position }
+    requires within { position < length (state machine.now).queue }
     requires running { (state machine.now).outcome ≡ standing.Running }
     requires room { length machine.now.history < most_events }
     ensures own { IsTurn machine.now unit result }
-    ensures pauses { result ≡ Turn.Burst → Pauses machine.now → ⊥ }
+    ensures value { result ≡ turn_at_position machine.now position }
 {
-    law_own_event(machine);
-    if let Some(register) = machine.register_to_take(position) {
-        return Turn::Apply(Event::Transfer(position, register));
-    }
-    if let Some(Spot::Stopped(_)) = machine.spot(position) {
-        return turn_at_exit(machine, unit, position);
-    }
-    if machine.can_run_ahead(position) && !pauses(machine) {
-        Turn::Burst
-    } else {
-        Turn::Wait
-    }
-}
-
-/// The turn of a unit behind the head that has stopped.
-fn turn_at_exit(machine: &Machine<'_>, unit: u32, position: u32) -> Turn
-    requires at { unit_for machine.now (Exec position) ≡ unit }
-    requires running { (state machine.now).outcome ≡ standing.Running }
-    requires room { length machine.now.history < most_events }
-    ensures own { IsTurn machine.now unit result }
-    ensures no_burst { result ≡ Turn.Burst → ⊥ }
-{
-    law_own_event(machine);
-    if machine.enabled(Event::Squash(position)) {
-        return Turn::Apply(Event::Squash(position));
-    }
-    match machine.register_to_send(position) {
-        Some(register) => Turn::Apply(Event::Drain(position, register)),
+    match event_ahead(machine, unit, position) {
+        Some(Event::Exec(_)) => burst_unless_pausing(machine, unit),
+        Some(event) => Turn::Apply(event),
         None => Turn::Wait,
     }
 }
 
-/// The turn of a unit that is free, where the queue is not empty.
-fn turn_of_free(machine: &Machine<'_>, unit: u32) -> Turn
+/// The turn of a unit ahead of the head that executes next.
+fn burst_unless_pausing(machine: &Machine<'_>, unit: u32) -> Turn
+    requires { MayBurst machine.now unit }
+    ensures own { IsTurn machine.now unit result }
+    ensures value { result ≡ (if pauses_by (state machine.now) (executed_in machine.now.history) then Turn.Wait else Turn.Burst) }
+{
+    if pauses(machine) {
+        Turn::Wait
+    } else {
+        Turn::Burst
+    }
+}
+
+/// The first event that the machine allows to the unit at work at a position ahead of the head.
+fn event_ahead(machine: &Machine<'_>, unit: u32, position: u32) -> Option<Event>
+    requires at { unit_for machine.now (Exec position) ≡ unit }
+    requires ahead { 0 < position }
+    requires running { (state machine.now).outcome ≡ standing.Running }
+    requires room { length machine.now.history < most_events }
+    ensures own { IfSome result (λ e. IsOwn machine.now unit e) }
+    ensures burst { (k : ℕ) → result ≡ Some (Exec k) → MayBurst machine.now unit }
+    ensures value { result ≡ first_allowed machine.now.accepted.program (units_of machine.now) (state machine.now) (own_events position) }
+{
+    law_own_event(machine);
+    // A register is below 34, which is known where its number is read.
+    if let Some(register) = machine.register_to_take(position) {
+        let _ = register.get();
+        return Some(Event::Transfer(position, register));
+    }
+    if machine.enabled(Event::Squash(position)) {
+        return Some(Event::Squash(position));
+    }
+    if let Some(register) = machine.register_to_send(position) {
+        let _ = register.get();
+        return Some(Event::Drain(position, register));
+    }
+    if machine.can_run_ahead(position) {
+        return Some(Event::Exec(position));
+    }
+    None
+}
+
+/// The turn of a unit that is not at work, where the queue is not empty.
+fn turn_behind(machine: &Machine<'_>, unit: u32) -> Turn
+    requires not_head { unit_for machine.now (Exec 0) ≡ unit → ⊥ }
+    requires free { (k : ℕ) → k < length (state machine.now).queue → unit_for machine.now (Exec k) ≡ unit → ⊥ }
     requires running { (state machine.now).outcome ≡ standing.Running }
     requires room { length machine.now.history < most_events }
     ensures own { IsTurn machine.now unit result }
-    ensures no_burst { result ≡ Turn.Burst → ⊥ }
+    ensures value { result ≡ turn_of machine.now unit }
+{
+    let Some(next) = machine.next_unit() else {
+        return Turn::Wait;
+    };
+    if next != unit {
+        return Turn::Wait;
+    }
+    turn_of_free(machine, unit)
+}
+
+/// The turn of the free unit that takes the next task.
+fn turn_of_free(machine: &Machine<'_>, unit: u32) -> Turn
+    requires free { length (state machine.now).queue < units_of machine.now }
+    requires next { (task : ℕ) → unit_for machine.now (Assign task) ≡ unit }
+    requires running { (state machine.now).outcome ≡ standing.Running }
+    requires room { length machine.now.history < most_events }
+    ensures own { IsTurn machine.now unit result }
+    ensures value { result ≡ free_turn machine.now.accepted.program (state machine.now) (choices_of machine.now.accepted.program (state machine.now)) }
 {
     law_own_event(machine);
-    match machine.next_unit() {
-        Some(next) if next == unit => {}
-        _ => return Turn::Wait,
-    }
     if !machine.choices().is_empty() {
         return Turn::Choose;
     }
@@ -141,7 +187,7 @@ fn turn_of_free(machine: &Machine<'_>, unit: u32) -> Turn
 
 /// Whether units ahead of the head execute nothing, so that no wrong path uses up the history.
 fn pauses(machine: &Machine<'_>) -> bool
-    ensures { IsTrue result ↔ Pauses machine.now }
+    ensures { result ≡ pauses_by (state machine.now) (executed_in machine.now.history) }
 {
     let (_, h) = machine.counts();
     let beside = (machine.executed() as u64).saturating_sub(h);

@@ -1,6 +1,6 @@
 //! Laws of every machine: each call does nothing, and its contract is what follows for a turn.
 
-ghost use Rattle.std.specs.Prelude.{◌≡◌, ℕ, ◌<◌, length, Some, None};
+ghost use Rattle.std.specs.Prelude.{◌≡◌, ℕ, ◌<◌, ◌≤◌, ◌↔◌, length, Some, None};
 ghost use Rattle.machine_model.specs.Machine.{State};
 ghost use Rattle.machine_model.specs.Answer.{most_events, refusal};
 ghost use Rattle.machine_model.specs.HeadEvent.{head_event};
@@ -10,9 +10,46 @@ ghost use Rattle.machine_events.specs.declared.event.Event.TheVariants.{Exec};
 ghost use Rattle.machine_events.specs.declared.event.Standing.TheVariants as standing;
 ghost use Rattle.sequencer.specs.Machines.{state, units_of};
 ghost use Rattle.sequencer.specs.Rings.{unit_for};
-ghost use Rattle.unit_turns.specs.Turns.{IsOwn};
+ghost use Rattle.unit_turns.specs.Turns.{IsOwn, MayChoose, MayWait, NamesRegister, turn_of};
+ghost use Rattle.unit_turns.specs.declared.turn.Turn.TheVariants.{Choose, Wait};
 
+use machine_model::laws::events_count;
 use sequencer::machine::Machine;
+
+/// Somebody can go on: while the run goes on and the history has room, the unit at position 0 does not
+/// wait, whatever the other units do. It is the head, or on an empty queue the unit that takes the next task.
+pub fn law_goes_on(machine: &Machine<'_>)
+    ensures { (state machine.now).outcome ≡ standing.Running → length machine.now.history < most_events → turn_of machine.now (unit_for machine.now (Exec 0)) ≡ Wait → ⊥ }
+{
+    law_ring(machine);
+    let _ = machine.head_event();
+}
+
+/// What a unit waits for: while the run goes on and the history has room, nothing is allowed of a unit that
+/// waits but a Drop, or ahead of the head its Exec, where it pauses. A register's number is below 34.
+pub fn law_waits(machine: &Machine<'_>)
+    ensures { (unit : ℕ) (e : Event) → (state machine.now).outcome ≡ standing.Running → turn_of machine.now unit ≡ Wait → NamesRegister e → IsOwn machine.now unit e → MayWait machine.now e }
+{
+    law_ring(machine);
+    law_goes_on(machine);
+    let _ = machine.length();
+    let _ = machine.choice(0);
+}
+
+/// A unit is to choose exactly where there are choices, the history has room, and the unit is the one that
+/// takes the next task.
+pub fn law_chooses(machine: &Machine<'_>)
+    ensures { (unit : ℕ) → (turn_of machine.now unit ≡ Choose) ↔ MayChoose machine.now unit }
+{
+    let _ = machine.length();
+}
+
+/// The head event belongs to the unit at position 0.
+pub fn law_head_unit(machine: &Machine<'_>)
+    ensures { (e : Event) → head_event machine.now.accepted.program (state machine.now) ≡ Some e → unit_for machine.now e ≡ unit_for machine.now (Exec 0) }
+{
+    let _ = machine.length();
+}
 
 /// An event is a unit's own where the machine step allows it, or where nothing refuses it, and the history
 /// has room.
@@ -23,9 +60,10 @@ pub(crate) fn law_own_event(machine: &Machine<'_>)
     machine.law_answers();
 }
 
-/// The head event belongs to the unit at position 0.
-pub fn law_head_unit(machine: &Machine<'_>)
-    ensures { (e : Event) → head_event machine.now.accepted.program (state machine.now) ≡ Some e → unit_for machine.now e ≡ unit_for machine.now (Exec 0) }
+/// The queue is no longer than the ring.
+pub(crate) fn law_ring(machine: &Machine<'_>)
+    ensures { length (state machine.now).queue ≤ units_of machine.now }
 {
-    let _ = machine.length();
+    events_count();
+    let _ = machine.history();
 }

@@ -10,7 +10,7 @@ invariant_of-self-2 g c =
     let i = c.self.inside in
     let e = c.args.event in
     let belongs : unit_for i.machine e ≡ c.args.unit = ap (λ (d : DeskView). unit_for d.machine e) c.self.view_is ∙ c.requires in (
-      more i.machine c.apply.new.self i.counts.items c.add.new.counts.items (e ∷ []) c.args.unit 1 (vec_len i.counts) i.is_stopped c.self.invariant.0
+      more i.machine c.apply.new.self i.counts.items c.add.new.counts.items (e ∷ []) c.args.unit 1 (vec_len i.counts) i.is_stopped i.asleep c.self.invariant.0
           (one_own i.machine (length i.counts.items) c.args.unit e c.law_replay.ensures.retired c.law_replay.ensures.active belongs)
           refl c.in_ok-apply.ensures.ok.history c.in_ok-apply.ensures.kept.units i.counts.ok.0 c.add.ensures,
       record {

@@ -25,7 +25,7 @@ invariant_of-self-then-events-gt0 g c =
     let belongs : unit_for m (Exec k) ≡ unit = cc in
     let worker = unit % vec_len i.counts in
     let counted = c.add.ensures ∙ ap (λ (n : ℕ). slice_set i.counts.items worker (slice_index i.counts.items worker + n)) taken.0 in (
-      more m c.take_own_burst.new.self i.counts.items c.add.new.counts.items (replicate b.steps (Exec k)) unit b.steps (vec_len i.counts) i.is_stopped c.self.invariant.0
+      more m c.take_own_burst.new.self i.counts.items c.add.new.counts.items (replicate b.steps (Exec k)) unit b.steps (vec_len i.counts) i.is_stopped i.asleep c.self.invariant.0
           (execs_own m (length i.counts.items) unit k b.steps c.law_replay.ensures.retired c.law_replay.ensures.active belongs)
           (length-replicate b.steps (Exec k)) taken.1.history c.in_ok-events.ensures.kept.units i.counts.ok.0
           counted,
