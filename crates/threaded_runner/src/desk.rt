@@ -13,6 +13,7 @@ use std::alloc::{AllocError, Global};
 use std::marker::{Model, PhantomData};
 use unit_core::burst::Burst;
 use unit_turns::laws::law_head_unit;
+use worker_bells::called::Called;
 
 /// What the lock holds: the machine of the run, and what else its workers share.
 #[derive(Drop)]
@@ -47,7 +48,8 @@ impl<'a, P: Predict, J: Naming> Desk<'a, P, J> {
     ghost use Rattle.threaded_runner.specs.Counts.{IsCounted};
     ghost use Rattle.threaded_runner.specs.Desks.{IsDone, SameNotes, nobody, stopped};
     ghost use Rattle.threaded_runner.specs.Holds.{IsStoppedAt, RunsHead};
-    ghost use Rattle.threaded_runner.specs.Shares.{AllWait, IsShareOf};
+    ghost use Rattle.threaded_runner.specs.Shares.{IsShareOf};
+    ghost use Rattle.threaded_runner.specs.Calls.{AreCalled, AreRung};
     ghost use Rattle.unit_turns.specs.Turns.{MayChoose};
     ghost use Rattle.machine_events.specs.declared.event.Event.{Event};
     ghost use Rattle.machine_events.specs.declared.event.Event.TheVariants.{Exec};
