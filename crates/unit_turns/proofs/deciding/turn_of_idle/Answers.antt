@@ -6,7 +6,7 @@ use Rattle.sequencer.specs.Machines.{state, units_of}
 use Rattle.sequencer.specs.Rings.{unit_for}
 use Rattle.unit_turns.proofs.Assigning.{next_is, none_next}
 use Rattle.unit_turns.proofs.RingPlaces.{at_place, at_free, ahead_of_head, neither}
-use Rattle.unit_turns.proofs.deciding.turn_behind.Goals as goal
+use Rattle.unit_turns.proofs.deciding.turn_of_idle.Goals as goal
 
 pub returns-in_default-clause-value : goal.returns-in_default-clause-value
 returns-in_default-clause-value c =
