@@ -1,6 +1,6 @@
 -- A step reads no log, so what was made on a unit without a log holds of that unit with any log.
 use Rattle.std.specs.Prelude.{◌≡◌, ℕ, ◌+◌, ◌++◌, ◌∷◌, [], List, is_some}
-use Rattle.std.proofs.Common.{refl, sym, ap, ◌∙◌, subst, arith, append_assoc, add-one}
+use Rattle.std.proofs.Common.{sym, ap, ◌∙◌, subst, arith, append_assoc, add-one}
 use Rattle.std.proofs.lemmas.List.{append-nil}
 use Rattle.mips_instructions.specs.Words.{address}
 use Rattle.mips_plain.specs.MemoryMap.{byte_of}
