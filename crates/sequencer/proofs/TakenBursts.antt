@@ -1,8 +1,8 @@
 -- A burst that is taken over is one Exec event for each step, by the law on bursts.
-use Rattle.std.proofs.Common.{◌≡◌, refl, ℕ, ◌+◌, ◌≤◌, List, ◌++◌, length, Some, None, sym, ap, ◌∙◌, subst, arith, length-append}
+use Rattle.std.proofs.Common.{◌≡◌, ℕ, ◌+◌, ◌≤◌, List, ◌++◌, length, Some, None, sym, ap, ◌∙◌, subst, arith, length-append}
 use Rattle.std.proofs.lemmas.List.{length-replicate}
 use Rattle.std.specs.Prelude.{◌<◌, slice_get, slice_set, replicate}
-use Rattle.task_descriptor.specs.Listing.{Listing}
+use Rattle.mark_checker.specs.Places.{Checked}
 use Rattle.machine_model.specs.Machine.{State, Active}
 use Rattle.machine_model.specs.Replay.{ReplaysFrom}
 use Rattle.machine_model.specs.Answer.{with_queue, most_events}
@@ -12,7 +12,7 @@ use Rattle.machine_events.specs.declared.event.Event.{Event}
 use Rattle.machine_events.specs.declared.event.Event.TheVariants.{Exec}
 use Rattle.machine_events.specs.declared.event.Standing.TheVariants.{Running}
 use Rattle.unit_core.specs.Units.{active_of}
-use Rattle.unit_core.specs.Bursts.{BurstView, IsMade, IsOf, HasMore, carried_on}
+use Rattle.unit_core.specs.Bursts.{BurstView, IsMade, Makes, HasMore, carried_on}
 use Rattle.processor_steps.specs.Processors.{ProcessorView, Keeps, state_of, position_with}
 use Rattle.processor_steps.proofs.Positions.{first_with}
 use Rattle.sequencer.specs.Machines.{MachineView, IsMachine, state, units_of}
@@ -22,11 +22,11 @@ use Rattle.sequencer.specs.Bursts.{IsFresh, Takes}
 -- what the search for the unit of a burst finds
 abbrev pub Found : MachineView → BurstView → (k : ℕ) → Type 0
 Found m b k =
-    (0 < b.steps) × IsOf b m.accepted.program × (position_with (state m).queue b.before.serial ≡ Some k)
+    (0 < b.steps) × (b.accepted ≡ m.accepted) × (position_with (state m).queue b.before.serial ≡ Some k)
     × ((u : Active) × (slice_get (state m).queue k ≡ Some u) × HasMore (active_of b.before) u)
 
 abbrev pub fresh_at : (m : MachineView) (b : BurstView) (k : ℕ) → Found m b k → IsFresh m b
-fresh_at m b k f = record { has_step = f.0; is_of = f.1; position = k; unit = f.3.0; is_unit = f.3.1; has_more = f.3.2 }
+fresh_at m b k f = record { has_step = f.0; is_own = f.1; position = k; unit = f.3.0; is_unit = f.3.1; has_more = f.3.2 }
 
 -- the unit with the burst's serial number is the one that it is taken over by
 pub owner : (m : MachineView) (b : BurstView) (f : IsFresh m b) → AreDistinct (state m).queue → position_with (state m).queue b.before.serial ≡ Some f.position
@@ -55,9 +55,10 @@ pub executes : BurstsAreEvents → (m : MachineView) (b : BurstView) (f : IsFres
 executes law m b f s' runs made is =
     let p = m.accepted.program in
     let log = f.unit.log in
+    let own : Makes p b.before b.steps b.after = subst (λ (a : Checked). Makes a.program b.before b.steps b.after) f.is_own made.made in
     subst (λ (s : State). ReplaysFrom p (units_of m) (state m) (replicate b.steps (Exec f.position)) s) (sym is)
     (law p (units_of m) b.steps f.position (state m) (with_log (active_of b.before) log) (with_log (active_of b.after) (log ++ b.after.log)) f.unit.arrived
-    (made.made p f.is_of.stretch log) f.has_more.more runs (f.is_unit ∙ ap Some f.has_more.is))
+    (own log) f.has_more.more runs (f.is_unit ∙ ap Some f.has_more.is))
 
 -- and exactly these events are behind its history
 pub takes : BurstsAreEvents → (m : MachineView) (b : BurstView) (f : IsFresh m b) (p' : ProcessorView) (h' : List Event) → (state m).outcome ≡ Running → IsMade b → AreDistinct (state m).queue
@@ -84,7 +85,3 @@ is_machine m b p' h' taken kept law =
     let long : length h' ≡ length m.history + length es = ap (λ (h : List Event). length h) taken.history ∙ length-append m.history es in
     let fits : length h' ≤ most_events = taken.fits in
     subst (λ (h : List Event). IsMachine (record m { processor = p'; history = h })) (sym taken.history) (law es p' taken.events kept (omega arith))
-
--- a burst that was made with a program is one of it
-pub own_is_of : (b : BurstView) (q : Listing) → b.accepted.program ≡ q → IsOf b q
-own_is_of b q same = subst (λ (p : Listing). IsOf b p) same (record { stretch = record { code = λ i from to. refl; fixed = λ loads. refl }; descriptor = refl })

@@ -9,7 +9,7 @@ use Rattle.machine_events.specs.declared.event.Refused.TheVariants as refused
 use Rattle.machine_events.specs.declared.event.Spot.TheVariants.{Inside}
 use Rattle.machine_events.specs.declared.event.Standing.TheVariants.{Running}
 use Rattle.unit_core.specs.Units.{active_of}
-use Rattle.unit_core.specs.Bursts.{BurstView, IsOf, HasMore}
+use Rattle.unit_core.specs.Bursts.{BurstView, HasMore}
 use Rattle.processor_steps.specs.Processors.{position_with}
 use Rattle.sequencer.specs.Machines.{MachineView, state, units_of}
 
@@ -22,11 +22,11 @@ pub record IsAtWork (m : MachineView) (number : ℕ) (u : Active) : Type 0 where
   pub index : ℕ
   pub is_inside : u.place ≡ Inside index
 
--- a burst with a step, whose part of the program is this machine's, and an active unit that is the one
--- that it was made on, logs aside, with at most more registers arrived
+-- a burst with a step, made with this machine's program and certificate, and an active unit that is the
+-- one that it was made on, logs aside, with at most more registers arrived
 pub record IsFresh (m : MachineView) (b : BurstView) : Type 0 where
   pub has_step : 0 < b.steps
-  pub is_of : IsOf b m.accepted.program
+  pub is_own : b.accepted ≡ m.accepted
   pub position : ℕ
   pub unit : Active
   pub is_unit : slice_get (state m).queue position ≡ Some unit

@@ -1,4 +1,4 @@
-pub mod ListedTargets
+pub mod Scripts
 pub mod Machines
 pub mod Histories
 pub mod Rings

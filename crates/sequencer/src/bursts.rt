@@ -1,7 +1,7 @@
 //! Units lent by a machine, and the bursts that are made on them handed in: work outside the lock of a
 //! machine that is shared.
 
-use crate::machine::Machine;
+use crate::machine::{Machine, is_same};
 use machine_events::event::{Event, Refused, Spot};
 use machine_model::laws::bursts_are_events;
 use mips_plain::outcome::OutOfMemory;
@@ -17,7 +17,7 @@ impl<'a> Machine<'a> {
     ghost use Rattle.machine_events.specs.declared.event.Event.TheVariants.{Exec};
     ghost use Rattle.machine_events.specs.declared.event.Standing.TheVariants as standing;
     ghost use Rattle.unit_core.specs.Units.{active_of};
-    ghost use Rattle.unit_core.specs.Bursts.{HasMore, IsOf};
+    ghost use Rattle.unit_core.specs.Bursts.{HasMore};
     ghost use Rattle.processor_steps.specs.Processors.{position_with};
     ghost use Rattle.sequencer.specs.Machines.{state, units_of, SameRing};
     ghost use Rattle.sequencer.specs.Rings.{unit_for};
@@ -85,11 +85,10 @@ impl<'a> Machine<'a> {
 
     /// Hands in a burst, and answers how many events that were. Where an active unit is the one that
     /// the burst was made on, logs aside, with at most more registers arrived, that unit takes it over:
-    /// one Exec for each step. Answers 0, and changes nothing, exactly where the burst has no step, no
-    /// active unit is the one that it was made on, as when that was squashed, or its part of the program
-    /// is not this machine's: the code from the least to the greatest index that it executed, the
-    /// descriptor of its task and, where it loaded, the read-only data. It costs what the burst is long,
-    /// and what that part is, whatever the size of the program, the certificate, the log and the history.
+    /// one Exec for each step. Answers 0, and changes nothing, exactly where the burst has no step, was
+    /// made with another program or certificate than the machine's, which are compared by value, or no
+    /// active unit is the one that it was made on, as when that was squashed. Beside that comparison it
+    /// costs what the burst is long, whatever the size of the log and the history.
     ///
     /// # Errors
     ///
@@ -103,59 +102,31 @@ impl<'a> Machine<'a> {
         ensures refused { IfErr result (λ back. (back.0 ≡ burst.entry) × (self.new ≡ self.old) × IsRefusedBurst self.old burst.entry back.1) }
         ensures kept { SameRing self.old self.new }
     {
-        let is_own = burst.is_of(self.accepted.program());
-        match self.take_over(&mut burst, is_own) {
-            Ok(events) => Ok(events),
-            Err(why) => Err((burst, why)),
+        if !self.is_running() {
+            return Err((burst, Refused::Ended));
         }
-    }
-
-    /// Hands in a burst as `apply_burst` does, and compares nothing of the program: the caller sees to it
-    /// that the burst was made with this machine's. It costs what the burst is long, whatever it executed
-    /// or loaded.
-    ///
-    /// # Errors
-    ///
-    /// Those of `apply_burst`.
-    pub fn apply_own_burst<'b>(&mut self, mut burst: Burst<'b>) -> Result<u32, (Burst<'b>, Refused)>
-        requires { burst.accepted.program ≡ self.old.accepted.program }
-        ensures running { IsOk result → (state self.old).outcome ≡ standing.Running }
-        ensures taken { IfOk result (λ events. 0 < events → (events ≡ burst.entry.steps) × Takes self.old burst.entry self.new) }
-        ensures stale { IfOk result (λ events. events ≡ 0 → (IsFresh self.old burst.entry → ⊥) × (self.new ≡ self.old)) }
-        ensures refused { IfErr result (λ back. (back.0 ≡ burst.entry) × (self.new ≡ self.old) × IsRefusedBurst self.old burst.entry back.1) }
-        ensures kept { SameRing self.old self.new }
-    {
+        if !is_same(burst.accepted(), self.accepted) {
+            return Ok(0);
+        }
         match self.take_own_burst(&mut burst) {
             Ok(events) => Ok(events),
             Err(why) => Err((burst, why)),
         }
     }
 
-    /// The same, where the burst lies with the caller: it stays there as it is, but one that is taken over may
-    /// be left without a step.
+    /// Hands in a burst that lies with the caller, as `apply_burst` does, and compares no program and no
+    /// certificate: the caller sees to it that the burst was made with this machine's. It costs what the
+    /// burst is long, whatever the size of the program, the certificate, the log and the history. The
+    /// burst stays as it is, but one that is taken over may be left without a step.
     ///
     /// # Errors
     ///
-    /// Those of `apply_burst`.
-    #[tactic(auto, using(crate::proofs::TakenBursts::own_is_of))]
+    /// Those of `apply_burst`; nothing is changed then.
     pub fn take_own_burst(&mut self, burst: &mut Burst<'_>) -> Result<u32, Refused>
-        requires { burst.old.accepted.program ≡ self.old.accepted.program }
+        requires { burst.old.accepted ≡ self.old.accepted }
         ensures running { IsOk result → (state self.old).outcome ≡ standing.Running }
         ensures taken { IfOk result (λ events. 0 < events → (events ≡ burst.old.steps) × Takes self.old burst.old self.new) }
-        ensures stale { IfOk result (λ events. events ≡ 0 → (IsFresh self.old burst.old → ⊥) × (self.new ≡ self.old)) }
-        ensures refused { IfErr result (λ why. (burst.new ≡ burst.old) × (self.new ≡ self.old) × IsRefusedBurst self.old burst.old why) }
-        ensures kept { SameRing self.old self.new }
-    {
-        self.take_over(burst, true)
-    }
-
-    /// Hands in a burst of which it is known whether its part of the program is this machine's; where it is
-    /// taken over, it may be left without a step.
-    fn take_over(&mut self, burst: &mut Burst<'_>, is_own: bool) -> Result<u32, Refused>
-        requires { IsTrue is_own ↔ IsOf burst.old self.old.accepted.program }
-        ensures running { IsOk result → (state self.old).outcome ≡ standing.Running }
-        ensures taken { IfOk result (λ events. 0 < events → (events ≡ burst.old.steps) × Takes self.old burst.old self.new) }
-        ensures stale { IfOk result (λ events. events ≡ 0 → (IsFresh self.old burst.old → ⊥) × (self.new ≡ self.old)) }
+        ensures stale { IfOk result (λ events. events ≡ 0 → (IsFresh self.old burst.old → ⊥) × (self.new ≡ self.old) × (burst.new ≡ burst.old)) }
         ensures refused { IfErr result (λ why. (burst.new ≡ burst.old) × (self.new ≡ self.old) × IsRefusedBurst self.old burst.old why) }
         ensures kept { SameRing self.old self.new }
     {
@@ -163,9 +134,6 @@ impl<'a> Machine<'a> {
         self.law_replay();
         if !self.is_running() {
             return Err(Refused::Ended);
-        }
-        if !is_own {
-            return Ok(0);
         }
         let Some(position) = self.position_for(burst) else {
             return Ok(0);
@@ -183,8 +151,8 @@ impl<'a> Machine<'a> {
         }
     }
 
-    /// The position of the unit that takes over a burst of this machine's program; `None` where the burst
-    /// is stale.
+    /// The position of the unit that takes over a burst of this machine's program and certificate; `None`
+    /// where the burst has no step or is stale.
     fn position_for(&self, burst: &Burst<'_>) -> Option<u32>
         ensures some { IfSome result (λ k. (0 < burst.now.steps)
             × (position_with (state self.now).queue burst.now.before.serial ≡ Some k)

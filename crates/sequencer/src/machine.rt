@@ -562,7 +562,7 @@ impl<'a> Machine<'a> {
 ghost use Rattle.std.specs.Prelude.{◌≡◌, ◌↔◌, IsTrue};
 
 /// Whether program and certificate are the same.
-fn is_same(accepted: &Accepted, other: &Accepted) -> bool
+pub(crate) fn is_same(accepted: &Accepted, other: &Accepted) -> bool
     ensures { IsTrue result ↔ (accepted.now ≡ other.now) }
 {
     if !accepted.program().is_same(other.program()) {

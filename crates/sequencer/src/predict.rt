@@ -48,37 +48,37 @@ impl Predict for Last {
 
 /// Chooses the targets at the positions in a list, over and over; the first where the list is empty.
 #[derive(Debug, Drop)]
-pub struct Listed {
+pub struct Script {
     numbers: Vec<u32>,
     at: usize,
 }
 
-impl Model for Listed {
+impl Model for Script {
     ghost use Rattle.std.specs.Prelude.{◌<◌, ◌⊎◌, ◌≡◌, vec_len};
-    ghost use Rattle.sequencer.specs.ListedTargets.{ListedView};
+    ghost use Rattle.sequencer.specs.Scripts.{ScriptView};
 
-    ghost Value = { ListedView };
+    ghost Value = { ScriptView };
 
-    ghost view = { λ l. record { list = l.numbers.items; at = l.at } };
+    ghost view = { λ s. record { list = s.numbers.items; at = s.at } };
 
-    ghost invariant = { λ l. (l.at < vec_len l.numbers) ⊎ (l.at ≡ 0) };
+    ghost invariant = { λ s. (s.at < vec_len s.numbers) ⊎ (s.at ≡ 0) };
 }
 
-impl Listed {
+impl Script {
     ghost use Rattle.std.specs.Prelude.{◌≡◌};
 
     /// A predictor that begins with the first number of the list.
-    pub fn new(numbers: Vec<u32>) -> Listed
+    pub fn new(numbers: Vec<u32>) -> Script
         ensures list { result.list ≡ numbers.items }
         ensures at { result.at ≡ 0 }
     {
-        Listed { numbers, at: 0 }
+        Script { numbers, at: 0 }
     }
 }
 
-impl Predict for Listed {
+impl Predict for Script {
     ghost use Rattle.std.specs.Prelude.{◌≡◌, slice_index};
-    ghost use Rattle.sequencer.specs.ListedTargets.{ListedView, answered};
+    ghost use Rattle.sequencer.specs.Scripts.{ScriptView, answered};
 
     fn choose(&mut self, _targets: &[Place]) -> u32
         ensures number { result ≡ slice_index self.old.list self.old.at }

@@ -35,13 +35,13 @@ last_target = refl
 
 -- a list of answers is gone through, one answer for each task that is predicted
 abbrev pub listed : Course
-listed = after_steps count 2 100 2 (beginning count (predictor.Listed (record { list = 1 ∷ 0 ∷ []; at = 0 })))
+listed = after_steps count 2 100 2 (beginning count (predictor.Script (record { list = 1 ∷ 0 ∷ []; at = 0 })))
 
 pub listed_target : listed.events ≡ Assign 0 ∷ Assign 1 ∷ Exec 0 ∷ []
 unfolding address index_of region effective least registers first_allowed
 listed_target = refl
 
-pub next_answer : listed.predictor ≡ predictor.Listed (record { list = 1 ∷ 0 ∷ []; at = 1 })
+pub next_answer : listed.predictor ≡ predictor.Script (record { list = 1 ∷ 0 ∷ []; at = 1 })
 unfolding address index_of region effective least registers first_allowed
 next_answer = refl
 
@@ -64,11 +64,11 @@ first_answer = refl
 pub last_answer : answer_for predictor.Last (3 ∷ 5 ∷ 9 ∷ []) ≡ 2
 last_answer = refl
 
-pub list_answer : answer_for (predictor.Listed (record { list = 7 ∷ 1 ∷ []; at = 1 })) (3 ∷ 5 ∷ 9 ∷ []) ≡ 1
+pub list_answer : answer_for (predictor.Script (record { list = 7 ∷ 1 ∷ []; at = 1 })) (3 ∷ 5 ∷ 9 ∷ []) ≡ 1
 list_answer = refl
 
 -- after its last number a list begins again
-pub list_again : asked (predictor.Listed (record { list = 7 ∷ 1 ∷ []; at = 1 })) ≡ predictor.Listed (record { list = 7 ∷ 1 ∷ []; at = 0 })
+pub list_again : asked (predictor.Script (record { list = 7 ∷ 1 ∷ []; at = 1 })) ≡ predictor.Script (record { list = 7 ∷ 1 ∷ []; at = 0 })
 list_again = refl
 
 -- the free unit and then the head, in a queue of one

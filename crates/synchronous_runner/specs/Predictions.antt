@@ -1,7 +1,7 @@
 -- What a predictor answers (own): a number, and the next task begins at the target at this position,
 -- modulo the number of targets.
 use Rattle.std.specs.Prelude.{ℕ, ◌-◌, ◌^◌, List, length, min, slice_index}
-use Rattle.sequencer.specs.ListedTargets.{answered}
+use Rattle.sequencer.specs.Scripts.{answered}
 use Rattle.synchronous_runner.specs.declared.predictor.Predictor.{Predictor}
 use Rattle.synchronous_runner.specs.declared.predictor.Predictor.TheVariants as predictor
 
@@ -9,9 +9,9 @@ use Rattle.synchronous_runner.specs.declared.predictor.Predictor.TheVariants as 
 abbrev pub answer_for : Predictor → (targets : List ℕ) → ℕ
 answer_for predictor.First targets = 0
 answer_for predictor.Last targets = min (length targets - 1) (2 ^ 32 - 1)
-answer_for (predictor.Listed listed) targets = slice_index listed.list listed.at
+answer_for (predictor.Script script) targets = slice_index script.list script.at
 
 -- the predictor once it has answered
 abbrev pub asked : Predictor → Predictor
-asked (predictor.Listed listed) = predictor.Listed (answered listed)
+asked (predictor.Script script) = predictor.Script (answered script)
 asked other = other

@@ -16,7 +16,7 @@ impl Predict for Predictor {
         match self {
             Predictor::First => First.choose(targets),
             Predictor::Last => Last.choose(targets),
-            Predictor::Listed(listed) => listed.choose(targets),
+            Predictor::Script(script) => script.choose(targets),
         }
     }
 }

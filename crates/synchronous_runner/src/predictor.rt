@@ -1,6 +1,6 @@
 //! The predictors of a run in steps.
 
-use sequencer::predict::Listed;
+use sequencer::predict::Script;
 
 /// Which target is followed behind a task that has not stopped.
 #[derive(Debug, Drop)]
@@ -11,5 +11,5 @@ pub enum Predictor {
     Last,
     /// The one at the position that a list says, modulo the number of targets; the list is gone through
     /// over and over.
-    Listed(Listed),
+    Script(Script),
 }

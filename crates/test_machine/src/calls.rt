@@ -4,7 +4,7 @@ use crate::given::{accepted, machine};
 use mark_checker::accept::Accepted;
 use mips_instructions::number::Place;
 use sequencer::machine::{Machine, MachineFault};
-use sequencer::predict::{First, Last, Listed, Predict};
+use sequencer::predict::{First, Last, Predict, Script};
 use std::alloc::Global;
 use std::process::Abort;
 use test_programs::certificates::COUNT_CERTIFICATE;
@@ -83,6 +83,6 @@ fn predictors_choose(rt: HostRuntime) {
     expect_chosen(&rt, Last, &[2, 2]);
     let numbers = [1, 0].to_vec(rt.alloc()).ok();
     let numbers = numbers.expect(&rt, "room for numbers");
-    expect_chosen(&rt, Listed::new(numbers), &[1, 0, 1, 0]);
-    expect_chosen(&rt, Listed::new(Vec::new(rt.alloc())), &[0, 0]);
+    expect_chosen(&rt, Script::new(numbers), &[1, 0, 1, 0]);
+    expect_chosen(&rt, Script::new(Vec::new(rt.alloc())), &[0, 0]);
 }

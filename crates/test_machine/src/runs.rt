@@ -164,6 +164,7 @@ const ON_ONE_UNIT: Row<'static> = Row {
     program: COUNT,
     other: COUNT,
     certificate: COUNT_CERTIFICATE,
+    other_certificate: COUNT_CERTIFICATE,
     units: 1,
     acts: &FINISHES,
 };
@@ -197,6 +198,7 @@ const ROWS: [Row<'static>; 7] = [
         program: DIAMOND,
         other: DIAMOND,
         certificate: DIAMOND_CERTIFICATE,
+        other_certificate: DIAMOND_CERTIFICATE,
         units: 1,
         acts: &CHOOSES,
     },

@@ -4,7 +4,7 @@ use crate::facts::expect_run;
 use crate::given::accepted;
 use machine_events::event::{Event, Standing};
 use mark_checker::accept::Accepted;
-use sequencer::predict::Listed;
+use sequencer::predict::Script;
 use std::alloc::Global;
 use std::process::Abort;
 use synchronous_runner::predictor::Predictor;
@@ -20,7 +20,7 @@ use test_programs::programs::{COUNT, DIAMOND, PAIR, SPIN};
 enum Follows<'a> {
     First,
     Last,
-    Listed(&'a [u32]),
+    Script(&'a [u32]),
 }
 
 impl Follows<'_> {
@@ -28,9 +28,9 @@ impl Follows<'_> {
         match self {
             Follows::First => Predictor::First,
             Follows::Last => Predictor::Last,
-            Follows::Listed(numbers) => {
+            Follows::Script(numbers) => {
                 let numbers = numbers.to_vec(alloc).ok();
-                Predictor::Listed(Listed::new(numbers.expect(rt, "room for numbers")))
+                Predictor::Script(Script::new(numbers.expect(rt, "room for numbers")))
             }
         }
     }
@@ -161,7 +161,7 @@ const DIAMOND_ROWS: [Row<'static>; 6] = [
     },
     Row {
         units: 4,
-        follows: Follows::Listed(&[1, 0]),
+        follows: Follows::Script(&[1, 0]),
         steps: 7,
         events: 13,
         ..DIAMONDS

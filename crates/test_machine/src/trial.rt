@@ -30,13 +30,13 @@ pub(crate) enum Act<'a> {
     See(Fact<'a>),
 }
 
-/// What is done to a machine, and over which program; the other machine is over one with the same
-/// certificate.
+/// What is done to a machine, over which program and certificate, and over which the other machine is.
 #[derive(Clone, Copy)]
 pub(crate) struct Row<'a> {
     pub(crate) program: &'a str,
     pub(crate) other: &'a str,
     pub(crate) certificate: &'a str,
+    pub(crate) other_certificate: &'a str,
     pub(crate) units: u32,
     pub(crate) acts: &'a [Act<'a>],
 }
@@ -52,7 +52,7 @@ impl Row<'_> {
     /// Does it all.
     fn runs(&self, rt: &impl Abort, alloc: Global) {
         let own = accepted(rt, alloc, self.program, self.certificate);
-        let other = accepted(rt, alloc, self.other, self.certificate);
+        let other = accepted(rt, alloc, self.other, self.other_certificate);
         let mut trial = Trial {
             machine: machine(rt, alloc, &own, self.units),
             other: machine(rt, alloc, &other, self.units),

@@ -79,6 +79,7 @@ const ON_COUNT: Row<'static> = Row {
     program: COUNT,
     other: COUNT,
     certificate: COUNT_CERTIFICATE,
+    other_certificate: COUNT_CERTIFICATE,
     units: 2,
     acts: &WAITS,
 };
@@ -93,6 +94,7 @@ const ROWS: [Row<'static>; 3] = [
         program: READ_ONLY,
         other: READ_ONLY,
         certificate: READ_ONLY_CERTIFICATE,
+        other_certificate: READ_ONLY_CERTIFICATE,
         units: 2,
         acts: &READS_AHEAD,
     },

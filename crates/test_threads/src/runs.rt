@@ -4,7 +4,7 @@ use crate::given::Bench;
 use machine_events::event::Standing;
 use mark_checker::accept::Accepted;
 use mips_instructions::number::Place;
-use sequencer::predict::{First, Last, Listed, Predict};
+use sequencer::predict::{First, Last, Predict, Script};
 use std::alloc::Global;
 use std::process::Abort;
 use test_programs::acceptance::accepted;
@@ -77,8 +77,8 @@ impl Row<'_> {
         self.runs(rt, alloc, accepted, units, First);
         self.runs(rt, alloc, accepted, units, Last);
         let numbers = [1, 0].to_vec(alloc).ok();
-        let listed = Listed::new(numbers.expect(rt, "room for numbers"));
-        self.runs(rt, alloc, accepted, units, listed);
+        let script = Script::new(numbers.expect(rt, "room for numbers"));
+        self.runs(rt, alloc, accepted, units, script);
     }
 
     fn runs<P: Predict>(

@@ -4,17 +4,15 @@
 ghost use Rattle.std.specs.Prelude.{◌≡◌, ℕ, ◌<◌, ◌≤◌, [], IfOk, IfErr, OnOk, OnErr, IsTrue, ◌↔◌, is_some};
 ghost use Rattle.mips_instructions.specs.Words.{has};
 ghost use Rattle.unit_core.specs.Units.{active_of, unlogged, IsPlaced};
-ghost use Rattle.unit_core.specs.Bursts.{HasMore, IsMade, IsOf, Makes, SendsLast, carried_on, stretch_of};
+ghost use Rattle.unit_core.specs.Bursts.{HasMore, IsMade, Makes, SendsLast, carried_on};
 
 use crate::state::UnitState;
-use crate::stretch::{Stretch, has_same_task};
 use crate::unit::Unit;
 use mark_checker::accept::Accepted;
 use mips_instructions::number::RegSet;
 use mips_plain::outcome::OutOfMemory;
 use std::alloc::Global;
 use std::marker::Model;
-use task_descriptor::program::Program;
 
 /// The most instructions of a burst.
 pub const MOST_STEPS: u32 = 65_536;
@@ -49,14 +47,14 @@ pub struct Burst<'a> {
 }
 
 impl<'a> Model for Burst<'a> {
-    ghost use Rattle.unit_core.specs.Bursts.{BurstView, IsMade, stretch_of};
+    ghost use Rattle.unit_core.specs.Bursts.{BurstView, IsMade};
     ghost use Rattle.unit_core.specs.Units.{unlogged};
 
     ghost Value = { BurstView };
 
-    ghost view = { λ b. record { accepted = b.accepted.now; before = unlogged b.before; steps = b.steps; after = b.after; stretch = stretch_of b.accepted.now.program b.after.log } };
+    ghost view = { λ b. record { accepted = b.accepted.now; before = unlogged b.before; steps = b.steps; after = b.after } };
 
-    ghost invariant = { λ b. IsMade (record { accepted = b.accepted.now; before = unlogged b.before; steps = b.steps; after = b.after; stretch = stretch_of b.accepted.now.program b.after.log }) };
+    ghost invariant = { λ b. IsMade (record { accepted = b.accepted.now; before = unlogged b.before; steps = b.steps; after = b.after }) };
 }
 
 /// For how many reads a burst takes memory before its first step, so that the log of a usual one grows once.
@@ -76,8 +74,8 @@ fn run_ahead(accepted: &Accepted, unit: &mut Unit, most: u32) -> u32
     requires placed { IsPlaced accepted.now (active_of unit.old) }
     requires no_log { unit.old.log ≡ [] }
     ensures few { result ≤ most }
-    ensures made { Makes accepted.now.program (stretch_of accepted.now.program unit.new.log) unit.old result unit.new }
-    ensures sends_last { SendsLast accepted.now.program (stretch_of accepted.now.program unit.new.log) unit.old result }
+    ensures made { Makes accepted.now.program unit.old result unit.new }
+    ensures sends_last { SendsLast accepted.now.program unit.old result }
     ensures placed { IsPlaced accepted.now (active_of unit.new) }
 {
     let sent = unit.sent_set();
@@ -105,7 +103,7 @@ impl<'a> Burst<'a> {
         ensures before { result.before ≡ lease.entry.unit }
         ensures few { result.steps ≤ most }
         ensures made { IsMade result }
-        ensures sends_last { SendsLast result.accepted.program result.stretch result.before result.steps }
+        ensures sends_last { SendsLast result.accepted.program result.before result.steps }
     {
         let mut burst = Burst::new(lease);
         burst.go(most);
@@ -151,7 +149,7 @@ impl<'a> Burst<'a> {
         ensures before { self.new.before ≡ self.old.before }
         ensures few { self.new.steps ≤ most }
         ensures made { IsMade self.new }
-        ensures sends_last { SendsLast self.new.accepted.program self.new.stretch self.new.before self.new.steps }
+        ensures sends_last { SendsLast self.new.accepted.program self.new.before self.new.steps }
     {
         // Where this growth is refused, each step asks for room of its own.
         let _ = self.after.reserve_reads(most.min(RESERVED_READS) as usize);
@@ -189,17 +187,6 @@ impl<'a> Burst<'a> {
         ensures { result.now ≡ self.now.after }
     {
         &self.after
-    }
-
-    /// Whether a program has the same stretch: the code from the least to the greatest index that the
-    /// burst executed, the descriptor of its task and, where it loaded, the read-only data. Nothing
-    /// else of a program matters to it.
-    pub fn is_of(&self, program: &Program) -> bool
-        ensures { IsTrue result ↔ IsOf self.now program.now }
-    {
-        let made_with = self.accepted.program();
-        let stretch = Stretch::of(made_with, self.after.reads());
-        stretch.is_same(made_with, program) && has_same_task(made_with, program, self.before.task())
     }
 }
 

@@ -8,7 +8,6 @@ pub mod laws;
 pub mod read_log;
 pub mod state;
 mod step;
-pub mod stretch;
 pub mod unit;
 pub mod wait;
 pub mod world;

@@ -5,7 +5,6 @@ ghost use Rattle.std.specs.Option.{option_or};
 ghost use Rattle.mips_instructions.specs.Words.{has, address};
 ghost use Rattle.mips_plain.specs.MemoryMap.{byte_of};
 ghost use Rattle.mips_instructions.specs.Instruction.{dests as dests_of, released, taken, turn};
-ghost use Rattle.mips_plain.specs.Access.{is_load as is_load_of};
 ghost use Rattle.mips_plain.specs.Effect.{may_run_ahead};
 ghost use Rattle.task_graph.specs.Edges.{edge, leaves, sends};
 ghost use Rattle.machine_model.specs.Unit.{place_after, with_own, sent_with};
@@ -98,14 +97,6 @@ pub(crate) fn waits_for_operands(op: &Op) -> bool
     ensures { result ≡ true → (r : ℕ) → released op.now r ≡ false }
 {
     !matches!(*op, Op::Release(_))
-}
-
-/// Whether an instruction is a load.
-#[inline]
-pub(crate) fn is_load(op: &Op) -> bool
-    ensures { result ≡ is_load_of op.now }
-{
-    matches!(*op, Op::Load(..))
 }
 
 /// The registers that an instruction with these destinations sends.

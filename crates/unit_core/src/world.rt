@@ -10,9 +10,12 @@ use std::marker::Model;
 /// Memory, the output, and how the run stands.
 #[derive(Debug, Drop)]
 pub struct World {
-    memory: Memory,
-    output: Vec<u32>,
-    outcome: Standing,
+    /// Data memory and read-only data.
+    pub memory: Memory,
+    /// The words that were put out, the first one first.
+    pub output: Vec<u32>,
+    /// How the run stands.
+    pub outcome: Standing,
 }
 
 impl Model for World {

@@ -1,5 +1,5 @@
 -- What may follow the tail may be assigned to a free unit, test by test.
-use Rattle.std.proofs.Common.{◌≡◌, ℕ, ◌<◌, length, Bool, true, false, Option, Some, None, refl, sym, ap, ◌∙◌, true≢false}
+use Rattle.std.proofs.Common.{◌≡◌, ℕ, ◌<◌, length, Bool, true, false, Option, Some, None, refl, sym, ◌∙◌, true≢false}
 use Rattle.std.specs.Prelude.{nat_lt, if◌then◌else◌}
 use Rattle.std.proofs.lemmas.Bool.{lt-ltb}
 use Rattle.task_descriptor.specs.Listing.{Listing}
@@ -24,3 +24,8 @@ assign_allowed p units s t free may =
 pub next_is : (b : Bool) (x unit : ℕ) → Some unit ≡ (if b then Some x else None) → (b ≡ true) × (x ≡ unit)
 next_is true x unit e = (refl, cc)
 next_is false x unit e = absurd (cc)
+
+-- and where there is none
+pub none_next : (b : Bool) (x : ℕ) → None ≡ (if b then Some x else None) → b ≡ true → ⊥
+none_next true x e free = cc
+none_next false x e free = true≢false (sym free)

@@ -1,25 +1,23 @@
 -- A unit is to choose exactly where there are choices and it takes the next task.
-use Rattle.std.proofs.Common.{◌≡◌, ℕ, zero, suc, ◌+◌, ◌%◌, ◌<◌, ◌≤◌, inl, inr, Bool, true, false, List, [], ◌∷◌, length, Option, Some, None, refl, sym, ap, ◌∙◌, subst, arith, true≢false}
-use Rattle.std.specs.Prelude.{◌&&◌, ◌↔◌, nat_lt, nat_eq, slice_get, if◌then◌else◌}
+use Rattle.std.proofs.Common.{◌≡◌, ℕ, zero, suc, ◌+◌, ◌%◌, ◌<◌, Bool, true, false, List, [], ◌∷◌, length, Option, Some, None, refl, ◌∙◌, subst, arith}
+use Rattle.std.specs.Prelude.{◌&&◌, nat_lt, nat_eq, slice_get, if◌then◌else◌}
 use Rattle.std.specs.List.{last_or}
-use Rattle.std.proofs.lemmas.Bool.{ltb-true, eqb-true, cases_lt}
+use Rattle.std.proofs.lemmas.Bool.{ltb-true, eqb-true}
 use Rattle.task_descriptor.specs.Listing.{Listing}
 use Rattle.machine_model.specs.Machine.{Active, State}
 use Rattle.machine_model.specs.Answer.{is_running, most_events}
 use Rattle.machine_model.specs.HeadEvent.{head_event}
 use Rattle.machine_events.specs.declared.event.Event.{Event}
 use Rattle.machine_events.specs.declared.event.Event.TheVariants.{Assign, Exec, Transfer, Drain, Squash, Retire, Fault, Drop}
-use Rattle.machine_events.specs.declared.event.Standing.{Standing}
 use Rattle.machine_events.specs.declared.event.Standing.TheVariants.{Running}
 use Rattle.processor_steps.specs.Choices.{targets_behind}
 use Rattle.sequencer.specs.Machines.{MachineView, state, units_of}
-use Rattle.sequencer.specs.Rings.{unit_for}
 use Rattle.sequencer.specs.Choices.{choices_of, choice_of}
 use Rattle.sequencer.specs.Histories.{executed_in}
 use Rattle.unit_turns.specs.FirstAllowed.{first_allowed}
 use Rattle.unit_turns.specs.Turns.{position_of_unit, fits_burst, turn_of_head, turn_ahead, turn_of_free, apply_or_wait, turn_at_position, turn_of, own_events, pauses, MayChoose}
 use Rattle.unit_turns.specs.declared.turn.Turn.{Turn}
-use Rattle.unit_turns.specs.declared.turn.Turn.TheVariants.{Apply, Choose, Burst, Wait}
+use Rattle.unit_turns.specs.declared.turn.Turn.TheVariants.{Choose, Wait}
 use Rattle.unit_turns.proofs.RingPlaces.{at_place, at_free, is_run, position_below, position_belongs}
 use Rattle.unit_turns.proofs.TurnKinds.{chooses}
 
@@ -86,7 +84,7 @@ behind_tests false true a b not h = (refl, h)
 behind_tests false false a b not h = absurd (cc)
 
 outer_tests : (a b c : Bool) (x : Turn) → (if a && b && c then x else Wait) ≡ Choose → (b ≡ true) × (c ≡ true) × (x ≡ Choose)
-outer_tests true true true x h = (refl, (refl, h))
+outer_tests true true true x h = (refl, refl, h)
 outer_tests false b c x h = absurd (cc)
 outer_tests true false c x h = absurd (cc)
 outer_tests true true false x h = absurd (cc)
@@ -97,7 +95,7 @@ at_choice m (suc k) h =
     let p = m.accepted.program in
     let s = state m in
     let both = behind_tests (nat_lt (suc k) (length s.queue)) (nat_eq (suc k) (length s.queue)) (turn_ahead (pauses s (executed_in m.history)) (first_allowed p (units_of m) s (own_events (suc k)))) (turn_of_free p s (choices_of p s))
-        (ahead_not (pauses s (executed_in m.history)) (first_allowed p (units_of m) s (own_events (suc k)))) h in
+    (ahead_not (pauses s (executed_in m.history)) (first_allowed p (units_of m) s (own_events (suc k)))) h in
     (eqb-true (suc k) (length s.queue) both.0, free_only p s (choices_of p s) both.1)
 
 pub may_choose : (m : MachineView) (unit : ℕ) → turn_of m unit ≡ Choose → MayChoose m unit
@@ -105,8 +103,8 @@ may_choose m unit h =
     let retired = length (state m).commits in
     let k = position_of_unit (units_of m) retired unit in
     let tests = outer_tests (is_running (state m).outcome) (nat_lt (length m.history) most_events) (nat_lt unit (units_of m)) (turn_at_position m k) h in
-    let small : unit < units_of m = ltb-true unit (units_of m) tests.1.0 in
-    let choice = at_choice m k tests.1.1 in
+    let small : unit < units_of m = ltb-true unit (units_of m) tests.1 in
+    let choice = at_choice m k tests.2 in
     let below : k < units_of m = position_below (units_of m) retired unit small in
     record {
       has_choices = choice.1;

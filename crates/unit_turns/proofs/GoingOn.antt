@@ -1,5 +1,5 @@
 -- The unit at position 0 has a turn while the run goes on and the history has room.
-use Rattle.std.proofs.Common.{◌≡◌, ℕ, ◌+◌, ◌<◌, ◌≤◌, List, [], ◌∷◌, length, Option, Some, None, refl, sym, ap, ◌∙◌, arith, true≢false}
+use Rattle.std.proofs.Common.{◌≡◌, ℕ, ◌<◌, ◌≤◌, ◌∷◌, length, Option, Some, None, refl, sym, ap, ◌∙◌, arith, true≢false}
 use Rattle.std.specs.Prelude.{slice_get, IsSome, IfSome}
 use Rattle.std.proofs.lemmas.Option.{slice_get_within}
 use Rattle.task_descriptor.specs.Listing.{Listing}

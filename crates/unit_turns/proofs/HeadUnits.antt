@@ -1,9 +1,9 @@
 -- The head event is at position 0, by cases on the queue and on where its head stands.
-use Rattle.std.proofs.Common.{◌≡◌, ℕ, ◌+◌, ◌%◌, List, [], ◌∷◌, length, Bool, true, false, cond, Option, Some, None, refl, sym, ap, ◌∙◌}
+use Rattle.std.proofs.Common.{◌≡◌, ℕ, ◌+◌, ◌%◌, List, [], ◌∷◌, length, Bool, true, false, Option, Some, None, refl, sym, ap, ◌∙◌}
 use Rattle.std.specs.Prelude.{not, if◌then◌else◌}
 use Rattle.std.specs.Option.{option_map}
 use Rattle.task_descriptor.specs.Listing.{Listing}
-use Rattle.machine_model.specs.Machine.{Active, State}
+use Rattle.machine_model.specs.Machine.{Active}
 use Rattle.machine_model.specs.Answer.{is_running}
 use Rattle.machine_model.specs.HeadEvent.{head_event, event_of_queue, event_of_head, drain_or_retire, task_beginning, position_of}
 use Rattle.machine_events.specs.declared.event.Event.{Event}

@@ -1,6 +1,6 @@
 -- The position of a unit is where an Exec belongs to it; and what a unit's turn is, by its position.
-use Rattle.std.proofs.Common.{◌≡◌, ℕ, zero, suc, ◌+◌, ◌-◌, ◌%◌, ◌<◌, ◌≤◌, ◌⊎◌, inl, inr, length, Bool, true, false, List, [], ◌∷◌, Option, Some, None, refl, sym, ap, ◌∙◌, subst, arith, true≢false}
-use Rattle.std.specs.Prelude.{◌&&◌, nat_lt, nat_eq, if◌then◌else◌, slice_get}
+use Rattle.std.proofs.Common.{◌≡◌, ℕ, zero, suc, ◌+◌, ◌-◌, ◌%◌, ◌<◌, ◌⊎◌, inl, inr, length, Bool, true, false, refl, sym, ap, ◌∙◌, subst, arith, true≢false}
+use Rattle.std.specs.Prelude.{◌&&◌, nat_lt, nat_eq, if◌then◌else◌}
 use Rattle.std.proofs.lemmas.Bool.{cases_lt, cases_eq, lt-ltb, le-ltb, eq-eqb, ne_eqb, ltb-true, cond-true, cond-false}
 use Rattle.std.proofs.lemmas.Nat.{mod_below}
 use Rattle.std.proofs.Math.Nat.{add-mod_left, mod-eq_of_lt}
@@ -14,7 +14,7 @@ use Rattle.sequencer.specs.Choices.{choices_of}
 use Rattle.sequencer.specs.Histories.{executed_in}
 use Rattle.sequencer.proofs.Numbers.{one_place, around}
 use Rattle.unit_turns.specs.FirstAllowed.{first_allowed}
-use Rattle.unit_turns.specs.Turns.{position_of_unit, turn_at, turn_at_position, turn_of, turn_ahead, turn_of_free, own_events, pauses}
+use Rattle.unit_turns.specs.Turns.{position_of_unit, turn_at_position, turn_of, turn_ahead, turn_of_free, own_events, pauses}
 use Rattle.unit_turns.specs.declared.turn.Turn.{Turn}
 use Rattle.unit_turns.specs.declared.turn.Turn.TheVariants.{Wait}
 
@@ -39,7 +39,7 @@ module _ (units retired unit : ℕ) (small : unit < units) where
         let below : unit - head < units = omega arith in
         let sum : unit + (units - head) ≡ units + (unit - head) = omega arith in
         let same : (unit + (units - head)) % units ≡ unit - head =
-            ap (λ (x : ℕ). x % units) sum ∙ add-mod_left units (unit - head) ∙ mod-eq_of_lt below in
+        ap (λ (x : ℕ). x % units) sum ∙ add-mod_left units (unit - head) ∙ mod-eq_of_lt below in
         omega arith
         )
   ]
@@ -123,9 +123,9 @@ neither m unit not_at_work not_next =
     behind_free m k (elim (cases_lt k (length queue)) [
       | inl within ↦ absurd (not_at_work k within belongs)
       | inr beyond ↦ elim (cases_eq k (length queue)) [
-          | inl same ↦ absurd (not_next (omega arith) (subst (λ (x : ℕ). (retired + x) % units_of m ≡ unit) same belongs))
-          | inr other ↦ omega arith
-        ]
+        | inl same ↦ absurd (not_next (omega arith) (subst (λ (x : ℕ). (retired + x) % units_of m ≡ unit) same belongs))
+        | inr other ↦ omega arith
+      ]
     ]))
 
 -- a unit that is not the head's is ahead of it

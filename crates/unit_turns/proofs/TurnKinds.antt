@@ -1,5 +1,5 @@
 -- A turn by the kind of its event.
-use Rattle.std.proofs.Common.{◌≡◌, ℕ, Bool, true, false, List, [], ◌∷◌, Option, Some, None, refl, sym, ap, ◌∙◌, true≢false}
+use Rattle.std.proofs.Common.{◌≡◌, ℕ, Bool, true, false, List, [], ◌∷◌, Option, Some, None, refl, ap, ◌∙◌}
 use Rattle.std.specs.Prelude.{is_none, if◌then◌else◌}
 use Rattle.task_descriptor.specs.Listing.{Listing}
 use Rattle.machine_model.specs.Machine.{Active, State}
@@ -7,9 +7,7 @@ use Rattle.machine_model.specs.Unit.{exec_refusal}
 use Rattle.machine_events.specs.declared.event.Event.{Event}
 use Rattle.machine_events.specs.declared.event.Event.TheVariants.{Assign, Exec, Transfer, Drain, Squash, Retire, Fault, Drop}
 use Rattle.sequencer.specs.Machines.{MachineView}
-use Rattle.sequencer.specs.Choices.{choice_of}
-use Rattle.unit_turns.specs.Turns.{fits_burst, turn_of_head, turn_ahead, turn_of_free, apply_or_wait, IsTurn, MayBurst}
-use Rattle.unit_turns.specs.declared.turn.Turn.{Turn}
+use Rattle.unit_turns.specs.Turns.{fits_burst, turn_of_head, turn_ahead, turn_of_free, IsTurn, MayBurst}
 use Rattle.unit_turns.specs.declared.turn.Turn.TheVariants.{Apply, Choose, Burst, Wait}
 use Rattle.unit_turns.proofs.EventOrder.{is_there}
 

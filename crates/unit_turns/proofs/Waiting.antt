@@ -20,8 +20,7 @@ use Rattle.sequencer.specs.Choices.{choices_of, choice_of, MayFollow}
 use Rattle.sequencer.specs.Histories.{executed_in}
 use Rattle.unit_turns.specs.FirstAllowed.{registers, first_allowed}
 use Rattle.unit_turns.specs.Turns.{own_events, pauses, turn_ahead, turn_of_free, apply_or_wait, turn_of, NamesRegister, MayWait}
-use Rattle.unit_turns.specs.declared.turn.Turn.{Turn}
-use Rattle.unit_turns.specs.declared.turn.Turn.TheVariants.{Apply, Choose, Burst, Wait}
+use Rattle.unit_turns.specs.declared.turn.Turn.TheVariants.{Apply, Burst, Wait}
 use Rattle.unit_turns.proofs.EventOrder.{finds_transfer, finds_squash, finds_drain, finds_exec}
 use Rattle.unit_turns.proofs.RingPlaces.{at_place, at_work, at_free}
 
@@ -115,8 +114,8 @@ assign_follows p units s t e =
 pub no_task_by : (m : MachineView) (o : Option Event) → o ≡ choice_of m.accepted.program (state m) 0
     → IfNone o ((state m).outcome ≡ Running → (task : ℕ) → MayFollow m.accepted.program (state m) task → ⊥) → (state m).outcome ≡ Running
     → choice_of m.accepted.program (state m) 0 ≡ None → (t : ℕ) → MayFollow m.accepted.program (state m) t → ⊥
-no_task_by m None same none running no t may = none running t may
-no_task_by m (Some e) same none running no t may = (let found : Some e ≡ None = same ∙ no in absurd (cc))
+no_task_by m None same none running absent t may = none running t may
+no_task_by m (Some e) same none running absent t may = (let found : Some e ≡ None = same ∙ absent in absurd (cc))
 
 -- the position of an event that is allowed
 

@@ -14,7 +14,7 @@ use Rattle.unit_turns.specs.Turns.{position_of_unit, turn_at}
 use Rattle.unit_turns.specs.declared.turn.Turn.{Turn}
 use Rattle.unit_turns.specs.declared.turn.Turn.TheVariants.{Apply, Choose, Burst, Wait}
 
--- round a ring of four the units 2, 3, 0 and 1 stand behind one another once six tasks have retired
+-- round a ring of four the units 2, 3, 0 and 1 stand one after another once six tasks have retired
 pub of_head : position_of_unit 4 6 2 ≡ 0
 of_head = refl
 
@@ -105,17 +105,17 @@ pub takes_first : turn_after (stopped_ahead ++ Exec 0 ∷ Exec 0 ∷ Drain 0 10 
 unfolding address index_of region effective least registers first_allowed
 takes_first = refl
 
--- and squashes the unit behind it, which began elsewhere, before it sends
+-- and squashes the unit after it, which began elsewhere, before it sends
 pub squashes : turn_after (two_tasks ++ Assign 1 ∷ Exec 0 ∷ Exec 0 ∷ Transfer 1 8 ∷ Transfer 1 9 ∷ Exec 1 ∷ Exec 1 ∷ Exec 1 ∷ Exec 1 ∷ []) 6 1 ≡ Apply (Squash 1)
 unfolding address index_of region effective least registers first_allowed
 squashes = refl
 
--- behind a stopped tail nothing is chosen: the task at its stop follows
+-- after a stopped tail nothing is chosen: the task at its stop follows
 pub task_at_stop : turn_after stopped_ahead 6 2 ≡ Apply (Assign 0)
 unfolding address index_of region effective least registers first_allowed
 task_at_stop = refl
 
--- behind a task without targets none follows
+-- after a task without targets none follows
 pub no_task : turn_after (Assign 0 ∷ Assign 1 ∷ []) 0 2 ≡ Wait
 unfolding address index_of region effective least registers first_allowed
 no_task = refl

@@ -30,7 +30,7 @@ turn_of_head in_burst (Some (Exec k)) = if in_burst then Burst else Apply (Exec 
 turn_of_head in_burst (Some e) = Apply e
 
 -- A unit at work ahead of the head does the first of these events that the machine allows: it takes a register,
--- squashes the units behind it where the next one begins elsewhere, sends a register, executes. It executes in
+-- squashes the units after it where the next one begins elsewhere, sends a register, executes. It executes in
 -- bursts alone, and not while it pauses.
 
 abbrev pub own_events : (k : ℕ) → List Event
@@ -46,7 +46,7 @@ turn_ahead pausing None = Wait
 turn_ahead pausing (Some (Exec k)) = if pausing then Wait else Burst
 turn_ahead pausing (Some e) = Apply e
 
--- The free unit behind the tail takes the task that may follow; behind a tail that has not stopped the
+-- The free unit after the tail takes the task that may follow; after a tail that has not stopped the
 -- predictor chooses among its targets.
 
 abbrev pub apply_or_wait : Option Event → Turn

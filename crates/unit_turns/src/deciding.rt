@@ -23,8 +23,8 @@ use sequencer::machine::Machine;
 const MOST_AHEAD: u64 = 65_536;
 
 /// What the worker of a unit of the ring does next. The head does the event that it is ready for. A unit
-/// ahead of it takes a register, squashes the units behind it, sends a register or executes, whichever is the
-/// first that the machine allows. The free unit behind the tail takes the task that may follow, or asks for a
+/// ahead of it takes a register, squashes the units after it, sends a register or executes, whichever is the
+/// first that the machine allows. The free unit after the tail takes the task that may follow, or asks for a
 /// choice. An instruction that needs nothing but registers and read-only data is executed in a burst, ahead
 /// of the head only while not more than 65,536 + 2 h instructions beside h were executed, h being those of
 /// the retired tasks and of the head: so no wrong path uses up the history. All else waits. An event that is
@@ -42,7 +42,7 @@ pub fn turn(machine: &Machine<'_>, unit: u32) -> Turn
     }
     match machine.position(unit) {
         Some(position) => turn_ahead(machine, unit, position),
-        None => turn_behind(machine, unit),
+        None => turn_of_idle(machine, unit),
     }
 }
 
@@ -148,8 +148,8 @@ fn event_ahead(machine: &Machine<'_>, unit: u32, position: u32) -> Option<Event>
     None
 }
 
-/// The turn of a unit that is not at work, where the queue is not empty.
-fn turn_behind(machine: &Machine<'_>, unit: u32) -> Turn
+/// The turn of a unit that is not at work, where another one is at position 0.
+fn turn_of_idle(machine: &Machine<'_>, unit: u32) -> Turn
     requires not_head { unit_for machine.now (Exec 0) ≡ unit → ⊥ }
     requires free { (k : ℕ) → k < length (state machine.now).queue → unit_for machine.now (Exec k) ≡ unit → ⊥ }
     requires running { (state machine.now).outcome ≡ standing.Running }

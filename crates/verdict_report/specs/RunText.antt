@@ -50,7 +50,7 @@ pub record IsRunOf (p : Listing) (units budget : ℕ) (run : Run) : Type 0 where
 abbrev pub predictor_of : Prediction → Predictor
 predictor_of prediction.First = predictor.First
 predictor_of prediction.Last = predictor.Last
-predictor_of (prediction.List numbers) = predictor.Listed (record { list = numbers; at = 0 })
+predictor_of (prediction.List numbers) = predictor.Script (record { list = numbers; at = 0 })
 
 -- the run went in so many steps, and its events are theirs
 pub record IsInSteps (p : Listing) (units budget : ℕ) (predict : Prediction) (run : Run) : Type 0 where

@@ -8,7 +8,7 @@ use crate::fault::ServeFault;
 use crate::ran::{Extent, Ran};
 use jobs::job::{Prediction, Schedule};
 use mark_checker::accept::Accepted;
-use sequencer::predict::{First, Last, Listed, Predict};
+use sequencer::predict::{First, Last, Predict, Script};
 use std::alloc::{AllocError, Global};
 use std::sync::Wait;
 use std::thread::Threads;
@@ -62,7 +62,7 @@ fn run_by_threads<'a, R: Threads + Wait + Sync>(
         Prediction::Last => run_with(rt, alloc, extent, accepted, Last),
         Prediction::List(list) => {
             let numbers = list.as_slice().to_vec(alloc)?;
-            run_with(rt, alloc, extent, accepted, Listed::new(numbers))
+            run_with(rt, alloc, extent, accepted, Script::new(numbers))
         }
     }
 }
@@ -155,7 +155,7 @@ pub(crate) fn predictor_of(alloc: Global, predict: &Prediction) -> Result<Predic
         Prediction::Last => Ok(Predictor::Last),
         Prediction::List(list) => {
             let numbers = list.as_slice().to_vec(alloc)?;
-            Ok(Predictor::Listed(Listed::new(numbers)))
+            Ok(Predictor::Script(Script::new(numbers)))
         }
     }
 }

@@ -1,14 +1,14 @@
 -- Each step makes the burst one longer, also the one behind which it ends, which alone sends anew.
-use Rattle.std.proofs.Common.{◌≡◌, ◌∙◌, arith, sym, subst}
-use Rattle.unit_core.specs.Units.{UnitView, active_of}
-use Rattle.unit_core.specs.Bursts.{HasSentTheSame, SendsLast, stretch_of}
-use Rattle.unit_core.proofs.BurstLemmas.{none_made, steps_on, one_sends, shorter}
+use Rattle.std.proofs.Common.{◌∙◌, arith, sym}
+use Rattle.unit_core.specs.Units.{active_of}
+use Rattle.unit_core.specs.Bursts.{HasSentTheSame}
+use Rattle.unit_core.proofs.BurstLemmas.{none_made, steps_on, one_sends}
 use Rattle.unit_core.proofs.burst.run_ahead.Goals as goal
 
 pub loop-init : goal.loop-init
 loop-init c = record {
   few = omega arith;
-  made = none_made c.args.accepted.now.program (stretch_of c.args.accepted.now.program c.args.unit.now.log) c.args.unit.now c.requires.no_log;
+  made = none_made c.args.accepted.now.program c.args.unit.now c.requires.no_log;
   sent = λ r. sym (c.sent_set-sent.ensures r);
   sends_last = λ n is. absurd (omega arith);
   placed = c.requires.placed;
@@ -18,14 +18,12 @@ pub loop-preserved : goal.loop-preserved
 loop-preserved c =
     let p = c.args.accepted.now.program in
     let mid = c.loop.unit in
-    let after = c.exec_ahead.new.self in
-    let step = c.in-Ok.ensures.step in
     let same : HasSentTheSame (active_of mid) (active_of c.args.unit.now) = λ r. c.loop.invariant.sent r ∙ c.sent_set-sent.ensures r in
     record {
       few = omega (arith, c.loop.invariant.few);
-      made = steps_on p c.args.unit.now mid after c.loop.steps c.loop.invariant.made step;
+      made = steps_on p c.args.unit.now mid c.exec_ahead.new.self c.loop.steps c.loop.invariant.made c.in-Ok.ensures.step;
       sent = c.has_sent.ensures c.if-not-has_sent.false;
-      sends_last = one_sends p (stretch_of p mid.log) (stretch_of p after.log) c.args.unit.now mid c.loop.steps c.loop.invariant.made (λ q at. shorter p q (active_of mid) (active_of after) step at) same;
+      sends_last = one_sends p c.args.unit.now mid c.loop.steps c.loop.invariant.made same;
       placed = c.exec_ahead.ensures.placed;
     }
 
@@ -35,15 +33,6 @@ returns-then-not-has_sent-clause-made c =
 
 pub returns-then-not-has_sent-clause-sends_last : goal.returns-then-not-has_sent-clause-sends_last
 returns-then-not-has_sent-clause-sends_last c =
-    let p = c.args.accepted.now.program in
     let mid = c.loop.unit in
-    let after = c.exec_ahead.new.self in
     let same : HasSentTheSame (active_of mid) (active_of c.args.unit.now) = λ r. c.loop.invariant.sent r ∙ c.sent_set-sent.ensures r in
-    one_sends p (stretch_of p mid.log) (stretch_of p after.log) c.args.unit.now mid c.loop.steps c.loop.invariant.made
-    (λ q at. shorter p q (active_of mid) (active_of after) c.in-Ok.ensures.step at) same
-
-pub returns-in_default-clause-sends_last : goal.returns-in_default-clause-sends_last
-returns-in_default-clause-sends_last c =
-    let p = c.args.accepted.now.program in
-    let same : c.exec_ahead.new.self ≡ c.loop.unit = c.in_default.ensures.kept in
-    subst (λ (v : UnitView). SendsLast p (stretch_of p v.log) c.args.unit.now c.loop.steps) (sym same) c.loop.invariant.sends_last
+    one_sends c.args.accepted.now.program c.args.unit.now mid c.loop.steps c.loop.invariant.made same

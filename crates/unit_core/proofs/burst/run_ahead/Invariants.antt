@@ -1,15 +1,15 @@
 use Rattle.std.specs.Prelude.{◌≡◌, ℕ, ◌≤◌, is_some}
 use Rattle.mips_instructions.specs.Words.{has}
 use Rattle.unit_core.specs.Units.{active_of, IsPlaced}
-use Rattle.unit_core.specs.Bursts.{Makes, SendsLast, stretch_of}
+use Rattle.unit_core.specs.Bursts.{Makes, SendsLast}
 use Rattle.unit_core.proofs.burst.run_ahead.Given as goal
 
 -- the unit is so many steps on, and has sent what it had sent
 abbrev pub invariant-loop : goal.invariant-loop
 invariant-loop l = record {
   few : l.steps ≤ l.counter;
-  made : Makes l.accepted.program (stretch_of l.accepted.program l.unit.log) l.initial.unit l.steps l.unit;
+  made : Makes l.accepted.program l.initial.unit l.steps l.unit;
   sent : (r : ℕ) → is_some ((active_of l.unit).sent r) ≡ has l.sent r;
-  sends_last : SendsLast l.accepted.program (stretch_of l.accepted.program l.unit.log) l.initial.unit l.steps;
+  sends_last : SendsLast l.accepted.program l.initial.unit l.steps;
   placed : IsPlaced l.accepted (active_of l.unit);
 }

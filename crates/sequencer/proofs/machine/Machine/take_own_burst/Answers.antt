@@ -9,7 +9,7 @@ use Rattle.sequencer.specs.Machines.{MachineView, IsMachine, state}
 use Rattle.sequencer.specs.Rings.{AreDistinct}
 use Rattle.sequencer.specs.Bursts.{Takes}
 use Rattle.sequencer.proofs.TakenBursts.{Found, fresh_at, takes, is_machine}
-use Rattle.sequencer.proofs.machine.Machine.take_over.Goals as goal
+use Rattle.sequencer.proofs.machine.Machine.take_own_burst.Goals as goal
 
 pub returns-in-Ok-clause-taken : goal.returns-in-Ok-clause-taken
 returns-in-Ok-clause-taken c = λ some.
@@ -17,9 +17,8 @@ returns-in-Ok-clause-taken c = λ some.
     let m : MachineView = record { accepted = i.accepted.now; processor = i.processor; history = i.history } in
     let b : BurstView = c.args.burst.now in
     let k = c.in-Some.position in
-    let own = c.requires.0 c.if-not-is_own.false in
     let there = c.in-Some.ensures.some in
-    let found : Found m b k = subst (λ (x : MachineView). Found x b k) (sym c.self.view_is) (there.0, own, there.1, there.2) in
+    let found : Found m b k = subst (λ (x : MachineView). Found x b k) (sym c.self.view_is) (there.0, c.requires, there.1, there.2) in
     let fresh = fresh_at m b k found in
     let runs : (state m).outcome ≡ Running = ap (λ (x : MachineView). (state x).outcome) c.self.view_is ∙ c.is_running.ensures.0 c.if-not-is_running.false in
     let distinct = subst (λ (x : MachineView). AreDistinct (state x).queue) (sym c.self.view_is) c.law_replay.ensures.distinct in
