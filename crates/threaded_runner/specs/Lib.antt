@@ -3,4 +3,5 @@ pub mod Desks
 pub mod Shares
 pub mod Paces
 pub mod Holds
+pub mod Workers
 pub mod Examples

@@ -82,6 +82,7 @@ impl<'a, P: Predict, J: Naming> Desk<'a, P, J> {
     pub(crate) fn machine(&self) -> &Machine<'a>
         ensures machine { result.now ≡ self.now.machine }
         ensures over { result.now.accepted ≡ J.accepted }
+        ensures units { units_of result.now ≡ J.units }
     {
         &self.machine
     }
@@ -134,6 +135,7 @@ impl<'a, P: Predict, J: Naming> Desk<'a, P, J> {
         ensures ran { RunsHead self.old.machine result self.new.machine }
         ensures until { result < most → IsStoppedAt self.new.machine (Exec 0) }
         ensures history { self.new.machine.history ≡ self.old.machine.history ++ replicate result (Exec 0) }
+        ensures room { length self.new.machine.history ≤ most_events }
         ensures kept { SameRing self.old.machine self.new.machine }
         ensures notes { SameNotes self.old self.new }
         ensures workers { length self.new.counts ≡ length self.old.counts }
@@ -141,6 +143,7 @@ impl<'a, P: Predict, J: Naming> Desk<'a, P, J> {
         law_replay(&self.machine);
         let unit = self.machine.head_unit();
         let steps = exec_head(&mut self.machine, most);
+        law_replay(&self.machine);
         add(&mut self.counts, unit, steps);
         steps
     }
@@ -153,7 +156,8 @@ impl<'a, P: Predict, J: Naming> Desk<'a, P, J> {
         ensures kept { SameRing self.old.machine self.new.machine }
         ensures notes { SameNotes self.old self.new }
     {
-        let answer = self.predictor.choose(self.machine.choices());
+        let targets = self.machine.choices();
+        let answer = self.predictor.choose(targets);
         self.assign(unit, answer);
     }
 
