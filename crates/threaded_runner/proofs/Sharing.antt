@@ -2,7 +2,7 @@
 use Rattle.std.proofs.Common.{◌≡◌, ℕ, ◌+◌, ◌-◌, ◌%◌, ◌<◌, ◌≤◌, ◌⊎◌, length, Bool, true, false, inl, inr, refl, sym, ap, ◌∙◌, subst, arith, true≢false}
 use Rattle.std.proofs.lemmas.Bool.{ltb-true, cases_lt}
 use Rattle.std.proofs.Math.Nat.{mod-lt}
-use Rattle.std.specs.Prelude.{◌&&◌, nat_lt, if◌then◌else◌}
+use Rattle.std.specs.Prelude.{◌&&◌, nat_lt, if◌then◌else◌, Option, Some, None, IfNone}
 use Rattle.machine_model.specs.Answer.{is_running, most_events}
 use Rattle.machine_events.specs.declared.event.Event.TheVariants.{Exec}
 use Rattle.sequencer.specs.Machines.{MachineView, state, units_of}
@@ -165,3 +165,9 @@ one_more_waits m s from unit before here = λ other low high own.
           let same : other ≡ unit = omega arith in
           ap (λ (u : ℕ). turn_of m u) same ∙ here (ap (λ (u : ℕ). u % s.workers) (sym same) ∙ own)
     ]
+
+-- what follows where there is none
+
+pub none_then : {X : Type 0} (r : Option X) {P Q : Type 0} → IfNone r P → (P → Q) → IfNone r Q
+none_then None h f = f h
+none_then (Some x) h f = tt

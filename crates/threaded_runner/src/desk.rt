@@ -135,6 +135,7 @@ impl<'a, P: Predict, J: Naming> Desk<'a, P, J> {
         ensures ran { RunsHead self.old.machine result self.new.machine }
         ensures until { result < most → IsStoppedAt self.new.machine (Exec 0) }
         ensures history { self.new.machine.history ≡ self.old.machine.history ++ replicate result (Exec 0) }
+        ensures room { length self.new.machine.history ≤ most_events }
         ensures kept { SameRing self.old.machine self.new.machine }
         ensures notes { SameNotes self.old self.new }
         ensures workers { length self.new.counts ≡ length self.old.counts }
@@ -142,6 +143,7 @@ impl<'a, P: Predict, J: Naming> Desk<'a, P, J> {
         law_replay(&self.machine);
         let unit = self.machine.head_unit();
         let steps = exec_head(&mut self.machine, most);
+        law_replay(&self.machine);
         add(&mut self.counts, unit, steps);
         steps
     }

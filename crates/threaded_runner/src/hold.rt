@@ -300,7 +300,10 @@ impl<J: Naming> Worker<J> {
     {
         match desk.machine().position(unit) {
             Some(0) => desk.run_head(most),
-            Some(position) => u32::from(desk.apply(unit, Event::Exec(position)).is_ok()),
+            Some(position) => match desk.apply(unit, Event::Exec(position)) {
+                Ok(()) => 1,
+                Err(_) => 0,
+            },
             None => unreachable!(),
         }
     }
@@ -379,8 +382,9 @@ impl<J: Naming> Worker<J> {
         ensures { GivesUp self.old unit desk.old self.new desk.new ⊎ StopsRun self.old unit desk.old self.new desk.new }
     {
         match desk.machine().position(unit) {
-            Some(position) if position > 0 => self.drop_task(desk, unit, position),
-            _ => desk.stop(),
+            Some(0) => desk.stop(),
+            Some(position) => self.drop_task(desk, unit, position),
+            None => desk.stop(),
         }
     }
 

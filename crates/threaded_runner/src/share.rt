@@ -83,14 +83,26 @@ impl Share {
         ensures none { IfNone result (WaitBetween machine.now self from to) }
     {
         for unit in from..to {
-            if self.has(unit) {
-                match turn(machine, unit) {
-                    Turn::Wait => {}
-                    ready => return Some((unit, ready)),
-                }
+            match self.served_turn(machine, unit) {
+                Some(found) => return Some(found),
+                None => {}
             }
         }
         None
+    }
+
+    /// A unit with its turn, if the worker serves it and it does not wait.
+    fn served_turn(self, machine: &Machine<'_>, unit: u32) -> Option<(u32, Turn)>
+        requires { 0 < self.workers }
+        ensures unit { IfSome result (λ found. (found.0 ≡ unit) × (unit % self.workers ≡ self.worker)) }
+        ensures turn { IfSome result (λ found. (found.1 ≡ turn_of machine.now unit) × (turn_of machine.now unit ≡ Turn.Wait → ⊥)) }
+        ensures own { IfSome result (λ found. IsTurn machine.now unit found.1) }
+        ensures none { IfNone result (unit % self.workers ≡ self.worker → turn_of machine.now unit ≡ Turn.Wait) }
+    {
+        if !self.has(unit) {
+            return None;
+        }
+        ready(unit, turn(machine, unit))
     }
 }
 

@@ -1,6 +1,6 @@
-use Rattle.std.proofs.Common.{◌≡◌, ℕ, ◌+◌, ◌%◌, List, length, Option, Some, sym, ap, ◌∙◌}
+use Rattle.std.proofs.Common.{◌≡◌, ℕ, ◌+◌, ◌%◌, List, length, Option, sym, ap, ◌∙◌}
 use Rattle.std.proofs.lemmas.List.{length-replicate}
-use Rattle.std.specs.Prelude.{replicate, slice_index, slice_set, vec_len}
+use Rattle.std.specs.Prelude.{replicate, slice_index, slice_set, unwrap_or, vec_len}
 use Rattle.std.specs.Option.{option_map}
 use Rattle.machine_events.specs.declared.event.Event.TheVariants.{Exec}
 use Rattle.unit_core.specs.Units.{UnitView}
@@ -15,14 +15,15 @@ invariant_of-self-then-events-gt0 g c =
     let i = c.self.inside in
     let m = i.machine in
     let b = c.args.burst.now in
-    let unit = c.in-Some.unit in
+    let unit = c.unwrap_or-unit.result in
     let taken = c.in_ok-events.ensures.taken c.if-events-gt0.true in
     let k = taken.1.fresh.position in
     let unit_at = λ (position : ℕ). unit_for m (Exec position) in
     let serial : c.serial.result ≡ b.before.serial = c.serial.ensures ∙ ap (λ (u : UnitView). u.serial) c.before-2.ensures in
-    let found : Some unit ≡ Some (unit_at k) =
-    c.in-Some.ensures ∙ ap (λ (s : ℕ). option_map unit_at (position_with (state m).queue s)) serial ∙ ap (λ (o : Option ℕ). option_map unit_at o) taken.1.owner in
-    let belongs : unit_for m (Exec k) ≡ unit = cc in
+    let found : unit ≡ unit_at k =
+    c.unwrap_or-unit.ensures
+    ∙ ap (λ (o : Option ℕ). unwrap_or o 0) (c.unit_with.ensures ∙ ap (λ (s : ℕ). option_map unit_at (position_with (state m).queue s)) serial ∙ ap (λ (o : Option ℕ). option_map unit_at o) taken.1.owner) in
+    let belongs : unit_for m (Exec k) ≡ unit = sym found in
     let worker = unit % vec_len i.counts in
     let counted = c.add.ensures ∙ ap (λ (n : ℕ). slice_set i.counts.items worker (slice_index i.counts.items worker + n)) taken.0 in (
       more m c.take_own_burst.new.self i.counts.items c.add.new.counts.items (replicate b.steps (Exec k)) unit b.steps (vec_len i.counts) i.is_stopped i.asleep c.self.invariant.0
