@@ -31,7 +31,7 @@ tested : {A : Type 0} (b : Bool) (xs : List A) → ((if b then xs else []) ≡ [
 tested true xs h = refl
 tested false xs h = absurd (h refl)
 
-pub returns-clause-own : goal.returns-in-Some-clause-own
+pub returns-clause-own : goal.returns-clause-own
 returns-clause-own c =
     let m = c.args.machine.now in
     let may = c.in-Some.ensures.follows in
