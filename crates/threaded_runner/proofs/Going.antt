@@ -1,6 +1,6 @@
 -- Turns one after another.
-use Rattle.std.proofs.Common.{◌≡◌, ℕ, zero, suc, ◌+◌, ◌%◌, ◌<◌, ◌≤◌, ◌⊎◌, List, [], ◌∷◌, ◌++◌, length, Bool, true, Option, Some, None, Err, Ok, inl, inr, refl, sym, ap, ◌∙◌, subst, arith, length-append, true≢false}
-use Rattle.std.specs.Prelude.{replicate}
+use Rattle.std.proofs.Common.{◌≡◌, ℕ, zero, suc, ◌+◌, ◌%◌, ◌<◌, ◌≤◌, ◌⊎◌, List, [], ◌∷◌, ◌++◌, length, Bool, true, false, Option, Some, None, Err, Ok, inl, inr, refl, sym, ap, ◌∙◌, subst, arith, length-append, true≢false}
+use Rattle.std.specs.Prelude.{replicate, Result}
 use Rattle.machine_model.specs.Machine.{State}
 use Rattle.machine_model.specs.Step.{Next}
 use Rattle.machine_model.specs.Answer.{most_events}
@@ -138,13 +138,13 @@ exec_named m unit k t is belongs = subst (λ (x : Turn). IsNamed m unit x (Exec 
 
 -- answers
 
-ok_is_no_err : (why : Refused) → Err why ≡ Ok tt → ⊥
-ok_is_no_err why e = absurd (cc)
+ok_is_no_err : (r : Result (Unit {0}) Refused) (why : Refused) → r ≡ Err why → r ≡ Ok tt → ⊥
+ok_is_no_err r why no yes = absurd (cc)
 
 pub not_refused : (m : MachineView) (e : Event) (why : Refused) → takes_memory e ≡ false → answer_to m e ≡ Ok tt → IsAnswered m e (Err why) → ⊥
-not_refused m e why none ok (inl is) = ok_is_no_err why (is ∙ ok)
+not_refused m e why none ok (inl is) = ok_is_no_err (answer_to m e) why (sym is) ok
 not_refused m e why none ok (inr wants) = true≢false (sym wants.0 ∙ none)
 
 pub wants_memory : (m : MachineView) (e : Event) (why : Refused) → answer_to m e ≡ Ok tt → IsAnswered m e (Err why) → takes_memory e ≡ true
-wants_memory m e why ok (inl is) = absurd (ok_is_no_err why (is ∙ ok))
+wants_memory m e why ok (inl is) = absurd (ok_is_no_err (answer_to m e) why (sym is) ok)
 wants_memory m e why ok (inr wants) = wants.0

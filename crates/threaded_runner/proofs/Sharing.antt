@@ -55,16 +55,16 @@ near m head unit is in_ring below = distance_by m head unit is ∙ below_it (uni
 
 pub of_ring : (s : Share) (n units workers : ℕ) → n ≡ units → IsShareOf units workers s → IsShareOf n s.workers s
 of_ring s n units workers same h = record {
-  units = h.units ∙ sym same;
-  workers = refl;
-  worker = subst (λ (x : ℕ). s.worker < x) (sym h.workers) h.worker;
+  of_units = h.of_units ∙ sym same;
+  of_workers = refl;
+  is_worker = subst (λ (x : ℕ). s.worker < x) (sym h.of_workers) h.is_worker;
 }
 
 -- a worker for each unit
 
 pub only_unit : (m : MachineView) (s : Share) → IsShareOf (units_of m) s.workers s → s.workers ≡ s.units → (turn_of m s.worker ≡ Wait → ⊥) → IsFirst m s s.worker
 only_unit m s share each ready =
-    let within : s.worker < s.workers = share.worker in
+    let within : s.worker < s.workers = share.is_worker in
     record {
       is_served = record { on_ring = omega arith; is_own = own_remainder s.workers s.worker within };
       is_ready = ready;
@@ -88,11 +88,11 @@ pub head_first : (m : MachineView) (s : Share) (head : ℕ) → IsShareOf (units
 head_first m s head share one is ready =
     let within : head < units_of m = on_ring m head ready in
     let zero_far : distance m head ≡ head - head = far m head head is within within (omega arith) in
-    let first : s.worker < s.workers = share.worker in
+    let first : s.worker < s.workers = share.is_worker in
     let none : head % 1 ≡ 0 = by_one head in
     record {
       is_served = record {
-        on_ring = omega (arith, share.units);
+        on_ring = omega (arith, share.of_units);
         is_own = ap (λ (w : ℕ). head % w) one ∙ none ∙ (omega arith);
       };
       is_ready = ready;
@@ -105,7 +105,7 @@ head_first m s head share one is ready =
 
 pub first_high : (m : MachineView) (s : Share) (head unit : ℕ) → IsShareOf (units_of m) s.workers s → unit_for m (Exec 0) ≡ head → IsFirstBetween m s head s.units unit → IsFirst m s unit
 first_high m s head unit share is found =
-    let units : s.units ≡ units_of m = share.units in
+    let units : s.units ≡ units_of m = share.of_units in
     let low : head ≤ unit = found.low in
     let high : unit < s.units = found.high in
     let in_ring : head < units_of m = omega arith in
@@ -128,7 +128,7 @@ first_high m s head unit share is found =
 
 pub first_low : (m : MachineView) (s : Share) (head unit : ℕ) → IsShareOf (units_of m) s.workers s → unit_for m (Exec 0) ≡ head → WaitBetween m s head s.units → IsFirstBetween m s 0 head unit → IsFirst m s unit
 first_low m s head unit share is high found =
-    let units : s.units ≡ units_of m = share.units in
+    let units : s.units ≡ units_of m = share.of_units in
     let below_head : unit < head = found.high in
     let within : unit < units_of m = on_ring m unit found.is_ready in
     let in_ring : head < units_of m = head_within m head (omega arith) is in

@@ -25,7 +25,7 @@ use Rattle.threaded_runner.proofs.Rounds.{itself}
 
 -- tests
 
-runs : (o : Standing) → is_running o ≡ true → o ≡ standing.Running
+pub runs : (o : Standing) → is_running o ≡ true → o ≡ standing.Running
 runs standing.Running e = refl
 runs standing.Halted e = absurd (true≢false (sym e))
 runs (standing.Trapped trap) e = absurd (true≢false (sym e))

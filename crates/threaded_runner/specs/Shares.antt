@@ -7,9 +7,9 @@ use Rattle.threaded_runner.specs.declared.share.Share.{Share}
 
 -- a share of a ring of so many units among so many workers
 pub record IsShareOf (units workers : ℕ) (s : Share) : Type 0 where
-  pub units : s.units ≡ units
-  pub workers : s.workers ≡ workers
-  pub worker : s.worker < workers
+  pub of_units : s.units ≡ units
+  pub of_workers : s.workers ≡ workers
+  pub is_worker : s.worker < workers
 
 -- a worker serves the units of the ring whose number, modulo the number of workers, is its own
 pub record IsServed (s : Share) (unit : ℕ) : Type 0 where

@@ -91,7 +91,7 @@ pub record IsSameWorker (w w' : WorkerView) : Type 0 where
 -- a turn was taken; or nothing has changed, and the worker is to let go of the lock
 abbrev pub IsTurnTaken : WorkerView → (old : DeskView) → WorkerView → (new : DeskView) → Option Then → Type 0
 IsTurnTaken w old w' new None = TakesTurns w.share 1 old new
-IsTurnTaken w old w' new (Some then) = (w' ≡ w) × (new ≡ old) × IsNext w' new then × (then ≡ GoOn → ⊥)
+IsTurnTaken w old w' new (Some next) = (w' ≡ w) × (new ≡ old) × IsNext w' new next × (next ≡ GoOn → ⊥)
 
 -- A burst is handed in: one that is fresh is taken over, with exactly its steps; a stale one changes nothing.
 

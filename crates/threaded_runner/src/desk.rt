@@ -194,10 +194,11 @@ impl<'a, P: Predict, J: Naming> Desk<'a, P, J> {
         law_replay(&self.machine);
         let unit = self.machine.unit_with(burst.before().serial()).unwrap_or(0);
         let events = self.machine.take_own_burst(burst)?;
-        if events > 0 {
-            law_replay(&self.machine);
-            add(&mut self.counts, unit, events);
+        if events == 0 {
+            return Ok(0);
         }
+        law_replay(&self.machine);
+        add(&mut self.counts, unit, events);
         Ok(events)
     }
 
@@ -294,17 +295,23 @@ impl<'a, P: Predict, J: Naming> Desk<'a, P, J> {
     pub(crate) fn fall_asleep(&mut self, worker: u32)
         ensures { self.new ≡ record self.old { asleep = slice_set self.old.asleep worker true } }
     {
-        if let Some(asleep) = self.asleep.get_mut(worker as usize) {
-            *asleep = true;
-        }
+        self.note(worker, true);
     }
 
     /// Notes that a worker does not wait.
     pub(crate) fn awake(&mut self, worker: u32)
         ensures { self.new ≡ record self.old { asleep = slice_set self.old.asleep worker false } }
     {
-        if let Some(asleep) = self.asleep.get_mut(worker as usize) {
-            *asleep = false;
+        self.note(worker, false);
+    }
+
+    /// Notes whether a worker waits.
+    #[tactic(auto, using(std::proofs::lemmas::List::set_past))]
+    fn note(&mut self, worker: u32, asleep: bool)
+        ensures { self.new ≡ record self.old { asleep = slice_set self.old.asleep worker asleep } }
+    {
+        if let Some(slot) = self.asleep.get_mut(worker as usize) {
+            *slot = asleep;
         }
     }
 

@@ -212,6 +212,7 @@ impl<J: Naming> Worker<J> {
     }
 
     /// The worker goes on with a unit at another pace.
+    #[tactic(auto, using(std::proofs::lemmas::List::set_past))]
     fn set_pace(&mut self, unit: u32, pace: Pace)
         ensures { self.new ≡ with_pace self.old unit pace }
     {

@@ -50,14 +50,44 @@ impl Share {
         ensures none { IfNone result (AllWait machine.now self) }
     {
         if self.workers == self.units {
-            return ready(self.worker, turn(machine, self.worker));
+            return self.own_turn(machine);
         }
         let head = machine.head_unit();
         if self.is_all() {
-            law_head_waits(machine);
-            ready(head, turn_at_head(machine, head))
+            self.head_turn(machine, head)
         } else {
             self.first_turn_from(machine, head)
+        }
+    }
+
+    /// The turn of the only unit that the worker serves, where each unit has a worker, unless it waits.
+    #[inline]
+    fn own_turn(self, machine: &Machine<'_>) -> Option<(u32, Turn)>
+        requires share { IsShareOf (units_of machine.now) self.workers self }
+        requires each { self.workers ≡ self.units }
+        ensures first { IfSome result (λ found. IsFirst machine.now self found.0 × (found.1 ≡ turn_of machine.now found.0)) }
+        ensures own { IfSome result (λ found. IsTurn machine.now found.0 found.1) }
+        ensures none { IfNone result (AllWait machine.now self) }
+    {
+        ready(self.worker, turn(machine, self.worker))
+    }
+
+    /// The turn of the head's unit, where one worker serves all units, unless it waits; then all wait.
+    #[inline]
+    fn head_turn(self, machine: &Machine<'_>, head: u32) -> Option<(u32, Turn)>
+        requires share { IsShareOf (units_of machine.now) self.workers self }
+        requires one { self.workers ≡ 1 }
+        requires head { unit_for machine.now (Exec 0) ≡ head }
+        ensures first { IfSome result (λ found. IsFirst machine.now self found.0 × (found.1 ≡ turn_of machine.now found.0)) }
+        ensures own { IfSome result (λ found. IsTurn machine.now found.0 found.1) }
+        ensures none { IfNone result (AllWait machine.now self) }
+    {
+        match ready(head, turn_at_head(machine, head)) {
+            Some(found) => Some(found),
+            None => {
+                law_head_waits(machine);
+                None
+            }
         }
     }
 

@@ -1,4 +1,4 @@
-use Rattle.std.proofs.Common.{◌≡◌, ℕ, ◌+◌, ◌%◌, List, length, Option, sym, ap, ◌∙◌}
+use Rattle.std.proofs.Common.{◌≡◌, ℕ, ◌+◌, ◌%◌, List, length, Option, sym, ap, ◌∙◌, arith}
 use Rattle.std.proofs.lemmas.List.{length-replicate}
 use Rattle.std.specs.Prelude.{replicate, slice_index, slice_set, unwrap_or, vec_len}
 use Rattle.std.specs.Option.{option_map}
@@ -10,13 +10,13 @@ use Rattle.sequencer.specs.Rings.{unit_for}
 use Rattle.threaded_runner.proofs.Locked.{execs_own, more, as_many}
 use Rattle.threaded_runner.proofs.desk.Desk.check_in.Goals as goal
 
-pub invariant_of-self-then-events-gt0 : goal.invariant_of-self-then-events-gt0
-invariant_of-self-then-events-gt0 g c =
+pub invariant_of-self-2 : goal.invariant_of-self-2
+invariant_of-self-2 g c =
     let i = c.self.inside in
     let m = i.machine in
     let b = c.args.burst.now in
     let unit = c.unwrap_or-unit.result in
-    let taken = c.in_ok-events.ensures.taken c.if-events-gt0.true in
+    let taken = c.in_ok-events.ensures.taken (omega (arith, c.if-events-eq0.false)) in
     let k = taken.1.fresh.position in
     let unit_at = λ (position : ℕ). unit_for m (Exec position) in
     let serial : c.serial.result ≡ b.before.serial = c.serial.ensures ∙ ap (λ (u : UnitView). u.serial) c.before-2.ensures in

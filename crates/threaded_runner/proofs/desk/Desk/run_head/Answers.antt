@@ -13,7 +13,7 @@ invariant_of-self g c =
     let steps = c.exec_head-steps.result in (
       more m c.exec_head-steps.new.machine i.counts.items c.add.new.counts.items (replicate steps (Exec 0)) unit steps (vec_len i.counts) i.is_stopped i.asleep c.self.invariant.0
           (execs_own m (length i.counts.items) unit 0 steps c.law_replay.ensures.retired c.law_replay.ensures.active (sym c.head_unit-unit.ensures))
-          (length-replicate steps (Exec 0)) c.exec_head-steps.ensures.ran c.exec_head-steps.ensures.kept.units i.counts.ok.0 c.add.ensures,
+          (length-replicate steps (Exec 0)) c.exec_head-steps.ensures.history c.exec_head-steps.ensures.kept.units i.counts.ok.0 c.add.ensures,
       record {
         accepted = c.exec_head-steps.ensures.kept.accepted ∙ c.self.invariant.1.accepted;
         units = c.exec_head-steps.ensures.kept.units ∙ c.self.invariant.1.units;

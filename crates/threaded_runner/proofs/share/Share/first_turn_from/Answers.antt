@@ -9,9 +9,9 @@ returns-in-Some-clause-first c =
 
 pub returns-in-None-clause-first : goal.returns-in-None-clause-first
 returns-in-None-clause-first c =
-    IfSome_then c.first_between-2.result c.first_between-2.ensures.first (λ found h.
+    IfSome_then c.first_between-in-None.result c.first_between-in-None.ensures.first (λ found h.
     (first_low c.args.machine.now c.args.self c.args.head found.0 c.requires.share c.requires.head c.in-None.ensures.none h.0, h.1))
 
 pub returns-in-None-clause-none : goal.returns-in-None-clause-none
 returns-in-None-clause-none c =
-    none_then c.first_between-2.result c.first_between-2.ensures.none (all_between c.args.machine.now c.args.self c.args.head c.in-None.ensures.none)
+    none_then c.first_between-in-None.result c.first_between-in-None.ensures.none (all_between c.args.machine.now c.args.self c.args.head c.in-None.ensures.none)
