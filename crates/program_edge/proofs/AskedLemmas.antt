@@ -10,7 +10,7 @@ use Rattle.jobs.specs.declared.job.Job.{Job}
 use Rattle.jobs.specs.declared.job.Paths.{Paths}
 use Rattle.command_line.specs.declared.words.UsageFault.TheVariants as usage
 use Rattle.program_edge.specs.declared.fault.Fault.{Fault}
-use Rattle.program_edge.specs.declared.fault.Fault.TheVariants.{OutOfMemory, NoText}
+use Rattle.program_edge.specs.declared.fault.Fault.TheVariants.{OutOfMemory}
 use Rattle.program_edge.specs.Asking.{AreWordsOf, IsAskedBy, IsAskedOf, KnownWords, AnyWords, NotAllTexts, Are}
 
 -- memory may run out whatever the words are

@@ -1,7 +1,7 @@
 -- Texts one after another: whole ones, and then a beginning of the next.
-use Rattle.std.proofs.Common.{◌≡◌, ◌∙◌, refl, sym, ap, ℕ, List, [], ◌++◌, Option, append_assoc, append-nil}
+use Rattle.std.proofs.Common.{◌∙◌, sym, ap, ℕ, List, [], ◌++◌, Option, append_assoc, append-nil}
 use Rattle.std.specs.Io.KnownBytes.{Appends, Keeps}
-use Rattle.std.proofs.KnownBytes.{Appends-nil, Appends-kept, Appends-trans}
+use Rattle.std.proofs.KnownBytes.{Appends-kept, Appends-trans}
 use Rattle.program_edge.specs.Writing.{Begins}
 
 pub whole : (a b : Option (List ℕ)) (text : List ℕ) → Appends a b text → Begins a b text

@@ -1,8 +1,6 @@
 -- Whatever is no text of `clap` is a line.
-use Rattle.std.proofs.Common.{◌≡◌, [], ◌∷◌, ◌++◌, refl, sym, subst}
-use Rattle.std.specs.Prelude.{codes, OnOk}
-use Rattle.std.specs.Io.KnownBytes.{Appends}
-use Rattle.program_edge.specs.Writing.{Begins}
+use Rattle.std.proofs.Common.{◌≡◌, [], ◌∷◌, ◌++◌, refl}
+use Rattle.std.specs.Prelude.{codes}
 use Rattle.program_edge.specs.declared.fault.Fault.{Fault}
 use Rattle.program_edge.specs.declared.fault.Fault.TheVariants.{Help, Words}
 use Rattle.program_edge.specs.declared.usage.UsageText.{UsageText}
