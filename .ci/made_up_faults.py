@@ -26,6 +26,8 @@ FAULT = re.compile(r"(AllocError|OutOfMemory)([);,]|$)")
 # Comments, imports, signatures and declared variants.
 NO_CODE = re.compile(r" *(//|(ghost )?use |pub |fn |OutOfMemory,)")
 CLAUSE_OR_TYPE = re.compile(r"≡|≢|Result<")
+# What a fault is compared with, which is no answer.
+COMPARED = re.compile(r"== \w+::OutOfMemory\b")
 NAMED = re.compile(r"\b(AllocError|OutOfMemory)\b")
 MAPPED = re.compile(r"map_err\(\|_: (AllocError|OutOfMemory)\||let Err\([\w:]*(AllocError|OutOfMemory)\) =")
 CONVERTED = re.compile(r"fn from\(\w+: (AllocError|AllocFailed<T>|OutOfMemory)\)")
@@ -40,7 +42,7 @@ def passes_on(line):
 def makes_one(line, before):
     """Whether a line makes such a fault; the line before it tells whether it stands in a conversion."""
     is_harmless = NO_CODE.match(line) or CLAUSE_OR_TYPE.search(line) or passes_on(line)
-    return bool(FAULT.search(line)) and not is_harmless and not CONVERTED.search(before)
+    return bool(FAULT.search(COMPARED.sub("", line))) and not is_harmless and not CONVERTED.search(before)
 
 
 def made_in(path):
