@@ -18,6 +18,7 @@ import pathlib
 import re
 import shutil
 import sys
+import tempfile
 import time
 
 TOP = pathlib.Path(__file__).resolve().parent.parent
@@ -72,7 +73,11 @@ def main():
         print("growths: FAILED: missing:", *missing)
         return 1
     begin = time.monotonic()
-    rows = tried(str(args.program.resolve()), str(args.calls.resolve()), 60 * args.minutes)
+    with tempfile.TemporaryDirectory(prefix="multiscalar-growths-") as name:
+        copies = [shutil.copy(it, name) for it in (args.program, args.calls)]
+        for copy in copies:
+            os.chmod(copy, 0o755)
+        rows = tried(*copies, 60 * args.minutes)
     wrong = [difference for row in rows for difference in row[3]]
     for name in dict.fromkeys(row[0] for row in rows):
         answers = sum((collections.Counter(row[2]) for row in rows if row[0] == name), collections.Counter())

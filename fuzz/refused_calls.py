@@ -234,7 +234,7 @@ def scripts():
 def made(folder):
     """A program of long tasks, and a certificate that is large enough to be shared out."""
     long, large = folder / "long tasks", TOP / "crates" / "test_program" / "data"
-    yield from of_example(long, ["finish", "Burst::run", "apply_burst"], units=4)
+    yield from of_example(long, ["Unit::take", "finish", "Burst::run", "apply_burst"], units=4)
     for workers in (1, 2, 4):
         yield from of_example(long, ["run_workers"], units=4, workers=workers)
     for call in ("read_shared", "verdict_shared", "accepts_shared", "fetch_shared", "fetch", "Text::pieces"):
@@ -242,15 +242,16 @@ def made(folder):
             yield Case(call, "the shared certificate", large / "large.s", large / "large.cert2", large / "large.s", 1, workers, ())
 
 
-def worked_cases(_):
-    """Cases of each call of crates/test_growths, on two examples and one script."""
+def worked_cases(folder):
+    """Cases of each call of crates/test_growths, on two examples, one script, and a program of long tasks for the bursts."""
     count, five = EXAMPLES / "count", EXAMPLES / "five-findings"
-    for folder in (count, five):
-        yield from of_example(folder, ["Memory::new", "Program::plain", "Plain::new", "Plain::step", "Plain::run", "assemble", "print", "members",
+    for example in (count, five):
+        yield from of_example(example, ["Memory::new", "Program::plain", "Plain::new", "Plain::step", "Plain::run", "assemble", "print", "members",
                                        "propose", "certify", "certificate read", "certificate write", "check_task", "verdict", "fetch"])
         for workers in (1, 3):
-            yield from of_example(folder, ["verdict_shared", "accepts_shared"], workers=workers)
-    yield from of_example(count, ["Unit::exec", "Unit::exec_ahead", "Unit::take", "Machine::new", "apply", "finish", "Burst::run", "apply_burst", "run_threads"])
+            yield from of_example(example, ["verdict_shared", "accepts_shared"], workers=workers)
+    yield from of_example(count, ["Unit::exec", "Unit::exec_ahead", "Machine::new", "apply", "finish", "Burst::run", "apply_burst", "run_threads"])
+    yield from of_example(folder / "long tasks", ["Unit::take", "Burst::run", "apply_burst"])
     for line in ("seq P", "check P C --workers 3", "replay P C S --units 2", "run P C --units 2", "annotate P --emit cert"):
         for call in ("job_of", "serve"):
             yield Case(call, line, count / "program.s", count / "certificate.cert2", count / "script.events", 1, 1, line.split())

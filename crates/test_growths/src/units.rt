@@ -13,6 +13,9 @@ use unit_core::unit::Unit;
 use unit_core::wait::Wait;
 use unit_core::world::World;
 
+/// The most instructions of a short burst.
+const SHORT: u32 = 16;
+
 /// A unit of a program, and the world that the head's instructions change.
 #[derive(Drop)]
 struct Trial<'a> {
@@ -60,8 +63,14 @@ impl<'a> Trial<'a> {
         }
     }
 
-    fn burst(&self) -> Burst<'a> {
-        Burst::run(self.unit.lease(self.accepted), BURST)
+    /// A burst of at most so many steps that its reads are copied, or of as many as there may be.
+    fn burst(&self, is_short: bool) -> Burst<'a> {
+        let lease = self.unit.lease(self.accepted);
+        if is_short {
+            Burst::run(lease, SHORT)
+        } else {
+            Burst::run(lease, BURST)
+        }
     }
 
     fn text(&self, given: &Given<'_>) -> Option<String> {
@@ -100,25 +109,43 @@ fn runs_on(given: &Given<'_>, trial: &mut Trial<'_>, is_head: bool) -> Option<()
     Some(())
 }
 
-/// A burst of a unit of each task, behind so many of its instructions, that the unit takes over.
+/// Bursts of a unit of each task, after some of its instructions, that the unit takes over.
 pub(crate) fn takes(given: &Given<'_>) -> Option<()> {
     let accepted = given.accepted()?;
     let mut text = String::new(given.alloc());
     for task in 0..accepted.program().tasks().len() {
         for count in 0..4 {
-            let mut trial = Trial::new(given, &accepted, task as u32)?;
-            for _ in 0..count {
-                let _ = trial.step(true);
-            }
-            takes_burst(given, trial, &mut text)?;
+            takes_after(given, &accepted, task as u32, count, &mut text)?;
         }
     }
     given.shows(text.as_bytes())
 }
 
+fn takes_after(
+    given: &Given<'_>,
+    accepted: &Accepted,
+    task: u32,
+    count: u32,
+    text: &mut String,
+) -> Option<()> {
+    for is_short in [true, false] {
+        let mut trial = Trial::new(given, accepted, task)?;
+        for _ in 0..count {
+            let _ = trial.step(true);
+        }
+        takes_burst(given, trial, is_short, text)?;
+    }
+    Some(())
+}
+
 // The burst comes back with a refusal.
-fn takes_burst(given: &Given<'_>, trial: Trial<'_>, text: &mut String) -> Option<()> {
-    let mut burst = trial.burst();
+fn takes_burst(
+    given: &Given<'_>,
+    trial: Trial<'_>,
+    is_short: bool,
+    text: &mut String,
+) -> Option<()> {
+    let mut burst = trial.burst(is_short);
     let Trial { mut unit, .. } = trial;
     for _ in 0..TRIES {
         let before = both_text(given, &unit, &burst)?;
