@@ -31,12 +31,12 @@ ascii_is_either b below =
           absurd (differ (sym each_is_either ∙ none))
     ]) refl
 
--- a byte beyond ASCII is escaped
 both : (s t : Bool) → (s && t) ≡ true → (s ≡ true) × (t ≡ true)
 both true true is = (refl, refl)
 both true false is = absurd (differ (sym is))
 both false t is = absurd (differ (sym is))
 
+-- a byte beyond ASCII is none of some ASCII bytes, and is escaped
 none_beyond : (ks : List ℕ) (b : ℕ) → 128 ≤ b → list_all (λ k. nat_lt k 128) ks ≡ true → list_any (λ k. k == b) ks ≡ false
 none_beyond [] b beyond all = refl
 none_beyond (k ∷ ks) b beyond all =
