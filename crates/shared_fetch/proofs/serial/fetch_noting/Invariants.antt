@@ -1,7 +1,7 @@
 -- What was taken from the reader is what is kept, and that is no more than asked for.
 use Rattle.std.proofs.Common.{◌≤◌, ◌+◌, ◌-◌, vec_len}
 use Rattle.std.specs.Io.KnownBytes.{Consumes}
-use Rattle.shared_fetch.proofs.serial.fetch.Given as goal
+use Rattle.shared_fetch.proofs.serial.fetch_noting.Given as goal
 
 abbrev pub invariant-loop-chunk : goal.invariant-loop-chunk
 invariant-loop-chunk g l =
