@@ -1,5 +1,5 @@
 -- What is at the places of a list of which one was written.
-use Rattle.std.proofs.Common.{◌≡◌, ◌<◌, ◌⊎◌, ℕ, suc, zero, inl, inr, Option, Some, None, List, [], ◌∷◌, length, set, refl, sym, ap, arith}
+use Rattle.std.proofs.Common.{◌≡◌, ◌<◌, ◌⊎◌, ℕ, suc, zero, inl, inr, Option, Some, List, [], ◌∷◌, length, set, refl, sym, ap, arith}
 use Rattle.std.specs.Prelude.{slice_get}
 use Rattle.std.specs.Option.{unwrap_or}
 

@@ -1,7 +1,7 @@
 -- Sorted from the first on, and then turned round.
-use Rattle.std.proofs.Common.{◌≡◌, ◌∙◌, List, reverse, ap, rules, sym, subst}
+use Rattle.std.proofs.Common.{◌∙◌, List, reverse, ap, rules, sym, subst}
 use Rattle.std.proofs.lemmas.List.{reverse-reverse}
-use Rattle.std.specs.List.Sorted.{IsPermutation, IsNonDecreasingBy}
+use Rattle.std.specs.List.Sorted.{IsNonDecreasingBy}
 use Rattle.std.proofs.lemmas.List.Sorted.{IsPermutation-trans, IsPermutation-reverse, IsNonDecreasingBy-from_sort_by_key}
 use Rattle.mask_certificate.specs.Blocks.{BlockView}
 use Rattle.parallel_check.proofs.reading.order.Goals as goal
