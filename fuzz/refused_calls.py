@@ -3,16 +3,17 @@
 
     refused_calls.py [--program BUILT] [--keep BUILT] [--unproved] [--only CALL] [--minutes M]
 
-It puts calls.rt.txt into the repository as a crate of its own, builds it (proved over the libraries that `rt ci` left, which takes
-some ten minutes, or with --unproved by `rt try` and clang), and takes it away again; --keep keeps the built program, and --program
-takes one that was kept. That program makes one public call on the texts of an example. A library that is
+It puts the modules of crates/test_growths and calls.rt.txt into the repository as a crate of its own, builds it (proved over the
+libraries that `rt ci` left, which takes some ten minutes, or with --unproved by `rt try` and clang), and takes it away again; --keep
+keeps the built program, and --program takes one that was kept. That program makes one public call on the texts of an example. A library that is
 loaded before the C library refuses the growths inside the call: each alone, and each with the four behind it.
 Where the call then says that memory ran out, what it was given must be as its contract says (as a rule
 unchanged), and the same call made again must answer, and leave, what it does with ample memory. Calls that make
 threads are tried three times for each growth, since threads take memory in no fixed order. A table tells how
 many growths each call has and what was answered; differences end the script with status 1.
 
-Needs python3, cc, rt unless there is --program, and Linux; it is no part of the tests.
+`.ci/growths.py` does so after `rt ci` with the calls of crates/test_growths, on two examples; the rest is no part of the tests.
+Needs python3, cc, rt unless there is --program, and Linux.
 """
 import argparse
 import collections
@@ -30,9 +31,10 @@ import ending
 HERE = pathlib.Path(__file__).resolve().parent
 TOP = HERE.parent
 EXAMPLES = TOP / "examples"
+CALLS = TOP / "crates" / "test_growths"
 NAME = "calls_of_libraries"
 BELOW = ("mips_instructions mips_plain task_descriptor annotated_asm source_map refusal_text canonical_text canonical_round_trip task_graph "
-         "mask_certificate mark_checker annotator finding_paths certificate_remarks diagnostic_text machine_events unit_core sequencer "
+         "mask_certificate mark_checker annotator finding_paths certificate_remarks diagnostic_text machine_events register_ring unit_core sequencer "
          "parallel_check threaded_runner synchronous_runner event_script text_pieces shared_fetch jobs command_line verdict_report "
          "task_lives run_summary run_picture event_trace event_json speed_curve curve_picture marks_in_text costly_marks warning_text sarif_log log_entries")
 
@@ -117,12 +119,18 @@ ON_PROGRAM = ["Memory::new", "Program::plain", "Plain::new", "Plain::step", "Pla
 ON_BOTH = ["fitting", "certificate read", "certificate write", "check_task", "verdict", "Accepted::new", "fetch", "Text::append", "Text::pieces"]
 IN_THREADS = ["read_shared", "verdict_shared", "accepts_shared", "fetch_shared", "run_threads", "run_workers", "serve"]
 # Calls on an accepted program whose run ends.
-ON_ACCEPTED = ["Machine::new", "finish", "Burst::run", "apply_burst", "run_threads", "run_steps", "lives_of_runs", "summary", "picture", "trace", "lines of JSON",
+ON_ACCEPTED = ["Unit::exec", "Unit::exec_ahead", "Unit::take", "Machine::new", "finish", "Burst::run", "apply_burst", "run_threads", "run_steps", "lives_of_runs", "summary", "picture", "trace", "lines of JSON",
                "row_of", "curve, table", "curve, picture"]
 REFUSED = {"refused: unchanged", "refused: changed", "another fault"}
 
 Case = collections.namedtuple("Case", "call name program certificate script units workers words")
 Ran = collections.namedtuple("Ran", "status faults notes answer growths refusals")
+
+
+def replaced(text, old, new):
+    if text.count(old) != 1:
+        raise SystemExit(f"{CALLS}/src/main.rt has not once: {old}")
+    return text.replace(old, new)
 
 
 def compiled(crate, folder, unproved):
@@ -145,8 +153,10 @@ def built(folder, unproved):
     crate, listed = TOP / "crates" / NAME, TOP / "crates.txt"
     before = listed.read_text()
     try:
-        (crate / "src").mkdir(parents=True)
-        shutil.copy(HERE / "calls.rt.txt", crate / "src" / "main.rt")
+        shutil.copytree(CALLS / "src", crate / "src")
+        shutil.copy(HERE / "calls.rt.txt", crate / "src" / "others.rt")
+        main = crate / "src" / "main.rt"
+        main.write_text(replaced(replaced(main.read_text(), "mod plain;", "mod others;\nmod plain;"), "_ => None,", "_ => others::made(given, rt, call),"))
         listed.write_text(before.rstrip("\n") + f"\n{NAME}: {BELOW}\n")
         return compiled(crate, folder, unproved)
     finally:
@@ -224,12 +234,27 @@ def scripts():
 def made(folder):
     """A program of long tasks, and a certificate that is large enough to be shared out."""
     long, large = folder / "long tasks", TOP / "crates" / "test_program" / "data"
-    yield from of_example(long, ["finish", "Burst::run", "apply_burst"], units=4)
+    yield from of_example(long, ["Unit::take", "finish", "Burst::run", "apply_burst"], units=4)
     for workers in (1, 2, 4):
         yield from of_example(long, ["run_workers"], units=4, workers=workers)
     for call in ("read_shared", "verdict_shared", "accepts_shared", "fetch_shared", "fetch", "Text::pieces"):
         for workers in (1, 4) if call in IN_THREADS else (1,):
             yield Case(call, "the shared certificate", large / "large.s", large / "large.cert2", large / "large.s", 1, workers, ())
+
+
+def worked_cases(folder):
+    """Cases of each call of crates/test_growths, on two examples, one script, and a program of long tasks for the bursts."""
+    count, five = EXAMPLES / "count", EXAMPLES / "five-findings"
+    for example in (count, five):
+        yield from of_example(example, ["Memory::new", "Program::plain", "Plain::new", "Plain::step", "Plain::run", "assemble", "print", "members",
+                                       "propose", "certify", "certificate read", "certificate write", "check_task", "verdict", "fetch"])
+        for workers in (1, 3):
+            yield from of_example(example, ["verdict_shared", "accepts_shared"], workers=workers)
+    yield from of_example(count, ["Unit::exec", "Unit::exec_ahead", "Machine::new", "apply", "finish", "Burst::run", "apply_burst", "run_threads"])
+    yield from of_example(folder / "long tasks", ["Unit::take", "Burst::run", "apply_burst"])
+    for line in ("seq P", "check P C --workers 3", "replay P C S --units 2", "run P C --units 2", "annotate P --emit cert"):
+        for call in ("job_of", "serve"):
+            yield Case(call, line, count / "program.s", count / "certificate.cert2", count / "script.events", 1, 1, line.split())
 
 
 class Bench:
@@ -308,12 +333,12 @@ def tried(bench, case, row, end):
                 row.judge(case, ample, bench.run(case, first, last), f"growths {first} to {last}")
 
 
-def run(program, minutes, seed=0, only=""):
-    """A row for each call. The program is one that was built from calls.rt.txt; nothing is drawn."""
+def run(program, minutes, seed=0, only="", chosen=cases):
+    """A row for each call of the chosen cases. The program is one that was built from calls.rt.txt; nothing is drawn."""
     end, rows = time.monotonic() + 60 * minutes, {}
     with tempfile.TemporaryDirectory(prefix="multiscalar-calls-") as name:
         bench = Bench(program, pathlib.Path(name))
-        for case in cases(bench.folder):
+        for case in chosen(bench.folder):
             if only in ("", case.call):
                 tried(bench, case, rows.setdefault(case.call, Row(case.call)), end)
     return [rows[call] for call in sorted(rows)]

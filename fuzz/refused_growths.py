@@ -25,8 +25,9 @@ beforehand: what it prints is replayed, and the replay must end as `run` does. N
 table or a trace of a run by several workers known: a picture must be whole, a table must have the retired tasks and their
 instructions, and a trace, also as lines of JSON, must be that of its events. Of a run by one worker, and of one in steps, all bytes are known.
 
+`.ci/growths.py` refuses each growth of `worked_cases` after `rt ci`; the rest is no part of the tests.
 Needs python3, cc and a program that is linked with the C library of the system at
-run time; it is no part of the tests.
+run time.
 """
 import argparse
 import collections
@@ -59,6 +60,63 @@ REFUSED = {
 }
 
 
+# The runs of the worked examples whose growths are refused: the words, where P is the program of an example, C its
+# certificate in both spellings, S its script and B its text without marks; what is printed, and the status.
+HALTS, ACCEPTED = "10\nhalted after 18 instructions\n", "accepted 2 tasks 6 instructions\n"
+WAITS = "1 ok\n2 ok\n3 refused 6 Waiting $8\n4 ok\n5 ok\n6 ok\nretired 0 c 0 h 1\nrunning\n"
+FINDINGS = "A 0 rule 5 $8\nA 0 rule 8 $8\nB 1 rule 9 -\nB 1 rule 12 -\nC 2 rule 2 -\nrefused 5\n"
+RETIRED = "10\nretired 4 c 16 h 18\nhalted\n"
+WORKED = [
+    ("count", "seq P", HALTS, 0),
+    ("count", "seq --budget 17 P", "10\nout of budget after 17 instructions\n", 3),
+    ("count", "seq --budget 18 P", HALTS, 0),
+    ("count", "check P C", ACCEPTED, 0),
+    ("count", "replay P C S --units 2", WAITS, 0),
+    *(("count", f"run P C --units {units} --predict {predict}", RETIRED, 0) for units in (1, 2, 4, 16) for predict in ("first", "last", "1,0")),
+    *(("five-findings", f"check P C --workers {workers}", FINDINGS, 1) for workers in (1, 3, 16)),
+]
+# `count` in canonical text, and where register 10 is forwarded as well; its certificate.
+COUNT = """.start A
+.task A create=$8,$9,$10 targets=A,B
+.task B create=- targets=-
+A:
+addiu $8,$8,1 !f
+addu $9,$9,$8 !f
+slti $10,$8,4
+bne $10,$0,A !s
+B:
+out $9
+halt
+"""
+FORWARDED = COUNT.replace("slti $10,$8,4", "slti $10,$8,4 !f")
+BARE = COUNT.replace(" !f", "").replace("create=$8,$9,$10", "create=-")
+CERTIFICATE = """cert 2
+task A
+0 0000000000000700
+1 0000000000000600
+2 0000000000000400
+3 0000000000000000
+task B
+4 0000000000000000
+5 0000000000000000
+"""
+
+
+def worked_cases(folder):
+    """The words of each run of the worked examples, what it prints, and its status. Texts are written into the folder."""
+    for name, text in (("bare.s", BARE), ("count.s", COUNT)):
+        (folder / name).write_text(text)
+    for example, line, printed, status in WORKED:
+        texts = {"P": "program.s", "S": "script.events"}
+        for certificate in ("certificate.cert1", "certificate.cert2") if " C" in line else ("",):
+            texts["C"] = certificate
+            yield [str(EXAMPLES / example / texts[word]) if word in texts else word for word in line.split()], printed, status
+    bare = str(folder / "bare.s")
+    yield ["annotate", bare], FORWARDED, 0
+    yield ["annotate", "--emit", "cert", bare], CERTIFICATE, 0
+    yield ["annotate", "--emit", "keep", str(folder / "count.s")], CERTIFICATE, 0
+
+
 def example_cases():
     """The words of each run over the examples."""
     for folder in sorted(p for p in EXAMPLES.iterdir() if (p / "program.s").exists()):
@@ -83,6 +141,11 @@ def example_cases():
         yield from run_cases(folder, program, certificate)
     for workers in ("1", "2", "3", "4", "16"):
         yield ["check", str(SHARED / "large.s"), str(SHARED / "large.cert2"), "--workers", workers]
+
+
+def every_example(folder):
+    """The words of each run but those of the texts at the limits; texts that are made are written into the folder."""
+    return itertools.chain(example_cases(), (words for words, _, _ in worked_cases(folder)), refused_cases(folder))
 
 
 def run_cases(folder, program, certificate):
@@ -325,7 +388,7 @@ def complete(program, kind, part, of, minutes, only="", jobs=alone, seed=1):
     """Each growth of all cases of a kind that falls into this part, none drawn, as one row."""
     end = time.monotonic() + 60 * minutes
     with faults.Bench(program) as bench:
-        words = limit_cases(bench.folder) if kind == "limits" else itertools.chain(example_cases(), refused_cases(bench.folder))
+        words = limit_cases(bench.folder) if kind == "limits" else every_example(bench.folder)
         cases = [Case(bench, w) for w in words if only in ("", w[0])]
         for case in cases if part == 1 else ():
             print(f"{case.growths} growths: {' '.join(case.words)}", file=sys.stderr, flush=True)
@@ -348,6 +411,20 @@ def whole(program, name, seed):
     return f"{name} (all)", sum(row[1] for row in rows), dict(answers), [one for row in rows for one in row[3]]
 
 
+def worked(program, part, of, end):
+    """Each growth of the worked examples that falls into this part, as one row, and whether the time sufficed."""
+    with faults.Bench(program) as bench:
+        row, cases = Row(f"each growth of the worked examples refused, part {part} of {of}"), []
+        for words, printed, status in worked_cases(bench.folder):
+            case = Case(bench, words)
+            cases.append(case)
+            if (case.right, case.told) != ((status, printed.encode()), b"") or case.growths == 0:
+                row.seen("another answer with ample memory", words, f"{case.right} {case.told}, {case.growths} growths", True)
+        jobs = alone(cases, None, part, of)
+        make(row, jobs, end)
+    return row.line(), next(jobs, None) is None
+
+
 def limited(name, kind, least, most, cases, draw, end, **environment):
     """Runs under a drawn limit of the system."""
     row = Row(name)
@@ -362,7 +439,7 @@ def run(program, minutes, seed, only="", rest=False):
     """The rows of all parts, in about so many minutes; with `rest`, of those alone that `whole` cannot make."""
     rows, begin, draw = [], time.monotonic(), random.Random(seed)
     with faults.Bench(program) as bench:
-        words = [w for w in itertools.chain(example_cases(), refused_cases(bench.folder)) if only in ("", w[0])]
+        words = [w for w in every_example(bench.folder) if only in ("", w[0])]
         small = [Case(bench, w) for w in words]
         parts = {**({} if rest else WHOLE), "one growth in 10 or 100 refused": at_random}
         for (name, jobs), until in zip(parts.items(), (0.5,) if rest else (0.45, 0.65, 0.72)):

@@ -1,5 +1,5 @@
 -- Setting by setting: what is read of an argument changes in one place, or not at all.
-use Rattle.std.proofs.Common.{◌≡◌, ◌∙◌, ap, refl, false, List, [], ◌∷◌, Option, Some, Bor}
+use Rattle.std.proofs.Common.{◌≡◌, ◌∙◌, ap, refl, false, [], ◌∷◌, Option, Some, Bor}
 use Rattle.clap.specs.Words.{Rule, Text, rule_of}
 use Rattle.clap.specs.declared.builder.arg.Arg.{Arg}
 use Rattle.clap.specs.declared.builder.ArgAction.{ArgAction}

@@ -1,7 +1,8 @@
 -- Which job the words of a command line ask for, over which files, or why none (own choice). Which
 -- subcommand the words name, and with which values, is what `clap` makes of them.
-use Rattle.std.specs.Prelude.{◌≡◌, ◌≢◌, ◌⊎◌, ℕ, Bool, true, false, not, List, [], Option, is_none, Some, None, Result, IsSome, IsSomeAnd, ⊤, if◌then◌else◌, codes, option_and_then, MatchResult, unwrap_or}
+use Rattle.std.specs.Prelude.{◌≡◌, ◌≢◌, ◌⊎◌, ◌≤◌, ℕ, Bool, true, false, not, List, [], Option, is_none, Some, None, Result, IsSome, IfSome, IsSomeAnd, ⊤, if◌then◌else◌, codes, option_and_then, MatchResult, unwrap_or}
 use Rattle.std.specs.String.{string_bytes}
+use Rattle.std.specs.List.{list_any}
 use Rattle.std.specs.Option.{option_map, option_map_or}
 use Rattle.std.specs.Str.{bytes_eq}
 use Rattle.std.specs.Str.Parse.{digits_value, without_leading_plus}
@@ -139,9 +140,37 @@ abbrev pub AskFor : List Text → Job → Paths → Type 0
 AskFor words job paths = (fault_of command_line words ≡ [])
     × IsSomeAnd (subcommand_of command_line words) (λ p. IsAsked p.0 p.1 job paths)
 
--- the fault where the matches give no job; no words are known for which `clap` makes such matches
-abbrev pub IsNoJob : UsageFault → Type 0
-IsNoJob fault = IsOfKind kind.MissingSubcommand fault
+-- a number is given and is none from 1 to the most
+abbrev pub IsOutside : (most : ℕ) → Option ℕ → Type 0
+IsOutside most number = IsSomeAnd number (λ n. (1 ≤ n) × (n ≤ most) → ⊥)
+
+-- a number is not given, or is none from 1 to the most
+abbrev pub IsNoNumber : (most : ℕ) → Option ℕ → Type 0
+IsNoNumber most number = IfSome number (λ n. (1 ≤ n) × (n ≤ most) → ⊥)
+
+-- a subcommand has this name
+abbrev pub is_name : Text → Bool
+is_name name = list_any (λ s. bytes_eq name s.name) command_line.subs
+
+-- something is not there that the rules of the command line ask for: `clap` has a fault for such words, and so
+-- this is not known of any words for which it has none
+abbrev pub Lacks : Text → List Row → Type 0
+Lacks name values = (is_name name ≡ false)
+    ⊎ (first_of (codes "program") values ≡ None)
+    ⊎ ((name ≡ codes "seq") × IsNoNumber 1000000 (number_at (codes "budget") values))
+    ⊎ ((name ≡ codes "check") × IsNoNumber 16 (number_at (codes "workers") values))
+    ⊎ ((name ≡ codes "replay") × IsNoNumber 16 (number_at (codes "units") values))
+    ⊎ ((name ≡ codes "replay") × (first_of (codes "certificate") values ≡ None))
+    ⊎ ((name ≡ codes "run") × IsNoNumber 16 (number_at (codes "units") values))
+    ⊎ ((name ≡ codes "run") × IsOutside 16 (number_at (codes "workers") values))
+    ⊎ ((name ≡ codes "run") × IsNoNumber 1000000 (number_at (codes "budget") values))
+    ⊎ ((name ≡ codes "curve") × IsNoNumber 16 (number_at (codes "units") values))
+    ⊎ ((name ≡ codes "curve") × IsNoNumber 1000000 (number_at (codes "budget") values))
+
+-- the fault where something is not there; or memory ran out
+abbrev pub IsLack : Type 0 → UsageFault → Type 0
+IsLack lack (Words error) = (kind_of error ≡ kind.MissingSubcommand) × lack
+IsLack lack fault = fault ≡ OutOfMemory
 
 -- the files are as many as `--least` asks for
 abbrev pub Fits : Text → List Row → Type 0
@@ -153,7 +182,7 @@ abbrev pub Refuses : Text → List Row → UsageFault → Type 0
 Refuses name values Predict = (name ≡ codes "run") × Fits (codes "certificate") values × IsSome (schedule_in values)
     × IsSome (run_emit_in values) × (predict_in values ≡ None)
 Refuses name values EmitFault = (name ≡ codes "annotate") × (emit_in values ≡ None)
-Refuses name values fault = IsNoJob fault
+Refuses name values fault = IsLack (Lacks name values) fault
     ⊎ ((name ≡ codes "explain") × IsNoValue (format_in values) fault)
     ⊎ ((name ≡ codes "check") × IsMisfit (codes "certificate") values fault)
     ⊎ ((name ≡ codes "replay") × IsMisfit (codes "script") values fault)
@@ -182,8 +211,6 @@ IsRefused words fault = (fault_of command_line words ≡ [])
 -- why the words ask for no job: `clap`'s fault has one of the kinds that it has for them; or it has none,
 -- and the subcommand gives no job
 abbrev pub IsFaultOf : List Text → UsageFault → Type 0
-IsFaultOf words (Words error) = IsAmong (kind_of error) (fault_of command_line words)
-    ⊎ ((fault_of command_line words ≡ []) × (kind_of error ≡ kind.MissingSubcommand))
-    ⊎ IsRefused words (Words error)
+IsFaultOf words (Words error) = IsAmong (kind_of error) (fault_of command_line words) ⊎ IsRefused words (Words error)
 IsFaultOf words OutOfMemory = ⊤
 IsFaultOf words fault = IsRefused words fault

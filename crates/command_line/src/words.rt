@@ -3,8 +3,8 @@ ghost use Rattle.std.specs.Prelude.{◌≡◌, ◌≤◌, ◌==◌, ◌⊎◌, I
 ghost use Rattle.std.specs.String.{string_bytes};
 ghost use Rattle.std.specs.List.{slice_split};
 ghost use Rattle.clap.specs.Words.{first_of};
-ghost use Rattle.clap.specs.declared.error.kind.ErrorKind.TheVariants.{InvalidValue};
-ghost use Rattle.command_line.specs.Asked.{AskFor, IsFaultOf, IsFrom, IsMisfit, IsNoJob, IsNoValue, IsOfKind, IsSource, Reads, is_given, curve_emit_in, emit_in, format_in, number_at, predict_in, replay_emit_in, run_emit_in, schedule_in, values_in};
+ghost use Rattle.clap.specs.declared.error.kind.ErrorKind.TheVariants.{InvalidValue, MissingSubcommand};
+ghost use Rattle.command_line.specs.Asked.{AskFor, IsFaultOf, IsFrom, IsLack, IsMisfit, IsNoNumber, IsNoValue, IsOutside, IsOfKind, IsSource, Reads, is_given, curve_emit_in, emit_in, format_in, number_at, predict_in, replay_emit_in, run_emit_in, schedule_in, values_in};
 ghost use Rattle.command_line.specs.Words.{listed_number, listed_numbers, all_there, curve_emit_of, emit_of, format_of, prediction_of, replay_emit_of, run_emit_of, schedule_of};
 ghost use Rattle.jobs.specs.Files.{HasFilesOf, is_in_file};
 ghost use Rattle.command_line.specs.declared.words.UsageFault.TheVariants.{OutOfMemory, Predict, Emit as EmitFault};
@@ -80,7 +80,7 @@ pub fn job_of(alloc: Global, words: &[String]) -> Result<(Job, Paths), UsageFaul
 
 // The fault of words that `clap` lets through and that are no job, of which there are none.
 fn no_job(alloc: Global) -> UsageFault
-    ensures { IsNoJob result }
+    ensures { IsOfKind MissingSubcommand result }
 {
     fault_of_kind(alloc, "multiscalar", ErrorKind::MissingSubcommand, "no job")
 }
@@ -125,7 +125,8 @@ fn read_job(alloc: Global, name: &str, values: &ArgMatches<'_>) -> Result<(Job, 
 // The program alone.
 fn program_path(alloc: Global, values: &ArgMatches<'_>) -> Result<Paths, UsageFault>
     ensures { MatchResult result (λ p. (first_of (codes "program") (values_in values.now) ≡ Some (string_bytes p.program))
-        × (string_bytes p.certificate ≡ []) × (string_bytes p.script ≡ [])) IsNoJob }
+        × (string_bytes p.certificate ≡ []) × (string_bytes p.script ≡ []))
+        (IsLack (first_of (codes "program") (values_in values.now) ≡ None)) }
 {
     Ok(Paths {
         program: path(alloc, values, "program")?,
@@ -143,7 +144,9 @@ fn certified_paths(
     ensures { MatchResult result (λ p. (first_of (codes "program") (values_in values.now) ≡ Some (string_bytes p.program))
         × (is_in_file source ≡ true → first_of (codes "certificate") (values_in values.now) ≡ Some (string_bytes p.certificate))
         × (is_in_file source ≡ false → string_bytes p.certificate ≡ [])
-        × (string_bytes p.script ≡ [])) IsNoJob }
+        × (string_bytes p.script ≡ []))
+        (IsLack ((first_of (codes "program") (values_in values.now) ≡ None)
+        ⊎ ((is_in_file source ≡ true) × (first_of (codes "certificate") (values_in values.now) ≡ None)))) }
 {
     Ok(Paths {
         program: path(alloc, values, "program")?,
@@ -164,7 +167,10 @@ fn replayed_paths(
     ensures { MatchResult result (λ p. (first_of (codes "program") (values_in values.now) ≡ Some (string_bytes p.program))
         × (is_in_file source ≡ true → first_of (codes "certificate") (values_in values.now) ≡ Some (string_bytes p.certificate))
         × (is_in_file source ≡ false → string_bytes p.certificate ≡ [])
-        × (first_of (if is_in_file source then codes "script" else codes "certificate") (values_in values.now) ≡ Some (string_bytes p.script))) IsNoJob }
+        × (first_of (if is_in_file source then codes "script" else codes "certificate") (values_in values.now) ≡ Some (string_bytes p.script)))
+        (IsLack ((first_of (codes "program") (values_in values.now) ≡ None)
+        ⊎ (first_of (codes "certificate") (values_in values.now) ≡ None)
+        ⊎ ((is_in_file source ≡ true) × (first_of (codes "script") (values_in values.now) ≡ None)))) }
 {
     let program = path(alloc, values, "program")?;
     match source {
@@ -185,7 +191,8 @@ fn replayed_paths(
 fn explained_paths(alloc: Global, values: &ArgMatches<'_>) -> Result<Paths, UsageFault>
     ensures { MatchResult result (λ p. (first_of (codes "program") (values_in values.now) ≡ Some (string_bytes p.program))
         × (string_bytes p.certificate ≡ unwrap_or (first_of (codes "certificate") (values_in values.now)) [])
-        × (string_bytes p.script ≡ [])) IsNoJob }
+        × (string_bytes p.script ≡ []))
+        (IsLack (first_of (codes "program") (values_in values.now) ≡ None)) }
 {
     Ok(Paths {
         program: path(alloc, values, "program")?,
@@ -233,7 +240,8 @@ fn read_source(
 }
 
 fn path(alloc: Global, values: &ArgMatches<'_>, id: &str) -> Result<String, UsageFault>
-    ensures { MatchResult result (λ p. first_of id.now (values_in values.now) ≡ Some (string_bytes p)) IsNoJob }
+    ensures { MatchResult result (λ p. first_of id.now (values_in values.now) ≡ Some (string_bytes p))
+        (IsLack (first_of id.now (values_in values.now) ≡ None)) }
 {
     match text(values, id) {
         Some(path) => Ok(String::from_str(alloc, path)?),
@@ -243,7 +251,8 @@ fn path(alloc: Global, values: &ArgMatches<'_>, id: &str) -> Result<String, Usag
 
 // The name of a file that need not be named.
 fn free_path(alloc: Global, values: &ArgMatches<'_>, id: &str) -> Result<Option<String>, UsageFault>
-    ensures { MatchResult result (λ p. first_of id.now (values_in values.now) ≡ option_map string_bytes p) IsNoJob }
+    ensures { MatchResult result (λ p. first_of id.now (values_in values.now) ≡ option_map string_bytes p)
+        (λ fault. fault ≡ OutOfMemory) }
 {
     match text(values, id) {
         Some(path) => Ok(Some(String::from_str(alloc, path)?)),
@@ -266,7 +275,8 @@ fn number(values: &ArgMatches<'_>, id: &str) -> Option<u32>
 }
 
 fn read_budget(alloc: Global, values: &ArgMatches<'_>) -> Result<Budget, UsageFault>
-    ensures { MatchResult result (λ b. number_at (codes "budget") (values_in values.now) ≡ Some b) IsNoJob }
+    ensures { MatchResult result (λ b. number_at (codes "budget") (values_in values.now) ≡ Some b)
+        (IsLack (IsNoNumber 1000000 (number_at (codes "budget") (values_in values.now)))) }
 {
     match number(values, "budget").and_then(Budget::new) {
         Some(budget) => Ok(budget),
@@ -275,7 +285,8 @@ fn read_budget(alloc: Global, values: &ArgMatches<'_>) -> Result<Budget, UsageFa
 }
 
 fn read_units(alloc: Global, values: &ArgMatches<'_>) -> Result<Units, UsageFault>
-    ensures { MatchResult result (λ u. number_at (codes "units") (values_in values.now) ≡ Some u) IsNoJob }
+    ensures { MatchResult result (λ u. number_at (codes "units") (values_in values.now) ≡ Some u)
+        (IsLack (IsNoNumber 16 (number_at (codes "units") (values_in values.now)))) }
 {
     match number(values, "units").and_then(Units::new) {
         Some(units) => Ok(units),
@@ -285,7 +296,8 @@ fn read_units(alloc: Global, values: &ArgMatches<'_>) -> Result<Units, UsageFaul
 
 // The threads of a check.
 fn read_checkers(alloc: Global, values: &ArgMatches<'_>) -> Result<Workers, UsageFault>
-    ensures { MatchResult result (λ w. number_at (codes "workers") (values_in values.now) ≡ Some w) IsNoJob }
+    ensures { MatchResult result (λ w. number_at (codes "workers") (values_in values.now) ≡ Some w)
+        (IsLack (IsNoNumber 16 (number_at (codes "workers") (values_in values.now)))) }
 {
     match number(values, "workers").and_then(Workers::new) {
         Some(workers) => Ok(workers),
@@ -295,7 +307,8 @@ fn read_checkers(alloc: Global, values: &ArgMatches<'_>) -> Result<Workers, Usag
 
 // The threads of a run: those that are asked for, or one for each unit.
 fn read_workers(alloc: Global, values: &ArgMatches<'_>, units: Units) -> Result<Workers, UsageFault>
-    ensures { MatchResult result (λ w. w ≡ unwrap_or (number_at (codes "workers") (values_in values.now)) units) IsNoJob }
+    ensures { MatchResult result (λ w. w ≡ unwrap_or (number_at (codes "workers") (values_in values.now)) units)
+        (IsLack (IsOutside 16 (number_at (codes "workers") (values_in values.now)))) }
 {
     let count = number(values, "workers").unwrap_or(units.get());
     match Workers::new(count) {
@@ -481,7 +494,7 @@ fn curve_emit(alloc: Global, values: &ArgMatches<'_>) -> Result<CurveEmit, Usage
 // What the value of `--predict` of `curve` stands for.
 fn curve_predict(alloc: Global, values: &ArgMatches<'_>) -> Result<Prediction, UsageFault>
     ensures { MatchResult result (λ p. predict_in (values_in values.now) ≡ Some p)
-        (λ fault. IsNoJob fault ⊎ IsNoValue (predict_in (values_in values.now)) fault) }
+        (λ fault. (fault ≡ OutOfMemory) ⊎ IsNoValue (predict_in (values_in values.now)) fault) }
 {
     match read_predict(alloc, values)? {
         Some(predict) => Ok(predict),

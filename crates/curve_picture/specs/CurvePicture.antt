@@ -6,7 +6,7 @@ use Rattle.machine_events.specs.declared.event.Standing.TheVariants.{Halted}
 use Rattle.speed_curve.specs.declared.row.Row.{Row}
 use Rattle.speed_curve.specs.TableText.{end_text, rate, share}
 use Rattle.curve_picture.specs.Scales.{bar_of, column_of, height_of, number_text, top_of}
-use Rattle.curve_picture.specs.declared.sheet.TheConstants.{SHEET}
+use Rattle.curve_picture.specs.FixedText.{fixed_text}
 
 -- a number of the upper scale
 abbrev pub scale_label : (y hundredths : ℕ) → List ℕ
@@ -84,5 +84,5 @@ columns_text columns top rows = flat_map (column_text columns top) rows
 unfoldable pub curve_text : List Row → List ℕ
 curve_text rows =
     let columns = max (length rows) 1 in
-    SHEET.now ++ (scale_text (top_of rows) ++ (line_text columns (top_of rows) rows
+    fixed_text ++ (scale_text (top_of rows) ++ (line_text columns (top_of rows) rows
     ++ (columns_text columns (top_of rows) rows ++ (codes "</svg>" ++ 10 ∷ []))))

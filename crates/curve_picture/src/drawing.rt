@@ -7,7 +7,7 @@ ghost use Rattle.curve_picture.specs.CurvePicture.{column_text, columns_text, cu
 use crate::columns::{write_column, write_point};
 use crate::hundredths::Hundredths;
 use crate::scale::top;
-use crate::sheet::SHEET;
+use crate::sheet::fixed_text;
 use speed_curve::row::Row;
 use std::alloc::{AllocError, Global};
 
@@ -21,7 +21,7 @@ pub fn draw(alloc: Global, rows: &[Row]) -> Result<String, AllocError>
 {
     let columns = (rows.len() as u64).max(1);
     let top = top(rows);
-    let mut text = String::from_str(alloc, SHEET)?;
+    let mut text = String::from_str(alloc, fixed_text())?;
     write_scale(&mut text, top)?;
     write_line(&mut text, columns, top, rows)?;
     write_columns(&mut text, columns, top, rows)?;

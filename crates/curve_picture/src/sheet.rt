@@ -1,8 +1,11 @@
 //! The part of the file that is the same in every picture.
 
+ghost use Rattle.std.specs.Prelude.{◌≡◌};
+ghost use Rattle.curve_picture.specs.FixedText.{fixed_text};
+
 /// The root element, its title, the style of all elements, the legend, and the lines of both scales. What a
 /// colour says, a form or a pattern says too.
-pub(crate) const SHEET: &str =
+const SHEET: &str =
     "<svg xmlns='http://www.w3.org/2000/svg' viewBox='0 0 1280 720' width='1280' height='720' role='img' font-family='system-ui,Segoe UI,Liberation Sans,Arial,sans-serif'>
 <title>Instructions retired in a step, by units</title>
 <style>
@@ -27,3 +30,11 @@ text{fill:#1f2933;font-size:14px}.title{font-size:24px;font-weight:600}.quiet,.c
 <text class='caption' transform='rotate(-90)' x='-590' y='26'>thrown away</text>
 <text class='caption' x='668' y='692'>units</text>
 ";
+
+/// All that comes before the numbers of the upper scale.
+#[tactic(auto, unfolding(crate::specs::FixedText::fixed_text))]
+pub(crate) fn fixed_text() -> &'static str
+    ensures { result.now ≡ fixed_text }
+{
+    SHEET
+}

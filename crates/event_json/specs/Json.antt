@@ -1,7 +1,8 @@
 -- Some events as lines of JSON (own choice).
 use Rattle.std.specs.Prelude.{ℕ, List, ◌++◌}
 use Rattle.task_descriptor.specs.Listing.{Listing}
-use Rattle.machine_model.specs.Machine.{State, opening}
+use Rattle.machine_model.specs.Answer.{play}
+use Rattle.machine_model.specs.Machine.{opening}
 use Rattle.machine_events.specs.declared.event.Event.{Event}
 use Rattle.source_map.specs.declared.position.Position.{Position}
 use Rattle.event_trace.specs.Entries.{entries_from}
@@ -10,6 +11,7 @@ use Rattle.event_json.specs.EventJson.{entry_line}
 use Rattle.event_json.specs.EndJson.{end_json}
 
 -- a line for each of some events on a machine of so many units at the start of a program, whose instructions
--- stand at these places; and a line for state s, in which the events leave the machine
-unfoldable pub json_text : Listing → List Position → (units : ℕ) → List Event → State → List ℕ
-json_text p places units events s = entries_from (entry_line p places) p units 1 0 (opening p) events ++ line_of (end_json p s)
+-- stand at these places; and a line for how the machine then stands
+unfoldable pub json_text : Listing → List Position → (units : ℕ) → List Event → List ℕ
+json_text p places units events =
+    entries_from (entry_line p places) p units 1 0 (opening p) events ++ line_of (end_json p (play p units events).state)

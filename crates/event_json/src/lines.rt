@@ -24,20 +24,19 @@ use task_descriptor::program::Program;
 
 /// The trace of some events on a machine of so many units that is at the start of an accepted program, as lines
 /// of JSON: an object for each event, with its number, its answer and what it changed; and behind them an
-/// object for how `machine` stands, which is what the events leave. `program_text` is the text of the program:
-/// instructions are told by their index and by its lines. An error says that memory was refused.
+/// object for how the machine then stands. `program_text` is the text of the program: instructions are told by
+/// their index and by its lines. An error says that memory was refused.
 pub fn lines(
     alloc: Global,
     accepted: &Accepted,
     units: u32,
     program_text: &[u8],
     events: &[Event],
-    machine: &Machine<'_>,
 ) -> Result<String, AllocError>
     requires some { 0 < units }
     requires few { units ≤ 16 }
     ensures { IfOk result (λ text. string_bytes text
-        ≡ json_text accepted.now.program (places_of program_text.now) units events.now (state machine.now)) }
+        ≡ json_text accepted.now.program (places_of program_text.now) units events.now) }
 {
     let program = accepted.program();
     let places = places(alloc, program_text)?;
@@ -46,8 +45,8 @@ pub fn lines(
         program,
         places: &places,
     };
-    let mut text = entries(alloc, accepted, units, events, &telling)?;
-    write_end_line(alloc, &mut text, program, machine)?;
+    let (mut text, machine) = entries(alloc, accepted, units, events, &telling)?;
+    write_end_line(alloc, &mut text, program, &machine)?;
     Ok(text)
 }
 

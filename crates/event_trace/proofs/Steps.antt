@@ -1,12 +1,13 @@
 -- An event on two machines that are abreast, and one entry more of the text.
-use Rattle.std.proofs.Common.{◌≡◌, ℕ, suc, ◌+◌, ◌<◌, ◌≤◌, List, [], ◌∷◌, ◌++◌, inl, inr, length, drop, get_or, Result, Ok, Err, refl, sym, ap, ◌∙◌, arith, add-one, append_assoc, append-nil, length-append, drop-cons}
+use Rattle.std.proofs.Common.{◌≡◌, ℕ, suc, ◌+◌, ◌<◌, ◌≤◌, List, [], ◌∷◌, ◌++◌, inl, inr, length, drop, get_or, Some, None, Result, Ok, Err, refl, sym, ap, ◌∙◌, arith, add-one, append_assoc, append-nil, length-append, drop-cons}
 use Rattle.std.proofs.lemmas.List.{drop_all}
 use Rattle.std.specs.declared.alloc.Global.{Global}
 use Rattle.std.specs.declared.vec.Vec.{Vec}
 use Rattle.task_descriptor.specs.Listing.{Listing}
-use Rattle.machine_model.specs.Machine.{State}
+use Rattle.machine_model.specs.Machine.{State, opening}
 use Rattle.machine_model.specs.Laws.{NextIsAfter}
-use Rattle.machine_model.specs.Answer.{after, answer}
+use Rattle.machine_model.specs.Answer.{after, answer, answered, first_refusal, ok_unless, play, play_event}
+use Rattle.std.specs.List.{fold}
 use Rattle.machine_events.specs.declared.event.Event.{Event}
 use Rattle.machine_events.specs.declared.event.Refused.{Refused}
 use Rattle.machine_events.specs.declared.event.Refused.TheVariants as refused
@@ -17,7 +18,7 @@ use Rattle.event_trace.specs.Changes.{changes_of}
 use Rattle.event_trace.specs.declared.told.Told.{Told}
 use Rattle.event_trace.specs.declared.told.Told.TheVariants as told
 use Rattle.event_trace.specs.Entries.{Tells, count_behind, entries_from, entry_of, state_behind, told_of}
-use Rattle.event_trace.specs.Following.{GoesOn, IsAbreast}
+use Rattle.event_trace.specs.Following.{GoesOn, IsAbreast, state_from}
 
 -- machines that are abreast answer alike
 answers_alike : (m n : MachineView) (e : Event) → IsAbreast m n → answer_to n e ≡ answer_to m e
@@ -103,6 +104,52 @@ pub answers_by : (p : Listing) (units : ℕ) (m : MachineView) (e : Event) → m
 answers_by p units m e over ring =
     ap (λ (q : Listing). answer q (units_of m) (state m) (length m.history) e) over ∙ ap (λ (k : ℕ). answer p k (state m) (length m.history) e) ring
 
+-- the next event, and what comes after it
+next_of : (events : List Event) (i : ℕ) (e : Event) → i < length events → e ≡ get_or events i e → drop i events ≡ e ∷ drop (i + 1) events
+next_of events i e within there =
+    drop-cons events i e within
+    ∙ ap (λ (k : ℕ). get_or events i e ∷ drop k events) (sym (add-one i))
+    ∙ ap (λ (x : Event). x ∷ drop (i + 1) events) (sym there)
+
+-- the events that are left leave the state that all leave
+state_more : (p : Listing) (units i n n' : ℕ) (s s' all : State) (events : List Event) (e : Event) (a : Result (Unit {0}) Refused)
+    → i < length events → e ≡ get_or events i e → a ≡ answer p units s n e → s' ≡ state_behind p s e a → n' ≡ count_behind n a
+    → state_from p units n s (drop i events) ≡ all → state_from p units n' s' (drop (i + 1) events) ≡ all
+state_more p units i n n' s s' all events e a within there answered behind counted before =
+    let rest = drop (i + 1) events in
+    ap (λ (k : ℕ). state_from p units k s' rest) (counted ∙ ap (λ (x : Result (Unit {0}) Refused). count_behind n x) answered)
+    ∙ ap (λ (t : State). state_from p units (count_behind n (answer p units s n e)) t rest) (behind ∙ ap (λ (x : Result (Unit {0}) Refused). state_behind p s e x) answered)
+    ∙ ap (λ (es : List Event). state_from p units n s es) (sym (next_of events i e within there))
+    ∙ before
+
+pub state_on : (p : Listing) (units i : ℕ) (m m' : MachineView) (all : State) (events : List Event) (e : Event)
+    → m.accepted.program ≡ p → units_of m ≡ units → GoesOn m e m' → i < length events → e ≡ get_or events i e
+    → state_from p units (length m.history) (state m) (drop i events) ≡ all
+    → state_from p units (length m'.history) (state m') (drop (i + 1) events) ≡ all
+state_on p units i m m' all events e over ring on within there before =
+    let behind = on.state ∙ ap (λ (q : Listing). state_behind q (state m) e (answer_to m e)) over in
+    state_more p units i (length m.history) (length m'.history) (state m) (state m') all events e (answer_to m e)
+    within there (answers_by p units m e over ring) behind on.count before
+
+-- behind the last event the state is there
+pub state_left : (p : Listing) (units n i : ℕ) (s all : State) (events : List Event) → length events ≤ i → state_from p units n s (drop i events) ≡ all → s ≡ all
+state_left p units n i s all events behind is =
+    ap (λ (es : List Event). state_from p units n s es) (sym (drop_all i events behind)) ∙ is
+
+-- `play` leaves that state, whatever was answered before
+played_from : (p : Listing) (units n : ℕ) (s : State) (answers : List (Result (Unit {0}) Refused)) (es : List Event)
+    → (fold (play_event p units) (record { answers = answers; state = s; count = n }) es).state ≡ state_from p units n s es
+played_from p units n s answers [] = refl
+played_from p units n s answers (e ∷ es) =
+    elim (first_refusal p units s n e) as (λ o. (fold (play_event p units) (answered o (after p s e) (record { answers = answers; state = s; count = n })) es).state
+    ≡ state_from p units (count_behind n (ok_unless o)) (state_behind p s e (ok_unless o)) es) [
+      | None ↦ played_from p units (suc n) (after p s e) (answers ++ Ok tt ∷ []) es
+      | Some why ↦ played_from p units n s (answers ++ Err why ∷ []) es
+    ]
+
+pub played : (p : Listing) (units : ℕ) (es : List Event) → state_from p units 0 (opening p) es ≡ (play p units es).state
+played p units es = sym (played_from p units 0 (opening p) [] es)
+
 -- what is told and what is left give what there was to tell
 pub entries_more : (tell : ℕ → State → Event → Result (Unit {0}) Refused → List ℕ) (p : Listing) (units i n n' : ℕ) (s s' : State) (events : List Event) (e : Event) (a : Result (Unit {0}) Refused) (told told' all : List ℕ)
     → i < length events → e ≡ get_or events i e → a ≡ answer p units s n e
@@ -113,8 +160,7 @@ entries_more tell p units i n n' s s' events e a told told' all within there ans
     let b = answer p units s n e in
     let rest = drop (i + 1) events in
     let one = told ++ tell (i + 1) s e b in
-    let cut : drop i events ≡ e ∷ rest =
-    drop-cons events i e within ∙ ap (λ (k : ℕ). get_or events i e ∷ drop k events) (sym (add-one i)) ∙ ap (λ (x : Event). x ∷ rest) (sym there) in
+    let cut = next_of events i e within there in
     ap (λ (t : List ℕ). t ++ entries_from tell p units (i + 1 + 1) n' s' rest) (entry ∙ ap (λ (x : Result (Unit {0}) Refused). told ++ tell (i + 1) s e x) answered)
     ∙ ap (λ (k : ℕ). one ++ entries_from tell p units k n' s' rest) (add-one (i + 1))
     ∙ ap (λ (k : ℕ). one ++ entries_from tell p units (suc (i + 1)) k s' rest) (counted ∙ ap (λ (x : Result (Unit {0}) Refused). count_behind n x) answered)

@@ -1,6 +1,9 @@
 -- A walk over events: two machines of which one follows the other, and how a machine goes on from event to
 -- event.
-use Rattle.std.specs.Prelude.{◌≡◌, length}
+use Rattle.std.specs.Prelude.{◌≡◌, ℕ, List, [], ◌∷◌, length}
+use Rattle.task_descriptor.specs.Listing.{Listing}
+use Rattle.machine_model.specs.Answer.{answer}
+use Rattle.machine_model.specs.Machine.{State}
 use Rattle.machine_events.specs.declared.event.Event.{Event}
 use Rattle.sequencer.specs.Machines.{MachineView, SameRing, answer_to, state, units_of}
 use Rattle.event_trace.specs.Entries.{count_behind, state_behind}
@@ -17,3 +20,9 @@ pub record GoesOn (m : MachineView) (e : Event) (m' : MachineView) : Type 0 wher
   pub state : state m' ≡ state_behind m.accepted.program (state m) e (answer_to m e)
   pub count : length m'.history ≡ count_behind (length m.history) (answer_to m e)
   pub kept : SameRing m m'
+
+-- the state that events leave from one on, with n events allowed before them: that of `play`, without its answers
+abbrev pub state_from : Listing → (units n : ℕ) → State → List Event → State
+state_from p units n s [] = s
+state_from p units n s (e ∷ es) =
+    state_from p units (count_behind n (answer p units s n e)) (state_behind p s e (answer p units s n e)) es

@@ -1,6 +1,7 @@
 -- A whole trace (own choice).
 use Rattle.std.specs.Prelude.{ℕ, List, ◌++◌, Result}
 use Rattle.task_descriptor.specs.Listing.{Listing}
+use Rattle.machine_model.specs.Answer.{play}
 use Rattle.machine_model.specs.Machine.{State, opening}
 use Rattle.machine_events.specs.declared.event.Event.{Event}
 use Rattle.machine_events.specs.declared.event.Refused.{Refused}
@@ -14,6 +15,7 @@ abbrev pub entry_text : Listing → List Position → (number : ℕ) → State �
 entry_text p places = entry_of (taken_text p places) (refused_text p) p
 
 -- the trace of some events on a machine of so many units at the start of a program, whose instructions stand at
--- these places, and which the events leave in state s
-unfoldable pub trace_text : Listing → List Position → (units : ℕ) → List Event → State → List ℕ
-trace_text p places units events s = entries_from (entry_text p places) p units 1 0 (opening p) events ++ end_text p s
+-- these places; and how the machine then stands
+unfoldable pub trace_text : Listing → List Position → (units : ℕ) → List Event → List ℕ
+trace_text p places units events =
+    entries_from (entry_text p places) p units 1 0 (opening p) events ++ end_text p (play p units events).state

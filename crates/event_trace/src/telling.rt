@@ -5,6 +5,7 @@ use crate::told::Told;
 use crate::walk::Walk;
 use machine_events::event::{Event, Refused};
 use mark_checker::accept::Accepted;
+use sequencer::machine::Machine;
 use std::alloc::{AllocError, Global};
 
 /// A form in which a trace tells of each event.
@@ -46,46 +47,50 @@ pub trait Telling {
 
 ghost use Rattle.std.specs.Prelude.{◌≡◌, ◌++◌, ◌<◌, ◌≤◌, length, IfOk, OnOk};
 ghost use Rattle.std.specs.String.{string_bytes};
+ghost use Rattle.machine_model.specs.Answer.{play};
 ghost use Rattle.machine_model.specs.Machine.{opening};
 ghost use Rattle.sequencer.specs.Machines.{answer_to, state, units_of};
 ghost use Rattle.event_trace.specs.Entries.{entries_from, entry_of, told_of};
-ghost use Rattle.event_trace.specs.Following.{GoesOn};
+ghost use Rattle.event_trace.specs.Following.{GoesOn, state_from};
 
 /// What is told of each of some events on a machine of so many units that is at the start of an accepted
-/// program. An error says that memory was refused.
-pub fn entries<T: Telling>(
+/// program, and the machine as the events leave it. An error says that memory was refused.
+pub fn entries<'a, T: Telling>(
     alloc: Global,
-    accepted: &Accepted,
+    accepted: &'a Accepted,
     units: u32,
     events: &[Event],
     telling: &T,
-) -> Result<String, AllocError>
+) -> Result<(String, Machine<'a>), AllocError>
     requires some { 0 < units }
     requires few { units ≤ 16 }
-    ensures { IfOk result (λ text. string_bytes text
+    ensures told { IfOk result (λ left. string_bytes left.0
         ≡ entries_from (entry_of (T.taken telling.now) (T.refused telling.now) accepted.now.program) accepted.now.program units 1 0 (opening accepted.now.program) events.now) }
+    ensures machine { IfOk result (λ left. state left.1 ≡ (play accepted.now.program units events.now).state) }
 {
-    let walk = Walk::new(alloc, accepted, units)?;
+    let start = Walk::new(alloc, accepted, units)?;
     let mut text = String::new(alloc);
-    write_entries(alloc, &mut text, walk, events, telling)?;
-    Ok(text)
+    let walk = write_entries(alloc, &mut text, start, events, telling)?;
+    Ok((text, walk.into_machine()))
 }
 
-/// Adds what is told of some events on a walk.
-fn write_entries<T: Telling>(
+/// Adds what is told of some events on a walk, and goes on behind them.
+fn write_entries<'a, T: Telling>(
     alloc: Global,
     text: &mut String,
-    mut walk: Walk<'_>,
+    mut walk: Walk<'a>,
     events: &[Event],
     telling: &T,
-) -> Result<(), AllocError>
-    ensures { OnOk result (string_bytes text.new ≡ string_bytes text.old
+) -> Result<Walk<'a>, AllocError>
+    ensures left { IfOk result (λ next. state next
+        ≡ state_from walk.entry.accepted.program (units_of walk.entry) (length walk.entry.history) (state walk.entry) events.now) }
+    ensures told { OnOk result (string_bytes text.new ≡ string_bytes text.old
         ++ entries_from (entry_of (T.taken telling.now) (T.refused telling.now) walk.entry.accepted.program) walk.entry.accepted.program (units_of walk.entry) 1 (length walk.entry.history) (state walk.entry) events.now) }
 {
     for (index, event) in events.iter().enumerate() {
         walk = write_entry(alloc, text, walk, index + 1, event, telling)?;
     }
-    Ok(())
+    Ok(walk)
 }
 
 /// Adds what is told of the next event on a walk.

@@ -2,7 +2,6 @@
 
 ghost use Rattle.std.specs.Prelude.{◌≡◌, ◌<◌, ◌≤◌, IfOk};
 ghost use Rattle.std.specs.String.{string_bytes};
-ghost use Rattle.sequencer.specs.Machines.{state};
 ghost use Rattle.event_trace.specs.Entries.{places_of};
 ghost use Rattle.event_trace.specs.Trace.{trace_text};
 
@@ -13,27 +12,25 @@ use crate::telling::{Telling, entries};
 use crate::text::{write_refused, write_taken};
 use machine_events::event::{Event, Refused};
 use mark_checker::accept::Accepted;
-use sequencer::machine::Machine;
 use source_map::position::Position;
 use std::alloc::{AllocError, Global};
 use task_descriptor::program::Program;
 
 /// The trace of some events on a machine of so many units that is at the start of an accepted program: each
 /// event in the words of a script, behind its number and with its answer, and under one that was allowed what
-/// it changed; and behind them how `machine` stands, which is what the events leave. `program_text` is the
-/// text of the program: instructions are told by its lines. An error says that memory was refused.
+/// it changed; and behind them how the machine then stands. `program_text` is the text of the program:
+/// instructions are told by its lines. An error says that memory was refused.
 pub fn trace(
     alloc: Global,
     accepted: &Accepted,
     units: u32,
     program_text: &[u8],
     events: &[Event],
-    machine: &Machine<'_>,
 ) -> Result<String, AllocError>
     requires some { 0 < units }
     requires few { units ≤ 16 }
     ensures { IfOk result (λ text. string_bytes text
-        ≡ trace_text accepted.now.program (places_of program_text.now) units events.now (state machine.now)) }
+        ≡ trace_text accepted.now.program (places_of program_text.now) units events.now) }
 {
     let program = accepted.program();
     let places = places(alloc, program_text)?;
@@ -41,8 +38,8 @@ pub fn trace(
         program,
         places: &places,
     };
-    let mut text = entries(alloc, accepted, units, events, &telling)?;
-    write_end(&mut text, program, machine)?;
+    let (mut text, machine) = entries(alloc, accepted, units, events, &telling)?;
+    write_end(&mut text, program, &machine)?;
     Ok(text)
 }
 

@@ -76,6 +76,13 @@ impl<'a> Walk<'a> {
         };
         Ok((walk, told))
     }
+
+    /// The machine as the events so far leave it.
+    pub fn into_machine(self) -> Machine<'a>
+        ensures { result ≡ self.entry }
+    {
+        self.before
+    }
 }
 
 /// A machine of so many units at the start of an accepted program.

@@ -1,17 +1,18 @@
 //! The verdict by several workers.
 
-ghost use Rattle.std.specs.Prelude.{◌≡◌, ◌↔◌, ◌<◌, ◌⊎◌, [], true, IfOk, Err};
+ghost use Rattle.std.specs.Prelude.{◌≡◌, ◌↔◌, ◌+◌, ◌<◌, ◌^◌, ◌⊎◌, [], true, length, OnOk, IfOk, IfErr, Err};
 ghost use Rattle.std.specs.List.{All};
 ghost use Rattle.mark_checker.specs.Rules.{all_rules};
+ghost use Rattle.parallel_check.specs.Shares.{MayStop};
 
 use crate::fault::ShareFault;
-use crate::found::{Found, by_task, in_order};
+use crate::found::{Found, Share, by_task, fill, in_order};
 use crate::gate::CheckGate;
+use crate::numbers::{End, Numbers};
 use mark_checker::finding::{Finding, Findings, Verdict};
 use mark_checker::survey::Survey;
 use mask_certificate::certificate::Cert;
 use std::alloc::{AllocError, Global};
-use std::sync::atomic::{AtomicU32, Ordering};
 use std::thread;
 use std::thread::Threads;
 use task_descriptor::program::Program;
@@ -68,7 +69,7 @@ pub fn accepts_shared<G: CheckGate, R: Threads + Sync>(
     }
 }
 
-/// The findings of all tasks, by 1 to 16 workers.
+/// The findings of all tasks, by 1 to 16 workers. What they left, for want of memory, is checked here.
 fn found_by<G: CheckGate, R: Threads + Sync>(
     rt: &R,
     alloc: Global,
@@ -79,14 +80,20 @@ fn found_by<G: CheckGate, R: Threads + Sync>(
 ) -> Result<Vec<Finding>, AllocError>
     ensures { IfOk result (λ v. v.items ≡ all_rules survey.now cert.now) }
 {
-    let next = AtomicU32::new(0);
-    let lists = thread::map_indices(
+    let tasks = survey.program().tasks().len();
+    let numbers = &Numbers::below(tasks);
+    let shares = thread::map_indices(
         rt,
         alloc,
         workers as usize,
-        &|worker| { draw(alloc, survey, cert, &next, gate, worker) },
+        &|worker|
+            requires { numbers.now.count < 2 ^ 32 }
+        { draw(alloc, survey, cert, numbers, gate, worker) },
     )?;
-    let places = by_task(alloc, survey, cert, lists, survey.program().tasks().len())?;
+    let one_each = shares.len() == workers as usize;
+    prove!(one_each);
+    let mut places = by_task(alloc, survey, cert, shares, tasks)?;
+    fill(alloc, survey, cert, gate, workers, &mut places)?;
     in_order(alloc, survey, cert, &places)
 }
 
@@ -96,29 +103,51 @@ fn draw<'a, 'p, G: CheckGate>(
     alloc: Global,
     survey: &'a Survey<'p>,
     cert: &'a Cert,
-    next: &AtomicU32,
+    numbers: &Numbers,
     gate: &G,
     worker: usize,
-) -> Vec<Found<'a, 'p>>
-    ensures { All (λ f. (f.survey.now ≡ survey.now) × (f.cert.now ≡ cert.now)) result.items }
+) -> Share<'a, 'p>
+    requires { numbers.now.count < 2 ^ 32 }
+    ensures of { All (λ f. (f.survey.now ≡ survey.now) × (f.cert.now ≡ cert.now)) result.found.items }
+    ensures stop { MayStop numbers.now.count (length result.found.items) result.end }
 {
     let worker = u32::try_from(worker).unwrap_or(MOST_WORKERS);
-    let tasks = survey.program().tasks().len() as u32;
-    let mut list = Vec::new(alloc);
-    for _ in 0..=tasks {
-        let task = next.fetch_add(1, Ordering::SeqCst);
-        if task >= tasks {
-            break;
-        }
-        gate.before(worker, task);
-        let found = Found::new(alloc, survey, cert, task);
-        gate.after(worker, task);
-        let Ok(found) = found else {
-            break;
-        };
-        if list.push(found).is_err() {
-            break;
+    let mut found = Vec::new(alloc);
+    for _ in 0..numbers.count() {
+        if let Err(end) = check_next(alloc, survey, cert, numbers, gate, worker, &mut found) {
+            return Share { found, end };
         }
     }
-    list
+    Share {
+        found,
+        end: End::AllDrawn,
+    }
+}
+
+/// Draws the number of the next task and checks that task.
+///
+/// # Errors
+///
+/// Why the worker stops.
+fn check_next<'a, 'p, G: CheckGate>(
+    alloc: Global,
+    survey: &'a Survey<'p>,
+    cert: &'a Cert,
+    numbers: &Numbers,
+    gate: &G,
+    worker: u32,
+    list: &mut Vec<Found<'a, 'p>>,
+) -> Result<(), End>
+    requires few { numbers.now.count < 2 ^ 32 }
+    requires of { All (λ f. (f.survey.now ≡ survey.now) × (f.cert.now ≡ cert.now)) list.old.items }
+    ensures of { All (λ f. (f.survey.now ≡ survey.now) × (f.cert.now ≡ cert.now)) list.new.items }
+    ensures more { OnOk result (length list.new.items ≡ length list.old.items + 1) }
+    ensures stop { IfErr result (λ end. MayStop numbers.now.count (length list.new.items) end) }
+{
+    let drawn = numbers.draw()?;
+    let found = Found::new(alloc, survey, cert, gate, worker, drawn)?;
+    match list.push(found) {
+        Ok(()) => Ok(()),
+        Err(failed) => Err(AllocError::from(failed).into()),
+    }
 }

@@ -7,4 +7,5 @@ pub mod checking;
 pub mod fault;
 mod found;
 pub mod gate;
+mod numbers;
 pub mod reading;

@@ -5,26 +5,29 @@
 //! in front of them. Then the whole is read in order, as by one reader, except that a list for which
 //! there is a block is not read again.
 
-ghost use Rattle.std.specs.Prelude.{◌≡◌, ◌≢◌, ◌↔◌, ◌⊎◌, ◌<◌, ◌≤◌, true, ℕ, List, [], length, map, slice_index_or, Ok, Err, IfOk, IfSome};
+ghost use Rattle.std.specs.Prelude.{◌≡◌, ◌≢◌, ◌↔◌, ◌⊎◌, ◌+◌, ◌*◌, ◌<◌, ◌≤◌, true, ℕ, List, [], length, map, slice_get, slice_index_or, Some, Ok, Err, OnOk, IfOk, IfSome};
 ghost use Rattle.std.specs.List.{All};
+ghost use Rattle.std.specs.List.Sorted.{IsPermutation};
 ghost use Rattle.mask_certificate.specs.CertificateText.{Spells};
 ghost use Rattle.mask_certificate.specs.CertificateReading.{cert_parse, names_of};
-ghost use Rattle.mask_certificate.specs.Blocks.{AreOf};
+ghost use Rattle.mask_certificate.specs.Blocks.{BlockView};
+ghost use Rattle.std.specs.declared.alloc.Global.{Global};
+ghost use Rattle.std.specs.declared.vec.Vec.{Vec};
 ghost use Rattle.text_pieces.specs.Pieces.{joined, AreCut};
-ghost use Rattle.parallel_check.specs.Shares.{AreFound};
+ghost use Rattle.parallel_check.specs.Shares.{AreFound, AreGroups, AreInOrder, IsLastFirst, count_in, share_start};
 
 use crate::checking::MOST_WORKERS;
+use crate::gate::ReadGate;
+use crate::numbers::{End, Numbers};
 use mask_certificate::block::Block;
 use mask_certificate::certificate::Cert;
 use mask_certificate::fault::{CertFault, Spelling};
 use mask_certificate::part::Part;
 use mask_certificate::reading::{read_parts, spelling_in};
 use std::alloc::{AllocError, Global};
-use std::cmp::Reverse;
 use std::marker::Model;
-use std::sync::atomic::{AtomicUsize, Ordering};
-use std::thread;
 use std::thread::Threads;
+use std::{mem, thread};
 use task_descriptor::program::{MOST_TASKS, Program};
 use text_pieces::text::Text;
 
@@ -38,19 +41,20 @@ const SHARES_EACH: usize = 8;
 /// What `mask_certificate::reading::read` answers, faults included, by several workers, of a text that lies
 /// in pieces, cut behind LFs. Any number of workers will do: 0 counts as 1, and more than 16 count as 16. A
 /// short text is read by one.
-pub fn read_shared<R: Threads + Sync>(
+pub fn read_shared<G: ReadGate, R: Threads + Sync>(
     rt: &R,
     alloc: Global,
     text: &Text,
     program: &Program,
     workers: u32,
+    gate: &G,
 ) -> Result<Cert, CertFault>
     ensures parsed { (result ≡ Err CertFault.OutOfMemory) ⊎ (result ≡ cert_parse text.now (names_of program.now)) }
     ensures spelled { result ≢ Err CertFault.OutOfMemory
         → (cert : List (List (ℕ × ℕ))) → (result ≡ Ok cert) ↔ Spells text.now (names_of program.now) cert }
 {
     let pieces = text.pieces(alloc)?;
-    ReadAhead::new(rt, alloc, &pieces, workers)?.read(alloc, program)
+    ReadAhead::new(rt, alloc, &pieces, workers, gate)?.read(alloc, program)
 }
 
 /// Whether the text in these pieces is shared out among so many workers.
@@ -105,17 +109,18 @@ impl<'a> ReadAhead<'a> {
     /// # Errors
     ///
     /// `AllocError` where memory was refused.
-    pub fn new<R: Threads + Sync>(
+    pub fn new<G: ReadGate, R: Threads + Sync>(
         rt: &R,
         alloc: Global,
         pieces: &[&'a [u8]],
         workers: u32,
+        gate: &G,
     ) -> Result<ReadAhead<'a>, AllocError>
         requires { AreCut (map (λ piece. piece.now) pieces.now) }
         ensures { IfOk result (λ ahead. ahead ≡ joined (map (λ piece. piece.now) pieces.now)) }
     {
-        let found = blocks_of(rt, alloc, pieces, workers)?;
-        let parts = parts_of(alloc, pieces, found)?;
+        let mut groups = blocks_of(rt, alloc, pieces, workers, gate)?;
+        let parts = parts_of(alloc, pieces, &mut groups)?;
         Ok(ReadAhead { parts })
     }
 
@@ -130,55 +135,78 @@ impl<'a> ReadAhead<'a> {
     }
 }
 
-/// The blocks that the workers read, each with the number of its piece, in the order in which `parts_of`
-/// takes them; none where the text is not shared out.
-fn blocks_of<'a, R: Threads + Sync>(
+/// The blocks that the workers read, those of each piece together; none where the text is not shared out.
+fn blocks_of<'a, G: ReadGate, R: Threads + Sync>(
     rt: &R,
     alloc: Global,
     pieces: &[&'a [u8]],
     workers: u32,
-) -> Result<Vec<(usize, Block<'a>)>, AllocError>
-    ensures { IfOk result (λ found. AreFound (map (λ piece. piece.now) pieces.now) found.items) }
+    gate: &G,
+) -> Result<Vec<Vec<Block<'a>>>, AllocError>
+    ensures groups { IfOk result (λ groups. AreGroups (map (λ piece. piece.now) pieces.now) groups.items) }
+    ensures order { IfOk result (λ groups. AreInOrder (length pieces.now) groups.items) }
 {
     // The first piece with bytes names it. A later piece that begins so too costs only time: `read` compares
     // the spelling of each block.
     match pieces.iter().find_map(|piece| spelling_in(piece)) {
         Some(spelling) if is_shared_out(pieces, workers) => {
-            read_blocks(
-                rt,
-                alloc,
-                spelling,
-                pieces,
-                workers.min(MOST_WORKERS) as usize,
-            )
+            let workers = workers.min(MOST_WORKERS) as usize;
+            let read = read_blocks(rt, alloc, spelling, pieces, workers, gate)?;
+            by_piece(alloc, pieces, read)
         }
-        _ => Ok(Vec::new(alloc)),
+        _ => empty(alloc, pieces),
     }
 }
 
-/// The blocks that these workers read: those of the last piece first, and of each piece the first of the
-/// text first.
-fn read_blocks<'a, R: Threads + Sync>(
+/// The blocks that each worker read, each with the number of its piece. It cannot be let go: who has it puts
+/// the blocks to their pieces.
+struct ReadBlocks<'a> {
+    lists: Vec<Vec<(usize, Block<'a>)>>,
+}
+
+/// The blocks that each of these workers read, each with the number of its piece.
+fn read_blocks<'a, G: ReadGate, R: Threads + Sync>(
     rt: &R,
     alloc: Global,
     spelling: Spelling,
     pieces: &[&'a [u8]],
     workers: usize,
-) -> Result<Vec<(usize, Block<'a>)>, AllocError>
+    gate: &G,
+) -> Result<ReadBlocks<'a>, AllocError>
     requires { workers ≤ 16 }
-    ensures { IfOk result (λ found. AreFound (map (λ piece. piece.now) pieces.now) found.items) }
+    ensures each { IfOk result (λ read. length read.lists.items ≡ workers) }
+    ensures found { IfOk result (λ read. All (λ list. AreFound (map (λ piece. piece.now) pieces.now) list.items) read.lists.items) }
 {
-    let next = AtomicUsize::new(0);
-    let shares = (workers * SHARES_EACH).div_ceil(pieces.len().max(1));
+    let shares = (workers * SHARES_EACH).div_ceil(pieces.len().max(1)).max(1);
+    let numbers = &Numbers::below(shares.saturating_mul(pieces.len()));
     let lists = thread::map_indices(
         rt,
         alloc,
         workers,
-        &|_| { draw(alloc, spelling, pieces, shares, &next) },
+        &|worker|
+            requires { (0 < shares) × (numbers.now.count ≤ shares * length pieces.now) }
+        { draw(alloc, spelling, pieces, shares, numbers, gate, worker) },
     )?;
-    let mut found = together(alloc, pieces, lists)?;
-    found.sort_unstable_by_key(|(piece, block)| (Reverse(*piece), block.start()));
-    Ok(found)
+    Ok(ReadBlocks { lists })
+}
+
+/// The blocks of all workers at the numbers of their pieces, of each piece the first of the text last.
+fn by_piece<'a>(
+    alloc: Global,
+    pieces: &[&'a [u8]],
+    read: ReadBlocks<'a>,
+) -> Result<Vec<Vec<Block<'a>>>, AllocError>
+    requires { All (λ list. AreFound (map (λ piece. piece.now) pieces.now) list.items) read.lists.items }
+    ensures groups { IfOk result (λ groups. AreGroups (map (λ piece. piece.now) pieces.now) groups.items) }
+    ensures order { IfOk result (λ groups. AreInOrder (length pieces.now) groups.items) }
+    ensures all { IfOk result (λ groups. count_in groups.items ≡ count_in read.entry.lists.items) }
+{
+    let ReadBlocks { lists } = read;
+    let found = together(alloc, pieces, lists)?;
+    let mut groups = empty(alloc, pieces)?;
+    put_all(pieces, found, &mut groups)?;
+    order_all(pieces, &mut groups);
+    Ok(groups)
 }
 
 /// The blocks of all workers.
@@ -188,7 +216,8 @@ fn together<'a>(
     lists: Vec<Vec<(usize, Block<'a>)>>,
 ) -> Result<Vec<(usize, Block<'a>)>, AllocError>
     requires { All (λ list. AreFound (map (λ piece. piece.now) pieces.now) list.items) lists.items }
-    ensures { IfOk result (λ found. AreFound (map (λ piece. piece.now) pieces.now) found.items) }
+    ensures found { IfOk result (λ found. AreFound (map (λ piece. piece.now) pieces.now) found.items) }
+    ensures all { IfOk result (λ found. length found.items ≡ count_in lists.entry.items) }
 {
     let mut found = Vec::new(alloc);
     for mut list in lists {
@@ -197,49 +226,154 @@ fn together<'a>(
     Ok(found)
 }
 
+/// For each piece no block.
+fn empty<'a>(alloc: Global, pieces: &[&'a [u8]]) -> Result<Vec<Vec<Block<'a>>>, AllocError>
+    ensures groups { IfOk result (λ groups. AreGroups (map (λ piece. piece.now) pieces.now) groups.items) }
+    ensures order { IfOk result (λ groups. AreInOrder (length pieces.now) groups.items) }
+    ensures none { IfOk result (λ groups. count_in groups.items ≡ 0) }
+{
+    let mut groups = Vec::with_capacity(alloc, pieces.len())?;
+    for _ in pieces {
+        groups.push(Vec::new(alloc))?;
+    }
+    Ok(groups)
+}
+
+/// Puts each block to those of its piece, behind them.
+fn put_all<'a>(
+    pieces: &[&'a [u8]],
+    found: Vec<(usize, Block<'a>)>,
+    groups: &mut [Vec<Block<'a>>],
+) -> Result<(), AllocError>
+    requires found { AreFound (map (λ piece. piece.now) pieces.now) found.items }
+    requires groups { AreGroups (map (λ piece. piece.now) pieces.now) groups.old }
+    ensures groups { AreGroups (map (λ piece. piece.now) pieces.now) groups.new }
+    ensures all { OnOk result (count_in groups.new ≡ count_in groups.old + length found.entry.items) }
+{
+    for (piece, block) in found {
+        put(pieces, piece, block, groups)?;
+    }
+    Ok(())
+}
+
+/// Puts a block to those of its piece, behind them.
+fn put<'a>(
+    pieces: &[&'a [u8]],
+    piece: usize,
+    block: Block<'a>,
+    groups: &mut [Vec<Block<'a>>],
+) -> Result<(), AllocError>
+    requires within { piece < length (map (λ piece. piece.now) pieces.now) }
+    requires of { block.text ≡ slice_index_or (map (λ piece. piece.now) pieces.now) piece [] }
+    requires groups { AreGroups (map (λ piece. piece.now) pieces.now) groups.old }
+    ensures groups { AreGroups (map (λ piece. piece.now) pieces.now) groups.new }
+    ensures more { OnOk result (count_in groups.new ≡ count_in groups.old + 1) }
+{
+    groups[piece].push(block)?;
+    Ok(())
+}
+
+/// Puts the blocks of each piece in order, the first of the text last.
+fn order_all<'a>(pieces: &[&'a [u8]], groups: &mut [Vec<Block<'a>>])
+    requires { AreGroups (map (λ piece. piece.now) pieces.now) groups.old }
+    ensures groups { AreGroups (map (λ piece. piece.now) pieces.now) groups.new }
+    ensures order { AreInOrder (length pieces.now) groups.new }
+    ensures all { count_in groups.new ≡ count_in groups.old }
+{
+    for number in 0..pieces.len() {
+        order(&mut groups[number]);
+    }
+}
+
+/// Puts blocks in order, the first of the text last.
+fn order(blocks: &mut Vec<Block<'_>>)
+    ensures same { IsPermutation blocks.old.items blocks.new.items }
+    ensures order { IsLastFirst blocks.new.items }
+{
+    blocks.sort_unstable_by_key(|block| block.start());
+    blocks.reverse();
+}
+
 /// The blocks that one worker reads: it draws the number of the next share, until none is left. Each piece
 /// has as many shares. Where memory is refused it stops, and what is missing is read later.
-fn draw<'a>(
+fn draw<'a, G: ReadGate>(
     alloc: Global,
     spelling: Spelling,
     pieces: &[&'a [u8]],
     shares: usize,
-    next: &AtomicUsize,
+    numbers: &Numbers,
+    gate: &G,
+    worker: usize,
 ) -> Vec<(usize, Block<'a>)>
+    requires each { 0 < shares }
+    requires all { numbers.now.count ≤ shares * length pieces.now }
     ensures { AreFound (map (λ piece. piece.now) pieces.now) result.items }
 {
-    let shares = shares.max(1);
+    let worker = u32::try_from(worker).unwrap_or(MOST_WORKERS);
     let mut found = Vec::new(alloc);
-    for _ in 0..=shares.saturating_mul(pieces.len()) {
-        let number = next.fetch_add(1, Ordering::SeqCst);
-        let piece = number / shares;
-        if piece >= pieces.len() {
-            break;
-        }
-        let share = share_of(pieces[piece], shares, number % shares);
-        if read_share(alloc, spelling, pieces, piece, share, &mut found).is_err() {
+    for _ in 0..numbers.count() {
+        let next = read_next(
+            alloc, spelling, pieces, shares, numbers, gate, worker, &mut found,
+        );
+        if next.is_err() {
             break;
         }
     }
     found
 }
 
-/// Where a share of a piece begins and ends.
-fn share_of(text: &[u8], shares: usize, number: usize) -> (usize, usize)
-    ensures { result.1 ≤ length text.now }
+/// Draws the number of the next share and reads the blocks that begin there.
+///
+/// # Errors
+///
+/// Why the worker stops.
+fn read_next<'a, G: ReadGate>(
+    alloc: Global,
+    spelling: Spelling,
+    pieces: &[&'a [u8]],
+    shares: usize,
+    numbers: &Numbers,
+    gate: &G,
+    worker: u32,
+    found: &mut Vec<(usize, Block<'a>)>,
+) -> Result<(), End>
+    requires each { 0 < shares }
+    requires all { numbers.now.count ≤ shares * length pieces.now }
+    requires before { AreFound (map (λ piece. piece.now) pieces.now) found.old.items }
+    ensures { AreFound (map (λ piece. piece.now) pieces.now) found.new.items }
 {
-    let size = text.len() / shares.max(1) + 1;
-    let from = number.saturating_mul(size).min(text.len());
-    (from, from.saturating_add(size).min(text.len()))
+    let number = numbers.draw()?.used();
+    let piece = number / shares;
+    let share = share_of(pieces[piece], shares, number % shares);
+    read_share(alloc, spelling, pieces, piece, share, gate, worker, found)?;
+    Ok(())
+}
+
+/// Where a share of a piece begins and ends: the first begins where the piece does, each other one where the
+/// one before it ends, and the last ends where the piece does.
+fn share_of(text: &[u8], shares: usize, number: usize) -> (usize, usize)
+    requires { number < shares }
+    ensures from { result.0 ≡ share_start (length text.now) shares number }
+    ensures to { result.1 ≡ share_start (length text.now) shares (number + 1) }
+    ensures first { number ≡ 0 → result.0 ≡ 0 }
+    ensures last { number + 1 ≡ shares → result.1 ≡ length text.now }
+{
+    let size = text.len() / shares + 1;
+    (
+        number.saturating_mul(size).min(text.len()),
+        (number + 1).saturating_mul(size).min(text.len()),
+    )
 }
 
 /// Reads the lists of the tasks whose lines begin in a share of a piece, as many as a program has tasks.
-fn read_share<'a>(
+fn read_share<'a, G: ReadGate>(
     alloc: Global,
     spelling: Spelling,
     pieces: &[&'a [u8]],
     piece: usize,
     share: (usize, usize),
+    gate: &G,
+    worker: u32,
     found: &mut Vec<(usize, Block<'a>)>,
 ) -> Result<(), AllocError>
     requires piece { piece < length pieces.now }
@@ -253,7 +387,10 @@ fn read_share<'a>(
         let Some(start) = list_from(text, offset, to) else {
             break;
         };
-        let block = Block::read(alloc, spelling, text, start)?;
+        gate.before_block(worker, piece, start);
+        let block = Block::read(alloc, spelling, text, start);
+        gate.after_block(worker, piece, start);
+        let block = block?;
         offset = block.end();
         found.push((piece, block))?;
     }
@@ -282,41 +419,21 @@ fn begins_task(text: &[u8], offset: usize) -> bool
     (offset == 0 || text[offset - 1] == b'\n') && text[offset..].starts_with(b"task ")
 }
 
-/// The pieces, each with the blocks that were found in it.
+/// The pieces, each with the blocks that were read of it, which are taken out.
 fn parts_of<'a>(
     alloc: Global,
     pieces: &[&'a [u8]],
-    mut found: Vec<(usize, Block<'a>)>,
+    groups: &mut [Vec<Block<'a>>],
 ) -> Result<Vec<Part<'a>>, AllocError>
-    requires { AreFound (map (λ piece. piece.now) pieces.now) found.items }
-    ensures { IfOk result (λ parts. parts.items ≡ map (λ piece. piece.now) pieces.now) }
+    requires groups { AreGroups (map (λ piece. piece.now) pieces.now) groups.old }
+    requires order { AreInOrder (length pieces.now) groups.old }
+    ensures parts { IfOk result (λ parts. parts.items ≡ map (λ piece. piece.now) pieces.now) }
+    ensures taken { OnOk result ((n : ℕ) → n < length pieces.now → (group : Vec BlockView Global) → slice_get groups.new n ≡ Some group → group.items ≡ []) }
 {
     let mut parts = Vec::with_capacity(alloc, pieces.len())?;
     for (number, piece) in pieces.iter().enumerate() {
-        let blocks = take_of(alloc, pieces, number, &mut found)?;
+        let blocks = mem::replace(&mut groups[number], Vec::new(alloc));
         parts.push(Part::with_blocks(piece, blocks))?;
     }
     Ok(parts)
-}
-
-/// The blocks at the end that are of this piece, which are taken out, the last of them first.
-fn take_of<'a>(
-    alloc: Global,
-    pieces: &[&'a [u8]],
-    number: usize,
-    found: &mut Vec<(usize, Block<'a>)>,
-) -> Result<Vec<Block<'a>>, AllocError>
-    requires { AreFound (map (λ piece. piece.now) pieces.now) found.old.items }
-    ensures taken { IfOk result (λ blocks. AreOf (slice_index_or (map (λ piece. piece.now) pieces.now) number []) blocks.items) }
-    ensures rest { AreFound (map (λ piece. piece.now) pieces.now) found.new.items }
-{
-    let mut blocks = Vec::new(alloc);
-    while let Some((piece, block)) = found.pop() {
-        if piece != number {
-            found.push((piece, block))?;
-            break;
-        }
-        blocks.push(block)?;
-    }
-    Ok(blocks)
 }

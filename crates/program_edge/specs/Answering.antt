@@ -11,7 +11,8 @@ use Rattle.program_edge.specs.declared.fault.Fault.{Fault}
 use Rattle.program_edge.specs.declared.fault.Fault.TheVariants.{Serve}
 use Rattle.program_edge.specs.declared.unread.Unread.{Unread}
 use Rattle.program_edge.specs.declared.told.Ending.{Ending}
-use Rattle.program_edge.specs.FileTexts.{Known, Unknown, AreTextsOf}
+use Rattle.program_edge.specs.FileTexts.{Known, AreTextsOf}
+use Rattle.program_edge.specs.Asking.{KnownWords, IsAskedOf}
 use Rattle.program_edge.specs.Telling.{IsTold, unread_fault}
 
 -- what the two streams hold, where that is known
@@ -47,9 +48,10 @@ abbrev pub IsAnswered : (known : List ℕ → Known) → (asked : Result (Job ×
 IsAnswered known (Ok asked) ending old new = IsRead known asked.0 asked.1 ending old new
 IsAnswered known (Err fault) ending old new = IsTold fault ending.status ending.is_told old.output new.output old.errors new.errors
 
--- a run of the program on some words, of whose files nothing is known
-pub record IsRunOf (status : ℕ) (old new : Streams) : Type 0 where
+-- a run of the program on words and files of which this is known
+pub record IsRunOf (words : KnownWords) (known : List ℕ → Known) (status : ℕ) (old new : Streams) : Type 0 where
   pub asked : Result (Job × Paths) Fault
+  pub by_words : IsAskedOf words asked
   pub ending : Ending
-  pub answered : IsAnswered (λ _. Unknown) asked ending old new
+  pub answered : IsAnswered known asked ending old new
   pub ended : status ≡ ending.status

@@ -1,7 +1,10 @@
 -- What the program is asked for by its words (own choice).
-use Rattle.std.specs.Prelude.{ℕ, ◌+◌, ◌<◌, ◌≤◌, List, if◌then◌else◌, codes, Result, Ok, Err}
+use Rattle.std.specs.Prelude.{◌≡◌, ◌⊎◌, ℕ, ◌+◌, ◌<◌, ◌≤◌, ⊤, map, List, if◌then◌else◌, codes, Result, Ok, Err}
 use Rattle.std.specs.String.{string_bytes}
 use Rattle.std.specs.Str.{bytes_eq}
+use Rattle.std.specs.declared.alloc.Global.{Global}
+use Rattle.std.specs.declared.string.String.{String}
+use Rattle.std.specs.declared.vec.Vec.{Vec}
 use Rattle.clap.specs.Words.{Text}
 use Rattle.jobs.specs.Files.{HasFilesOf}
 use Rattle.jobs.specs.declared.job.Job.{Job}
@@ -9,7 +12,7 @@ use Rattle.jobs.specs.declared.job.Paths.{Paths}
 use Rattle.command_line.specs.Asked.{AskFor, IsFaultOf as IsFaultOfWords}
 use Rattle.command_line.specs.declared.words.UsageFault.{UsageFault}
 use Rattle.program_edge.specs.declared.fault.Fault.{Fault}
-use Rattle.program_edge.specs.declared.fault.Fault.TheVariants.{InputTwice}
+use Rattle.program_edge.specs.declared.fault.Fault.TheVariants.{InputTwice, NoText, OutOfMemory}
 use Rattle.program_edge.specs.Telling.{IsFaultOf}
 
 -- a file of the name `-` is standard input
@@ -43,3 +46,24 @@ abbrev pub IsAskedBy : List Text → Result (Job × Paths) Fault → Type 0
 IsAskedBy words (Ok asked) = Ask words asked.0 asked.1 × (input_count asked.1 ≤ 1)
 IsAskedBy words (Err InputTwice) = AskForInputTwice words
 IsAskedBy words (Err told) = IsTheirFault words told
+
+-- what is known of the words of a process: nothing, that one of them is no text, or which they are
+pub data KnownWords : Type 0 where
+  AnyWords : KnownWords
+  NotAllTexts : KnownWords
+  Are : List Text → KnownWords
+
+-- what reading them gives
+abbrev pub AreWordsOf : KnownWords → Result (Vec (String Global) Global) Fault → Type 0
+AreWordsOf AnyWords (Ok read) = ⊤
+AreWordsOf NotAllTexts (Ok read) = ⊥
+AreWordsOf (Are words) (Ok read) = map string_bytes read.items ≡ words
+AreWordsOf (Are words) (Err fault) = fault ≡ OutOfMemory
+AreWordsOf known (Err fault) = (fault ≡ NoText) ⊎ (fault ≡ OutOfMemory)
+
+-- what a process is asked for whose words are known so far: the job that these words ask for, or their
+-- fault; `NoText` where one of them is no text. Memory may run out
+abbrev pub IsAskedOf : KnownWords → Result (Job × Paths) Fault → Type 0
+IsAskedOf AnyWords asked = (asked ≡ Err NoText) ⊎ ((words : List Text) × IsAskedBy words asked)
+IsAskedOf NotAllTexts asked = (asked ≡ Err NoText) ⊎ (asked ≡ Err OutOfMemory)
+IsAskedOf (Are words) asked = IsAskedBy words asked

@@ -8,6 +8,7 @@ use Rattle.std.specs.declared.io.ErrorKind.TheVariants as kind
 use Rattle.std.specs.declared.string.String.{String}
 use Rattle.std.specs.declared.alloc.Global.{Global}
 use Rattle.jobs.specs.declared.job.Job.{Job}
+use Rattle.jobs.specs.declared.job.Job.TheVariants.{Check}
 use Rattle.jobs.specs.declared.job.Paths.{Paths}
 use Rattle.jobs.specs.declared.job.Texts.{Texts}
 use Rattle.jobs.specs.Files.{has_certificate, has_script}
@@ -24,15 +25,6 @@ pub data Known : Type 0 where
   Refuses : ErrorKind → Known
   Holds : List ℕ → Known
 
--- an open file has left what is known of it, and a file that can't be opened fails as is known. A file that
--- holds bytes is there
-abbrev pub OpensAs : {F : Type 0} → (F → Option (List ℕ)) → Known → Result F Error → Type 0
-OpensAs remaining Unknown opened = ⊤
-OpensAs remaining (Refuses kind) (Ok file) = ⊥
-OpensAs remaining (Refuses kind) (Err error) = error_kind error ≡ kind
-OpensAs remaining (Holds bytes) (Ok file) = remaining file ≡ Some bytes
-OpensAs remaining (Holds bytes) (Err error) = error_kind error ≢ kind.NotFound
-
 -- why a file is not opened, for the kind of the error
 abbrev pub opening_reason : ErrorKind → Reason
 opening_reason kind.NotFound = NoSuchFile
@@ -40,6 +32,15 @@ opening_reason kind.IsADirectory = IsDirectory
 opening_reason kind.PermissionDenied = NotPermitted
 opening_reason kind.OutOfMemory = OutOfMemory
 opening_reason _ = Other
+
+-- an open file has left what is known of it, and a file that can't be opened fails as is known. A file that
+-- holds bytes is opened unless memory runs out
+abbrev pub OpensAs : {F : Type 0} → (F → Option (List ℕ)) → Known → Result F Error → Type 0
+OpensAs remaining Unknown opened = ⊤
+OpensAs remaining (Refuses kind) (Ok file) = ⊥
+OpensAs remaining (Refuses kind) (Err error) = error_kind error ≡ kind
+OpensAs remaining (Holds bytes) (Ok file) = remaining file ≡ Some bytes
+OpensAs remaining (Holds bytes) (Err error) = error_kind error ≡ kind.OutOfMemory
 
 -- an open file is there
 abbrev pub but_there : Reason → Reason
@@ -50,6 +51,11 @@ but_there reason = reason
 abbrev pub reading_reason : FetchFault → Reason
 reading_reason fetch.OutOfMemory = OutOfMemory
 reading_reason (fetch.Read kind) = but_there (opening_reason kind)
+
+-- how many threads fetch a certificate
+abbrev pub fetchers_of : Job → ℕ
+fetchers_of (Check source workers) = workers
+fetchers_of _ = 1
 
 -- the most bytes of a program text, and of any other file
 abbrev pub most_program : ℕ
@@ -62,7 +68,12 @@ most_file = 134217728
 abbrev pub IsUnread : Known → Reason → Type 0
 IsUnread Unknown reason = reason ≢ TooLong
 IsUnread (Refuses kind) reason = reason ≡ opening_reason kind
-IsUnread (Holds bytes) reason = (reason ≢ NoSuchFile) × (reason ≢ TooLong)
+IsUnread (Holds bytes) reason = reason ≡ OutOfMemory
+
+-- why an open file of which this is known is not read: one that holds bytes is read unless memory runs out
+abbrev pub IsUnreadOpen : Known → Reason → Type 0
+IsUnreadOpen (Refuses kind) reason = ⊤
+IsUnreadOpen known reason = IsUnread known reason
 
 -- what reading a file may find: its bytes, or the first `most + 1` of them; or why it can't be read
 abbrev pub IsFound : Known → (most : ℕ) → Result (List ℕ) Reason → Type 0

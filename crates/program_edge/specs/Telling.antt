@@ -10,17 +10,11 @@ use Rattle.program_edge.specs.declared.unread.Unread.{Unread}
 use Rattle.jobs.specs.declared.job.Job.{Job}
 use Rattle.jobs.specs.declared.job.Job.TheVariants.{Explain}
 use Rattle.clap.specs.Values.{kind_of}
-use Rattle.clap.specs.declared.error.kind.ErrorKind.{ErrorKind}
-use Rattle.clap.specs.declared.error.kind.ErrorKind.TheVariants as kind
 use Rattle.command_line.specs.declared.words.UsageFault.{UsageFault}
 use Rattle.command_line.specs.declared.words.UsageFault.TheVariants as usage
 use Rattle.verdict_report.specs.FaultText.{serve_fault_text}
-
--- `clap` has something to show, and no mistake to explain
-abbrev pub is_shown : ErrorKind → Bool
-is_shown kind.DisplayHelp = true
-is_shown kind.DisplayVersion = true
-is_shown _ = false
+use Rattle.program_edge.specs.Usage.{is_shown}
+use Rattle.program_edge.specs.Writing.{Begins}
 
 -- why a file gives no text; the limit is that of a certificate or a script
 abbrev pub reason_words : Reason → List ℕ
@@ -31,36 +25,42 @@ reason_words reason.TooLong = codes "longer than 134217728 bytes"
 reason_words reason.OutOfMemory = codes "out of memory"
 reason_words reason.Other = codes "cannot be read"
 
+-- the file that gives no text, and why
+abbrev pub unread_words : Unread → List ℕ
+unread_words unread = (codes "file " ++ string_bytes unread.path) ++ (codes ": " ++ reason_words unread.reason)
+
 -- what a fault is called: the text that `clap` wrote, or what stands behind `multiscalar: `
 abbrev pub name_of : Fault → List ℕ
-name_of (Help text) = string_bytes text
-name_of (Words text) = string_bytes text
+name_of (Help usage) = string_bytes usage.text
+name_of (Words usage) = string_bytes usage.text
 name_of NoText = codes "1 Words"
 name_of Predict = codes "2 Predict"
 name_of Emit = codes "3 Emit"
 name_of OutOfMemory = codes "4 OutOfMemory"
 name_of InputTwice = codes "5 InputTwice: only one file can be - (standard input)"
 name_of (File path) = codes "file " ++ string_bytes path
-name_of (Explained unread) = codes "file " ++ (string_bytes unread.path ++ (codes ": " ++ reason_words unread.reason))
+name_of (Explained unread) = unread_words unread
 name_of (Serve fault) = serve_fault_text fault
 
 -- what is said: a text as it stands, or one line
 abbrev pub said_of : Fault → List ℕ
-said_of (Help text) = name_of (Help text)
-said_of (Words text) = name_of (Words text)
+said_of (Help usage) = name_of (Help usage)
+said_of (Words usage) = name_of (Words usage)
 said_of fault = codes "multiscalar: " ++ (name_of fault ++ 10 ∷ [])
 
 -- help is no fault
 abbrev pub is_help : Fault → Bool
-is_help (Help text) = true
+is_help (Help usage) = true
 is_help _ = false
 
 -- a fault was told: help on standard output, any other fault on standard error, and the other stream stays
--- as it was; the status is 0 for help that was written whole, else 2
+-- as it was; the status is 0 for help that was written whole, else 2. Where not all of it was written, what
+-- went out is a beginning of it
 abbrev pub IsTold : Fault → (status : ℕ) → (is_told : Bool) → (output output' errors errors' : Option (List ℕ)) → Type 0
 IsTold fault status is_told output output' errors errors' =
     (status ≡ (if is_help fault && is_told then 0 else 2))
     × (is_told ≡ true → Appends (if is_help fault then output else errors) (if is_help fault then output' else errors') (said_of fault))
+    × Begins (if is_help fault then output else errors) (if is_help fault then output' else errors') (said_of fault)
     × Keeps (if is_help fault then errors else output) (if is_help fault then errors' else output')
 
 -- what is told of a file that gives no text: only `explain` says why
@@ -68,10 +68,10 @@ abbrev pub unread_fault : Job → Unread → Fault
 unread_fault (Explain name certificate warnings format) unread = Explained unread
 unread_fault _ unread = File unread.path
 
--- what is told of a fault of the words; the text of `clap`'s own faults is `clap`'s
+-- what is told of a fault of the words: of `clap`'s own faults the text that is made of it
 abbrev pub IsFaultOf : UsageFault → Fault → Type 0
-IsFaultOf (usage.Words error) (Help text) = is_shown (kind_of error) ≡ true
-IsFaultOf (usage.Words error) (Words text) = is_shown (kind_of error) ≡ false
+IsFaultOf (usage.Words error) (Help text) = (text.error ≡ error) × (is_shown (kind_of error) ≡ true)
+IsFaultOf (usage.Words error) (Words text) = (text.error ≡ error) × (is_shown (kind_of error) ≡ false)
 IsFaultOf (usage.Words error) fault = fault ≡ OutOfMemory
 IsFaultOf usage.Predict fault = fault ≡ Predict
 IsFaultOf usage.Emit fault = fault ≡ Emit

@@ -1,28 +1,27 @@
 //! What the words of the command line ask for.
-ghost use Rattle.std.specs.Prelude.{◌≡◌, ◌≤◌, IfOk, map};
+ghost use Rattle.std.specs.Prelude.{◌≡◌, ◌≤◌, map};
 ghost use Rattle.std.specs.String.{string_bytes};
-ghost use Rattle.jobs.specs.Files.{HasFilesOf};
-ghost use Rattle.program_edge.specs.Asking.{IsAskedBy, input_count, input_of};
+ghost use Rattle.program_edge.specs.Asking.{IsAskedBy, IsAskedOf, input_count, input_of};
 ghost use Rattle.program_edge.specs.Telling.{IsFaultOf};
 
 use crate::fault::Fault;
+use crate::usage::UsageText;
+use crate::words::ProcessWords;
 use command_line::words::{UsageFault, job_of};
 use jobs::job::{Job, Paths};
 use std::alloc::{AllocError, Global};
-use std::env;
-use std::io::ErrorKind;
-use std::rt::Env;
 
 /// The name of standard input. A file of this name is `./-`. (own choice)
 pub const STANDARD_INPUT: &str = "-";
 
-/// The job that the words of this process ask for, or the fault of its words. (own choice)
-pub fn asked<R: Env + AllocGlobal>(rt: &R) -> Result<(Job, Paths), Fault>
-    ensures files { IfOk result (λ asked. HasFilesOf asked.0 asked.1) }
-    ensures once { IfOk result (λ asked. input_count asked.1 ≤ 1) }
+/// The job that the words of a process ask for, or why there is none. (own choice)
+pub fn asked<W: ProcessWords>(alloc: Global, process: &W) -> Result<(Job, Paths), Fault>
+    ensures { IsAskedOf (W.known_words process.now) result }
 {
-    let words = read_words(rt)?;
-    asked_by(rt.alloc(), words.as_slice())
+    match process.words(alloc) {
+        Ok(words) => asked_by(alloc, words.as_slice()),
+        Err(fault) => Err(fault),
+    }
 }
 
 /// The job that words ask for, or their fault. The first word is the program's own name. (own choice)
@@ -59,25 +58,14 @@ fn input(name: &str) -> u32
     u32::from(name == STANDARD_INPUT)
 }
 
-// The words, the program's own name first.
-fn read_words<R: Env + AllocGlobal>(rt: &R) -> Result<Vec<String>, Fault> {
-    match env::args(rt) {
-        Ok(words) => words
-            .collect(rt.alloc())
-            .map_err(|_: AllocError| Fault::OutOfMemory),
-        Err(error) if error.kind() == ErrorKind::OutOfMemory => Err(Fault::OutOfMemory),
-        Err(_) => Err(Fault::NoText),
-    }
-}
-
 /// The fault that is told for one of the words. `OutOfMemory` may come in place of a text. (own choice)
 pub fn fault_of(alloc: Global, fault: UsageFault) -> Fault
     ensures { IsFaultOf fault result }
 {
     match fault {
-        UsageFault::Words(error) => match format!(in alloc; "{error}") {
-            Ok(text) if error.use_stderr() => Fault::Words(text),
-            Ok(text) => Fault::Help(text),
+        UsageFault::Words(error) => match UsageText::new(alloc, error) {
+            Ok(text) if text.is_shown() => Fault::Help(text),
+            Ok(text) => Fault::Words(text),
             Err(AllocError) => Fault::OutOfMemory,
         },
         UsageFault::Predict => Fault::Predict,

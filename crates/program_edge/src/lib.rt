@@ -1,7 +1,8 @@
 //! The program but for its two streams: from its words and files to its status.
 //!
-//! `program::run` is what `main` calls. What it does is in `answer`, which is proved over any files and
-//! any streams: `texts` reads the files that a job has, `told` says what went wrong.
+//! `program::run` is what `main` calls. It is proved over any words, any files and any streams; `words` and
+//! `named_files` have those of the system. What it does is in `answer`: `texts` reads the files that a job
+//! has, `told` says what went wrong.
 #![tactic(auto)]
 
 pub mod answer;
@@ -12,3 +13,6 @@ pub mod program;
 pub mod texts;
 pub mod told;
 pub mod unread;
+pub mod usage;
+pub mod words;
+mod writing;

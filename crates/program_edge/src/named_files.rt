@@ -1,9 +1,11 @@
 //! Files by their names.
-ghost use Rattle.std.specs.Prelude.{List, ℕ, None};
-ghost use Rattle.program_edge.specs.FileTexts.{Known, Unknown, OpensAs};
+ghost use Rattle.std.specs.Prelude.{◌≡◌, if◌then◌else◌, List, ℕ, None, Some};
+ghost use Rattle.program_edge.specs.FileTexts.{Known, Unknown, OpensAs, IsUnreadOpen};
 
 use crate::asked::STANDARD_INPUT;
+use crate::unread::{Reason, reason_of_reading};
 use shared_fetch::positioned::PositionedFile;
+use shared_fetch::serial::FetchFault;
 use std::fs::OpenFile;
 use std::io::{ErrorKind, Input, Read};
 use std::marker::Sync;
@@ -23,10 +25,16 @@ pub trait NamedFiles {
     ///
     /// # Errors
     ///
-    /// What the system tells; `NotFound` only where there is no file of this name.
+    /// What the system tells; `NotFound` only where there is no file of this name. A file of known bytes is
+    /// refused only for want of memory.
     fn open(&self, name: &str) -> io::Result<Self::File>
         ensures opened { OpensAs Self.File.remaining (known self.now name.now) result }
         ensures positioned { OpensAs Self.File.bytes (known self.now name.now) result };
+
+    /// Why the open file of this name was not read, for the fault that reading it had. A file of known bytes
+    /// is read unless memory runs out.
+    fn why_unread(&self, name: &str, fault: FetchFault) -> Reason
+        ensures { IsUnreadOpen (known self.now name.now) result };
 }
 
 /// The files of the system, of which nothing is known; `-` is standard input.
@@ -68,11 +76,7 @@ impl<F: Read + FileExt + OpenFile + Sync, I: Read + Sync> PositionedFile for Sys
             return None;
         };
         let metadata = file.metadata().ok()?;
-        if metadata.is_file() {
-            Some(metadata.len())
-        } else {
-            None
-        }
+        hint_of(metadata.is_file(), metadata.len())
     }
 
     fn read_at(&self, buffer: &mut [u8], offset: u64) -> io::Result<usize> {
@@ -83,11 +87,21 @@ impl<F: Read + FileExt + OpenFile + Sync, I: Read + Sync> PositionedFile for Sys
     }
 }
 
+// The size of a regular file; what the system says of any other file is no size.
+fn hint_of(is_file: bool, len: u64) -> Option<u64>
+    ensures { result ≡ (if is_file then Some len else None) }
+{
+    is_file.then_some(len)
+}
+
 impl<R: Files + Input> NamedFiles for SystemFiles<'_, R>
 where
     R::File: FileExt + Sync,
     R::Reader: Sync,
 {
+    ghost use Rattle.std.specs.Prelude.{◌≡◌};
+    ghost use Rattle.program_edge.specs.FileTexts.{IsUnreadOpen, reading_reason};
+
     type File = SystemFile<R::File, R::Reader>;
 
     ghost known = { λ _ _. Unknown };
@@ -98,5 +112,33 @@ where
         }
         let file = fs::open(self.rt, name)?;
         Ok(SystemFile::Path(file))
+    }
+
+    fn why_unread(&self, _name: &str, fault: FetchFault) -> Reason
+        ensures open { IsUnreadOpen Unknown result }
+        ensures system { result ≡ reading_reason fault }
+    {
+        reason_of_reading(fault)
+    }
+}
+
+/// The files of this process.
+impl NamedFiles for HostRuntime {
+    ghost use Rattle.std.specs.Prelude.{◌≡◌};
+    ghost use Rattle.program_edge.specs.FileTexts.{IsUnreadOpen, reading_reason};
+
+    type File = SystemFile<<HostRuntime as Files>::File, <HostRuntime as Input>::Reader>;
+
+    ghost known = { λ _ _. Unknown };
+
+    fn open(&self, name: &str) -> io::Result<Self::File> {
+        SystemFiles::new(self).open(name)
+    }
+
+    fn why_unread(&self, name: &str, fault: FetchFault) -> Reason
+        ensures open { IsUnreadOpen Unknown result }
+        ensures system { result ≡ reading_reason fault }
+    {
+        SystemFiles::new(self).why_unread(name, fault)
     }
 }

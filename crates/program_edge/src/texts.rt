@@ -3,11 +3,11 @@ ghost use Rattle.std.specs.Prelude.{◌≡◌, ◌≤◌, List, ℕ, Result, Ok,
 ghost use Rattle.std.specs.Result.{result_map_both};
 ghost use Rattle.std.specs.String.{string_bytes};
 ghost use Rattle.jobs.specs.Files.{has_certificate};
-ghost use Rattle.program_edge.specs.FileTexts.{IsFound, AreTextsOf, text_of, most_program, most_file};
+ghost use Rattle.program_edge.specs.FileTexts.{IsFound, AreTextsOf, fetchers_of, text_of, most_program, most_file};
 ghost use Rattle.program_edge.specs.declared.unread.Reason.{Reason};
 
 use crate::named_files::NamedFiles;
-use crate::unread::{Reason, Unread, reason_of_opening, reason_of_reading};
+use crate::unread::{Reason, Unread, reason_of_opening};
 use annotated_asm::assembler::MOST_TEXT;
 use jobs::job::{Job, Paths, Texts};
 use shared_fetch::serial::fetch;
@@ -110,7 +110,9 @@ fn read_certificate<F: NamedFiles, R: Threads + Sync>(
 }
 
 // How many threads fetch the certificate: those of `check`, and else one.
-fn fetchers(job: &Job) -> u32 {
+fn fetchers(job: &Job) -> u32
+    ensures { result ≡ fetchers_of job.now }
+{
     match job {
         Job::Check { workers, .. } => workers.get(),
         _ => 1,
@@ -130,7 +132,10 @@ fn read_pieces<F: NamedFiles, R: Threads + Sync>(
     let mut opened = files
         .open(name)
         .map_err(|error| reason_of_opening(error.kind()))?;
-    fetch_shared(rt, alloc, &mut opened, MOST_FILE, workers).map_err(reason_of_reading)
+    match fetch_shared(rt, alloc, &mut opened, MOST_FILE, workers) {
+        Ok(text) => Ok(text),
+        Err(fault) => Err(files.why_unread(name, fault)),
+    }
 }
 
 // The file of this name, or its first `most + 1` bytes; or why it can't be read.
@@ -146,5 +151,8 @@ fn read_file<F: NamedFiles>(
     let mut file = files
         .open(name)
         .map_err(|error| reason_of_opening(error.kind()))?;
-    fetch(alloc, &mut file, most).map_err(reason_of_reading)
+    match fetch(alloc, &mut file, most) {
+        Ok(text) => Ok(text),
+        Err(fault) => Err(files.why_unread(name, fault)),
+    }
 }

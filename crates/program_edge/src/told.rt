@@ -1,11 +1,17 @@
 //! What the program says of a fault, and its status.
-ghost use Rattle.std.specs.Prelude.{◌≡◌, OnOk};
+ghost use Rattle.std.specs.Prelude.{◌≡◌, ◌∷◌, ◌++◌, [], OnOk, codes};
 ghost use Rattle.std.specs.Io.KnownBytes.{Appends};
-ghost use Rattle.program_edge.specs.Telling.{IsTold, said_of};
+ghost use Rattle.std.specs.String.{string_bytes};
+ghost use Rattle.verdict_report.specs.FaultText.{serve_fault_text};
+ghost use Rattle.program_edge.specs.Telling.{IsTold, name_of, said_of, unread_words};
+ghost use Rattle.program_edge.specs.Writing.{Begins};
 
 use crate::fault::Fault;
+use crate::unread::Unread;
+use crate::writing::write_text;
 use std::io;
 use std::io::Write;
+use verdict_report::fault::ServeFault;
 
 /// How the program ends.
 #[derive(Clone, Copy, Debug, PartialEq, Eq)]
@@ -17,7 +23,8 @@ pub struct Ending {
 }
 
 /// Says what a fault is: help on standard output, any other fault on standard error. The status is 0 for
-/// help that was written whole, else 2. (own choice)
+/// help that was written whole, else 2. Where the writer fails, what went out is a beginning of it. (own
+/// choice)
 pub fn tell<O: Write, E: Write>(fault: &Fault, output: &mut O, errors: &mut E) -> Ending
     ensures { IsTold fault.now result.status result.is_told (O.contents output.old)
         (O.contents output.new) (E.contents errors.old) (E.contents errors.new) }
@@ -39,18 +46,83 @@ pub fn tell<O: Write, E: Write>(fault: &Fault, output: &mut O, errors: &mut E) -
 
 // Says what a fault is, so that it has arrived.
 fn say<W: Write>(fault: &Fault, writer: &mut W) -> io::Result<()>
-    ensures { OnOk result (Appends (W.contents writer.old) (W.contents writer.new) (said_of fault.now)) }
+    ensures whole { OnOk result (Appends (W.contents writer.old) (W.contents writer.new) (said_of fault.now)) }
+    ensures part { Begins (W.contents writer.old) (W.contents writer.new) (said_of fault.now) }
 {
-    write_line(fault, writer)?;
+    write_fault(fault, writer)?;
     writer.flush()
 }
 
-// Writes what a fault says: a text as it stands, or one line.
-fn write_line<W: Write>(fault: &Fault, writer: &mut W) -> io::Result<()>
-    ensures { OnOk result (Appends (W.contents writer.old) (W.contents writer.new) (said_of fault.now)) }
+// Writes what a fault says: a text of `clap` as it stands, or one line.
+fn write_fault<W: Write>(fault: &Fault, writer: &mut W) -> io::Result<()>
+    ensures whole { OnOk result (Appends (W.contents writer.old) (W.contents writer.new) (said_of fault.now)) }
+    ensures part { Begins (W.contents writer.old) (W.contents writer.new) (said_of fault.now) }
 {
     match fault {
-        Fault::Help(_) | Fault::Words(_) => write!(writer, "{fault}"),
-        _ => writeln!(writer, "multiscalar: {fault}"),
+        Fault::Help(_) | Fault::Words(_) => write_name(fault, writer),
+        _ => write_line(fault, writer),
+    }
+}
+
+// Writes the program's name, that of the fault, and the end of the line.
+fn write_line<W: Write>(fault: &Fault, writer: &mut W) -> io::Result<()>
+    ensures whole { OnOk result (Appends (W.contents writer.old) (W.contents writer.new)
+        (codes "multiscalar: " ++ (name_of fault.now ++ 10 ∷ []))) }
+    ensures part { Begins (W.contents writer.old) (W.contents writer.new)
+        (codes "multiscalar: " ++ (name_of fault.now ++ 10 ∷ [])) }
+{
+    write_text("multiscalar: ", writer)?;
+    write_name(fault, writer)?;
+    write_text("\n", writer)
+}
+
+// Writes the name of a fault.
+fn write_name<W: Write>(fault: &Fault, writer: &mut W) -> io::Result<()>
+    ensures whole { OnOk result (Appends (W.contents writer.old) (W.contents writer.new) (name_of fault.now)) }
+    ensures part { Begins (W.contents writer.old) (W.contents writer.new) (name_of fault.now) }
+{
+    match fault {
+        Fault::Help(usage) | Fault::Words(usage) => write_text(usage.as_str(), writer),
+        Fault::NoText => write_text("1 Words", writer),
+        Fault::Predict => write_text("2 Predict", writer),
+        Fault::Emit => write_text("3 Emit", writer),
+        Fault::OutOfMemory => write_text("4 OutOfMemory", writer),
+        Fault::InputTwice => {
+            let name = "5 InputTwice: only one file can be - (standard input)";
+            write_text(name, writer)
+        }
+        Fault::File(path) => write_path(path.as_str(), writer),
+        Fault::Explained(unread) => write_unread(unread, writer),
+        Fault::Serve(fault) => write_text(serve_words(*fault), writer),
+    }
+}
+
+// Writes the name of a file.
+fn write_path<W: Write>(path: &str, writer: &mut W) -> io::Result<()>
+    ensures whole { OnOk result (Appends (W.contents writer.old) (W.contents writer.new) (codes "file " ++ path.now)) }
+    ensures part { Begins (W.contents writer.old) (W.contents writer.new) (codes "file " ++ path.now) }
+{
+    write_text("file ", writer)?;
+    write_text(path, writer)
+}
+
+// Writes the name of a file that gives no text, and why.
+fn write_unread<W: Write>(unread: &Unread, writer: &mut W) -> io::Result<()>
+    ensures whole { OnOk result (Appends (W.contents writer.old) (W.contents writer.new) (unread_words unread.now)) }
+    ensures part { Begins (W.contents writer.old) (W.contents writer.new) (unread_words unread.now) }
+{
+    write_path(unread.path.as_str(), writer)?;
+    write_text(": ", writer)?;
+    write_text(unread.reason.words(), writer)
+}
+
+// The number and the name of why a job was not done.
+fn serve_words(fault: ServeFault) -> &'static str
+    ensures { result.now ≡ serve_fault_text fault }
+{
+    match fault {
+        ServeFault::OutOfMemory => "1 OutOfMemory",
+        ServeFault::Write => "2 Write",
+        ServeFault::Foreign => "3 Foreign",
     }
 }

@@ -3,7 +3,6 @@ ghost use Rattle.std.specs.Prelude.{◌≡◌};
 ghost use Rattle.program_edge.specs.FileTexts.{opening_reason, reading_reason};
 
 use shared_fetch::serial::FetchFault;
-use std::fmt;
 use std::io::ErrorKind;
 
 /// Why a file gives no text, as far as the system tells. (own choice)
@@ -24,20 +23,21 @@ pub enum Reason {
     Other,
 }
 
-impl fmt::Display for Reason {
-    ghost use Rattle.std.specs.Prelude.{Some};
+impl Reason {
+    ghost use Rattle.std.specs.Prelude.{◌≡◌};
     ghost use Rattle.program_edge.specs.Telling.{reason_words};
 
-    ghost output = { λ reason. Some (reason_words reason) };
-
-    fn fmt<W: fmt::Write>(&self, f: &mut fmt::Formatter<W>) -> fmt::Result {
+    /// The reason in words.
+    pub fn words(self) -> &'static str
+        ensures { result.now ≡ reason_words self }
+    {
         match self {
-            Reason::NoSuchFile => write!(f, "no such file"),
-            Reason::IsDirectory => write!(f, "is a directory"),
-            Reason::NotPermitted => write!(f, "no permission"),
-            Reason::TooLong => write!(f, "longer than 134217728 bytes"),
-            Reason::OutOfMemory => write!(f, "out of memory"),
-            Reason::Other => write!(f, "cannot be read"),
+            Reason::NoSuchFile => "no such file",
+            Reason::IsDirectory => "is a directory",
+            Reason::NotPermitted => "no permission",
+            Reason::TooLong => "longer than 134217728 bytes",
+            Reason::OutOfMemory => "out of memory",
+            Reason::Other => "cannot be read",
         }
     }
 }

@@ -9,6 +9,7 @@ use crate::diagnosis::{Diagnoses, Diagnosis};
 use crate::line_diagnosis::lines_diagnoses;
 use crate::meant_diagnosis::meant_diagnosis;
 use crate::name_diagnosis::{labels_in, name_diagnosis};
+use crate::reading::other_than_memory;
 use crate::sentence::{fault_help, fault_sentence};
 use annotated_asm::fault::AsmFault;
 use message_words::words::Words;
@@ -61,13 +62,16 @@ fn byte_in(place: Option<Position>) -> Option<Stretch>
 }
 
 /// Where the instruction of an index begins in a text.
+#[tactic(auto, using(crate::proofs::Told::told))]
 fn instruction_place(alloc: Global, text: &[u8], index: u32) -> Result<Option<Stretch>, AllocError>
     ensures { IfOk result (λ at. at ≡ instruction_place (sources_of text.now) index) }
 {
     match source_map(alloc, text) {
         Ok(map) => Ok(byte_in(map.code.get(index as usize).copied())),
-        Err(AsmFault::OutOfMemory) => Err(AllocError),
-        Err(_) => Ok(None),
+        Err(fault) => {
+            other_than_memory(fault)?;
+            Ok(None)
+        }
     }
 }
 

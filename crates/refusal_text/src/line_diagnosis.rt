@@ -1,6 +1,6 @@
 //! What is said of lines with a fault.
 
-ghost use Rattle.std.specs.Prelude.{◌≡◌, ◌++◌, map, take, IfOk, OnOk};
+ghost use Rattle.std.specs.Prelude.{◌≡◌, ◌≢◌, ◌++◌, map, take, IfOk, OnOk, MatchResult};
 ghost use Rattle.std.specs.String.{string_bytes};
 ghost use Rattle.program_tokens.specs.Grammar.{line_tokens};
 ghost use Rattle.refusal_text.specs.LineSentences.{readable, meant_in, sentence_in, help_in};
@@ -35,6 +35,20 @@ struct Told {
     help: String,
 }
 
+/// Nothing, where a line was not read for its bytes.
+///
+/// # Errors
+///
+/// `AllocError` exactly where it was for want of memory.
+fn passed_over(fault: TokenFault) -> Result<(), AllocError>
+    ensures { MatchResult result (λ _. fault ≢ TokenFault.OutOfMemory) (λ _. fault ≡ TokenFault.OutOfMemory) }
+{
+    match fault {
+        TokenFault::NotAscii | TokenFault::Token => Ok(()),
+        TokenFault::OutOfMemory => Err(AllocError),
+    }
+}
+
 /// Puts the tokens of a line in place of those that are there: none where it has bytes that form none.
 ///
 /// # Errors
@@ -44,8 +58,8 @@ pub(crate) fn read_or_none(tokens: &mut Vec<Token>, line: &[u8]) -> Result<(), A
     ensures { OnOk result (tokens.new.items ≡ readable (line_tokens line.now)) }
 {
     match read_tokens(tokens, line) {
-        Ok(()) | Err(TokenFault::NotAscii | TokenFault::Token) => Ok(()),
-        Err(TokenFault::OutOfMemory) => Err(AllocError),
+        Ok(()) => Ok(()),
+        Err(fault) => passed_over(fault),
     }
 }
 

@@ -10,6 +10,7 @@ ghost use Rattle.refusal_text.specs.NameDiagnoses.{labels_in, begins_with_equals
 use crate::diagnosis::Diagnosis;
 use crate::line_diagnosis::{read_or_none, row_at, stretch_in};
 use crate::line_sentence::write_quoted;
+use crate::reading::other_than_memory;
 use crate::sentence::{fault_help, fault_sentence};
 use annotated_asm::fault::AsmFault;
 use line_faults::bytes::bytes_at;
@@ -31,13 +32,16 @@ const MOST_TOKENS: usize = 100;
 /// # Errors
 ///
 /// `AllocError` where memory was refused.
+#[tactic(auto, using(crate::proofs::Told::told))]
 pub(crate) fn labels_in(alloc: Global, text: &[u8]) -> Result<Vec<LabelSource>, AllocError>
     ensures { IfOk result (λ labels. labels.items ≡ labels_in (sources_of text.now)) }
 {
     match source_map(alloc, text) {
         Ok(map) => Ok(map.labels),
-        Err(AsmFault::OutOfMemory) => Err(AllocError),
-        Err(_) => Ok(Vec::new(alloc)),
+        Err(fault) => {
+            other_than_memory(fault)?;
+            Ok(Vec::new(alloc))
+        }
     }
 }
 

@@ -1,6 +1,6 @@
 //! The lines of a text with a fault.
 
-ghost use Rattle.std.specs.Prelude.{◌≡◌, ◌+◌, ◌≤◌, ◌<◌, ◌^◌, ◌++◌, length, take, drop, map, IfOk, OnOk};
+ghost use Rattle.std.specs.Prelude.{◌≡◌, ◌≢◌, ◌+◌, ◌≤◌, ◌<◌, ◌^◌, ◌++◌, length, take, drop, map, IfOk, OnOk, MatchResult};
 ghost use Rattle.annotated_asm.specs.Steps.{Answers};
 ghost use Rattle.annotated_asm.specs.Items.{after_labels};
 ghost use Rattle.refusal_text.specs.Reading.{read_line, judged, section_behind, faulty, faults_from, section_of, faults_behind};
@@ -21,6 +21,29 @@ pub(crate) struct FaultyLine {
     pub section: Section,
     /// The fault.
     pub fault: AsmFault,
+}
+
+/// The fault, where it is not want of memory.
+///
+/// # Errors
+///
+/// `AllocError` exactly where it is.
+pub(crate) fn other_than_memory(fault: AsmFault) -> Result<AsmFault, AllocError>
+    ensures { MatchResult result (λ other. (other ≡ fault) × (fault ≢ AsmFault.OutOfMemory)) (λ error. fault ≡ AsmFault.OutOfMemory) }
+{
+    match fault {
+        AsmFault::OutOfMemory => Err(AllocError),
+        AsmFault::TooLong
+        | AsmFault::NotAscii(_)
+        | AsmFault::Token(_)
+        | AsmFault::Mnemonic(_)
+        | AsmFault::Operand(_)
+        | AsmFault::Number(_)
+        | AsmFault::Mark(_)
+        | AsmFault::Duplicate(_)
+        | AsmFault::Unknown(_)
+        | AsmFault::Build(_) => Ok(fault),
+    }
 }
 
 /// The tokens behind the labels at the front of a line.
@@ -51,6 +74,7 @@ fn read_line(
 }
 
 /// The section behind a line in any case, and the fault if there is one.
+#[tactic(auto, using(crate::proofs::Told::told))]
 fn judged(
     alloc: Global,
     tokens: &mut Vec<Token>,
@@ -62,8 +86,7 @@ fn judged(
 {
     match read_line(alloc, tokens, line, section, text) {
         Ok(next) => Ok((next, None)),
-        Err(AsmFault::OutOfMemory) => Err(AllocError),
-        Err(fault) => Ok((section, Some(fault))),
+        Err(fault) => Ok((section, Some(other_than_memory(fault)?))),
     }
 }
 

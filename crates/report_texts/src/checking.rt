@@ -110,12 +110,12 @@ fn read_texts<'a, R: Threads + Sync>(
             || assemble(alloc, program),
             ||
                 requires { AreCut (map (λ piece. piece.now) certificate.now) }
-            { ReadAhead::new(rt, alloc, certificate, workers) },
+            { ReadAhead::new(rt, alloc, certificate, workers, &Open) },
         );
     }
     (
         assemble(alloc, program),
-        ReadAhead::new(rt, alloc, certificate, workers),
+        ReadAhead::new(rt, alloc, certificate, workers, &Open),
     )
 }
 

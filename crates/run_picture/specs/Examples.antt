@@ -1,18 +1,18 @@
 -- Worked examples, computed by the checker: lengths, a bar, marks and a stretch.
-use Rattle.std.specs.Prelude.{◌≡◌, ℕ, ◌+◌, ◌*◌, List, [], ◌∷◌, codes}
+use Rattle.std.specs.Prelude.{◌≡◌, ℕ, ◌+◌, ◌*◌, [], ◌∷◌, codes}
 use Rattle.std.specs.Fmt.{digits}
 use Rattle.std.proofs.Common.{refl}
-use Rattle.machine_events.specs.declared.event.Event.TheVariants.{Assign, Exec, Transfer, Squash, Retire}
+use Rattle.machine_events.specs.declared.event.Event.TheVariants.{Assign, Exec, Retire}
 use Rattle.task_lives.specs.declared.life.Ending.{Ending}
-use Rattle.task_lives.specs.declared.life.Ending.TheVariants.{Retired, Squashed}
+use Rattle.task_lives.specs.declared.life.Ending.TheVariants.{Squashed}
 use Rattle.task_lives.specs.declared.life.Life.{Life}
 use Rattle.run_picture.specs.declared.shape.Style.TheVariants.{Bar, Instruction}
 use Rattle.run_picture.specs.declared.shape.Form.TheVariants.{Rectangle, Line}
 use Rattle.run_picture.specs.declared.shape.Hover.TheVariants.{Nothing, OfLife}
-use Rattle.run_picture.specs.Scales.{pixels_text, left_edge_of, top_of, step_of, fitting_of}
-use Rattle.run_picture.specs.Bars.{bar_of, letters_in}
+use Rattle.run_picture.specs.Scales.{pixels_text, step_of, fitting_of}
+use Rattle.run_picture.specs.Bars.{bar_of}
 use Rattle.run_picture.specs.Marks.{marks_of}
-use Rattle.run_picture.specs.Stretches.{overlap, counted, share_of}
+use Rattle.run_picture.specs.Stretches.{overlap, share_of}
 
 abbrev life : (task unit first last executed : ℕ) → Ending → Life
 life task unit first last executed ending = record {

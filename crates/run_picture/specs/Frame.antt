@@ -1,6 +1,6 @@
 -- What stands round the bars: the two lines above, a lane for each unit, the axis of events, and a note below
 -- (own choice).
-use Rattle.std.specs.Prelude.{ℕ, ◌+◌, ◌-◌, ◌*◌, ◌/◌, ◌%◌, List, [], ◌∷◌, ◌++◌, flat_map, max, nat_eq, if◌then◌else◌}
+use Rattle.std.specs.Prelude.{ℕ, ◌+◌, ◌-◌, ◌*◌, ◌/◌, ◌%◌, List, [], ◌∷◌, flat_map, max, nat_eq, if◌then◌else◌}
 use Rattle.std.specs.List.{range_with_len}
 use Rattle.run_summary.specs.declared.tally.Tally.{Tally}
 use Rattle.run_picture.specs.declared.shape.Shape.{Shape}

@@ -7,5 +7,6 @@ pub mod Stretches
 pub mod Adding
 pub mod WordsText
 pub mod ShapeText
+pub mod FixedText
 pub mod Picture
 pub mod Examples

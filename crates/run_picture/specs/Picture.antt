@@ -9,13 +9,13 @@ use Rattle.task_lives.specs.Lives.{lives_of}
 use Rattle.run_summary.specs.Tallies.{tally_of}
 use Rattle.run_picture.specs.declared.shape.Shape.{Shape}
 use Rattle.run_picture.specs.declared.shape.Words.TheVariants.{Ring, Stretch}
-use Rattle.run_picture.specs.declared.sheet.TheConstants.{SHEET, MARKS_LEGEND, STRETCHES_LEGEND}
 use Rattle.run_picture.specs.Scales.{bottom_of}
 use Rattle.run_picture.specs.Frame.{titles_of, lanes_of, axis_of, note_of}
 use Rattle.run_picture.specs.Bars.{bars_of, names_of}
 use Rattle.run_picture.specs.Marks.{marks_of}
 use Rattle.run_picture.specs.Stretches.{length_of, stretches_of}
 use Rattle.run_picture.specs.ShapeText.{shapes_text}
+use Rattle.run_picture.specs.FixedText.{style_sheet, marks_legend, stretches_legend}
 
 -- a run of some events, drawn singly: a bar for each life, then the marks of the events, and the names
 abbrev pub single_shapes : List Descriptor → (units : ℕ) → List Event → List Life → List Shape
@@ -51,10 +51,10 @@ called_text units events =
     codes "<title>Run on " ++ (decimal units ++ (codes " units, " ++ (decimal events ++ (codes " events</title>" ++ 10 ∷ []))))
 
 abbrev pub legend_text : (events : ℕ) → List ℕ
-legend_text events = if nat_le events 2000 then MARKS_LEGEND.now else STRETCHES_LEGEND.now
+legend_text events = if nat_le events 2000 then marks_legend else stretches_legend
 
 abbrev pub sheet_text : (events : ℕ) → List ℕ
-sheet_text events = SHEET.now ++ legend_text events
+sheet_text events = style_sheet ++ legend_text events
 
 abbrev pub opening_text : (units events : ℕ) → List ℕ
 opening_text units events = root_text (height_of units) ++ (called_text units events ++ sheet_text events)

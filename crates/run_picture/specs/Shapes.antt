@@ -5,7 +5,6 @@ use Rattle.run_picture.specs.declared.shape.Style.{Style}
 use Rattle.run_picture.specs.declared.shape.Form.{Form}
 use Rattle.run_picture.specs.declared.shape.Form.TheVariants.{Rectangle, Line, Label}
 use Rattle.run_picture.specs.declared.shape.Words.{Words}
-use Rattle.run_picture.specs.declared.shape.Hover.{Hover}
 use Rattle.run_picture.specs.declared.shape.Hover.TheVariants.{Nothing}
 
 abbrev pub plain : Style → Form → Shape

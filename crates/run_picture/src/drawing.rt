@@ -15,7 +15,7 @@ use crate::marks::push_marks;
 use crate::scale::bottom;
 use crate::shape::{Shape, Words};
 use crate::shape_text::write_shapes;
-use crate::sheet::{MARKS_LEGEND, SHEET, STRETCHES_LEGEND};
+use crate::sheet::{marks_legend, stretches_legend, style_sheet};
 use crate::stretches::{push_stretches, stretch_length};
 use machine_events::event::{Event, EventRun};
 use run_summary::tally::add_up;
@@ -199,7 +199,7 @@ fn write_called(text: &mut String, units: u32, events: usize) -> Result<(), Allo
 fn write_sheet(text: &mut String, events: usize) -> Result<(), AllocError>
     ensures { OnOk result (string_bytes text.new ≡ string_bytes text.old ++ sheet_text events) }
 {
-    text.push_str(SHEET)?;
+    text.push_str(style_sheet())?;
     write_legend(text, events)
 }
 
@@ -208,8 +208,8 @@ fn write_legend(text: &mut String, events: usize) -> Result<(), AllocError>
     ensures { OnOk result (string_bytes text.new ≡ string_bytes text.old ++ legend_text events) }
 {
     if events <= MOST_SINGLE {
-        text.push_str(MARKS_LEGEND)
+        text.push_str(marks_legend())
     } else {
-        text.push_str(STRETCHES_LEGEND)
+        text.push_str(stretches_legend())
     }
 }

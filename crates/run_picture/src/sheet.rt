@@ -1,7 +1,10 @@
 //! The parts of the file that are the same in every picture.
 
+ghost use Rattle.std.specs.Prelude.{◌≡◌};
+ghost use Rattle.run_picture.specs.FixedText.{style_sheet, marks_legend, stretches_legend};
+
 /// The style of all shapes. What a colour says, a pattern or a dashed border says too.
-pub(crate) const SHEET: &str = "<style>
+const SHEET: &str = "<style>
 text{fill:#1f2933;font-size:14px;pointer-events:none}line{pointer-events:none}
 .title{font-size:24px;font-weight:600}.quiet,.caption{fill:#52606d}.unit{text-anchor:end}.caption,.number{text-anchor:middle}
 .number,.register{fill:#52606d;font-size:12px}.task{font-size:13px;font-weight:600;paint-order:stroke;stroke:#fff;stroke-width:3px;stroke-linejoin:round}
@@ -26,7 +29,7 @@ text{fill:#1f2933;font-size:14px;pointer-events:none}line{pointer-events:none}
 ";
 
 /// What the marks of single events look like.
-pub(crate) const MARKS_LEGEND: &str =
+const MARKS_LEGEND: &str =
     "<path class='instruction' d='M564 99v10M570 99v10M576 99v10'/><text x='586' y='109'>instruction</text>
 <path class='transfer' d='M694 94V113'/><text x='706' y='109'>register to the next unit</text>
 <path class='squash' d='M896 98h14l-7 11z'/><text x='918' y='109'>squash begins</text>
@@ -34,7 +37,31 @@ pub(crate) const MARKS_LEGEND: &str =
 ";
 
 /// What is white in a picture of stretches.
-pub(crate) const STRETCHES_LEGEND: &str =
+const STRETCHES_LEGEND: &str =
     "<rect class='idle' x='564' y='96' width='28' height='16'/><text x='600' y='109'>no task</text>
 </g>
 ";
+
+/// The style sheet, the patterns, the ground, and the legend of the bars.
+#[tactic(auto, unfolding(crate::specs::FixedText::style_sheet))]
+pub(crate) fn style_sheet() -> &'static str
+    ensures { result.now ≡ style_sheet }
+{
+    SHEET
+}
+
+/// The legend of the marks of single events.
+#[tactic(auto, unfolding(crate::specs::FixedText::marks_legend))]
+pub(crate) fn marks_legend() -> &'static str
+    ensures { result.now ≡ marks_legend }
+{
+    MARKS_LEGEND
+}
+
+/// The legend of what is white in a picture of stretches.
+#[tactic(auto, unfolding(crate::specs::FixedText::stretches_legend))]
+pub(crate) fn stretches_legend() -> &'static str
+    ensures { result.now ≡ stretches_legend }
+{
+    STRETCHES_LEGEND
+}

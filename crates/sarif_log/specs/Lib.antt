@@ -1,2 +1,4 @@
-pub mod Log
 pub mod Rules
+pub mod Uris
+pub mod Log
+pub mod Examples

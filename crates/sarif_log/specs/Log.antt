@@ -2,7 +2,6 @@
 -- is own choice), and its text.
 use Rattle.std.specs.Prelude.{ℕ, List, [], ◌∷◌, ◌++◌, codes, Option, Some, None}
 use Rattle.std.specs.Fmt.{decimal}
-use Rattle.percent_encoding.specs.Percent.{percent_encode}
 use Rattle.json.specs.Json.{Json, number, string, array, object, Items, no_items, item, Members, no_members, member}
 use Rattle.json.specs.Tree.{json_tokens}
 use Rattle.json.specs.Print.{print}
@@ -15,9 +14,8 @@ use Rattle.sarif_log.specs.declared.entry.Region.{Region}
 use Rattle.sarif_log.specs.declared.entry.Related.{Related}
 use Rattle.sarif_log.specs.declared.entry.Entry.{Entry}
 use Rattle.sarif_log.specs.declared.rules.LogRule.{LogRule}
-use Rattle.sarif_log.specs.declared.rules.TheConstants.{RULES}
-use Rattle.sarif_log.specs.declared.log.TheConstants.{ESCAPED}
-use Rattle.sarif_log.specs.Rules.{rule_id, rule_short, rule_help}
+use Rattle.sarif_log.specs.Rules.{all_rules, rule_id, rule_short, rule_help}
+use Rattle.sarif_log.specs.Uris.{uri_of}
 
 -- {"text": ..}, a message (section 3.11)
 abbrev pub message_json : List ℕ → Json
@@ -111,7 +109,7 @@ log_json rules program certificate entries =
     (member (codes "version") (string (codes "2.1.0"))
     (member (codes "runs") (array (item (run_json rules program certificate entries) no_items)) no_members)))
 
--- Its text, of files with these names: one line. In a URI some bytes of a name are escaped.
+-- its text, of files with these names: one line
 abbrev pub log_text : (program certificate : List ℕ) → List Entry → List ℕ
 log_text program certificate entries =
-    print (json_tokens (log_json RULES (percent_encode ESCAPED program) (percent_encode ESCAPED certificate) entries)) ++ 10 ∷ []
+    print (json_tokens (log_json all_rules (uri_of program) (uri_of certificate) entries)) ++ 10 ∷ []

@@ -1,8 +1,20 @@
 -- The rules of a log (own words): what can be wrong with a program text, with the marks of its program, and
 -- with its certificate, and which marks cost speed.
-use Rattle.std.specs.Prelude.{ℕ, List, codes}
+use Rattle.std.specs.Prelude.{ℕ, List, [], ◌∷◌, codes}
 use Rattle.sarif_log.specs.declared.rules.LogRule.{LogRule}
 use Rattle.sarif_log.specs.declared.rules.LogRule.TheVariants.{EntryWithoutMask, NextWithoutMask, LacksDestination, LacksNext, ExceedsCreate, ForwardedInNext, ReleasedInNext, SentNotCreated, ExitNotListed, FallsOff, IndirectGoesOn, TargetNotEntry, TooLong, NotAscii, Token, Mnemonic, Operand, Number, Mark, Duplicate, Unknown, TooMany, NoTask, BadEntry, DuplicateEntry, BadMask, BadMark, BadStart, Header, Line, TaskName, MissingTask, Shape, Unfit, NeverProduced, NotForwarded, SentBefore, Unreached, More}
+
+-- all rules, in the order in which a log lists them
+unfoldable pub all_rules : List LogRule
+all_rules =
+    EntryWithoutMask ∷ NextWithoutMask ∷ LacksDestination ∷ LacksNext
+    ∷ ExceedsCreate ∷ ForwardedInNext ∷ ReleasedInNext ∷ SentNotCreated
+    ∷ ExitNotListed ∷ FallsOff ∷ IndirectGoesOn ∷ TargetNotEntry
+    ∷ TooLong ∷ NotAscii ∷ Token ∷ Mnemonic ∷ Operand
+    ∷ Number ∷ Mark ∷ Duplicate ∷ Unknown
+    ∷ TooMany ∷ NoTask ∷ BadEntry ∷ DuplicateEntry ∷ BadMask ∷ BadMark ∷ BadStart
+    ∷ Header ∷ Line ∷ TaskName ∷ MissingTask ∷ Shape ∷ Unfit
+    ∷ NeverProduced ∷ NotForwarded ∷ SentBefore ∷ Unreached ∷ More ∷ []
 
 -- its identifier: the rule's number, or the number and the name of the fault
 abbrev pub rule_id : LogRule → List ℕ

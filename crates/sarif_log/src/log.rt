@@ -2,14 +2,14 @@
 
 ghost use Rattle.std.specs.Prelude.{◌≡◌, [], ◌∷◌, ◌++◌, codes, IfOk, OnOk};
 ghost use Rattle.std.specs.String.{string_bytes};
-ghost use Rattle.percent_encoding.specs.Percent.{percent_encode as percent_encoded};
 ghost use Rattle.json.specs.Tree.{json_tokens};
 ghost use Rattle.json.specs.Print.{print};
 ghost use Rattle.sarif_log.specs.Log.{driver_json, tool_json, run_json, log_json, log_text};
+ghost use Rattle.sarif_log.specs.Uris.{uri_of};
 
 use crate::entry::Entry;
 use crate::layout::{write_entries, write_rules};
-use crate::rules::{LogRule, RULES};
+use crate::rules::{LogRule, rules};
 use json_writer::writer::JsonWriter;
 use percent_encoding::{AsciiSet, NON_ALPHANUMERIC, ascii_set, percent_encode};
 use std::alloc::{AllocError, Global};
@@ -86,8 +86,9 @@ fn write_log(
 }
 
 /// The URI of a file of this name.
+#[tactic(auto, using(crate::proofs::KeptBytes::encoded_is_uri))]
 fn uri(alloc: Global, name: &str) -> Result<String, AllocError>
-    ensures { IfOk result (λ uri. string_bytes uri ≡ percent_encoded ESCAPED name.now) }
+    ensures { IfOk result (λ uri. string_bytes uri ≡ uri_of name.now) }
 {
     let mut uri = String::new(alloc);
     percent_encode(name.as_bytes(), ESCAPED).append_to(&mut uri)?;
@@ -113,7 +114,7 @@ pub fn log_text(
     let mut out = JsonWriter::new(alloc);
     write_log(
         &mut out,
-        &RULES,
+        rules(),
         program.as_str(),
         certificate.as_str(),
         entries,

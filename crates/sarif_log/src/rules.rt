@@ -1,7 +1,7 @@
 //! The rules of a log: what can be wrong with a program, its marks and its certificate, and what costs speed.
 
 ghost use Rattle.std.specs.Prelude.{◌≡◌};
-ghost use Rattle.sarif_log.specs.Rules.{rule_id, rule_short, rule_help};
+ghost use Rattle.sarif_log.specs.Rules.{all_rules, rule_id, rule_short, rule_help};
 
 /// A rule that an entry says is broken (section 3.49 of SARIF 2.1.0; which there are is own choice).
 #[derive(Clone, Copy, Debug, PartialEq, Eq)]
@@ -128,6 +128,14 @@ pub const RULES: [LogRule; 39] = [
     LogRule::Unreached,
     LogRule::More,
 ];
+
+/// The rules that a log lists.
+#[tactic(auto, unfolding(crate::specs::Rules::all_rules))]
+pub(crate) fn rules() -> &'static [LogRule]
+    ensures { result.now ≡ all_rules }
+{
+    &RULES
+}
 
 /// The identifier of a rule.
 pub(crate) fn rule_id(rule: LogRule) -> &'static str

@@ -1,1 +1,2 @@
 pub mod PositionedReads
+pub mod Faults

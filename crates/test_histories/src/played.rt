@@ -1,13 +1,11 @@
-//! Events that are played and traced.
+//! Events that are traced.
 
-use crate::given::machine;
 use annotated_asm::assembler::assemble;
 use annotator::certify::certify;
 use event_json::lines::lines;
 use event_trace::trace::trace;
 use machine_events::event::Event;
 use mark_checker::accept::Accepted;
-use sequencer::machine::Machine;
 use std::alloc::Global;
 use std::process::Abort;
 
@@ -20,14 +18,7 @@ fn certified(rt: &impl Abort, alloc: Global, program: &str) -> Accepted {
     Accepted::new(program, cert).ok().expect(rt, "accepted")
 }
 
-// Plays the events; some may be refused.
-fn play(machine: &mut Machine<'_>, events: &[Event]) {
-    for event in events {
-        let _ = machine.apply(*event);
-    }
-}
-
-/// Plays the events on a machine of so many units, and compares their trace.
+/// Compares the trace of the events on a machine of so many units.
 pub(crate) fn expect_trace(
     rt: &impl Abort,
     alloc: Global,
@@ -37,21 +28,12 @@ pub(crate) fn expect_trace(
     expected: &str,
 ) {
     let accepted = certified(rt, alloc, program);
-    let mut machine = machine(rt, alloc, &accepted, units);
-    play(&mut machine, events);
-    let text = trace(
-        alloc,
-        &accepted,
-        units,
-        program.as_bytes(),
-        events,
-        &machine,
-    );
+    let text = trace(alloc, &accepted, units, program.as_bytes(), events);
     let text = text.ok().expect(rt, "room for a trace");
     assert!(rt; text.as_str() == expected);
 }
 
-/// Plays the events on a machine of so many units, and compares their lines of JSON.
+/// Compares the lines of JSON of the events on a machine of so many units.
 pub(crate) fn expect_lines(
     rt: &impl Abort,
     alloc: Global,
@@ -61,16 +43,7 @@ pub(crate) fn expect_lines(
     expected: &str,
 ) {
     let accepted = certified(rt, alloc, program);
-    let mut machine = machine(rt, alloc, &accepted, units);
-    play(&mut machine, events);
-    let text = lines(
-        alloc,
-        &accepted,
-        units,
-        program.as_bytes(),
-        events,
-        &machine,
-    );
+    let text = lines(alloc, &accepted, units, program.as_bytes(), events);
     let text = text.ok().expect(rt, "room for lines");
     assert!(rt; text.as_str() == expected);
 }

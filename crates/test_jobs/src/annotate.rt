@@ -141,12 +141,30 @@ fn leaves_targets(rt: HostRuntime) {
 }
 
 // The marks are as proposed already; read-only data stay.
+const READ_ONLY_PRINTED: &str = ".start A
+.task A create=$8 targets=B,C
+.task B create=$9,$10 targets=C
+.task C create=- targets=-
+A:
+addiu $8,$0,1 !f
+bne $8,$0,C !s
+B:
+lui $9,4096
+ori $9,$9,0
+lw $9,0($9) !f
+lw $10,1($9) !f !s
+C:
+out $8
+halt
+.rodata
+.word 0x00000007
+";
+
 #[test]
 fn keeps_read_only_data(rt: HostRuntime) {
-    let program = READ_ONLY.as_bytes();
-    let printed = annotated(&rt, rt.alloc(), "print a.s", program);
-    let proposed = annotated(&rt, rt.alloc(), "annotate a.s", program);
-    assert!(rt; proposed.as_slice() == printed.as_slice());
+    for &words in &["print a.s", "annotate a.s"] {
+        expect_of(&rt, rt.alloc(), words, READ_ONLY, READ_ONLY_PRINTED, 0);
+    }
 }
 
 // With the least certificate what is found is a fault of the marks. So the one fault of the other

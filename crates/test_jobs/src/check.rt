@@ -67,7 +67,7 @@ fn accepts_programs(rt: HostRuntime) {
     run_all(&rt, rt.alloc(), &ACCEPTANCES);
 }
 
-const FINDINGS: [Row<'static>; 14] = [
+const FINDINGS: [Row<'static>; 16] = [
     // A mask lacks what the instruction writes.
     Row {
         certificate: COUNT_CERTIFICATE_LACKING,
@@ -154,6 +154,18 @@ const FINDINGS: [Row<'static>; 14] = [
         program: JUMPS_OUT,
         certificate: "cert 1\ntask A\n0 00000000\n",
         expected: "A 0 rule 12 -\nrefused 1\n",
+        ..REFUSED
+    },
+    Row {
+        program: JUMPS_OUT,
+        certificate: "cert 1\ntask A\n0 00000000\n4095 00000000\n",
+        expected: "A 0 rule 12 -\nrefused 1\n",
+        ..REFUSED
+    },
+    Row {
+        program: JUMPS_OUT,
+        certificate: "cert 1\ntask A\n0 00000000\n4096 00000000\n",
+        expected: "certificate refused: 5 Shape\n",
         ..REFUSED
     },
 ];

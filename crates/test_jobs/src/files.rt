@@ -47,8 +47,9 @@ impl Read for Worn {
     }
 }
 
-// Interruptions, bytes and whether a fault is behind them, and how many bytes are fetched.
-const FETCHED: [(u32, u32, bool, Result<usize, FetchFault>); 8] = [
+// Interruptions, bytes and whether a fault is behind them, and how many bytes are fetched: at most six, with
+// which no further read is made.
+const FETCHED: [(u32, u32, bool, Result<usize, FetchFault>); 10] = [
     (0, 3, false, Ok(3)),
     (1000, 3, false, Ok(3)),
     (
@@ -62,6 +63,8 @@ const FETCHED: [(u32, u32, bool, Result<usize, FetchFault>); 8] = [
     (0, 2, true, Err(FetchFault::Read(ErrorKind::Other))),
     (0, 3, true, Err(FetchFault::Read(ErrorKind::Other))),
     (0, 4, true, Err(FetchFault::Read(ErrorKind::Other))),
+    (0, 5, true, Err(FetchFault::Read(ErrorKind::Other))),
+    (0, 6, true, Ok(6)),
 ];
 
 fn fetched(alloc: Global, reader: Worn) -> Result<usize, FetchFault> {

@@ -1,6 +1,7 @@
 //! What is told of each fault, and on which stream.
 
 use crate::held_back::HeldBack;
+use program_edge::asked::asked_by;
 use program_edge::fault::Fault;
 use program_edge::told::tell;
 use program_edge::unread::{Reason, Unread};
@@ -30,6 +31,16 @@ fn text(rt: &impl Abort, alloc: Global, text: &str) -> String {
     text.expect(rt, "room for a text")
 }
 
+/// Why these words, after the name of the program, give no job.
+fn fault_of(rt: &impl Abort, alloc: Global, words: &[&str]) -> Fault {
+    let mut all = Vec::new(alloc);
+    all.push(text(rt, alloc, "multiscalar")).ok().expect(rt, "room");
+    for &word in words {
+        all.push(text(rt, alloc, word)).ok().expect(rt, "room");
+    }
+    asked_by(alloc, all.as_slice()).err().expect(rt, "a fault")
+}
+
 #[test]
 fn tells_of_words(rt: HostRuntime) {
     expect_line(&rt, rt.alloc(), &Fault::NoText, "multiscalar: 1 Words\n");
@@ -39,8 +50,15 @@ fn tells_of_words(rt: HostRuntime) {
     expect_line(&rt, rt.alloc(), &Fault::OutOfMemory, line);
     let line = "multiscalar: 5 InputTwice: only one file can be - (standard input)\n";
     expect_line(&rt, rt.alloc(), &Fault::InputTwice, line);
-    let words = text(&rt, rt.alloc(), "error: no job\n");
-    expect_line(&rt, rt.alloc(), &Fault::Words(words), "error: no job\n");
+    let line = "error: a file is missing: give CERT, or --least in its place
+
+Usage: multiscalar check [OPTIONS] PROGRAM CERT
+       multiscalar check [OPTIONS] --least PROGRAM
+
+For more information, try '--help'.
+";
+    let missing = fault_of(&rt, rt.alloc(), &["check", "a.s"]);
+    expect_line(&rt, rt.alloc(), &missing, line);
 }
 
 #[test]
@@ -71,9 +89,9 @@ fn tells_of_jobs_that_are_not_done(rt: HostRuntime) {
 // Help is no fault: it stands on standard output.
 #[test]
 fn helps_on_standard_output(rt: HostRuntime) {
-    let help = Fault::Help(text(&rt, rt.alloc(), "Usage: multiscalar\n"));
+    let help = fault_of(&rt, rt.alloc(), &["--version"]);
     let (output, errors, status) = told(&rt, rt.alloc(), &help);
-    assert!(rt; output.as_slice() == "Usage: multiscalar\n".as_bytes());
+    assert!(rt; output.as_slice() == "multiscalar 0.1.0\n".as_bytes());
     assert!(rt; errors.is_empty());
     assert!(rt; status == 0);
 }

@@ -90,16 +90,38 @@ fn mask(rt: &impl Abort, draw: u32) -> RegSet {
     RegSet::from_bits(bits).expect(rt, "a mask")
 }
 
+/// The registers of the calls that were made.
+#[derive(Drop)]
+struct Drawn {
+    arrived: RegSet,
+    sent: RegSet,
+    passed: RegSet,
+}
+
 /// One call on both, by a drawn number, with the same answer.
-fn call(rt: &impl Abort, port: &mut Port, plain: &mut PlainPort, create: RegSet, draw: u32) {
+fn call(
+    rt: &impl Abort,
+    port: &mut Port,
+    plain: &mut PlainPort,
+    create: RegSet,
+    draw: u32,
+    drawn: &mut Drawn,
+) {
     let register = register(rt, ((draw >> 16) % 34) as u8);
     match (draw >> 8) % 32 {
-        0..=9 => assert!(rt; port.arrive(register, draw) == plain.arrive(register, draw)),
+        0..=9 => {
+            assert!(rt; port.arrive(register, draw) == plain.arrive(register, draw));
+            drawn.arrived = drawn.arrived.insert(register);
+        }
         10..=19 => {
             port.send(register, draw);
             plain.send(register, draw);
+            drawn.sent = drawn.sent.insert(register);
         }
-        20..=30 => assert!(rt; port.pass(create, register) == plain.pass(create, register)),
+        20..=30 => {
+            assert!(rt; port.pass(create, register) == plain.pass(create, register));
+            drawn.passed = drawn.passed.insert(register);
+        }
         _ => {
             let words = words_from(draw);
             port.fill(&words);
@@ -119,7 +141,7 @@ fn compare(rt: &impl Abort, port: &Port, plain: &PlainPort) {
 
 /// Forty calls on a port and on its plain form, and the same in both behind them; answers the last
 /// number that was drawn.
-fn run_both(rt: &impl Abort, draw: u32) -> u32 {
+fn run_both(rt: &impl Abort, draw: u32, drawn: &mut Drawn) -> u32 {
     let mut draw = draw;
     let accum = mask(rt, draw);
     let create = mask(rt, next_draw(draw));
@@ -128,7 +150,7 @@ fn run_both(rt: &impl Abort, draw: u32) -> u32 {
     let mut plain = PlainPort::fresh(&words, accum);
     for _ in 0..40 {
         draw = next_draw(draw);
-        call(rt, &mut port, &mut plain, create, draw);
+        call(rt, &mut port, &mut plain, create, draw, drawn);
     }
     compare(rt, &port, &plain);
     draw
@@ -137,9 +159,25 @@ fn run_both(rt: &impl Abort, draw: u32) -> u32 {
 #[test]
 fn port_two_representations(rt: HostRuntime) {
     let mut draw = 1995;
+    let mut drawn = Drawn {
+        arrived: RegSet::empty(),
+        sent: RegSet::empty(),
+        passed: RegSet::empty(),
+    };
     for _ in 0..1_000 {
-        draw = run_both(&rt, next_draw(draw));
+        draw = run_both(&rt, next_draw(draw), &mut drawn);
     }
+    for number in [0, 31, 33] {
+        expect_drawn(&rt, &drawn, number);
+    }
+}
+
+/// Asserts that the calls were made of a register, too.
+fn expect_drawn(rt: &impl Abort, drawn: &Drawn, number: u8) {
+    let register = register(rt, number);
+    assert!(rt; drawn.arrived.has(register), "register {number}");
+    assert!(rt; drawn.sent.has(register), "register {number}");
+    assert!(rt; drawn.passed.has(register), "register {number}");
 }
 
 /// The words 38, 37 and so on; that of LO, the last one, is 5.

@@ -160,6 +160,16 @@ const CHOOSES: [Act<'static>; 7] = [
     }),
 ];
 
+// 4294967295 is 1 modulo 2.
+const CHOOSES_BY_A_LARGE_ANSWER: [Act<'static>; 2] = [
+    Act::Apply(Told::Assign(0)),
+    Act::See(Fact::Choice {
+        targets: &[0, 4],
+        answer: 4_294_967_295,
+        task: 1,
+    }),
+];
+
 const ON_ONE_UNIT: Row<'static> = Row {
     program: COUNT,
     other: COUNT,
@@ -175,7 +185,7 @@ const ON_TWO_UNITS: Row<'static> = Row {
     ..ON_ONE_UNIT
 };
 
-const ROWS: [Row<'static>; 7] = [
+const ROWS: [Row<'static>; 8] = [
     ON_ONE_UNIT,
     ON_TWO_UNITS,
     Row {
@@ -192,6 +202,10 @@ const ROWS: [Row<'static>; 7] = [
     },
     Row {
         acts: &HAS_SERIAL_NUMBERS,
+        ..ON_TWO_UNITS
+    },
+    Row {
+        acts: &CHOOSES_BY_A_LARGE_ANSWER,
         ..ON_TWO_UNITS
     },
     Row {

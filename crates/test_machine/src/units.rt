@@ -137,6 +137,7 @@ fn unit_drain_no_value(rt: HostRuntime) {
     let accepted = release(&rt, rt.alloc());
     let mut trial = Trial::new(&rt, rt.alloc(), &accepted, zeros(&rt, 0x80));
     expect_steps(&rt, &mut trial, &[None, None, None]);
+    assert!(rt; trial.unit.spot() == Spot::Stopped(0x0040_0014));
     expect_drains(&rt, &mut trial, &[(7, Some(DrainFault::NoValue))]);
 }
 

@@ -1,9 +1,9 @@
 //! The program on several command lines in turn. After each command line stand what it writes to both
 //! streams, and its status: findings; a check by three workers, who fetch and read a certificate of 317,709
 //! bytes, where each of 48 tasks may write $8 and does not say so; the three files of `replay`; a program
-//! text on standard input; a missing file; wrong words; and help. Last, the program does what its own words
-//! ask for, on the two streams of the process and with its status: a file is missing, so it writes nothing to
-//! standard output.
+//! text on standard input; a missing file; wrong words; every help; what is said of a wrong value, and of a
+//! file that the words lack. Last, the program does what its own words ask for, on the two streams of the
+//! process and with its status: a file is missing, so it writes nothing to standard output.
 #![tactic(auto)]
 
 use program_edge::answer::answer;
@@ -19,7 +19,7 @@ use std::rt::Files;
 use std::sync::Wait;
 use std::thread::Threads;
 
-const LINES: [&str; 12] = [
+const LINES: [&str; 29] = [
     "check five-findings.s five-findings.cert2",
     "check --workers 3 large.s large.cert2",
     "replay --units 2 count.s count.cert2 count.events",
@@ -32,6 +32,23 @@ const LINES: [&str; 12] = [
     "print",
     "print --help",
     "--version",
+    "--help",
+    "seq --help",
+    "annotate --help",
+    "explain --help",
+    "check --help",
+    "replay --help",
+    "run --help",
+    "curve --help",
+    "check --least count.s count.cert2",
+    "explain --format all count.s",
+    "replay --least --emit all count.s count.events",
+    "run --least --schedule all count.s",
+    "curve --least --predict all count.s",
+    "curve --least --emit all count.s",
+    "run count.s",
+    "curve count.s",
+    "replay count.s count.cert2",
 ];
 
 fn main(rt: HostRuntime) -> ExitCode {

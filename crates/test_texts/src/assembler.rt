@@ -80,6 +80,30 @@ fn faults(rt: HostRuntime) {
     }
 }
 
+// Lengths of texts, and what is wrong with them.
+const LENGTHS: [(usize, Option<AsmFault>); 2] = [
+    (4_194_304, None),
+    (4_194_305, Some(AsmFault::TooLong)),
+];
+
+#[test]
+fn longest_text(rt: HostRuntime) {
+    for (length, fault) in LENGTHS {
+        expect_read(&rt, rt.alloc(), length, fault);
+    }
+}
+
+// Asserts how the text of `COUNT` with blanks behind it, so many bytes in all, is answered.
+fn expect_read(rt: &impl Abort, alloc: Global, length: usize, fault: Option<AsmFault>) {
+    let blanks = " ".repeat(alloc, length.saturating_sub(COUNT.len())).ok();
+    let blanks = blanks.expect(rt, "room for blanks");
+    let text = format!(in alloc; "{COUNT}{blanks}").ok();
+    let text = text.expect(rt, "room for a text");
+    assert!(rt; text.len() == length);
+    let answer = assemble(alloc, text.as_bytes());
+    assert!(rt; answer.err() == fault);
+}
+
 // A text with 123,000 labels. Without a key all names that begin with these 24 letters have one hash.
 fn labels_of_one_hash(alloc: Global) -> Result<String, AllocError> {
     let mut text = String::new(alloc);

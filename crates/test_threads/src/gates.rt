@@ -76,5 +76,6 @@ fn gate_diamond_first(rt: HostRuntime) {
     let accepted = accepted(rt.alloc(), DIAMOND, DIAMOND_CERTIFICATE).expect(&rt, "accepted");
     let gate = Meeting::new(rt.clone().expect(&rt, "another handle"));
     let report = run_at(&rt, rt.alloc(), &accepted, First, &gate, (3, 6));
-    expect_assigned(&rt, report.machine.history(), &[(1, true)]);
+    let tasks = [(0, true), (1, true), (2, true), (3, true)];
+    expect_assigned(&rt, report.machine.history(), &tasks);
 }

@@ -1,6 +1,6 @@
 //! A gate at which two workers meet.
 
-use parallel_check::gate::CheckGate;
+use parallel_check::gate::{CheckGate, ReadGate};
 use std::process::Abort;
 use std::sync::Wait;
 use std::sync::atomic::{AtomicBool, AtomicU32, Ordering};
@@ -81,6 +81,14 @@ impl CheckGate for Meeting {
     }
 
     fn after(&self, _worker: u32, _task: u32) {}
+}
+
+impl ReadGate for Meeting {
+    fn before_block(&self, worker: u32, _piece: usize, _start: usize) {
+        self.holds_up(worker);
+    }
+
+    fn after_block(&self, _worker: u32, _piece: usize, _start: usize) {}
 }
 
 impl RunGate for Meeting {

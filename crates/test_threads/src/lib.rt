@@ -4,6 +4,8 @@
 #[cfg(test)]
 mod checks;
 #[cfg(test)]
+mod counts;
+#[cfg(test)]
 mod gates;
 #[cfg(test)]
 mod given;

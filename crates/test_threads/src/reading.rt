@@ -4,6 +4,7 @@ use crate::given::Bench;
 use mask_certificate::certificate::Cert;
 use mask_certificate::fault::CertFault;
 use mask_certificate::reading::read;
+use parallel_check::gate::Open;
 use parallel_check::reading::read_shared;
 use std::alloc::{AllocError, Global};
 use std::fmt;
@@ -94,7 +95,7 @@ fn several_workers_read_what_one_reads(rt: HostRuntime) {
 }
 
 fn read_by(rt: &impl Bench, alloc: Global, program: &Program, text: &Text, workers: u32) -> Cert {
-    let cert = read_shared(rt, alloc, text, program, workers).ok();
+    let cert = read_shared(rt, alloc, text, program, workers, &Open).ok();
     cert.expect(rt, "a certificate")
 }
 
@@ -197,7 +198,7 @@ fn expect_fault_by_any(
     fault: Option<CertFault>,
 ) {
     for workers in [1, 2, 3, 16] {
-        let again = read_shared(rt, alloc, text, program, workers).err();
+        let again = read_shared(rt, alloc, text, program, workers, &Open).err();
         assert!(rt; again == fault, "{workers} workers");
     }
 }

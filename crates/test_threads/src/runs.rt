@@ -204,12 +204,34 @@ const BAD_NUMBERS: [Numbers; 6] = [
     },
 ];
 
+// A number of units and a budget, and what is wrong with them; each unit has a worker.
+const BAD_RUNS: [(u32, u32, RunFault); 3] = [
+    (0, 1, RunFault::Units),
+    (17, 1, RunFault::Units),
+    (4, 0, RunFault::Budget),
+];
+
 #[test]
 fn bad_numbers(rt: HostRuntime) {
     let accepted = COUNTED.accepted(&rt, rt.alloc());
     for bad in &BAD_NUMBERS {
         bad.are_refused(&rt, rt.alloc(), &accepted);
     }
+    for (units, budget, fault) in BAD_RUNS {
+        expect_refused(&rt, rt.alloc(), &accepted, units, budget, fault);
+    }
+}
+
+fn expect_refused(
+    rt: &impl Bench,
+    alloc: Global,
+    accepted: &Accepted,
+    units: u32,
+    budget: u32,
+    fault: RunFault,
+) {
+    let answer = run_threads(rt, alloc, accepted, units, budget, First, &Open);
+    assert!(rt; answer.err() == Some(fault));
 }
 
 impl Numbers {

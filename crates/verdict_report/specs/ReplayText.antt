@@ -55,8 +55,8 @@ abbrev pub played_text : ReplayEmit → (units : ℕ) → (text : List ℕ) → 
 played_text emit.Answers units text p events played = answers_text played.answers ++ machine_text played.state
 played_text emit.Summary units text p events played = summary_text p (lives_of units (allowed events played.answers))
 played_text emit.Picture units text p events played = picture_text p units (allowed events played.answers)
-played_text emit.Trace units text p events played = trace_text p (places_of text) units events played.state
-played_text emit.Json units text p events played = json_text p (places_of text) units events played.state
+played_text emit.Trace units text p events played = trace_text p (places_of text) units events
+played_text emit.Json units text p events played = json_text p (places_of text) units events
 
 -- what `replay` writes of the events of a script, where an event that is refused changes nothing
 abbrev pub events_report : ReplayEmit → (units : ℕ) → (text : List ℕ) → Listing → List Event → Report

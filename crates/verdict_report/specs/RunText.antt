@@ -86,8 +86,8 @@ IsWrittenOf emit.Report units text p run bytes = bytes ≡ ending_text run.how r
 IsWrittenOf emit.Script units text p run bytes = (bytes ≡ script_text p run.history) × (script_of p bytes ≡ Ok run.history)
 IsWrittenOf emit.Summary units text p run bytes = bytes ≡ summary_text p (lives_of units run.history) ++ steps_text run.steps run.state
 IsWrittenOf emit.Picture units text p run bytes = bytes ≡ picture_text p units run.history
-IsWrittenOf emit.Trace units text p run bytes = bytes ≡ trace_text p (places_of text) units run.history run.state
-IsWrittenOf emit.Json units text p run bytes = bytes ≡ json_text p (places_of text) units run.history run.state
+IsWrittenOf emit.Trace units text p run bytes = bytes ≡ trace_text p (places_of text) units run.history
+IsWrittenOf emit.Json units text p run bytes = bytes ≡ json_text p (places_of text) units run.history
 
 -- the report of some run of a program in which nothing is found, and which this text spells
 pub record IsRunReport (schedule : Schedule) (units budget : ℕ) (predict : Prediction) (emitted : RunEmit) (text : List ℕ) (p : Listing) (report : Report) : Type 0 where

@@ -87,35 +87,33 @@ pub fn picture_of(
     Ok(picture.into_bytes())
 }
 
-/// The trace of some events that leave a machine of so many units so, which runs this program.
+/// The trace of some events on a machine of so many units at the start of an accepted program with this text.
 pub fn trace_of(
     alloc: Global,
     units: Units,
-    machine: &Machine<'_>,
     accepted: &Accepted,
     program_text: &[u8],
     events: &[Event],
 ) -> Result<Vec<u8>, AllocError>
     ensures { IfOk result (λ bytes. bytes.items
-        ≡ trace_text accepted.now.program (places_of program_text.now) units events.now (state machine.now)) }
+        ≡ trace_text accepted.now.program (places_of program_text.now) units events.now) }
 {
-    let text = trace(alloc, accepted, units.get(), program_text, events, machine)?;
+    let text = trace(alloc, accepted, units.get(), program_text, events)?;
     Ok(text.into_bytes())
 }
 
-/// The same as the trace of some events, in JSON: an object on each line.
+/// The trace of some events in JSON: an object on each line.
 pub fn lines_of(
     alloc: Global,
     units: Units,
-    machine: &Machine<'_>,
     accepted: &Accepted,
     program_text: &[u8],
     events: &[Event],
 ) -> Result<Vec<u8>, AllocError>
     ensures { IfOk result (λ bytes. bytes.items
-        ≡ json_text accepted.now.program (places_of program_text.now) units events.now (state machine.now)) }
+        ≡ json_text accepted.now.program (places_of program_text.now) units events.now) }
 {
-    let text = lines(alloc, accepted, units.get(), program_text, events, machine)?;
+    let text = lines(alloc, accepted, units.get(), program_text, events)?;
     Ok(text.into_bytes())
 }
 

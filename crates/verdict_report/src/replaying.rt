@@ -84,8 +84,8 @@ fn bytes_of(
         ReplayEmit::Answers => answers_of(alloc, answers, machine),
         ReplayEmit::Summary => summary_of(alloc, units, machine, accepted.program()),
         ReplayEmit::Picture => picture_of(alloc, units, machine, accepted.program()),
-        ReplayEmit::Trace => trace_of(alloc, units, machine, accepted, text, events),
-        ReplayEmit::Json => lines_of(alloc, units, machine, accepted, text, events),
+        ReplayEmit::Trace => trace_of(alloc, units, accepted, text, events),
+        ReplayEmit::Json => lines_of(alloc, units, accepted, text, events),
     }
 }
 

@@ -96,11 +96,11 @@ fn report_of_run(
         RunEmit::Picture => picture_of(alloc, units, &ran.machine, accepted.program())?,
         RunEmit::Trace => {
             let events = single_events(alloc, ran.machine.history())?;
-            trace_of(alloc, units, &ran.machine, accepted, text, &events)?
+            trace_of(alloc, units, accepted, text, &events)?
         }
         RunEmit::Json => {
             let events = single_events(alloc, ran.machine.history())?;
-            lines_of(alloc, units, &ran.machine, accepted, text, &events)?
+            lines_of(alloc, units, accepted, text, &events)?
         }
     };
     Ok(Report::new(bytes, ending_status_of(ran)))

@@ -1,14 +1,14 @@
 //! A run of an accepted program, by threads or in steps.
-ghost use Rattle.std.specs.Prelude.{◌≡◌, ◌≢◌, ◌≤◌, Err, IfOk, None};
+ghost use Rattle.std.specs.Prelude.{◌≡◌, ◌≢◌, ◌≤◌, Err, IfOk, None, length, min};
 ghost use Rattle.sequencer.specs.Machines.{units_of};
 ghost use Rattle.verdict_report.specs.RunText.{IsRunOf, IsScheduled, predictor_of};
-ghost use Rattle.verdict_report.specs.Runs.{run_of, ended_as};
+ghost use Rattle.verdict_report.specs.Runs.{run_of, run_by_threads as run_by_threads_of, ended_as};
 
 use crate::fault::ServeFault;
 use crate::ran::{Extent, Ran};
 use jobs::job::{Prediction, Schedule};
 use mark_checker::accept::Accepted;
-use sequencer::predict::{First, Last, Predict, Script};
+use sequencer::predict::Script;
 use std::alloc::{AllocError, Global};
 use std::sync::Wait;
 use std::thread::Threads;
@@ -43,7 +43,7 @@ pub fn run_scheduled<'a, R: Threads + Wait + Sync>(
     }
 }
 
-// Runs an accepted program by threads, with the predictor that is asked for.
+// Runs an accepted program by threads.
 fn run_by_threads<'a, R: Threads + Wait + Sync>(
     rt: &R,
     alloc: Global,
@@ -57,49 +57,68 @@ fn run_by_threads<'a, R: Threads + Wait + Sync>(
     ensures fault { result ≢ Err ServeFault.Write }
     ensures own { result ≢ Err ServeFault.Foreign }
 {
-    match predict {
-        Prediction::First => run_with(rt, alloc, extent, accepted, First),
-        Prediction::Last => run_with(rt, alloc, extent, accepted, Last),
-        Prediction::List(list) => {
-            let numbers = list.as_slice().to_vec(alloc)?;
-            run_with(rt, alloc, extent, accepted, Script::new(numbers))
-        }
-    }
+    let predictor = predictor_of(alloc, predict)?;
+    let Report {
+        machine,
+        counts: _,
+        how,
+    } = run_with(rt, alloc, extent, accepted, predictor)?;
+    Ok(Ran {
+        machine,
+        how,
+        steps: None,
+    })
 }
 
 // Runs an accepted program by threads with a predictor.
-fn run_with<'a, P: Predict, R: Threads + Wait + Sync>(
+fn run_with<'a, R: Threads + Wait + Sync>(
     rt: &R,
     alloc: Global,
     extent: Extent,
     accepted: &'a Accepted,
-    predictor: P,
-) -> Result<Ran<'a>, ServeFault>
-    ensures over { IfOk result (λ ran. (ran.machine.accepted ≡ accepted.now) × (units_of ran.machine ≤ 16) × (units_of ran.machine ≡ extent.units)) }
-    ensures run { IfOk result (λ ran. IsRunOf accepted.now.program extent.units extent.budget (run_of ran)) }
-    ensures threads { IfOk result (λ ran. ran.steps ≡ None) }
+    predictor: Predictor,
+) -> Result<Report<'a>, ServeFault>
+    ensures over { IfOk result (λ report. (report.machine.accepted ≡ accepted.now) × (units_of report.machine ≤ 16) × (units_of report.machine ≡ extent.units)) }
+    ensures run { IfOk result (λ report. IsRunOf accepted.now.program extent.units extent.budget (run_by_threads_of report)) }
+    ensures threads { IfOk result (λ report. length report.counts.items ≡ min extent.workers extent.units) }
     ensures fault { result ≢ Err ServeFault.Write }
     ensures own { result ≢ Err ServeFault.Foreign }
 {
-    let units = extent.units.get();
-    let workers = extent.workers.get().min(units);
-    let budget = extent.budget.get();
+    let Numbers {
+        units,
+        threads,
+        budget,
+    } = numbers_of(extent);
     match run_workers(
-        rt, alloc, accepted, units, workers, budget, predictor, &Open,
+        rt, alloc, accepted, units, threads, budget, predictor, &Open,
     ) {
-        Ok(
-            Report {
-                machine,
-                counts: _,
-                how,
-            },
-        ) => Ok(Ran {
-            machine,
-            how,
-            steps: None,
-        }),
+        Ok(report) => Ok(report),
         Err(RunFault::OutOfMemory) => Err(ServeFault::OutOfMemory),
         Err(RunFault::Units | RunFault::Budget | RunFault::Foreign) => unreachable!(),
+    }
+}
+
+// The numbers of a run by threads.
+#[derive(Clone, Copy)]
+struct Numbers {
+    units: u32,
+    threads: u32,
+    budget: u32,
+}
+
+// The numbers that are asked for: where there are more workers than units, a thread for each unit.
+fn numbers_of(extent: Extent) -> Numbers
+    ensures units { result.units ≡ extent.units }
+    ensures threads { result.threads ≡ min extent.workers extent.units }
+    ensures budget { result.budget ≡ extent.budget }
+    ensures some { (1 ≤ result.threads) × (result.threads ≤ result.units) × (result.units ≤ 16) }
+    ensures range { (1 ≤ result.budget) × (result.budget ≤ 1000000) }
+{
+    let units = extent.units.get();
+    Numbers {
+        units,
+        threads: extent.workers.get().min(units),
+        budget: extent.budget.get(),
     }
 }
 

@@ -1,12 +1,12 @@
 -- `clap` has the matches of the command line on the words; the subcommand and its values are read.
-use Rattle.std.proofs.Common.{◌≡◌, ◌∙◌, map, sym, subst, true, Some, []}
+use Rattle.std.proofs.Common.{◌≡◌, ◌∙◌, map, sym, subst, true, None, Some, []}
 use Rattle.std.specs.String.{string_bytes}
 use Rattle.std.proofs.lemmas.Result.{err_from_is_err_and}
 use Rattle.clap.specs.Words.{App, HasMatchesOf, subcommand_of}
 use Rattle.clap.specs.Kinds.{HasKind}
 use Rattle.clap.specs.Faults.{fault_of, is_simple_and_free}
 use Rattle.command_line.specs.CommandLine.{command_line}
-use Rattle.command_line.proofs.Entered.{entered, job_there, no_job_there, refused, simple, simple_and_free}
+use Rattle.command_line.proofs.Entered.{entered, job_there, named, no_job_there, not_entered, refused, simple, simple_and_free}
 use Rattle.command_line.proofs.words.job_of.Goals as goal
 use Rattle.command_line.specs.Asked.{values_in}
 
@@ -44,3 +44,14 @@ returns-in-Some-clause-fault c =
     let right = subst (λ (a : App). is_simple_and_free a ≡ true → fault_of a words ≡ []) c.in_ok-command.ensures
     c.in_ok-matches.ensures.kinds simple_and_free in
     no_job_there words name rows c.read_job.result right is c.read_job.ensures
+
+pub returns-clause-fault : goal.returns-clause-fault
+returns-clause-fault c =
+    let words = map string_bytes c.args.words.now in
+    let m = c.in_ok-matches.matches in
+    let matched = subst (λ (a : App). HasMatchesOf a words m) c.in_ok-command.ensures c.in_ok-matches.ensures.matches in
+    let none : subcommand_of command_line words ≡ None =
+    sym (matched simple).1 ∙ not_entered m c.in-None.ensures.name in
+    let right = subst (λ (a : App). is_simple_and_free a ≡ true → fault_of a words ≡ []) c.in_ok-command.ensures
+    c.in_ok-matches.ensures.kinds simple_and_free in
+    absurd (named words right none)

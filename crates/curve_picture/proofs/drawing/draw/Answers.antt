@@ -11,7 +11,7 @@ returns c =
     let rows = c.args.rows.now in
     let columns = c.max-columns.ensures in
     let top = c.top-top.ensures.value in
-    let sheet = c.in_ok-text.ensures.ok in
+    let sheet = c.in_ok-text.ensures.ok ∙ c.fixed_text.ensures in
     c.in_ok-push_str.ensures.bytes
     ∙ four_parts (string_bytes c.in_ok-text.text) (string_bytes c.write_scale.new.text) (string_bytes c.write_line.new.text) (string_bytes c.write_columns.new.text)
     (scale_text c.top-top.result) (line_text c.max-columns.result c.top-top.result rows) (columns_text c.max-columns.result c.top-top.result rows)

@@ -4,7 +4,8 @@ use Rattle.std.specs.String.{string_bytes}
 use Rattle.mark_checker.specs.Places.{Checked}
 use Rattle.sequencer.specs.Machines.{answer_to, state, units_of}
 use Rattle.event_trace.specs.Entries.{entries_from, entry_of}
-use Rattle.event_trace.proofs.Steps.{entries_on}
+use Rattle.event_trace.specs.Following.{state_from}
+use Rattle.event_trace.proofs.Steps.{entries_on, state_on}
 use Rattle.event_trace.proofs.telling.write_entries.Goals as goal
 
 pub loop-index-preserved : goal.loop-index-preserved
@@ -23,6 +24,10 @@ loop-index-preserved g c =
         accepted = on.kept.accepted ∙ kept.accepted;
         units = on.kept.units ∙ kept.units;
       };
+      left =
+          state_on p (units_of m) l.index l.walk c.in_ok-walk.walk (state_from p (units_of m) (length m.history) (state m) events) events event
+          (ap (λ (a : Checked). a.program) kept.accepted) kept.units on (omega (arith, c.loop-index-test.true)) c.index-events-index.is
+          l.invariant.left;
       told =
           entries_on (entry p) p (units_of m) l.index l.walk c.in_ok-walk.walk events event
           (string_bytes l.text) (string_bytes c.write_entry.new.text) (old ++ entries_from (entry p) p (units_of m) 1 (length m.history) (state m) events)

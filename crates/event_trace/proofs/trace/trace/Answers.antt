@@ -2,7 +2,8 @@
 use Rattle.std.proofs.Common.{ℕ, List, ◌++◌, ◌∙◌, ap}
 use Rattle.std.specs.String.{string_bytes}
 use Rattle.task_descriptor.specs.Listing.{Listing}
-use Rattle.machine_model.specs.Machine.{opening}
+use Rattle.machine_model.specs.Answer.{play}
+use Rattle.machine_model.specs.Machine.{State, opening}
 use Rattle.source_map.specs.declared.position.Position.{Position}
 use Rattle.sequencer.specs.Machines.{state}
 use Rattle.event_trace.specs.Entries.{entries_from, entry_of}
@@ -15,12 +16,17 @@ pub returns : goal.returns
 unfolding trace_text
 returns c =
     let p = c.args.accepted.now.program in
-    let s = state c.args.machine.now in
+    let units = c.args.units in
+    let events = c.args.events.now in
+    let s = (play p units events).state in
+    let text = c.in_ok-text.text in
+    let machine = c.in_ok-text.machine in
     let told : Listing → List Position → List ℕ =
-    λ q places. entries_from (entry_of (taken_text q places) (refused_text q) p) p c.args.units 1 0 (opening p) c.args.events.now in
+    λ q places. entries_from (entry_of (taken_text q places) (refused_text q) p) p units 1 0 (opening p) events in
     c.in_ok-write_end.ensures
-    ∙ ap (λ (q : Listing). string_bytes c.in_ok-text.text ++ end_text q s) c.program-program.ensures.value
+    ∙ ap (λ (q : Listing). string_bytes text ++ end_text q (state machine)) c.program-program.ensures.value
+    ∙ ap (λ (t : State). string_bytes text ++ end_text p t) c.in_ok-text.ensures.machine
     ∙ ap (λ (front : List ℕ). front ++ end_text p s)
-    (c.in_ok-text.ensures
+    (c.in_ok-text.ensures.told
     ∙ ap (λ (q : Listing). told q c.deref.result.now) c.program-program.ensures.value
     ∙ ap (λ (places : List Position). told p places) (c.deref.ensures.value ∙ c.in_ok-places.ensures))

@@ -4,4 +4,4 @@ use Rattle.parallel_check.specs.Shares.{AreFound}
 use Rattle.parallel_check.proofs.reading.read_share.Given as goal
 
 abbrev pub invariant-loop : goal.invariant-loop
-invariant-loop l = AreFound (map (λ piece. piece.now) l.pieces) l.found.items
+invariant-loop g l = AreFound (map (λ piece. piece.now) l.pieces) l.found.items

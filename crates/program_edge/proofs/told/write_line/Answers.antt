@@ -1,18 +1,28 @@
--- Whatever is no text of `clap` is a line.
-use Rattle.std.proofs.Common.{rules, ◌≡◌, [], ◌∷◌, ◌++◌, refl}
-use Rattle.std.specs.Prelude.{codes}
-use Rattle.std.specs.declared.alloc.Global.{Global}
-use Rattle.std.specs.declared.string.String.{String}
-use Rattle.program_edge.specs.declared.fault.Fault.{Fault}
-use Rattle.program_edge.specs.declared.fault.Fault.TheVariants.{Help, Words}
-use Rattle.program_edge.specs.Telling.{name_of, said_of}
+-- One text after the other.
+use Rattle.std.proofs.Common.{[], ◌∷◌, ◌++◌, codes}
+use Rattle.std.proofs.KnownBytes.{Appends-trans}
+use Rattle.std.proofs.lemmas.Result.{on_ok_weaker}
+use Rattle.program_edge.specs.Telling.{name_of}
+use Rattle.program_edge.proofs.BeginsLemmas.{first, next}
 use Rattle.program_edge.proofs.told.write_line.Goals as goal
 
-is_line : (fault : Fault) → ((text : String Global) → fault ≡ Help text → ⊥) → ((text : String Global) → fault ≡ Words text → ⊥)
-    → said_of fault ≡ codes "multiscalar: " ++ (name_of fault ++ 10 ∷ [])
-is_line (Help text) help words = absurd (help text refl)
-is_line (Words text) help words = absurd (words text refl)
-is_line _ help words = refl
+pub returns-in_err-write_text-clause-part : goal.returns-in_err-write_text-clause-part
+returns-in_err-write_text-clause-part g c =
+    first _ _ (codes "multiscalar: ") (name_of c.args.fault.now ++ 10 ∷ []) c.write_text.ensures.part
 
-pub returns-in_default : goal.returns-in_default
-returns-in_default g c = rw (is_line c.args.fault.now c.in_default.not-Help c.in_default.not-Words) (search rules)
+pub returns-in_err-write_name-clause-part : goal.returns-in_err-write_name-clause-part
+returns-in_err-write_name-clause-part g c =
+    next _ _ _ (codes "multiscalar: ") (name_of c.args.fault.now ++ 10 ∷ []) c.in_ok-write_text.ensures.whole
+    (first _ _ (name_of c.args.fault.now) (10 ∷ []) c.write_name.ensures.part)
+
+pub returns-clause-whole : goal.returns-clause-whole
+returns-clause-whole g c =
+    on_ok_weaker c.write_text-2.result
+    (λ h. Appends-trans _ _ _ (codes "multiscalar: ") (name_of c.args.fault.now ++ 10 ∷ []) c.in_ok-write_text.ensures.whole
+    (Appends-trans _ _ _ (name_of c.args.fault.now) (10 ∷ []) c.in_ok-write_name.ensures.whole h))
+    c.write_text-2.ensures.whole
+
+pub returns-clause-part : goal.returns-clause-part
+returns-clause-part g c =
+    next _ _ _ (codes "multiscalar: ") (name_of c.args.fault.now ++ 10 ∷ []) c.in_ok-write_text.ensures.whole
+    (next _ _ _ (name_of c.args.fault.now) (10 ∷ []) c.in_ok-write_name.ensures.whole c.write_text-2.ensures.part)

@@ -1,5 +1,5 @@
 -- One part of a column more.
-use Rattle.std.proofs.Common.{◌≡◌, ◌<◌, ◌*◌, ◌≤◌, ◌∙◌, ap, arith, List, ℕ, length}
+use Rattle.std.proofs.Common.{◌≡◌, ◌<◌, ◌*◌, ◌∙◌, ap, arith, List, ℕ, length}
 use Rattle.run_picture.specs.Stretches.{length_of}
 use Rattle.run_picture.proofs.Shares.{column_more, length-shares, shares, shares_small}
 use Rattle.run_picture.proofs.stretches.push_stretches.Goals as goal

@@ -1,0 +1,50 @@
+-- The parts of the file that are the same in every picture (own choice): what a colour says, a pattern or a
+-- dashed border says too.
+use Rattle.std.specs.Prelude.{ℕ, List, [], ◌∷◌, ◌++◌, codes, flat_map}
+
+-- lines, each with its LF
+abbrev lines_text : List (List ℕ) → List ℕ
+lines_text lines = flat_map (λ line. line ++ 10 ∷ []) lines
+
+-- the style of all shapes, the patterns, the ground, and the legend of the bars
+unfoldable pub style_sheet : List ℕ
+style_sheet = lines_text (
+    codes "<style>"
+    ∷ codes "text{fill:#1f2933;font-size:14px;pointer-events:none}line{pointer-events:none}"
+    ∷ codes ".title{font-size:24px;font-weight:600}.quiet,.caption{fill:#52606d}.unit{text-anchor:end}.caption,.number{text-anchor:middle}"
+    ∷ codes ".number,.register{fill:#52606d;font-size:12px}.task{font-size:13px;font-weight:600;paint-order:stroke;stroke:#fff;stroke-width:3px;stroke-linejoin:round}"
+    ∷ codes ".lane{fill:#f4f6f9}.grid{stroke:#dde3e9}.axis{stroke:#7b8794;stroke-width:1.5}"
+    ∷ codes ".retired{fill:#cfe8d5;stroke:#2f6b4a}.squashed{fill:url(#hatched);stroke:#b0402a}.dropped{fill:url(#dotted);stroke:#7d5f10}"
+    ∷ codes ".unfinished{fill:#d8e4f5;stroke:#34588f;stroke-dasharray:5 3}.retired,.squashed,.dropped,.unfinished{stroke-width:1.5}"
+    ∷ codes ".share{stroke:none;shape-rendering:crispEdges}.idle{fill:#fff;stroke:#cbd2d9}"
+    ∷ codes ".instruction{stroke:#1f2933;stroke-width:1.6}.transfer{stroke:#52606d;stroke-width:1.3;marker-end:url(#head);pointer-events:stroke}"
+    ∷ codes ".fine{stroke-width:.6;marker-end:none}.squash{fill:#b0402a;stroke:#fff}"
+    ∷ codes "</style>"
+    ∷ codes "<defs>"
+    ∷ codes "<pattern id='hatched' width='7' height='7' patternUnits='userSpaceOnUse' patternTransform='rotate(45)'><path fill='#fae3dc' d='M0 0H7V7H0Z'/><path d='M0 0V7' stroke='#e09a86' stroke-width='2.6'/></pattern>"
+    ∷ codes "<pattern id='dotted' width='7' height='7' patternUnits='userSpaceOnUse'><path fill='#f6edd0' d='M0 0H7V7H0Z'/><circle cx='2' cy='2' r='1.2' fill='#a98a35'/><circle cx='5.5' cy='5.5' r='1.2' fill='#a98a35'/></pattern>"
+    ∷ codes "<marker id='head' viewBox='0 0 8 8' refX='7' refY='4' markerWidth='7' markerHeight='7' markerUnits='userSpaceOnUse' orient='auto'><path d='M0 .8 7.4 4 0 7.2z' fill='#52606d'/></marker>"
+    ∷ codes "</defs>"
+    ∷ codes "<path fill='#fff' d='M0 0H1280V9999H0Z'/>"
+    ∷ codes "<g>"
+    ∷ codes "<rect class='retired' x='88' y='96' width='28' height='16'/><text x='124' y='109'>retired</text>"
+    ∷ codes "<rect class='squashed' x='194' y='96' width='28' height='16'/><text x='230' y='109'>squashed</text>"
+    ∷ codes "<rect class='dropped' x='316' y='96' width='28' height='16'/><text x='352' y='109'>dropped</text>"
+    ∷ codes "<rect class='unfinished' x='430' y='96' width='28' height='16'/><text x='466' y='109'>unfinished</text>"
+    ∷ [])
+
+-- what the marks of single events look like
+unfoldable pub marks_legend : List ℕ
+marks_legend = lines_text (
+    codes "<path class='instruction' d='M564 99v10M570 99v10M576 99v10'/><text x='586' y='109'>instruction</text>"
+    ∷ codes "<path class='transfer' d='M694 94V113'/><text x='706' y='109'>register to the next unit</text>"
+    ∷ codes "<path class='squash' d='M896 98h14l-7 11z'/><text x='918' y='109'>squash begins</text>"
+    ∷ codes "</g>"
+    ∷ [])
+
+-- what is white in a picture of stretches
+unfoldable pub stretches_legend : List ℕ
+stretches_legend = lines_text (
+    codes "<rect class='idle' x='564' y='96' width='28' height='16'/><text x='600' y='109'>no task</text>"
+    ∷ codes "</g>"
+    ∷ [])

@@ -1,0 +1,170 @@
+//! Units on their own: instructions of a head and of a unit ahead, and bursts that are taken over.
+
+use crate::bursts::burst_text;
+use crate::given::{BURST, Given, TRIES};
+use mark_checker::accept::Accepted;
+use mips_instructions::number::RegSet;
+use mips_plain::memory::Memory;
+use register_ring::port::Port;
+use std::fmt::Write;
+use std::marker::Model;
+use unit_core::burst::Burst;
+use unit_core::unit::Unit;
+use unit_core::wait::Wait;
+use unit_core::world::World;
+
+/// The most instructions of a short burst.
+const SHORT: u32 = 16;
+
+/// A unit of a program, and the world that the head's instructions change.
+#[derive(Drop)]
+struct Trial<'a> {
+    accepted: &'a Accepted,
+    unit: Unit,
+    world: World,
+}
+
+// That the unit is one of the program, which its calls require.
+impl<'a> Model for Trial<'a> {
+    ghost use Rattle.unit_core.specs.Units.{UnitView, active_of, IsPlaced};
+
+    ghost Value = { UnitView };
+
+    ghost view = { λ t. t.unit };
+
+    ghost invariant = { λ t. IsPlaced t.accepted.now (active_of t.unit) };
+}
+
+impl<'a> Trial<'a> {
+    /// A unit before a task, with registers of 0, and the memory that the program begins with.
+    fn new(given: &Given<'_>, accepted: &'a Accepted, task: u32) -> Option<Trial<'a>> {
+        let program = accepted.program();
+        if task as usize >= program.tasks().len() {
+            return None;
+        }
+        let memory = Memory::new(given.alloc(), program.bytes(), program.fixed()).ok()?;
+        let port = Port::fresh(&[0; 34], RegSet::empty());
+        Some(Trial {
+            accepted,
+            unit: Unit::new(given.alloc(), accepted, task, 0, port),
+            world: World::new(given.alloc(), memory),
+        })
+    }
+
+    /// One instruction, of the head or of a unit ahead; `None` once the run has ended.
+    fn step(&mut self, is_head: bool) -> Option<Result<(), Wait>> {
+        if !self.world.is_running() {
+            return None;
+        }
+        if is_head {
+            Some(self.unit.exec(self.accepted, &mut self.world))
+        } else {
+            Some(self.unit.exec_ahead(self.accepted))
+        }
+    }
+
+    /// A burst of at most so many steps that its reads are copied, or of as many as there may be.
+    fn burst(&self, is_short: bool) -> Burst<'a> {
+        let lease = self.unit.lease(self.accepted);
+        if is_short {
+            Burst::run(lease, SHORT)
+        } else {
+            Burst::run(lease, BURST)
+        }
+    }
+
+    fn text(&self, given: &Given<'_>) -> Option<String> {
+        let (outcome, output) = (self.world.outcome(), self.world.output());
+        format!(in given.alloc(); "{:?} {outcome:?} {output:?}\n", self.unit).ok()
+    }
+}
+
+/// The instructions of a unit of each task, until it waits or the run ends.
+pub(crate) fn executes(given: &Given<'_>, is_head: bool) -> Option<()> {
+    let accepted = given.accepted()?;
+    let mut text = String::new(given.alloc());
+    for task in 0..accepted.program().tasks().len() {
+        let mut trial = Trial::new(given, &accepted, task as u32)?;
+        runs_on(given, &mut trial, is_head)?;
+        text.push_str(trial.text(given)?.as_str()).ok()?;
+    }
+    given.shows(text.as_bytes())
+}
+
+fn runs_on(given: &Given<'_>, trial: &mut Trial<'_>, is_head: bool) -> Option<()> {
+    for _ in 0..TRIES {
+        let before = trial.text(given)?;
+        given.begins();
+        let answer = trial.step(is_head);
+        given.ends();
+        match answer {
+            Some(Ok(())) => {}
+            Some(Err(Wait::OutOfMemory)) => {
+                let is_same = trial.text(given)? == before;
+                given.refused(true, is_same);
+            }
+            _ => return Some(()),
+        }
+    }
+    Some(())
+}
+
+/// Bursts of a unit of each task, after some of its instructions, that the unit takes over.
+pub(crate) fn takes(given: &Given<'_>) -> Option<()> {
+    let accepted = given.accepted()?;
+    let mut text = String::new(given.alloc());
+    for task in 0..accepted.program().tasks().len() {
+        for count in 0..4 {
+            takes_after(given, &accepted, task as u32, count, &mut text)?;
+        }
+    }
+    given.shows(text.as_bytes())
+}
+
+fn takes_after(
+    given: &Given<'_>,
+    accepted: &Accepted,
+    task: u32,
+    count: u32,
+    text: &mut String,
+) -> Option<()> {
+    for is_short in [true, false] {
+        let mut trial = Trial::new(given, accepted, task)?;
+        for _ in 0..count {
+            let _ = trial.step(true);
+        }
+        takes_burst(given, trial, is_short, text)?;
+    }
+    Some(())
+}
+
+// The burst comes back with a refusal.
+fn takes_burst(
+    given: &Given<'_>,
+    trial: Trial<'_>,
+    is_short: bool,
+    text: &mut String,
+) -> Option<()> {
+    let mut burst = trial.burst(is_short);
+    let Trial { mut unit, .. } = trial;
+    for _ in 0..TRIES {
+        let before = both_text(given, &unit, &burst)?;
+        given.begins();
+        let answer = unit.take(burst);
+        given.ends();
+        match answer {
+            Ok(steps) => return writeln!(text, "{steps} {unit:?}").ok(),
+            Err((back, _)) => {
+                burst = back;
+                let is_same = both_text(given, &unit, &burst)? == before;
+                given.refused(true, is_same);
+            }
+        }
+    }
+    None
+}
+
+fn both_text(given: &Given<'_>, unit: &Unit, burst: &Burst<'_>) -> Option<String> {
+    let burst = burst_text(given, burst)?;
+    format!(in given.alloc(); "{unit:?} {burst}").ok()
+}
