@@ -139,7 +139,7 @@ exec_named m unit k t is belongs = subst (λ (x : Turn). IsNamed m unit x (Exec 
 -- answers
 
 ok_is_no_err : (r : Result (Unit {0}) Refused) (why : Refused) → r ≡ Err why → r ≡ Ok tt → ⊥
-ok_is_no_err r why no yes = absurd (cc)
+ok_is_no_err r why bad good = absurd (cc)
 
 pub not_refused : (m : MachineView) (e : Event) (why : Refused) → takes_memory e ≡ false → answer_to m e ≡ Ok tt → IsAnswered m e (Err why) → ⊥
 not_refused m e why none ok (inl is) = ok_is_no_err (answer_to m e) why (sym is) ok

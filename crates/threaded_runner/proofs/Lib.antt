@@ -1,5 +1,6 @@
 pub mod Counting
 pub mod Locked
+pub mod Putting
 pub mod Rounds
 pub mod Sharing
 pub mod Turning

@@ -1,8 +1,11 @@
 -- The first unit of a share that does not wait, round the ring.
-use Rattle.std.proofs.Common.{◌≡◌, ℕ, ◌+◌, ◌-◌, ◌%◌, ◌<◌, ◌≤◌, ◌⊎◌, length, Bool, true, false, inl, inr, refl, sym, ap, ◌∙◌, subst, arith, true≢false}
+use Rattle.std.proofs.Common.{◌≡◌, ℕ, List, [], ◌∷◌, ◌+◌, ◌-◌, ◌%◌, ◌<◌, ◌≤◌, ◌⊎◌, length, Bool, true, false, inl, inr, refl, sym, ap, ◌∙◌, subst, arith, true≢false}
 use Rattle.std.proofs.lemmas.Bool.{ltb-true, cases_lt}
 use Rattle.std.proofs.Math.Nat.{mod-lt}
-use Rattle.std.specs.Prelude.{◌&&◌, nat_lt, if◌then◌else◌, Option, Some, None, IfNone}
+use Rattle.std.specs.Prelude.{◌&&◌, nat_lt, if◌then◌else◌, Option, Some, None, IfNone, slice_get}
+use Rattle.std.specs.Option.{option_map}
+use Rattle.machine_model.specs.Machine.{Active}
+use Rattle.machine_events.specs.declared.event.Spot.{Spot}
 use Rattle.machine_model.specs.Answer.{is_running, most_events}
 use Rattle.machine_events.specs.declared.event.Event.TheVariants.{Exec}
 use Rattle.sequencer.specs.Machines.{MachineView, state, units_of}
@@ -171,3 +174,18 @@ one_more_waits m s from unit before here = λ other low high own.
 pub none_then : {X : Type 0} (r : Option X) {P Q : Type 0} → IfNone r P → (P → Q) → IfNone r Q
 none_then None h f = f h
 none_then (Some x) h f = tt
+
+-- a unit stands at position 0
+pub at_work : (us : List Active) (spot : Spot) → Some spot ≡ option_map (λ (u : Active). u.place) (slice_get us 0) → 0 < length us
+at_work [] spot e = absurd (cc)
+at_work (u ∷ us) spot e = omega arith
+
+-- one worker serves the head
+pub head_served : (m : MachineView) (s : Share) (units workers : ℕ) → units_of m ≡ units → IsShareOf units workers s → s.workers ≡ 1 → 0 < units_of m → IsServed s (unit_for m (Exec 0))
+head_served m s units workers is share one some =
+    let within : unit_for m (Exec 0) < units_of m = mod-lt (length (state m).commits + 0) some in
+    let mine : s.worker ≡ 0 = omega (arith, share.is_worker, share.of_workers) in
+    record {
+      on_ring = omega (arith, within, share.of_units);
+      is_own = ap (λ (w : ℕ). unit_for m (Exec 0) % w) one ∙ by_one (unit_for m (Exec 0)) ∙ sym mine;
+    }

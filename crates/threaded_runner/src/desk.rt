@@ -6,6 +6,7 @@ use crate::machine_laws::law_replay;
 use crate::naming::Naming;
 use crate::report::{How, Report, RunFault};
 use crate::share::Share;
+use crate::slots::put;
 use machine_events::event::{Event, Refused, Standing};
 use sequencer::machine::Machine;
 use sequencer::predict::Predict;
@@ -48,8 +49,8 @@ impl<'a, P: Predict, J: Naming> Desk<'a, P, J> {
     ghost use Rattle.threaded_runner.specs.Counts.{IsCounted};
     ghost use Rattle.threaded_runner.specs.Desks.{IsDone, SameNotes, nobody, stopped};
     ghost use Rattle.threaded_runner.specs.Holds.{IsStoppedAt, RunsHead};
-    ghost use Rattle.threaded_runner.specs.Shares.{IsShareOf};
-    ghost use Rattle.threaded_runner.specs.Calls.{AreCalled, AreRung};
+    ghost use Rattle.threaded_runner.specs.Shares.{AllWait, IsShareOf};
+    ghost use Rattle.threaded_runner.specs.Calls.{AreCalled, AreRung, IsAsleep};
     ghost use Rattle.unit_turns.specs.Turns.{MayChoose};
     ghost use Rattle.machine_events.specs.declared.event.Event.{Event};
     ghost use Rattle.machine_events.specs.declared.event.Event.TheVariants.{Exec};
@@ -282,42 +283,59 @@ impl<'a, P: Predict, J: Naming> Desk<'a, P, J> {
         let is_over = self.is_done(budget);
         let mut called = Called::none();
         for worker in 0..share.workers {
-            let theirs = Share { worker, ..share };
-            if self.is_asleep(worker) && (is_over || theirs.first_turn(&self.machine).is_some()) {
-                self.awake(worker);
-                called.add(worker);
-            }
+            self.call_one(Share { worker, ..share }, is_over, &mut called);
         }
         called
+    }
+
+    /// Calls a worker if it waits and has something to do.
+    fn call_one(&mut self, theirs: Share, is_over: bool, called: &mut Called)
+        requires { IsShareOf J.units J.workers theirs }
+        ensures others { self.new ≡ record self.old { asleep = self.new.asleep } }
+        ensures mine { IsAsleep self.new.asleep theirs.worker → (is_over ≡ false) × AllWait self.old.machine theirs }
+        ensures rest { (w : ℕ) → (w ≡ theirs.worker → ⊥) → slice_get self.new.asleep w ≡ slice_get self.old.asleep w }
+        ensures rung { IsAsleep self.old.asleep theirs.worker → (IsAsleep self.new.asleep theirs.worker → ⊥) → slice_get called.new theirs.worker ≡ Some true }
+        ensures kept { (w : ℕ) → slice_get called.old w ≡ Some true → slice_get called.new w ≡ Some true }
+    {
+        if !self.is_asleep(theirs.worker) {
+            return;
+        }
+        if !self.has_work(theirs, is_over) {
+            return;
+        }
+        self.awake(theirs.worker);
+        called.add(theirs.worker);
+    }
+
+    /// Whether a worker has something to do: a turn, or to end.
+    fn has_work(&self, theirs: Share, is_over: bool) -> bool
+        requires { IsShareOf J.units J.workers theirs }
+        ensures { result ≡ false → (is_over ≡ false) × AllWait self.now.machine theirs }
+    {
+        if is_over {
+            return true;
+        }
+        theirs.first_turn(self.machine()).is_some()
     }
 
     /// Notes that a worker waits.
     pub(crate) fn fall_asleep(&mut self, worker: u32)
         ensures { self.new ≡ record self.old { asleep = slice_set self.old.asleep worker true } }
     {
-        self.note(worker, true);
+        put(&mut self.asleep, worker, true);
     }
 
     /// Notes that a worker does not wait.
     pub(crate) fn awake(&mut self, worker: u32)
         ensures { self.new ≡ record self.old { asleep = slice_set self.old.asleep worker false } }
     {
-        self.note(worker, false);
+        put(&mut self.asleep, worker, false);
     }
 
-    /// Notes whether a worker waits.
-    #[tactic(auto, using(std::proofs::lemmas::List::set_past))]
-    fn note(&mut self, worker: u32, asleep: bool)
-        ensures { self.new ≡ record self.old { asleep = slice_set self.old.asleep worker asleep } }
-    {
-        if let Some(slot) = self.asleep.get_mut(worker as usize) {
-            *slot = asleep;
-        }
-    }
-
-    /// Whether a worker waits.
+    /// Whether a worker waits; there are at most 16.
     pub(crate) fn is_asleep(&self, worker: u32) -> bool
-        ensures { result ≡ unwrap_or (slice_get self.now.asleep worker) false }
+        ensures value { (result ≡ true) ↔ IsAsleep self.now.asleep worker }
+        ensures within { result ≡ true → worker < 16 }
     {
         match self.asleep.get(worker as usize) {
             Some(asleep) => *asleep,

@@ -6,12 +6,14 @@ use crate::naming::Naming;
 pub(crate) use crate::next::{NextBurst, Then};
 use crate::pace::Pace;
 use crate::share::Share;
+use crate::slots::put;
 use machine_events::event::{Event, Refused, Spot};
 use sequencer::machine::Machine;
 use sequencer::predict::Predict;
 use std::marker::{Model, PhantomData};
 use unit_core::burst::{Burst, MOST_STEPS};
 use unit_turns::deciding::turn_at_head;
+use unit_turns::laws::law_ring;
 use unit_turns::turn::Turn;
 
 /// The most turns of one hold of the lock.
@@ -212,13 +214,10 @@ impl<J: Naming> Worker<J> {
     }
 
     /// The worker goes on with a unit at another pace.
-    #[tactic(auto, using(std::proofs::lemmas::List::set_past))]
     fn set_pace(&mut self, unit: u32, pace: Pace)
         ensures { self.new ≡ with_pace self.old unit pace }
     {
-        if let Some(slot) = self.paces.get_mut(unit as usize) {
-            *slot = pace;
-        }
+        put(&mut self.paces, unit, pace);
     }
 
     /// The unit begins a task.
@@ -299,6 +298,8 @@ impl<J: Naming> Worker<J> {
         ensures none { result ≡ 0 → desk.new.machine ≡ desk.old.machine }
         ensures turns { TakesTurns self.now.share result desk.old desk.new }
     {
+        // The share is read for what is known of it.
+        let _ = self.share();
         match desk.machine().position(unit) {
             Some(0) => desk.run_head(most),
             Some(position) => match desk.apply(unit, Event::Exec(position)) {
@@ -350,6 +351,9 @@ impl<J: Naming> Worker<J> {
         ensures history { length desk.new.machine.history ≡ length desk.old.machine.history + result }
         ensures turns { TakesTurns self.now.share 0 desk.old desk.new }
     {
+        // The share is read for what is known of it.
+        let _ = self.share();
+        law_ring(desk.machine());
         match desk.machine().spot(0) {
             Some(Spot::Inside(_)) => desk.run_head(most),
             _ => 0,
@@ -364,6 +368,8 @@ impl<J: Naming> Worker<J> {
         ensures few { length desk.new.machine.history ≤ length desk.old.machine.history + 1 }
         ensures stays { IsSameWorker self.old self.new }
     {
+        // The share is read for what is known of it.
+        let _ = self.share();
         let machine = desk.machine();
         let head = machine.head_unit();
         match turn_at_head(machine, head) {

@@ -14,4 +14,5 @@ mod pace;
 pub mod report;
 pub mod runner;
 mod share;
+mod slots;
 mod worker;

@@ -61,7 +61,7 @@ pub(crate) fn law_own_event(machine: &Machine<'_>)
 }
 
 /// The queue is no longer than the ring.
-pub(crate) fn law_ring(machine: &Machine<'_>)
+pub fn law_ring(machine: &Machine<'_>)
     ensures { length (state machine.now).queue ≤ units_of machine.now }
 {
     events_count();

@@ -35,7 +35,9 @@ impl Called {
     /// One worker more.
     pub fn add(&mut self, worker: u32)
         requires { worker < 16 }
-        ensures { self.new ≡ slice_set self.old worker true }
+        ensures value { self.new ≡ slice_set self.old worker true }
+        ensures added { slice_get self.new worker ≡ Some true }
+        ensures kept { (other : ℕ) → slice_get self.old other ≡ Some true → slice_get self.new other ≡ Some true }
     {
         self.is_called[worker as usize] = true;
     }

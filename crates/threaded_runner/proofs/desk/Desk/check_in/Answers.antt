@@ -1,11 +1,13 @@
-use Rattle.std.proofs.Common.{◌≡◌, ℕ, ◌+◌, ◌%◌, List, length, Option, sym, ap, ◌∙◌, arith}
+use Rattle.std.proofs.Common.{◌≡◌, ℕ, ◌+◌, ◌%◌, List, length, Option, sym, ap, ◌∙◌, subst, arith}
 use Rattle.std.proofs.lemmas.List.{length-replicate}
 use Rattle.std.specs.Prelude.{replicate, slice_index, slice_set, unwrap_or, vec_len}
 use Rattle.std.specs.Option.{option_map}
 use Rattle.machine_events.specs.declared.event.Event.TheVariants.{Exec}
 use Rattle.unit_core.specs.Units.{UnitView}
 use Rattle.processor_steps.specs.Processors.{position_with}
-use Rattle.sequencer.specs.Machines.{state}
+use Rattle.sequencer.specs.Machines.{MachineView, state}
+use Rattle.sequencer.specs.Bursts.{Takes}
+use Rattle.threaded_runner.specs.Desks.{DeskView}
 use Rattle.sequencer.specs.Rings.{unit_for}
 use Rattle.threaded_runner.proofs.Locked.{execs_own, more, as_many}
 use Rattle.threaded_runner.proofs.desk.Desk.check_in.Goals as goal
@@ -36,3 +38,9 @@ invariant_of-self-2 g c =
         workers = as_many i.counts.items c.add.new.counts.items worker (slice_index i.counts.items worker + b.steps) counted ∙ c.self.invariant.1.workers;
       },
     )
+
+-- the machine within the desk is that of the desk as it was
+pub returns-clause-taken : goal.returns-clause-taken
+returns-clause-taken g c = λ some.
+    let taken = c.in_ok-events.ensures.taken some in
+    (taken.0, subst (λ (m : MachineView). Takes m c.args.burst.now c.take_own_burst.new.self) (ap (λ (d : DeskView). d.machine) c.self.view_is) taken.1)

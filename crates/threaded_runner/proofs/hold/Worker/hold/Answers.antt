@@ -1,0 +1,19 @@
+use Rattle.std.proofs.Common.{◌≡◌, ℕ, true, inl, sym, ◌∙◌, subst, true≢false}
+use Rattle.threaded_runner.specs.declared.share.Share.{Share}
+use Rattle.threaded_runner.specs.Holds.{TakesTurns}
+use Rattle.threaded_runner.proofs.Going.{more_turns}
+use Rattle.threaded_runner.proofs.hold.Worker.hold.Goals as goal
+
+-- one turn more, by a worker of the same units
+pub loop-preserved : goal.loop-preserved
+loop-preserved g c =
+    let s = c.args.self.now.share in
+    let before = c.loop.invariant.stays in
+    let after = c.in_default-take_turn.ensures.stays in
+    let one : TakesTurns s 1 c.loop.desk c.take_turn.new.desk =
+    subst (λ (x : Share). TakesTurns x 1 c.loop.desk c.take_turn.new.desk) before.share c.in_default-take_turn.ensures.turn in
+    let goes : c.loop.desk.is_stopped ≡ true → ⊥ = λ stop. true≢false (sym (c.is_done.ensures.1 (inl stop)) ∙ c.if-is_done.false) in
+    record {
+      turns = more_turns s c.loop.counter 1 c.args.desk.now c.loop.desk c.take_turn.new.desk goes c.loop.invariant.turns one;
+      stays = record { share = after.share ∙ before.share; budget = after.budget ∙ before.budget };
+    }
