@@ -34,7 +34,9 @@ fn text(rt: &impl Abort, alloc: Global, text: &str) -> String {
 /// Why these words, after the name of the program, give no job.
 fn fault_of(rt: &impl Abort, alloc: Global, words: &[&str]) -> Fault {
     let mut all = Vec::new(alloc);
-    all.push(text(rt, alloc, "multiscalar")).ok().expect(rt, "room");
+    all.push(text(rt, alloc, "multiscalar"))
+        .ok()
+        .expect(rt, "room");
     for &word in words {
         all.push(text(rt, alloc, word)).ok().expect(rt, "room");
     }
