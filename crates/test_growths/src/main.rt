@@ -10,12 +10,12 @@
 mod bursts;
 mod checks;
 mod given;
-mod jobs;
 mod machines;
 mod plain;
 mod programs;
 mod runs;
 mod units;
+mod words;
 
 use crate::bursts::bursts;
 use crate::given::{Given, Runtime};
@@ -56,9 +56,9 @@ fn made_above(given: &Given<'_>, rt: &impl Runtime, call: &str) -> Option<()> {
         "Burst::run" => bursts(given, false),
         "apply_burst" => bursts(given, true),
         "run_threads" => runs::runs_threads(given, rt),
-        "job_of" => jobs::reads_words(given),
-        "fetch" => jobs::fetches(given),
-        "serve" => jobs::serves(given, rt),
+        "job_of" => words::reads_words(given),
+        "fetch" => words::fetches(given),
+        "serve" => words::serves(given, rt),
         _ => None,
     }
 }
