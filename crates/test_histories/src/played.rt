@@ -1,5 +1,7 @@
 //! Events that are traced.
 
+ghost use Rattle.std.specs.Prelude.{◌<◌, ◌≤◌};
+
 use annotated_asm::assembler::assemble;
 use annotator::certify::certify;
 use event_json::lines::lines;
@@ -26,7 +28,10 @@ pub(crate) fn expect_trace(
     units: u32,
     events: &[Event],
     expected: &str,
-) {
+)
+    requires some { 0 < units }
+    requires few { units ≤ 16 }
+{
     let accepted = certified(rt, alloc, program);
     let text = trace(alloc, &accepted, units, program.as_bytes(), events);
     let text = text.ok().expect(rt, "room for a trace");
@@ -41,7 +46,10 @@ pub(crate) fn expect_lines(
     units: u32,
     events: &[Event],
     expected: &str,
-) {
+)
+    requires some { 0 < units }
+    requires few { units ≤ 16 }
+{
     let accepted = certified(rt, alloc, program);
     let text = lines(alloc, &accepted, units, program.as_bytes(), events);
     let text = text.ok().expect(rt, "room for lines");
