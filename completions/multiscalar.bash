@@ -1,0 +1,47 @@
+# bash completion for multiscalar
+
+_multiscalar_options() {
+    case $1 in
+        seq) echo "--budget --help" ;;
+        print) echo "--help" ;;
+        annotate) echo "--emit --help" ;;
+        explain) echo "--format --no-warnings --help" ;;
+        check) echo "--workers --least --help" ;;
+        replay) echo "--units --emit --least --help" ;;
+        run) echo "--units --budget --predict --workers --schedule --emit --least --help" ;;
+        curve) echo "--units --budget --predict --emit --least --help" ;;
+    esac
+}
+
+_multiscalar_values() {
+    case $1:$2 in
+        annotate:--emit) echo "text cert keep marks" ;;
+        replay:--emit) echo "answers summary svg trace json" ;;
+        run:--emit) echo "report script summary svg trace json" ;;
+        curve:--emit) echo "table svg" ;;
+        explain:--format) echo "text sarif" ;;
+        run:--schedule) echo "threads steps" ;;
+        run:--predict | curve:--predict) echo "first last" ;;
+        *:--units | check:--workers | run:--workers) echo "1 2 4 8 16" ;;
+    esac
+}
+
+_multiscalar() {
+    local word=${COMP_WORDS[COMP_CWORD]} before=${COMP_WORDS[COMP_CWORD - 1]} subcommand=${COMP_WORDS[1]}
+    COMPREPLY=()
+    if [ "$COMP_CWORD" -eq 1 ]; then
+        mapfile -t COMPREPLY < <(compgen -W "seq print annotate explain check replay run curve help --help --version" -- "$word")
+        return
+    fi
+    local values
+    values=$(_multiscalar_values "$subcommand" "$before")
+    if [ -n "$values" ]; then
+        mapfile -t COMPREPLY < <(compgen -W "$values" -- "$word")
+    elif [[ $word == -* ]]; then
+        mapfile -t COMPREPLY < <(compgen -W "$(_multiscalar_options "$subcommand")" -- "$word")
+    elif [ "$before" != --budget ]; then
+        mapfile -t COMPREPLY < <(compgen -f -- "$word")
+    fi
+}
+
+complete -o filenames -F _multiscalar multiscalar

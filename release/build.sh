@@ -1,0 +1,97 @@
+#!/usr/bin/env bash
+# Makes the release: multiscalar-VERSION-x86_64-linux.tar.gz and multiscalar_VERSION_amd64.deb, from the
+# program that was proved and built from what is committed. The same commit gives the same bytes.
+#
+#     release/build.sh [FOLDER]        FOLDER: where they are written, release/out if it is left out
+set -eu
+export LC_ALL=C TZ=UTC
+umask 022
+
+top=$(cd "$(dirname "${BASH_SOURCE[0]}")/.." && pwd)
+cd "$top"
+out=$(mkdir -p "${1:-release/out}" && cd "${1:-release/out}" && pwd)
+program=crates/multiscalar/out/multiscalar
+
+refuse() { printf 'release/build.sh: %s\n' "$*" >&2; exit 2; }
+
+command -v rt >/dev/null || refuse "rt, which names the toolchain, is not on PATH"
+command -v dpkg-deb >/dev/null || refuse "dpkg-deb is missing (Debian's package dpkg)"
+[ -z "$(git status --porcelain --untracked-files=no)" ] || refuse "there are changes that are not committed"
+[ -x "$program" ] || refuse "there is no $program: run ./multiscalar --help first, which proves and builds it"
+
+version=$(sed -n 's/^pub const VERSION: &str = "\([0-9.]*\).*/\1/p' crates/command_line/src/help.rt)
+commit=$(git rev-parse HEAD)
+SOURCE_DATE_EPOCH=$(git log -1 --format=%ct)
+export SOURCE_DATE_EPOCH
+toolchain=$(rt version)
+name=multiscalar-$version-x86_64-linux
+work=$(mktemp -d)
+trap 'rm -rf "$work"' EXIT
+root=$work/$name
+mkdir "$root"
+
+# What is committed, and no other file.
+committed() { git archive --format=tar HEAD -- "$@" | tar -xf - -C "$root"; }
+
+committed README.md CHANGELOG.md LICENSE-APACHE LICENSE-MIT docs examples man completions syntax
+rm -f "$root"/examples/*.py
+cp release/install.sh "$root/install.sh"
+install -m 755 "$program" "$root/multiscalar"
+strip --strip-all "$root/multiscalar"
+
+sum_of() { sha256sum "$1" | cut -d' ' -f1; }
+
+{
+    printf 'multiscalar %s\n' "$version"
+    printf 'commit %s\n' "$commit"
+    printf 'proved and built with %s\n' "$toolchain"
+    printf 'program sha256 %s\n' "$(sum_of "$root/multiscalar")"
+    printf 'program as built, with its symbols, sha256 %s\n' "$(sum_of "$program")"
+} > "$root/MANIFEST"
+
+# The tarball.
+find "$root" -exec touch -h -d "@$SOURCE_DATE_EPOCH" {} +
+tar --sort=name --owner=0 --group=0 --numeric-owner --mode=u+rwX,go+rX,go-w --format=ustar -cf - -C "$work" "$name" \
+    | gzip -9n > "$out/$name.tar.gz"
+
+# The Debian package: the same files, where Debian wants them.
+deb=$work/deb
+share=$deb/usr/share
+sh "$root/install.sh" "$deb/usr" > /dev/null
+mkdir -p "$deb/DEBIAN" "$share/zsh/vendor-completions"
+mv "$share/zsh/site-functions/_multiscalar" "$share/zsh/vendor-completions/_multiscalar"
+rmdir "$share/zsh/site-functions"
+gzip -9n "$share/man/man1/multiscalar.1"
+documents=$share/doc/multiscalar
+rm "$documents/LICENSE-APACHE" "$documents/LICENSE-MIT"
+mv "$documents/CHANGELOG.md" "$documents/changelog"
+gzip -9n "$documents/changelog"
+{
+    printf 'Format: https://www.debian.org/doc/packaging-manuals/copyright-format/1.0/\n'
+    printf 'Upstream-Name: multiscalar\n\nFiles: *\nCopyright: the authors of multiscalar\nLicense: Expat or Apache-2.0\n\n'
+    printf 'License: Expat\n'
+    sed -e '1,/^Permission/{/^Permission/!d}' -e 's/^$/./' -e 's/^/ /' LICENSE-MIT
+    printf '\nLicense: Apache-2.0\n On Debian systems, the text is in /usr/share/common-licenses/Apache-2.0.\n'
+} > "$documents/copyright"
+cat > "$deb/DEBIAN/control" <<EOF
+Package: multiscalar
+Version: $version
+Architecture: amd64
+Maintainer: The authors of multiscalar <multiscalar@localhost.localdomain>
+Installed-Size: $(du -k --apparent-size -s "$deb/usr" | cut -f1)
+Depends: libc6 (>= 2.34)
+Section: devel
+Priority: optional
+Description: proved checker and runner for annotated Multiscalar programs
+ A Multiscalar processor cuts one sequential program into tasks and runs several
+ at once on a ring of units. Marks in the program say when each register leaves a
+ task. This program checks the marks on every path, explains those that are wrong,
+ and runs what is right. Each of its functions is proved against its contract.
+EOF
+(cd "$deb" && find usr -type f -print0 | sort -z | xargs -0 md5sum) > "$deb/DEBIAN/md5sums"
+find "$deb" -exec touch -h -d "@$SOURCE_DATE_EPOCH" {} +
+dpkg-deb --root-owner-group -Zxz -z9 --build "$deb" "$out/multiscalar_${version}_amd64.deb" > /dev/null
+
+cp "$root/MANIFEST" "$out/MANIFEST"
+(cd "$out" && sha256sum "$name.tar.gz" "multiscalar_${version}_amd64.deb" >> MANIFEST)
+cat "$out/MANIFEST"

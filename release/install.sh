@@ -1,0 +1,25 @@
+#!/bin/sh
+# Installs multiscalar below a folder: sh install.sh PREFIX (as /usr/local, or $HOME/.local)
+set -eu
+[ $# -eq 1 ] || { echo "usage: sh install.sh PREFIX" >&2; exit 2; }
+from=$(cd "$(dirname "$0")" && pwd)
+mkdir -p "$1"
+to=$(cd "$1" && pwd)
+
+place() { # FOLDER FILE..
+    folder=$to/$1
+    shift
+    mkdir -p "$folder"
+    cp -R "$@" "$folder/"
+}
+
+place bin "$from/multiscalar"
+place share/man/man1 "$from/man/multiscalar.1"
+place share/bash-completion/completions "$from/completions/multiscalar.bash"
+mv "$to/share/bash-completion/completions/multiscalar.bash" "$to/share/bash-completion/completions/multiscalar"
+place share/zsh/site-functions "$from/completions/_multiscalar"
+place share/fish/vendor_completions.d "$from/completions/multiscalar.fish"
+place share/multiscalar "$from/syntax"
+place share/doc/multiscalar "$from/README.md" "$from/CHANGELOG.md" "$from/LICENSE-APACHE" "$from/LICENSE-MIT" \
+    "$from/MANIFEST" "$from/docs" "$from/examples"
+echo "multiscalar is in $to/bin; its documents and examples are in $to/share/doc/multiscalar"
