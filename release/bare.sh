@@ -14,7 +14,7 @@ trap 'rm -rf "$work"' EXIT
 
 mirror=$(sed -n 's/^URIs: *//p; s/^deb \(\[[^]]*\] \)\?\([^ ]*\).*/\2/p' /etc/apt/sources.list /etc/apt/sources.list.d/* 2>/dev/null | head -n 1)
 codename=$(. /etc/os-release && echo "$VERSION_CODENAME")
-debootstrap --variant=minbase --include=mandoc,bash-completion,python3-minimal "$codename" "$system" "${mirror:-http://deb.debian.org/debian}" > "$work/bootstrap.log" 2>&1 \
+debootstrap --variant=minbase --include=mandoc,bash-completion,python3 "$codename" "$system" "${mirror:-http://deb.debian.org/debian}" > "$work/bootstrap.log" 2>&1 \
     || { tail -n 5 "$work/bootstrap.log" >&2; exit 2; }
 
 inside() { chroot "$system" /bin/bash -c "$1"; }

@@ -64,11 +64,16 @@ rmdir "$share/zsh/site-functions"
 gzip -9n "$share/man/man1/multiscalar.1"
 documents=$share/doc/multiscalar
 rm "$documents/LICENSE-APACHE" "$documents/LICENSE-MIT"
-mv "$documents/CHANGELOG.md" "$documents/changelog"
+{
+    printf 'multiscalar (%s) unstable; urgency=medium\n\n  * See CHANGELOG.md.\n\n' "$version"
+    printf ' -- The authors of multiscalar <multiscalar@localhost.localdomain>  %s\n' "$(date -R -d "@$SOURCE_DATE_EPOCH")"
+} > "$documents/changelog"
 gzip -9n "$documents/changelog"
 {
     printf 'Format: https://www.debian.org/doc/packaging-manuals/copyright-format/1.0/\n'
-    printf 'Upstream-Name: multiscalar\n\nFiles: *\nCopyright: the authors of multiscalar\nLicense: Expat or Apache-2.0\n\n'
+    printf 'Upstream-Name: multiscalar\n\nFiles: *\n'
+    sed -n 's/^Copyright (c) /Copyright: Copyright (c) /p' LICENSE-MIT
+    printf 'License: Expat or Apache-2.0\n\n'
     printf 'License: Expat\n'
     sed -e '1,/^Permission/{/^Permission/!d}' -e 's/^$/./' -e 's/^/ /' LICENSE-MIT
     printf '\nLicense: Apache-2.0\n On Debian systems, the text is in /usr/share/common-licenses/Apache-2.0.\n'
@@ -83,10 +88,11 @@ Depends: libc6 (>= 2.34)
 Section: devel
 Priority: optional
 Description: proved checker and runner for annotated Multiscalar programs
- A Multiscalar processor cuts one sequential program into tasks and runs several
- at once on a ring of units. Marks in the program say when each register leaves a
- task. This program checks the marks on every path, explains those that are wrong,
- and runs what is right. Each of its functions is proved against its contract.
+ A Multiscalar processor cuts one sequential program into tasks and runs
+ several at once on a ring of units. Marks in the program say when each
+ register leaves a task. This program checks the marks on every path,
+ explains those that are wrong, and runs what is right. Each of its
+ functions is proved against its contract.
 EOF
 (cd "$deb" && find usr -type f -print0 | sort -z | xargs -0 md5sum) > "$deb/DEBIAN/md5sums"
 find "$deb" -exec touch -h -d "@$SOURCE_DATE_EPOCH" {} +
