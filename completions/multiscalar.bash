@@ -30,17 +30,22 @@ _multiscalar() {
     local word=${COMP_WORDS[COMP_CWORD]} before=${COMP_WORDS[COMP_CWORD - 1]} subcommand=${COMP_WORDS[1]}
     COMPREPLY=()
     if [ "$COMP_CWORD" -eq 1 ]; then
-        mapfile -t COMPREPLY < <(compgen -W "seq print annotate explain check replay run curve help --help --version" -- "$word")
+        # shellcheck disable=SC2207
+        COMPREPLY=($(compgen -W "seq print annotate explain check replay run curve help --help --version" -- "$word"))
         return
     fi
     local values
     values=$(_multiscalar_values "$subcommand" "$before")
     if [ -n "$values" ]; then
-        mapfile -t COMPREPLY < <(compgen -W "$values" -- "$word")
+        # shellcheck disable=SC2207
+        COMPREPLY=($(compgen -W "$values" -- "$word"))
     elif [[ $word == -* ]]; then
-        mapfile -t COMPREPLY < <(compgen -W "$(_multiscalar_options "$subcommand")" -- "$word")
+        # shellcheck disable=SC2207
+        COMPREPLY=($(compgen -W "$(_multiscalar_options "$subcommand")" -- "$word"))
     elif [ "$before" != --budget ]; then
-        mapfile -t COMPREPLY < <(compgen -f -- "$word")
+        local IFS=$'\n'
+        # shellcheck disable=SC2207
+        COMPREPLY=($(compgen -f -- "$word"))
     fi
 }
 
