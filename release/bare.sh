@@ -19,17 +19,17 @@ debootstrap --variant=minbase --include=mandoc,bash-completion,python3 "$codenam
 
 inside() { chroot "$system" /bin/bash -c "$1"; }
 
-cp "$from"/multiscalar-*.tar.gz "$from"/multiscalar_*.deb "$system/root/"
-cp "$top/examples/compare.py" "$top/examples/pages.py" "$system/root/"
+cp "$from"/multiscalar-*.tar.gz "$from"/multiscalar_*.deb "$system/srv/"
+cp "$top/examples/compare.py" "$top/examples/pages.py" "$system/srv/"
 
 echo "== unpacked"
-inside 'cd /root && tar -xzf multiscalar-*.tar.gz && cd multiscalar-*/ && ./multiscalar run --least examples/count/program.s'
+inside 'cd /srv && tar -xzf multiscalar-*.tar.gz && cd multiscalar-*/ && ./multiscalar run --least examples/count/program.s'
 echo "== what the examples print"
-inside 'cd /root/multiscalar-*/ && cp ../compare.py ../pages.py examples/ && python3 examples/compare.py ./multiscalar && python3 examples/pages.py ./multiscalar && rm examples/*.py'
+inside 'cd /srv/multiscalar-*/ && cp ../compare.py ../pages.py examples/ && python3 examples/compare.py ./multiscalar && python3 examples/pages.py ./multiscalar && rm examples/*.py'
 echo "== install.sh"
-inside 'cd /root/multiscalar-*/ && sh install.sh /opt/multiscalar && /opt/multiscalar/bin/multiscalar --version'
+inside 'cd /srv/multiscalar-*/ && sh install.sh /usr/local && /usr/local/bin/multiscalar --version'
 echo "== the package"
-inside 'dpkg -i /root/multiscalar_*.deb > /dev/null && multiscalar check --least /usr/share/doc/multiscalar/examples/count/program.s'
+inside 'dpkg -i /srv/multiscalar_*.deb > /dev/null && multiscalar check --least /usr/share/doc/multiscalar/examples/count/program.s'
 echo "== man page and completions"
 inside 'zcat /usr/share/man/man1/multiscalar.1.gz | mandoc -T lint -W warning && zcat /usr/share/man/man1/multiscalar.1.gz | mandoc -T ascii | head -n 5'
 inside 'source /usr/share/bash-completion/completions/multiscalar; COMP_WORDS=(multiscalar r); COMP_CWORD=1; _multiscalar; echo "${COMPREPLY[@]}"'
