@@ -27,7 +27,7 @@ inside 'cd /srv && tar -xzf multiscalar-*.tar.gz && cd multiscalar-*/ && ./multi
 echo "== what the examples print"
 inside 'cd /srv/multiscalar-*/ && cp ../compare.py ../pages.py examples/ && python3 examples/compare.py ./multiscalar && python3 examples/pages.py ./multiscalar && rm examples/*.py'
 echo "== install.sh"
-inside 'cd /srv/multiscalar-*/ && sh install.sh /usr/local && /usr/local/bin/multiscalar --version'
+inside 'cd /srv/multiscalar-*/ && sh install.sh /srv/installed && /srv/installed/bin/multiscalar --version'
 echo "== the package"
 inside 'dpkg -i /srv/multiscalar_*.deb > /dev/null && multiscalar check --least /usr/share/doc/multiscalar/examples/count/program.s'
 echo "== man page and completions"
