@@ -1,0 +1,8 @@
+//! What is said of a program, its marks, its certificate or an event script: as values, of which each renderer makes
+//! its own form, and in the text form of gcc and clang.
+#![tactic(auto)]
+
+pub mod code;
+pub mod diagnostic;
+pub mod listed;
+pub mod words;
