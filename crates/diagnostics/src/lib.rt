@@ -3,6 +3,8 @@
 #![tactic(auto)]
 
 pub mod code;
+pub mod colour;
 pub mod diagnostic;
+mod excerpt;
 pub mod listed;
 pub mod words;
