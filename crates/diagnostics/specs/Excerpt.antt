@@ -1,6 +1,6 @@
 -- How a line is shown, with a caret below the part that is meant (own choice, in the form of gcc). What is shown has no
 -- control byte but tabs, so it does nothing to a terminal.
-use Rattle.std.specs.Prelude.{ℕ, ◌+◌, ◌-◌, ◌/◌, ◌%◌, max, Bool, true, false, ◌&&◌, ◌||◌, not, List, [], ◌∷◌, ◌++◌, take, drop, length, replicate, codes, slice_get, slice_index, Option, Some, None, nat_lt, nat_le, nat_eq, if◌then◌else◌}
+use Rattle.std.specs.Prelude.{ℕ, ◌-◌, ◌/◌, ◌%◌, max, Bool, true, false, ◌&&◌, ◌||◌, not, List, [], ◌∷◌, ◌++◌, take, drop, length, replicate, codes, slice_get, slice_index, Option, Some, None, nat_lt, nat_le, nat_eq, if◌then◌else◌}
 use Rattle.std.specs.Fmt.{decimal}
 use Rattle.std.specs.List.{flat_map, list_any}
 use Rattle.std.specs.Str.{is_utf8, chars}
@@ -108,3 +108,10 @@ line_excerpt colour s (Some line) =
 abbrev pub excerpt_text : Colour → (rows : List (List ℕ)) → Option Span → List ℕ
 excerpt_text colour rows None = []
 excerpt_text colour rows (Some s) = line_excerpt colour s (slice_get rows (s.line - 1))
+
+abbrev pub is_same_span : Span → Span → Bool
+is_same_span a b = nat_eq a.line b.line && (nat_eq a.column b.column && nat_eq a.width b.width)
+
+abbrev pub is_same_place : Option Span → Option Span → Bool
+is_same_place (Some a) (Some b) = is_same_span a b
+is_same_place a b = false

@@ -6,5 +6,8 @@ pub mod code;
 pub mod colour;
 pub mod diagnostic;
 mod excerpt;
+pub mod files;
+mod label;
 pub mod listed;
+pub mod text;
 pub mod words;
