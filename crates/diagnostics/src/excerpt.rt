@@ -93,7 +93,7 @@ fn shown(alloc: Global, readable: bool, part: &[u8]) -> Result<Vec<u8>, AllocErr
 }
 
 /// Bytes as they are shown, as a text.
-fn shown_text(alloc: Global, part: &[u8]) -> Result<String, AllocError>
+pub(crate) fn shown_text(alloc: Global, part: &[u8]) -> Result<String, AllocError>
     ensures { IfOk result (λ text. string_bytes text ≡ shown (is_readable part.now) part.now) }
 {
     match String::from_utf8(shown(alloc, is_readable(part), part)?) {
@@ -141,7 +141,7 @@ fn blanks(alloc: Global, readable: bool, bytes: &[u8]) -> Result<String, AllocEr
 }
 
 /// The first bytes, as many.
-fn first(bytes: &[u8], count: usize) -> &[u8]
+pub(crate) fn first(bytes: &[u8], count: usize) -> &[u8]
     ensures { result.now ≡ take count bytes.now }
 {
     if count < bytes.len() {

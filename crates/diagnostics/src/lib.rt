@@ -9,5 +9,6 @@ mod excerpt;
 pub mod files;
 mod label;
 pub mod listed;
+pub mod quotation;
 pub mod text;
 pub mod words;
