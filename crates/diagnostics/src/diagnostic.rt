@@ -48,7 +48,7 @@ pub struct Note {
     pub path: Listed<Span>,
 }
 
-/// A text to put in place of a part of the program text. At a span of width 0 it is put in; an empty text takes
+/// A text to put in place of a part of the text that the diagnostic is about. At a span of width 0 it is put in; an empty text takes
 /// the span out.
 #[derive(Debug, Drop)]
 pub struct Replacement {

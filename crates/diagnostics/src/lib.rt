@@ -8,6 +8,7 @@ pub mod diagnostic;
 mod excerpt;
 pub mod files;
 mod label;
+pub mod laws;
 pub mod listed;
 pub mod quotation;
 pub mod text;
