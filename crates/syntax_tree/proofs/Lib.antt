@@ -1,0 +1,4 @@
+pub mod Limits
+pub mod Pieces
+mod Walks
+mod Unplaced
