@@ -2,3 +2,4 @@ pub mod Limits
 pub mod Pieces
 mod Walks
 mod Unplaced
+mod Alone

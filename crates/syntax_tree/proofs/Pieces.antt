@@ -51,7 +51,7 @@ same_choice run false false false true x y z never within = refl
 same_choice run false false true true x y z never within = absurd (never refl within)
 
 digit_goes_on : (a b c : Bool) → a ≡ true → (a || b) || c ≡ true
-digit_goes_on a b c yes = subst (λ (t : Bool). (t || b) || c ≡ true) (sym yes) refl
+digit_goes_on a b c holds = subst (λ (t : Bool). (t || b) || c ≡ true) (sym holds) refl
 
 -- `kind_of 48 []` is the kind of a number, and so on
 kind_kept : (b e : ℕ) (bs : List ℕ) → prefix_len (goes_on (kind_of b bs)) bs ≤ e → kind_of b (take e bs) ≡ kind_of b bs
@@ -67,12 +67,15 @@ kind_kept b zero (c ∷ cs) within =
 
 -- One token more.
 
+abbrev ok : List Token → Result (List Token) LineFault
+ok tokens = Ok tokens
+
 front_cases : (P : Type 0) (b : ℕ) → (is_blank b ≡ true → P) → (is_blank b ≡ false → (b == byte "#") ≡ true → P)
     → (is_blank b ≡ false → (b == byte "#") ≡ false → P) → P
 front_cases P b blank comment token =
     (elim (is_blank b) as (λ t. is_blank b ≡ t → P) [
       | true ↦ blank
-      | false ↦ λ no. (elim (b == byte "#") as (λ t. (b == byte "#") ≡ t → P) [ true ↦ comment no | false ↦ token no ]) refl
+      | false ↦ λ not_blank. (elim (b == byte "#") as (λ t. (b == byte "#") ≡ t → P) [ true ↦ comment not_blank | false ↦ token not_blank ]) refl
     ]) refl
 
 token_front : (b : ℕ) (bs : List ℕ) → is_blank b ≡ false → (b == byte "#") ≡ false
@@ -103,7 +106,7 @@ token_places column b bs not_blank not_comment = rw (not_blank, not_comment) ref
 first_or : (x : Span) (xs : List Span) (k : ℕ) (place : Span) → slice_get (x ∷ xs) k ≡ Some place
     → ((k ≡ 0) × (x ≡ place)) ⊎ ((m : ℕ) × (k ≡ suc m) × (slice_get xs m ≡ Some place))
 first_or x xs zero place at = inl (refl, cc)
-first_or x xs (suc m) place at = inr (m, (refl, at))
+first_or x xs (suc m) place at = inr (m, refl, at)
 
 nowhere : (A : Type 0) (k : ℕ) (places : List Span) (place : Span) → places ≡ [] → slice_get places k ≡ Some place → A
 nowhere A k places place none at = let e = ap (λ (ss : List Span). slice_get ss k) (sym none) ∙ at in absurd cc
@@ -116,12 +119,34 @@ begins column (suc taken) (b ∷ bs) k place at = omega (arith, begins (column +
 begins column zero (b ∷ bs) k place at =
     front_cases (column + 0 ≤ place.column) b
     (λ blank. omega (arith, begins (column + 1) 0 bs k place (ap (λ (ss : List Span). slice_get ss k) (sym (blank_places column b bs blank)) ∙ at)))
-    (λ no comment. nowhere (column + 0 ≤ place.column) k (spans_after column 0 (b ∷ bs)) place (comment_places column b bs no comment) at)
-    (λ no not_comment.
-      elim (first_or (front_place column b bs) (spans_after (column + 1) (others_of b bs) bs) k place (ap (λ (ss : List Span). slice_get ss k) (sym (token_places column b bs no not_comment)) ∙ at)) [
+    (λ not_blank comment. nowhere (column + 0 ≤ place.column) k (spans_after column 0 (b ∷ bs)) place (comment_places column b bs not_blank comment) at)
+    (λ not_blank not_comment.
+      elim (first_or (front_place column b bs) (spans_after (column + 1) (others_of b bs) bs) k place (ap (λ (ss : List Span). slice_get ss k) (sym (token_places column b bs not_blank not_comment)) ∙ at)) [
         | inl here ↦ omega (arith, ap (λ (s : Span). s.column) here.1)
-        | inr later ↦ omega (arith, begins (column + 1) (others_of b bs) bs later.0 place later.1.1)
+        | inr later ↦ omega (arith, begins (column + 1) (others_of b bs) bs later.0 place later.2)
       ])
+
+count : (column taken : ℕ) (bs : List ℕ) (tokens : List Token) → tokens_after taken bs ≡ Ok tokens → length (spans_after column taken bs) ≡ length tokens
+unfolding tokens_after spans_after
+count column zero [] tokens read = let none : [] ≡ tokens = cc in ap (λ (ts : List Token). length ts) none
+count column (suc taken) [] tokens read = let none : [] ≡ tokens = cc in ap (λ (ts : List Token). length ts) none
+count column (suc taken) (b ∷ bs) tokens read = count (column + 1) taken bs tokens read
+count column zero (b ∷ bs) tokens read =
+    front_cases (length (spans_after column 0 (b ∷ bs)) ≡ length tokens) b
+    (λ blank. ap (λ (ss : List Span). length ss) (blank_places column b bs blank) ∙ count (column + 1) 0 bs tokens (sym (blank_step b bs blank) ∙ read))
+    (λ not_blank comment.
+      let none : ok [] ≡ ok tokens = sym (comment_step b bs not_blank comment) ∙ read in
+      let same : [] ≡ tokens = cc in
+      ap (λ (ss : List Span). length ss) (comment_places column b bs not_blank comment) ∙ ap (λ (ts : List Token). length ts) same)
+    (λ not_blank not_comment.
+      let cut = led (token_of (kind_of b bs) (b ∷ take_while (goes_on (kind_of b bs)) bs)) (tokens_after (others_of b bs) bs) tokens (sym (token_front b bs not_blank not_comment) ∙ read) in
+      ap (λ (ss : List Span). length ss) (token_places column b bs not_blank not_comment)
+      ∙ ap (λ m. suc m) (count (column + 1) (others_of b bs) bs cut.rest cut.is_rest)
+      ∙ ap (λ (ts : List Token). length ts) (sym cut.whole))
+
+-- each token of a line has a place, and nothing else
+pub same_count : (line : List ℕ) (tokens : List Token) → line_tokens line ≡ Ok tokens → length (line_spans line) ≡ length tokens
+same_count line tokens read = count 1 0 (strip_carriage_return line) tokens (tokens_are line tokens read).1
 
 none_left : (n : ℕ) (bs : List ℕ) → length bs ≤ n → tokens_after n bs ≡ Ok []
 unfolding tokens_after
@@ -133,22 +158,19 @@ none_left (suc n) (b ∷ bs) within = none_left n bs (omega arith)
 -- the first token of a text that is cut behind it is the same
 token_kept : (b e : ℕ) (bs : List ℕ) → is_blank b ≡ false → (b == byte "#") ≡ false → others_of b bs ≤ e
     → tokens_after 0 (b ∷ take e bs) ≡ with_token (token_of (kind_of b bs) (b ∷ take_while (goes_on (kind_of b bs)) bs)) (tokens_after (others_of b bs) (take e bs))
-token_kept b e bs no not_comment within =
+token_kept b e bs not_blank not_comment within =
     let short : prefix_len (goes_on (kind_of b bs)) bs ≤ e = omega (arith, length-take-le (prefix_len (goes_on (kind_of b bs)) bs) bs (prefix_len-le-length (goes_on (kind_of b bs)) bs)) in
-    token_front b (take e bs) no not_comment
+    token_front b (take e bs) not_blank not_comment
     ∙ ap (λ k. with_token (token_of k (b ∷ take_while (goes_on k) (take e bs))) (tokens_after (length (take_while (goes_on k) (take e bs))) (take e bs))) (kind_kept b e bs short)
     ∙ ap (λ (xs : List ℕ). with_token (token_of (kind_of b bs) (b ∷ xs)) (tokens_after (length xs) (take e bs))) (run_is (goes_on (kind_of b bs)) e bs short)
 
 -- The front: what is cut behind the token of number k has the tokens up to it.
 
-abbrev ok : List Token → Result (List Token) LineFault
-ok tokens = Ok tokens
-
 cut_first : (b : ℕ) (bs : List ℕ) (tokens : List Token) → is_blank b ≡ false → (b == byte "#") ≡ false
     → Led (token_of (kind_of b bs) (b ∷ take_while (goes_on (kind_of b bs)) bs)) (tokens_after (others_of b bs) bs) tokens
     → tokens_after 0 (b ∷ take (others_of b bs) bs) ≡ ok (take 1 tokens)
-cut_first b bs tokens no not_comment cut =
-    token_kept b (others_of b bs) bs no not_comment (omega arith)
+cut_first b bs tokens not_blank not_comment cut =
+    token_kept b (others_of b bs) bs not_blank not_comment (omega arith)
     ∙ ap (λ (t : Option Token). with_token t (tokens_after (others_of b bs) (take (others_of b bs) bs))) cut.is_found
     ∙ ap (with_token (Some cut.first)) (none_left (others_of b bs) (take (others_of b bs) bs) (omega (arith, length-take-le (others_of b bs) bs (run-le (goes_on (kind_of b bs)) bs))))
     ∙ ap (λ (ts : List Token). ok (take 1 ts)) (sym cut.whole)
@@ -157,8 +179,8 @@ cut_later : (b e m : ℕ) (bs : List ℕ) (tokens : List Token) → is_blank b �
     → (cut : Led (token_of (kind_of b bs) (b ∷ take_while (goes_on (kind_of b bs)) bs)) (tokens_after (others_of b bs) bs) tokens)
     → tokens_after (others_of b bs) (take e bs) ≡ ok (take (suc m) cut.rest)
     → tokens_after 0 (b ∷ take e bs) ≡ ok (take (suc (suc m)) tokens)
-cut_later b e m bs tokens no not_comment within cut rest =
-    token_kept b e bs no not_comment within
+cut_later b e m bs tokens not_blank not_comment within cut rest =
+    token_kept b e bs not_blank not_comment within
     ∙ ap (λ (t : Option Token). with_token t (tokens_after (others_of b bs) (take e bs))) cut.is_found
     ∙ ap (with_token (Some cut.first)) rest
     ∙ ap (λ (ts : List Token). ok (take (suc (suc m)) ts)) (sym cut.whole)
@@ -179,19 +201,19 @@ front column zero (b ∷ bs) tokens k place read at =
       let e : place.column + place.len - column ≡ suc until = omega (arith, begins (column + 1) 0 bs k place there) in
       ap (λ m. tokens_after 0 (take m (b ∷ bs))) e ∙ blank_step b (take until bs) blank
       ∙ front (column + 1) 0 bs tokens k place (sym (blank_step b bs blank) ∙ read) there)
-    (λ no comment. nowhere _ k (spans_after column 0 (b ∷ bs)) place (comment_places column b bs no comment) at)
-    (λ no not_comment.
-      let cut = led (token_of (kind_of b bs) (b ∷ take_while (goes_on (kind_of b bs)) bs)) (tokens_after (others_of b bs) bs) tokens (sym (token_front b bs no not_comment) ∙ read) in
-      elim (first_or (front_place column b bs) (spans_after (column + 1) (others_of b bs) bs) k place (ap (λ (ss : List Span). slice_get ss k) (sym (token_places column b bs no not_comment)) ∙ at)) [
+    (λ not_blank comment. nowhere _ k (spans_after column 0 (b ∷ bs)) place (comment_places column b bs not_blank comment) at)
+    (λ not_blank not_comment.
+      let cut = led (token_of (kind_of b bs) (b ∷ take_while (goes_on (kind_of b bs)) bs)) (tokens_after (others_of b bs) bs) tokens (sym (token_front b bs not_blank not_comment) ∙ read) in
+      elim (first_or (front_place column b bs) (spans_after (column + 1) (others_of b bs) bs) k place (ap (λ (ss : List Span). slice_get ss k) (sym (token_places column b bs not_blank not_comment)) ∙ at)) [
         | inl here ↦
             let e : place.column + place.len - column ≡ suc (others_of b bs) = omega (arith, ap (λ (s : Span). s.column) here.1, ap (λ (s : Span). s.len) here.1) in
-            ap (λ m. tokens_after 0 (take m (b ∷ bs))) e ∙ cut_first b bs tokens no not_comment cut ∙ ap (λ n. ok (take (suc n) tokens)) (sym here.0)
+            ap (λ m. tokens_after 0 (take m (b ∷ bs))) e ∙ cut_first b bs tokens not_blank not_comment cut ∙ ap (λ n. ok (take (suc n) tokens)) (sym here.0)
         | inr later ↦
-            let ahead = begins (column + 1) (others_of b bs) bs later.0 place later.1.1 in
+            let ahead = begins (column + 1) (others_of b bs) bs later.0 place later.2 in
             let e : place.column + place.len - column ≡ suc until = omega (arith, ahead) in
             ap (λ m. tokens_after 0 (take m (b ∷ bs))) e
-            ∙ cut_later b until later.0 bs tokens no not_comment (omega (arith, ahead)) cut (front (column + 1) (others_of b bs) bs cut.rest later.0 place cut.is_rest later.1.1)
-            ∙ ap (λ n. ok (take (suc n) tokens)) (sym later.1.0)
+            ∙ cut_later b until later.0 bs tokens not_blank not_comment (omega (arith, ahead)) cut (front (column + 1) (others_of b bs) bs cut.rest later.0 place cut.is_rest later.2)
+            ∙ ap (λ n. ok (take (suc n) tokens)) (sym later.1)
       ])
 
 -- The back: what begins with the token of number k has the tokens from it on, and their places.
@@ -217,10 +239,10 @@ back column zero (b ∷ bs) tokens k place read at =
       let e : place.column - column ≡ suc until = omega (arith, begins (column + 1) 0 bs k place there) in
       let rest = back (column + 1) 0 bs tokens k place (sym (blank_step b bs blank) ∙ read) there in
       (ap (λ m. tokens_after 0 (drop m (b ∷ bs))) e ∙ rest.0, ap (λ m. spans_after place.column 0 (drop m (b ∷ bs))) e ∙ rest.1 ∙ ap (λ (ss : List Span). drop k ss) (sym same)))
-    (λ no comment. nowhere _ k (spans_after column 0 (b ∷ bs)) place (comment_places column b bs no comment) at)
-    (λ no not_comment.
-      let same = token_places column b bs no not_comment in
-      let cut = led (token_of (kind_of b bs) (b ∷ take_while (goes_on (kind_of b bs)) bs)) (tokens_after (others_of b bs) bs) tokens (sym (token_front b bs no not_comment) ∙ read) in
+    (λ not_blank comment. nowhere _ k (spans_after column 0 (b ∷ bs)) place (comment_places column b bs not_blank comment) at)
+    (λ not_blank not_comment.
+      let same = token_places column b bs not_blank not_comment in
+      let cut = led (token_of (kind_of b bs) (b ∷ take_while (goes_on (kind_of b bs)) bs)) (tokens_after (others_of b bs) bs) tokens (sym (token_front b bs not_blank not_comment) ∙ read) in
       elim (first_or (front_place column b bs) (spans_after (column + 1) (others_of b bs) bs) k place (ap (λ (ss : List Span). slice_get ss k) (sym same) ∙ at)) [
         | inl here ↦
             let is_column : column ≡ place.column = ap (λ (s : Span). s.column) here.1 in
@@ -230,11 +252,11 @@ back column zero (b ∷ bs) tokens k place read at =
               ap (λ m. spans_after place.column 0 (drop m (b ∷ bs))) e ∙ ap (λ c. spans_after c 0 (b ∷ bs)) (sym is_column) ∙ ap (λ n. drop n (spans_after column 0 (b ∷ bs))) (sym here.0),
             )
         | inr later ↦
-            let e : place.column - column ≡ suc until = omega (arith, begins (column + 1) (others_of b bs) bs later.0 place later.1.1) in
-            let rest = back (column + 1) (others_of b bs) bs cut.rest later.0 place cut.is_rest later.1.1 in
+            let e : place.column - column ≡ suc until = omega (arith, begins (column + 1) (others_of b bs) bs later.0 place later.2) in
+            let rest = back (column + 1) (others_of b bs) bs cut.rest later.0 place cut.is_rest later.2 in
             (
-              ap (λ m. tokens_after 0 (drop m (b ∷ bs))) e ∙ rest.0 ∙ ap (λ (ts : List Token). ok (drop (suc later.0) ts)) (sym cut.whole) ∙ ap (λ n. ok (drop n tokens)) (sym later.1.0),
-              ap (λ m. spans_after place.column 0 (drop m (b ∷ bs))) e ∙ rest.1 ∙ ap (λ (ss : List Span). drop (suc later.0) ss) (sym same) ∙ ap (λ n. drop n (spans_after column 0 (b ∷ bs))) (sym later.1.0),
+              ap (λ m. tokens_after 0 (drop m (b ∷ bs))) e ∙ rest.0 ∙ ap (λ (ts : List Token). ok (drop (suc later.0) ts)) (sym cut.whole) ∙ ap (λ n. ok (drop n tokens)) (sym later.1),
+              ap (λ m. spans_after place.column 0 (drop m (b ∷ bs))) e ∙ rest.1 ∙ ap (λ (ss : List Span). drop (suc later.0) ss) (sym same) ∙ ap (λ n. drop n (spans_after column 0 (b ∷ bs))) (sym later.1),
             )
       ])
 
@@ -249,8 +271,8 @@ and_right true b both = both
 and_right false b both = cc
 
 and_both : (a b : Bool) → a ≡ true → b ≡ true → a && b ≡ true
-and_both true b yes other = other
-and_both false b yes other = cc
+and_both true b first other = other
+and_both false b first other = cc
 
 all_behind : (p : ℕ → Bool) (n : ℕ) (xs : List ℕ) → list_all p xs ≡ true → list_all p (drop n xs) ≡ true
 all_behind p zero xs passes = passes

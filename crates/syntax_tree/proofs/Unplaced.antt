@@ -36,9 +36,12 @@ labels_are n here places k (token.Name name ∷ token.Colon ∷ tokens) rest =
 labels_are n here places k tokens rest = sym (no_front (without_places rest))
 
 -- the assembler's items of a line behind its labels, and of the lines behind it
+abbrev read_as : List Unplaced → Section → Result (List Unplaced × Section) AsmFault
+read_as items next = Ok (items, next)
+
 abbrev asm_rest : ℕ → Section → List Unplaced → (Section → Result (List Unplaced) AsmFault) → Result Statement AsmFault → Result (List Unplaced) AsmFault
 asm_rest n here labels others said =
-    (said >>= λ s. Ok (labels ++ asm.statement_items n here s, asm.section_after here s)) >>= λ first. others first.1 >>= λ more. Ok (first.0 ++ more)
+    (said >>= λ s. read_as (labels ++ asm.statement_items n here s) (asm.section_after here s)) >>= λ first. others first.1 >>= λ more. Ok (first.0 ++ more)
 
 added : (labels own : List Unplaced) (r : Result (List Unplaced) AsmFault)
     → (r >>= λ more. Ok ((labels ++ own) ++ more)) ≡ with_front labels (with_front own r)
@@ -65,7 +68,7 @@ said_is n here places k labels others rest same (Err statement_fault.Mark) = ref
 line_is : (n : ℕ) (here : Section) (line : List ℕ) (others : Section → Result (List Unplaced) AsmFault) (rest : Section → List Item)
     → ((next : Section) → others next ≡ without_places (rest next)) → (read : Result (List Token) LineFault)
     → ((asm.tokens_on_line n read >>= λ tokens. asm.on_line n (statement_of here (asm.after_labels tokens)) >>= λ s.
-         Ok (map (asm.label_item n here) (asm.labels_of tokens) ++ asm.statement_items n here s, asm.section_after here s)) >>= λ first. others first.1 >>= λ more. Ok (first.0 ++ more))
+         read_as (map (asm.label_item n here) (asm.labels_of tokens) ++ asm.statement_items n here s) (asm.section_after here s)) >>= λ first. others first.1 >>= λ more. Ok (first.0 ++ more))
     ≡ without_places ((items_read n here line read).0 ++ rest (items_read n here line read).1)
 unfolding tokens_items
 line_is n here line others rest same (Err token_fault.NotAscii) = refl

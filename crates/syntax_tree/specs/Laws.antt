@@ -27,6 +27,7 @@ abbrev pub unplaced : Item → Statement → Unplaced
 unplaced item s = record { line = item.line; section = item.section; statement = s }
 
 abbrev pub before_others : Item → Said → Result (List Unplaced) AsmFault → Result (List Unplaced) AsmFault
+before_others item (said.Label name) others = others >>= λ read. Ok (unplaced item (statement.Label name) ∷ read)
 before_others item (said.Statement s) others = others >>= λ read. Ok (unplaced item s ∷ read)
 before_others item (said.Fault k) others = Err (fault_at item.line k)
 
@@ -49,7 +50,7 @@ Spell here bytes s = (tokens : List Token) × (line_tokens bytes ≡ Ok tokens) 
 -- These bytes, read alone, are what an item says: a label's are its name, those of a statement are that statement,
 -- and those of what is no statement have the fault that the line has.
 abbrev pub Says : Section → List ℕ → Said → Type 0
-Says here bytes (said.Statement (statement.Label name)) = line_tokens bytes ≡ Ok (token.Name name ∷ [])
+Says here bytes (said.Label name) = line_tokens bytes ≡ Ok (token.Name name ∷ [])
 Says here bytes (said.Statement s) = Spell here bytes (Ok s)
 Says here bytes (said.Fault kind.NotAscii) = Unit {0}
 Says here bytes (said.Fault kind.Token) = Unit {0}

@@ -61,7 +61,7 @@ item_between n here places first last s = record {
 -- the labels at the front of a line's tokens, the first of which has this number: each label is two tokens
 abbrev pub label_items : (n : ℕ) → Section → List Place → (number : ℕ) → List Token → List Item
 label_items n here places number (token.Name name ∷ token.Colon ∷ rest) =
-    item_between n here places number number (said.Statement (statement.Label name)) ∷ label_items n here places (number + 2) rest
+    item_between n here places number number (said.Label name) ∷ label_items n here places (number + 2) rest
 label_items n here places number _ = []
 
 abbrev pub kind_of_fault : StatementFault → LineFaultKind
@@ -125,6 +125,7 @@ fault_at n kind.Number = fault.Number n
 fault_at n kind.Mark = fault.Mark n
 
 abbrev pub fault_said : (n : ℕ) → Said → Option AsmFault
+fault_said n (said.Label name) = None
 fault_said n (said.Statement s) = None
 fault_said n (said.Fault k) = Some (fault_at n k)
 

@@ -5,6 +5,7 @@ ghost use Rattle.syntax_tree.specs.Trees.{span_of, fault_at, fault_of};
 
 use annotated_asm::fault::AsmFault;
 use program_statements::statement::{Section, Statement};
+use task_descriptor::name::Name;
 
 /// A part of one line of a text.
 #[derive(Clone, Copy, Debug, PartialEq, Eq)]
@@ -38,7 +39,9 @@ pub enum LineFaultKind {
 /// What stands at a place of a text.
 #[derive(Debug, Drop)]
 pub enum Said {
-    /// A label, or the statement of a line. A line that says nothing has none.
+    /// A label of this name.
+    Label(Name),
+    /// The statement of a line. A line that says nothing has none.
     Statement(Statement),
     /// What cannot be read, and why.
     Fault(LineFaultKind),
@@ -80,7 +83,7 @@ impl Item {
         ensures { result ≡ fault_of self.now }
     {
         match &self.said {
-            Said::Statement(_) => None,
+            Said::Label(_) | Said::Statement(_) => None,
             Said::Fault(kind) => Some(kind.on_line(self.line)),
         }
     }

@@ -71,7 +71,7 @@ fn add_labels<'a>(
     let mut rest = tokens;
     let mut number = 0;
     while let Some((name, behind)) = first_label(rest) {
-        let label = Said::Statement(Statement::Label(name));
+        let label = Said::Label(name);
         items.push(item_between(line, section, spans, number, number, label))?;
         number += 2;
         rest = behind;
