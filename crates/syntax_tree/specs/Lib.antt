@@ -1,3 +1,4 @@
 pub mod Trees
+pub mod ProgramItems
 pub mod Laws
 pub mod Examples

@@ -4,6 +4,7 @@
 
 pub mod item;
 pub mod laws;
+pub mod program_items;
 pub mod reading;
 mod spans;
 pub mod tree;
