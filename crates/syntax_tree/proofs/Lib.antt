@@ -1,5 +1,6 @@
 pub mod Limits
 pub mod Pieces
 mod Walks
-mod Unplaced
+pub mod Unplaced
 mod Alone
+mod Fitting
