@@ -1,0 +1,6 @@
+pub mod Limits
+pub mod Pieces
+mod Walks
+pub mod Unplaced
+mod Alone
+mod Fitting

@@ -1,0 +1,1 @@
+-- Worked examples, computed by the check.

@@ -1,0 +1,4 @@
+pub mod Trees
+pub mod ProgramItems
+pub mod Laws
+pub mod Examples
