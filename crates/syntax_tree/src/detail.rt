@@ -192,6 +192,24 @@ impl Detail {
         self.comma_parts(alloc, first, before(behind(&self.tokens, first), until - first))
     }
 
+    /// So many tokens, the first of which has this number.
+    fn token_spans(
+        &self,
+        alloc: Global,
+        first: usize,
+        count: usize,
+    ) -> Result<Vec<Span>, AllocError>
+        requires { first + count < 2 ^ 64 }
+        ensures { IfOk result (λ spans. spans.items ≡ token_spans self.now first count) }
+    {
+        let mut spans = Vec::new(alloc);
+        for index in 0..count {
+            let number = first + index;
+            spans.push(self.between(number, number))?;
+        }
+        Ok(spans)
+    }
+
     /// How many tokens there are before the marks at the end.
     fn marks_begin(&self) -> usize
         ensures { result ≡ length self.now.tokens - mark_count self.now.tokens }
@@ -219,13 +237,7 @@ impl Detail {
     pub fn marks(&self, alloc: Global) -> Result<Vec<Span>, AllocError>
         ensures { IfOk result (λ spans. spans.items ≡ mark_spans self.now) }
     {
-        let mut spans = Vec::new(alloc);
-        let mut number = self.marks_begin();
-        for _ in 0..mark_count(&self.tokens) {
-            spans.push(self.between(number, number))?;
-            number += 1;
-        }
-        Ok(spans)
+        self.token_spans(alloc, self.marks_begin(), mark_count(&self.tokens))
     }
 
     /// The number of the word `targets` in the tokens of a `.task`.
