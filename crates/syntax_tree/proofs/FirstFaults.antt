@@ -1,6 +1,6 @@
 -- The items up to the first fault are what the assembler reads.
 use Rattle.std.specs.Prelude.{is_ok}
-use Rattle.std.proofs.Common.{◌≡◌, ℕ, List, [], ◌∷◌, Bool, true, Option, Some, None, Result, Ok, Err, refl, ap, ◌∙◌}
+use Rattle.std.proofs.Common.{◌≡◌, List, [], ◌∷◌, true, Some, None, Result, Ok, Err, refl, ap}
 use Rattle.program_statements.specs.Steps.{◌>>=◌}
 use Rattle.annotated_asm.specs.declared.fault.AsmFault.{AsmFault}
 use Rattle.annotated_asm.specs.declared.item.Item.{Item as Unplaced}

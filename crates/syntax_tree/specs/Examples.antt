@@ -6,7 +6,7 @@ use Rattle.program_tokens.specs.Numbers.{number_of, magnitude_of, number_in}
 use Rattle.program_tokens.specs.Registers.{register_of, register_named}
 use Rattle.program_tokens.specs.Grammar.{line_tokens, tokens_after, token_of, kind_of}
 use Rattle.program_tokens.specs.Spans.{spans_after}
-use Rattle.program_statements.specs.Operands.{base_at, operand_at, after_one, after_two, operands_of}
+use Rattle.program_statements.specs.Operands.{operand_at, after_one, after_two, operands_of}
 use Rattle.program_statements.specs.Rows.{halt, imm}
 use Rattle.program_statements.specs.Statements.{no_marks}
 use Rattle.program_statements.specs.declared.statement.Section.TheVariants.{Text}

@@ -189,7 +189,11 @@ impl Detail {
         if until <= first {
             return Ok(Vec::new(alloc));
         }
-        self.comma_parts(alloc, first, before(behind(&self.tokens, first), until - first))
+        self.comma_parts(
+            alloc,
+            first,
+            before(behind(&self.tokens, first), until - first),
+        )
     }
 
     /// So many tokens, the first of which has this number.
