@@ -3,14 +3,13 @@
 use Rattle.std.proofs.Common.{◌≡◌, ℕ, suc, ◌+◌, ◌/◌, ◌%◌, ◌^◌, Bool, true, false, cond, if◌then◌else◌, List, [], ◌∷◌, ◌++◌, length, map, replicate, Option, Some, None, Result, Ok, Err, refl, ap, sym, ◌∙◌, subst, length-append, append_assoc, append-nil, arith}
 use Rattle.std.proofs.lemmas.List.{map-append, length-replicate}
 use Rattle.std.specs.Prelude.{nat_lt}
-use Rattle.std.specs.List.{filter, flat_map}
+use Rattle.std.specs.List.{flat_map}
 use Rattle.mips_instructions.specs.declared.instruction.Op.{Op}
 use Rattle.mips_instructions.specs.declared.instruction.Op.TheVariants as op
 use Rattle.mips_instructions.specs.declared.instruction.LogicKind.TheVariants.{Ori}
 use Rattle.task_descriptor.specs.Listing.{Listing, build_fault}
 use Rattle.task_descriptor.specs.declared.program.BuildFault.{BuildFault}
 use Rattle.task_descriptor.specs.declared.program.BuildFault.TheVariants.{TooMany}
-use Rattle.task_descriptor.specs.declared.descriptor.Marked.{Marked}
 use Rattle.task_descriptor.specs.declared.descriptor.Descriptor.{Descriptor}
 use Rattle.program_tokens.specs.Lines.{lines}
 use Rattle.program_statements.specs.Steps.{◌>>=◌}
@@ -33,7 +32,7 @@ use Rattle.annotated_asm.specs.declared.item.Item.{Item as Unplaced}
 use Rattle.syntax_tree.specs.declared.item.Said.{Said}
 use Rattle.syntax_tree.specs.declared.item.Said.TheVariants as said
 use Rattle.syntax_tree.specs.declared.item.Item.{Item}
-use Rattle.syntax_tree.specs.Trees.{fault_at, tree_of}
+use Rattle.syntax_tree.specs.Trees.{tree_of}
 use Rattle.syntax_tree.specs.ProgramItems.{instructions_of, code_items, is_task, task_items, task_name, AreOf}
 use Rattle.syntax_tree.specs.Laws.{unplaced, before_others, without_places}
 use Rattle.syntax_tree.proofs.Unplaced.{unplaced_are}

@@ -4,3 +4,5 @@ mod Walks
 pub mod Unplaced
 mod Alone
 mod Fitting
+mod TokenSteps
+mod FirstFaults

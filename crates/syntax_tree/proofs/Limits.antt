@@ -1,6 +1,6 @@
 -- What is read of a line is within the line: its tokens are no more than its bytes, and none ends behind them; and
 -- a line is within its text.
-use Rattle.std.proofs.Common.{◌≡◌, ℕ, zero, suc, ◌+◌, ◌-◌, ◌<◌, ◌≤◌, ◌^◌, Bool, true, false, cond, List, [], ◌∷◌, length, take, Option, Some, None, Result, Ok, Err, IfSome, IfNone, arith, if◌then◌else◌, refl, ap, sym, ◌∙◌, subst}
+use Rattle.std.proofs.Common.{◌≡◌, ℕ, zero, suc, ◌+◌, ◌-◌, ◌<◌, ◌≤◌, ◌^◌, Bool, true, false, cond, List, [], ◌∷◌, length, take, Option, Some, None, Result, Ok, Err, IfSome, IfNone, arith, if◌then◌else◌, refl, ap, sym, subst}
 use Rattle.std.specs.Prelude.{◌==◌, take_while, slice_index}
 use Rattle.std.specs.List.{All, prefix_len, slice_split, onto_first, list_all}
 use Rattle.std.specs.Str.{byte}

@@ -6,7 +6,7 @@ use Rattle.std.specs.Char.{is_ascii_digit}
 use Rattle.std.specs.Int.{is_in_range}
 use Rattle.std.specs.Str.{byte}
 use Rattle.std.specs.Str.Lines.{strip_carriage_return}
-use Rattle.std.proofs.Common.{◌≡◌, ℕ, zero, suc, ◌+◌, ◌-◌, ◌<◌, ◌≤◌, ◌⊎◌, inl, inr, Bool, true, false, cond, if◌then◌else◌, List, [], ◌∷◌, length, take, drop, Option, Some, None, Result, Ok, Err, refl, ap, sym, ◌∙◌, subst, arith}
+use Rattle.std.proofs.Common.{◌≡◌, ℕ, zero, suc, ◌+◌, ◌-◌, ◌<◌, ◌≤◌, ◌⊎◌, inl, inr, Bool, true, false, cond, if◌then◌else◌, List, [], ◌∷◌, length, take, drop, Option, Some, Result, Ok, Err, refl, ap, sym, ◌∙◌, subst, arith}
 use Rattle.std.proofs.lemmas.Bool.{eqb-true}
 use Rattle.std.proofs.lemmas.List.{take-take, length-take-le, drop-take}
 use Rattle.std.proofs.lemmas.Option.{get_or_from_slice_get, slice_get_within}
@@ -121,10 +121,10 @@ begins column zero (b ∷ bs) k place at =
     (λ blank. omega (arith, begins (column + 1) 0 bs k place (ap (λ (ss : List Span). slice_get ss k) (sym (blank_places column b bs blank)) ∙ at)))
     (λ not_blank comment. nowhere (column + 0 ≤ place.column) k (spans_after column 0 (b ∷ bs)) place (comment_places column b bs not_blank comment) at)
     (λ not_blank not_comment.
-      elim (first_or (front_place column b bs) (spans_after (column + 1) (others_of b bs) bs) k place (ap (λ (ss : List Span). slice_get ss k) (sym (token_places column b bs not_blank not_comment)) ∙ at)) [
-        | inl here ↦ omega (arith, ap (λ (s : Span). s.column) here.1)
-        | inr later ↦ omega (arith, begins (column + 1) (others_of b bs) bs later.0 place later.2)
-      ])
+    elim (first_or (front_place column b bs) (spans_after (column + 1) (others_of b bs) bs) k place (ap (λ (ss : List Span). slice_get ss k) (sym (token_places column b bs not_blank not_comment)) ∙ at)) [
+      | inl here ↦ omega (arith, ap (λ (s : Span). s.column) here.1)
+      | inr later ↦ omega (arith, begins (column + 1) (others_of b bs) bs later.0 place later.2)
+    ])
 
 count : (column taken : ℕ) (bs : List ℕ) (tokens : List Token) → tokens_after taken bs ≡ Ok tokens → length (spans_after column taken bs) ≡ length tokens
 unfolding tokens_after spans_after
@@ -135,14 +135,14 @@ count column zero (b ∷ bs) tokens read =
     front_cases (length (spans_after column 0 (b ∷ bs)) ≡ length tokens) b
     (λ blank. ap (λ (ss : List Span). length ss) (blank_places column b bs blank) ∙ count (column + 1) 0 bs tokens (sym (blank_step b bs blank) ∙ read))
     (λ not_blank comment.
-      let none : ok [] ≡ ok tokens = sym (comment_step b bs not_blank comment) ∙ read in
-      let same : [] ≡ tokens = cc in
-      ap (λ (ss : List Span). length ss) (comment_places column b bs not_blank comment) ∙ ap (λ (ts : List Token). length ts) same)
+    let none : ok [] ≡ ok tokens = sym (comment_step b bs not_blank comment) ∙ read in
+    let same : [] ≡ tokens = cc in
+    ap (λ (ss : List Span). length ss) (comment_places column b bs not_blank comment) ∙ ap (λ (ts : List Token). length ts) same)
     (λ not_blank not_comment.
-      let cut = led (token_of (kind_of b bs) (b ∷ take_while (goes_on (kind_of b bs)) bs)) (tokens_after (others_of b bs) bs) tokens (sym (token_front b bs not_blank not_comment) ∙ read) in
-      ap (λ (ss : List Span). length ss) (token_places column b bs not_blank not_comment)
-      ∙ ap (λ m. suc m) (count (column + 1) (others_of b bs) bs cut.rest cut.is_rest)
-      ∙ ap (λ (ts : List Token). length ts) (sym cut.whole))
+    let cut = led (token_of (kind_of b bs) (b ∷ take_while (goes_on (kind_of b bs)) bs)) (tokens_after (others_of b bs) bs) tokens (sym (token_front b bs not_blank not_comment) ∙ read) in
+    ap (λ (ss : List Span). length ss) (token_places column b bs not_blank not_comment)
+    ∙ ap (λ m. suc m) (count (column + 1) (others_of b bs) bs cut.rest cut.is_rest)
+    ∙ ap (λ (ts : List Token). length ts) (sym cut.whole))
 
 -- each token of a line has a place, and nothing else
 pub same_count : (line : List ℕ) (tokens : List Token) → line_tokens line ≡ Ok tokens → length (line_spans line) ≡ length tokens
@@ -197,24 +197,24 @@ front column zero (b ∷ bs) tokens k place read at =
     let until = place.column + place.len - (column + 1) in
     front_cases (tokens_after 0 (take (place.column + place.len - column) (b ∷ bs)) ≡ ok (take (suc k) tokens)) b
     (λ blank.
-      let there = ap (λ (ss : List Span). slice_get ss k) (sym (blank_places column b bs blank)) ∙ at in
-      let e : place.column + place.len - column ≡ suc until = omega (arith, begins (column + 1) 0 bs k place there) in
-      ap (λ m. tokens_after 0 (take m (b ∷ bs))) e ∙ blank_step b (take until bs) blank
-      ∙ front (column + 1) 0 bs tokens k place (sym (blank_step b bs blank) ∙ read) there)
+    let there = ap (λ (ss : List Span). slice_get ss k) (sym (blank_places column b bs blank)) ∙ at in
+    let e : place.column + place.len - column ≡ suc until = omega (arith, begins (column + 1) 0 bs k place there) in
+    ap (λ m. tokens_after 0 (take m (b ∷ bs))) e ∙ blank_step b (take until bs) blank
+    ∙ front (column + 1) 0 bs tokens k place (sym (blank_step b bs blank) ∙ read) there)
     (λ not_blank comment. nowhere _ k (spans_after column 0 (b ∷ bs)) place (comment_places column b bs not_blank comment) at)
     (λ not_blank not_comment.
-      let cut = led (token_of (kind_of b bs) (b ∷ take_while (goes_on (kind_of b bs)) bs)) (tokens_after (others_of b bs) bs) tokens (sym (token_front b bs not_blank not_comment) ∙ read) in
-      elim (first_or (front_place column b bs) (spans_after (column + 1) (others_of b bs) bs) k place (ap (λ (ss : List Span). slice_get ss k) (sym (token_places column b bs not_blank not_comment)) ∙ at)) [
-        | inl here ↦
-            let e : place.column + place.len - column ≡ suc (others_of b bs) = omega (arith, ap (λ (s : Span). s.column) here.1, ap (λ (s : Span). s.len) here.1) in
-            ap (λ m. tokens_after 0 (take m (b ∷ bs))) e ∙ cut_first b bs tokens not_blank not_comment cut ∙ ap (λ n. ok (take (suc n) tokens)) (sym here.0)
-        | inr later ↦
-            let ahead = begins (column + 1) (others_of b bs) bs later.0 place later.2 in
-            let e : place.column + place.len - column ≡ suc until = omega (arith, ahead) in
-            ap (λ m. tokens_after 0 (take m (b ∷ bs))) e
-            ∙ cut_later b until later.0 bs tokens not_blank not_comment (omega (arith, ahead)) cut (front (column + 1) (others_of b bs) bs cut.rest later.0 place cut.is_rest later.2)
-            ∙ ap (λ n. ok (take (suc n) tokens)) (sym later.1)
-      ])
+    let cut = led (token_of (kind_of b bs) (b ∷ take_while (goes_on (kind_of b bs)) bs)) (tokens_after (others_of b bs) bs) tokens (sym (token_front b bs not_blank not_comment) ∙ read) in
+    elim (first_or (front_place column b bs) (spans_after (column + 1) (others_of b bs) bs) k place (ap (λ (ss : List Span). slice_get ss k) (sym (token_places column b bs not_blank not_comment)) ∙ at)) [
+      | inl here ↦
+          let e : place.column + place.len - column ≡ suc (others_of b bs) = omega (arith, ap (λ (s : Span). s.column) here.1, ap (λ (s : Span). s.len) here.1) in
+          ap (λ m. tokens_after 0 (take m (b ∷ bs))) e ∙ cut_first b bs tokens not_blank not_comment cut ∙ ap (λ n. ok (take (suc n) tokens)) (sym here.0)
+      | inr later ↦
+          let ahead = begins (column + 1) (others_of b bs) bs later.0 place later.2 in
+          let e : place.column + place.len - column ≡ suc until = omega (arith, ahead) in
+          ap (λ m. tokens_after 0 (take m (b ∷ bs))) e
+          ∙ cut_later b until later.0 bs tokens not_blank not_comment (omega (arith, ahead)) cut (front (column + 1) (others_of b bs) bs cut.rest later.0 place cut.is_rest later.2)
+          ∙ ap (λ n. ok (take (suc n) tokens)) (sym later.1)
+    ])
 
 -- The back: what begins with the token of number k has the tokens from it on, and their places.
 
@@ -234,31 +234,29 @@ back column zero (b ∷ bs) tokens k place read at =
     let until = place.column - (column + 1) in
     front_cases (Goes column 0 (b ∷ bs) tokens k place (place.column - column)) b
     (λ blank.
-      let same = blank_places column b bs blank in
-      let there = ap (λ (ss : List Span). slice_get ss k) (sym same) ∙ at in
-      let e : place.column - column ≡ suc until = omega (arith, begins (column + 1) 0 bs k place there) in
-      let rest = back (column + 1) 0 bs tokens k place (sym (blank_step b bs blank) ∙ read) there in
-      (ap (λ m. tokens_after 0 (drop m (b ∷ bs))) e ∙ rest.0, ap (λ m. spans_after place.column 0 (drop m (b ∷ bs))) e ∙ rest.1 ∙ ap (λ (ss : List Span). drop k ss) (sym same)))
+    let same = blank_places column b bs blank in
+    let there = ap (λ (ss : List Span). slice_get ss k) (sym same) ∙ at in
+    let e : place.column - column ≡ suc until = omega (arith, begins (column + 1) 0 bs k place there) in
+    let rest = back (column + 1) 0 bs tokens k place (sym (blank_step b bs blank) ∙ read) there in
+    (ap (λ m. tokens_after 0 (drop m (b ∷ bs))) e ∙ rest.0, ap (λ m. spans_after place.column 0 (drop m (b ∷ bs))) e ∙ rest.1 ∙ ap (λ (ss : List Span). drop k ss) (sym same)))
     (λ not_blank comment. nowhere _ k (spans_after column 0 (b ∷ bs)) place (comment_places column b bs not_blank comment) at)
     (λ not_blank not_comment.
-      let same = token_places column b bs not_blank not_comment in
-      let cut = led (token_of (kind_of b bs) (b ∷ take_while (goes_on (kind_of b bs)) bs)) (tokens_after (others_of b bs) bs) tokens (sym (token_front b bs not_blank not_comment) ∙ read) in
-      elim (first_or (front_place column b bs) (spans_after (column + 1) (others_of b bs) bs) k place (ap (λ (ss : List Span). slice_get ss k) (sym same) ∙ at)) [
-        | inl here ↦
-            let is_column : column ≡ place.column = ap (λ (s : Span). s.column) here.1 in
-            let e : place.column - column ≡ 0 = omega (arith, is_column) in
-            (
-              ap (λ m. tokens_after 0 (drop m (b ∷ bs))) e ∙ read ∙ ap (λ n. ok (drop n tokens)) (sym here.0),
-              ap (λ m. spans_after place.column 0 (drop m (b ∷ bs))) e ∙ ap (λ c. spans_after c 0 (b ∷ bs)) (sym is_column) ∙ ap (λ n. drop n (spans_after column 0 (b ∷ bs))) (sym here.0),
-            )
-        | inr later ↦
-            let e : place.column - column ≡ suc until = omega (arith, begins (column + 1) (others_of b bs) bs later.0 place later.2) in
-            let rest = back (column + 1) (others_of b bs) bs cut.rest later.0 place cut.is_rest later.2 in
-            (
-              ap (λ m. tokens_after 0 (drop m (b ∷ bs))) e ∙ rest.0 ∙ ap (λ (ts : List Token). ok (drop (suc later.0) ts)) (sym cut.whole) ∙ ap (λ n. ok (drop n tokens)) (sym later.1),
-              ap (λ m. spans_after place.column 0 (drop m (b ∷ bs))) e ∙ rest.1 ∙ ap (λ (ss : List Span). drop (suc later.0) ss) (sym same) ∙ ap (λ n. drop n (spans_after column 0 (b ∷ bs))) (sym later.1),
-            )
-      ])
+    let same = token_places column b bs not_blank not_comment in
+    let cut = led (token_of (kind_of b bs) (b ∷ take_while (goes_on (kind_of b bs)) bs)) (tokens_after (others_of b bs) bs) tokens (sym (token_front b bs not_blank not_comment) ∙ read) in
+    elim (first_or (front_place column b bs) (spans_after (column + 1) (others_of b bs) bs) k place (ap (λ (ss : List Span). slice_get ss k) (sym same) ∙ at)) [
+      | inl here ↦
+          let is_column : column ≡ place.column = ap (λ (s : Span). s.column) here.1 in
+          let e : place.column - column ≡ 0 = omega (arith, is_column) in (
+            ap (λ m. tokens_after 0 (drop m (b ∷ bs))) e ∙ read ∙ ap (λ n. ok (drop n tokens)) (sym here.0),
+            ap (λ m. spans_after place.column 0 (drop m (b ∷ bs))) e ∙ ap (λ c. spans_after c 0 (b ∷ bs)) (sym is_column) ∙ ap (λ n. drop n (spans_after column 0 (b ∷ bs))) (sym here.0),
+          )
+      | inr later ↦
+          let e : place.column - column ≡ suc until = omega (arith, begins (column + 1) (others_of b bs) bs later.0 place later.2) in
+          let rest = back (column + 1) (others_of b bs) bs cut.rest later.0 place cut.is_rest later.2 in (
+            ap (λ m. tokens_after 0 (drop m (b ∷ bs))) e ∙ rest.0 ∙ ap (λ (ts : List Token). ok (drop (suc later.0) ts)) (sym cut.whole) ∙ ap (λ n. ok (drop n tokens)) (sym later.1),
+            ap (λ m. spans_after place.column 0 (drop m (b ∷ bs))) e ∙ rest.1 ∙ ap (λ (ss : List Span). drop (suc later.0) ss) (sym same) ∙ ap (λ n. drop n (spans_after column 0 (b ∷ bs))) (sym later.1),
+          )
+    ])
 
 -- Bytes that a line may have.
 

@@ -68,7 +68,7 @@ said_is n here places k labels others rest same (Err statement_fault.Mark) = ref
 line_is : (n : ℕ) (here : Section) (line : List ℕ) (others : Section → Result (List Unplaced) AsmFault) (rest : Section → List Item)
     → ((next : Section) → others next ≡ without_places (rest next)) → (read : Result (List Token) LineFault)
     → ((asm.tokens_on_line n read >>= λ tokens. asm.on_line n (statement_of here (asm.after_labels tokens)) >>= λ s.
-         read_as (map (asm.label_item n here) (asm.labels_of tokens) ++ asm.statement_items n here s) (asm.section_after here s)) >>= λ first. others first.1 >>= λ more. Ok (first.0 ++ more))
+    read_as (map (asm.label_item n here) (asm.labels_of tokens) ++ asm.statement_items n here s) (asm.section_after here s)) >>= λ first. others first.1 >>= λ more. Ok (first.0 ++ more))
     ≡ without_places ((items_read n here line read).0 ++ rest (items_read n here line read).1)
 unfolding tokens_items
 line_is n here line others rest same (Err token_fault.NotAscii) = refl

@@ -14,7 +14,6 @@ use Rattle.program_statements.specs.declared.statement.Statement.TheVariants as 
 use Rattle.annotated_asm.specs.declared.fault.AsmFault.{AsmFault}
 use Rattle.annotated_asm.specs.declared.item.Item.{Item as Unplaced}
 use Rattle.syntax_tree.specs.declared.item.Span.{Span}
-use Rattle.syntax_tree.specs.declared.item.LineFaultKind.{LineFaultKind}
 use Rattle.syntax_tree.specs.declared.item.LineFaultKind.TheVariants as kind
 use Rattle.syntax_tree.specs.declared.item.Said.{Said}
 use Rattle.syntax_tree.specs.declared.item.Said.TheVariants as said

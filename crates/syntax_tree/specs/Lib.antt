@@ -1,4 +1,5 @@
 pub mod Trees
 pub mod ProgramItems
+pub mod Details
 pub mod Laws
 pub mod Examples

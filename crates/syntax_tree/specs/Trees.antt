@@ -131,3 +131,12 @@ fault_said n (said.Fault k) = Some (fault_at n k)
 
 abbrev pub fault_of : Item → Option AsmFault
 fault_of item = fault_said item.line item.said
+
+abbrev pub or_first : Option AsmFault → Option AsmFault → Option AsmFault
+or_first (Some f) others = Some f
+or_first None others = others
+
+-- the first fault of a line
+abbrev pub first_fault : List Item → Option AsmFault
+first_fault [] = None
+first_fault (item ∷ items) = or_first (fault_of item) (first_fault items)

@@ -2,6 +2,7 @@
 //! cannot be read. One walk over the lines makes it, and does not stop at a fault.
 #![tactic(auto)]
 
+pub mod detail;
 pub mod item;
 pub mod laws;
 pub mod program_items;

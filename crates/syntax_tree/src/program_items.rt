@@ -20,11 +20,7 @@ fn instructions_of(said: &Said) -> u64
 }
 
 /// Adds an item so many times.
-fn add_times<'a>(
-    found: &mut Vec<&'a Item>,
-    item: &'a Item,
-    count: u64,
-) -> Result<(), AllocError>
+fn add_times<'a>(found: &mut Vec<&'a Item>, item: &'a Item, count: u64) -> Result<(), AllocError>
     ensures { OnOk result (map (λ item. item.now) found.new.items ≡ map (λ item. item.now) found.old.items ++ replicate count item.now) }
 {
     for _ in 0..count {

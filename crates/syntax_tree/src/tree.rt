@@ -1,9 +1,11 @@
 //! The syntax tree, and why there is none.
 
 ghost use Rattle.std.specs.Prelude.{◌≡◌};
+ghost use Rattle.syntax_tree.specs.Trees.{first_fault};
 ghost use Rattle.syntax_tree.specs.declared.tree.TreeFault.TheVariants.{OutOfMemory};
 
 use crate::item::Item;
+use annotated_asm::fault::AsmFault;
 use std::alloc::AllocError;
 use std::marker::Model;
 
@@ -52,5 +54,17 @@ impl SyntaxTree {
         ensures { result.now ≡ self.now }
     {
         &self.items
+    }
+
+    /// The first fault of a line, as the assembler tells it; `None` where each line can be read.
+    pub fn first_fault(&self) -> Option<AsmFault>
+        ensures { result ≡ first_fault self.now }
+    {
+        for item in &self.items {
+            if let Some(fault) = item.fault() {
+                return Some(fault);
+            }
+        }
+        None
     }
 }

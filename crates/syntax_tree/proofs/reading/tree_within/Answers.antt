@@ -1,5 +1,5 @@
 -- The last line ends the items.
-use Rattle.std.proofs.Common.{◌≡◌, ◌≤◌, ◌<◌, ◌∷◌, [], length, ◌∙◌, IfSome, IfNone, subst, arith}
+use Rattle.std.proofs.Common.{◌≡◌, ◌<◌, ◌∷◌, [], length, ◌∙◌, IfSome, IfNone, subst, arith}
 use Rattle.program_tokens.specs.Lines.{lines}
 use Rattle.syntax_tree.specs.Trees.{tree_of}
 use Rattle.syntax_tree.proofs.Walks.{line_more, line_last}
