@@ -3,9 +3,11 @@
 #![tactic(auto)]
 
 pub mod detail;
+mod firsts;
 pub mod item;
 pub mod laws;
 pub mod program_items;
 pub mod reading;
+pub mod repeats;
 mod spans;
 pub mod tree;
