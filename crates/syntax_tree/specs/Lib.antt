@@ -3,5 +3,7 @@ pub mod ProgramItems
 pub mod Details
 pub mod Firsts
 pub mod Repeats
+pub mod UnknownNames
+pub mod Amounts
 pub mod Laws
 pub mod Examples

@@ -2,6 +2,7 @@
 //! cannot be read. One walk over the lines makes it, and does not stop at a fault.
 #![tactic(auto)]
 
+pub mod amounts;
 pub mod detail;
 mod firsts;
 pub mod item;
@@ -11,3 +12,4 @@ pub mod reading;
 pub mod repeats;
 mod spans;
 pub mod tree;
+pub mod unknown_names;
