@@ -6,3 +6,4 @@ mod Alone
 mod Fitting
 mod TokenSteps
 mod FirstFaults
+mod NumberedRows

@@ -1,5 +1,9 @@
 pub mod Trees
 pub mod ProgramItems
 pub mod Details
+pub mod Firsts
+pub mod Repeats
+pub mod UnknownNames
+pub mod Amounts
 pub mod Laws
 pub mod Examples

@@ -2,10 +2,14 @@
 //! cannot be read. One walk over the lines makes it, and does not stop at a fault.
 #![tactic(auto)]
 
+pub mod amounts;
 pub mod detail;
+mod firsts;
 pub mod item;
 pub mod laws;
 pub mod program_items;
 pub mod reading;
+pub mod repeats;
 mod spans;
 pub mod tree;
+pub mod unknown_names;
