@@ -6,7 +6,7 @@ ghost use Rattle.diagnostic_log.specs.Uris.{artifact_of, after_slashes, begins_w
 ghost use Rattle.diagnostic_log.specs.Artifacts.{artifact_json};
 ghost use Rattle.diagnostic_log.specs.Wrote.{wrote};
 
-use crate::json_text::JsonText;
+use crate::json_text::{JsonText, Written};
 use diagnostics::words::Words;
 use percent_encoding::{AsciiSet, NON_ALPHANUMERIC, ascii_set, percent_encode};
 use std::alloc::{AllocError, Global};
@@ -85,7 +85,7 @@ pub(crate) fn artifact_of(alloc: Global, name: &str) -> Result<Artifact, AllocEr
 
 /// Adds where a text is.
 #[tactic(auto, unfolding(crate::specs::Artifacts::artifact_json))]
-pub(crate) fn write_artifact(out: &mut JsonText, artifact: &Artifact) -> Result<(), AllocError>
+pub(crate) fn write_artifact(out: &mut JsonText, artifact: &Artifact) -> Written
     ensures { OnOk result (out.new ≡ wrote (artifact_json artifact.now) out.old) }
 {
     out.begin()?;

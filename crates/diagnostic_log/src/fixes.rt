@@ -5,11 +5,10 @@ ghost use Rattle.diagnostic_log.specs.Wrote.{listed, wrote, wrote_each};
 ghost use Rattle.diagnostic_log.specs.Fixes.{change_json, fix_json, fixes_json, is_exact, replacement_json, wrote_some_fix};
 
 use crate::artifact::write_artifact;
-use crate::json_text::JsonText;
+use crate::json_text::{JsonText, Written};
 use crate::places::write_region;
 use crate::text::LoggedText;
 use diagnostics::diagnostic::{Help, Replacement};
-use std::alloc::AllocError;
 
 /// Adds a replacement.
 #[tactic(auto, unfolding(crate::specs::Fixes::replacement_json))]
@@ -17,7 +16,7 @@ fn write_replacement(
     out: &mut JsonText,
     text: &LoggedText<'_>,
     replacement: &Replacement,
-) -> Result<(), AllocError>
+) -> Written
     ensures { OnOk result (out.new ≡ wrote (replacement_json text.now replacement.now) out.old) }
 {
     out.begin()?;
@@ -35,7 +34,7 @@ fn write_each_replacement(
     out: &mut JsonText,
     text: &LoggedText<'_>,
     replacements: &[Replacement],
-) -> Result<(), AllocError>
+) -> Written
     ensures { OnOk result (out.new ≡ wrote_each (replacement_json text.now) replacements.now out.old) }
 {
     for replacement in replacements {
@@ -50,7 +49,7 @@ fn write_replacements(
     out: &mut JsonText,
     text: &LoggedText<'_>,
     replacements: &[Replacement],
-) -> Result<(), AllocError>
+) -> Written
     ensures { OnOk result (out.new ≡ wrote (listed (replacement_json text.now) replacements.now) out.old) }
 {
     out.begin_list()?;
@@ -60,11 +59,7 @@ fn write_replacements(
 
 /// Adds the change of a text.
 #[tactic(auto, unfolding(crate::specs::Fixes::change_json))]
-fn write_change(
-    out: &mut JsonText,
-    text: &LoggedText<'_>,
-    replacements: &[Replacement],
-) -> Result<(), AllocError>
+fn write_change(out: &mut JsonText, text: &LoggedText<'_>, replacements: &[Replacement]) -> Written
     ensures { OnOk result (out.new ≡ wrote (change_json text.now replacements.now) out.old) }
 {
     out.begin()?;
@@ -77,7 +72,7 @@ fn write_change(
 
 /// Adds a fix.
 #[tactic(auto, unfolding(crate::specs::Fixes::fix_json))]
-fn write_fix(out: &mut JsonText, text: &LoggedText<'_>, help: &Help) -> Result<(), AllocError>
+fn write_fix(out: &mut JsonText, text: &LoggedText<'_>, help: &Help) -> Written
     ensures { OnOk result (out.new ≡ wrote (fix_json text.now help.now) out.old) }
 {
     out.begin()?;
@@ -97,7 +92,7 @@ fn is_exact(help: &Help) -> bool
 }
 
 /// Adds the fix that a help is, if it is one.
-fn write_some_fix(out: &mut JsonText, text: &LoggedText<'_>, help: &Help) -> Result<(), AllocError>
+fn write_some_fix(out: &mut JsonText, text: &LoggedText<'_>, help: &Help) -> Written
     ensures { OnOk result (out.new ≡ wrote_some_fix text.now help.now out.old) }
 {
     if is_exact(help) {
@@ -108,11 +103,7 @@ fn write_some_fix(out: &mut JsonText, text: &LoggedText<'_>, help: &Help) -> Res
 
 /// Adds the list of the fixes: one at most.
 #[tactic(auto, using(crate::proofs::FixesWritten::fixes_written, crate::proofs::FixesWritten::no_fix_written))]
-pub(crate) fn write_fixes(
-    out: &mut JsonText,
-    text: &LoggedText<'_>,
-    help: &Option<Help>,
-) -> Result<(), AllocError>
+pub(crate) fn write_fixes(out: &mut JsonText, text: &LoggedText<'_>, help: &Option<Help>) -> Written
     ensures { OnOk result (out.new ≡ wrote (fixes_json text.now help.now) out.old) }
 {
     out.begin_list()?;

@@ -4,11 +4,10 @@ ghost use Rattle.std.specs.Prelude.{◌≡◌, ◌-◌, ◌<◌, drop, length, t
 ghost use Rattle.diagnostic_log.specs.Wrote.{wrote, wrote_each, wrote_members};
 ghost use Rattle.diagnostic_log.specs.Flows.{back_of, flow_json, flows_json, front_of, has_path, left_members, left_out, step_json, thread_json, told, wrote_flow, wrote_flows};
 
-use crate::json_text::JsonText;
+use crate::json_text::{JsonText, Written};
 use crate::places::write_location;
 use crate::text::LoggedText;
 use diagnostics::diagnostic::{Note, Span};
-use std::alloc::AllocError;
 
 /// How many places of a path are told at either end of it (own choice): a path can have nearly as many as the
 /// program has instructions, and each diagnostic its own.
@@ -42,7 +41,7 @@ pub(crate) fn back_of(path: &[Span]) -> &[Span]
 
 /// Adds a place on a path.
 #[tactic(auto, unfolding(crate::specs::Flows::step_json))]
-fn write_step(out: &mut JsonText, text: &LoggedText<'_>, span: Span) -> Result<(), AllocError>
+fn write_step(out: &mut JsonText, text: &LoggedText<'_>, span: Span) -> Written
     ensures { OnOk result (out.new ≡ wrote (step_json text.now span) out.old) }
 {
     out.begin()?;
@@ -52,11 +51,7 @@ fn write_step(out: &mut JsonText, text: &LoggedText<'_>, span: Span) -> Result<(
 }
 
 /// Adds places on a path.
-fn write_each_step(
-    out: &mut JsonText,
-    text: &LoggedText<'_>,
-    path: &[Span],
-) -> Result<(), AllocError>
+fn write_each_step(out: &mut JsonText, text: &LoggedText<'_>, path: &[Span]) -> Written
     ensures { OnOk result (out.new ≡ wrote_each (step_json text.now) path.now out.old) }
 {
     for span in path {
@@ -67,7 +62,7 @@ fn write_each_step(
 
 /// Adds the list of the places on a path that are told.
 #[tactic(auto, using(crate::proofs::FlowsWritten::told_written))]
-fn write_steps(out: &mut JsonText, text: &LoggedText<'_>, path: &[Span]) -> Result<(), AllocError>
+fn write_steps(out: &mut JsonText, text: &LoggedText<'_>, path: &[Span]) -> Written
     ensures { OnOk result (out.new ≡ wrote (told (step_json text.now) path.now) out.old) }
 {
     out.begin_list()?;
@@ -84,7 +79,7 @@ pub(crate) fn left_out(path: &[Span]) -> usize
 }
 
 /// Adds that so many places are not told, if there are any, and ends the path.
-fn write_left_out(out: &mut JsonText, left: usize) -> Result<(), AllocError>
+fn write_left_out(out: &mut JsonText, left: usize) -> Written
     ensures { OnOk result (out.new ≡ wrote_members (left_members left) out.old) }
 {
     if left != 0 {
@@ -97,7 +92,7 @@ fn write_left_out(out: &mut JsonText, left: usize) -> Result<(), AllocError>
 
 /// Adds a path.
 #[tactic(auto, unfolding(crate::specs::Flows::thread_json))]
-fn write_thread(out: &mut JsonText, text: &LoggedText<'_>, path: &[Span]) -> Result<(), AllocError>
+fn write_thread(out: &mut JsonText, text: &LoggedText<'_>, path: &[Span]) -> Written
     ensures { OnOk result (out.new ≡ wrote (thread_json text.now path.now) out.old) }
 {
     out.begin()?;
@@ -108,7 +103,7 @@ fn write_thread(out: &mut JsonText, text: &LoggedText<'_>, path: &[Span]) -> Res
 
 /// Adds a note's path, if it has one.
 #[tactic(auto, unfolding(crate::specs::Flows::flow_json))]
-fn write_flow(out: &mut JsonText, text: &LoggedText<'_>, note: &Note) -> Result<(), AllocError>
+fn write_flow(out: &mut JsonText, text: &LoggedText<'_>, note: &Note) -> Written
     ensures { OnOk result (out.new ≡ wrote_flow text.now note.now out.old) }
 {
     if note.path.as_slice().is_empty() {
@@ -124,11 +119,7 @@ fn write_flow(out: &mut JsonText, text: &LoggedText<'_>, note: &Note) -> Result<
 }
 
 /// Adds the paths of notes.
-fn write_each_flow(
-    out: &mut JsonText,
-    text: &LoggedText<'_>,
-    notes: &[Note],
-) -> Result<(), AllocError>
+fn write_each_flow(out: &mut JsonText, text: &LoggedText<'_>, notes: &[Note]) -> Written
     ensures { OnOk result (out.new ≡ wrote_flows text.now notes.now out.old) }
 {
     for note in notes {
@@ -139,11 +130,7 @@ fn write_each_flow(
 
 /// Adds the list of the paths of notes.
 #[tactic(auto, using(crate::proofs::FlowsWritten::flows_written))]
-pub(crate) fn write_all_flows(
-    out: &mut JsonText,
-    text: &LoggedText<'_>,
-    notes: &[Note],
-) -> Result<(), AllocError>
+pub(crate) fn write_all_flows(out: &mut JsonText, text: &LoggedText<'_>, notes: &[Note]) -> Written
     ensures { OnOk result (out.new ≡ wrote (flows_json text.now notes.now) out.old) }
 {
     out.begin_list()?;

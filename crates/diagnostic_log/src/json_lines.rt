@@ -7,7 +7,7 @@ ghost use Rattle.diagnostic_log.specs.Flows.{left_out, told};
 ghost use Rattle.diagnostic_log.specs.Lines.{help_json, line_json, line_text, lines_text, note_json, replacement_json, some_help_json, step_json, wrote_line_head, wrote_place};
 
 use crate::flows::{back_of, front_of, left_out};
-use crate::json_text::JsonText;
+use crate::json_text::{JsonText, Written};
 use crate::places::text_in;
 use crate::results::severity_word;
 use crate::text::LoggedTexts;
@@ -15,7 +15,7 @@ use diagnostics::diagnostic::{Diagnostic, Help, Note, Replacement, Span};
 use std::alloc::{AllocError, Global};
 
 /// Adds where a part of a line is, or that none is meant.
-fn write_place(out: &mut JsonText, span: Option<Span>) -> Result<(), AllocError>
+fn write_place(out: &mut JsonText, span: Option<Span>) -> Written
     ensures { OnOk result (out.new ≡ wrote_place span out.old) }
 {
     match span {
@@ -37,7 +37,7 @@ fn write_place(out: &mut JsonText, span: Option<Span>) -> Result<(), AllocError>
 
 /// Adds a place on a path.
 #[tactic(auto, unfolding(crate::specs::Lines::step_json))]
-fn write_step(out: &mut JsonText, span: Span) -> Result<(), AllocError>
+fn write_step(out: &mut JsonText, span: Span) -> Written
     ensures { OnOk result (out.new ≡ wrote (step_json span) out.old) }
 {
     out.begin()?;
@@ -46,7 +46,7 @@ fn write_step(out: &mut JsonText, span: Span) -> Result<(), AllocError>
 }
 
 /// Adds places on a path.
-fn write_each_step(out: &mut JsonText, path: &[Span]) -> Result<(), AllocError>
+fn write_each_step(out: &mut JsonText, path: &[Span]) -> Written
     ensures { OnOk result (out.new ≡ wrote_each step_json path.now out.old) }
 {
     for span in path {
@@ -57,7 +57,7 @@ fn write_each_step(out: &mut JsonText, path: &[Span]) -> Result<(), AllocError>
 
 /// Adds the list of the places on a path.
 #[tactic(auto, using(crate::proofs::FlowsWritten::told_written))]
-fn write_path(out: &mut JsonText, path: &[Span]) -> Result<(), AllocError>
+fn write_path(out: &mut JsonText, path: &[Span]) -> Written
     ensures { OnOk result (out.new ≡ wrote (told step_json path.now) out.old) }
 {
     out.begin_list()?;
@@ -68,7 +68,7 @@ fn write_path(out: &mut JsonText, path: &[Span]) -> Result<(), AllocError>
 
 /// Adds a note.
 #[tactic(auto, unfolding(crate::specs::Lines::note_json))]
-fn write_note(out: &mut JsonText, note: &Note) -> Result<(), AllocError>
+fn write_note(out: &mut JsonText, note: &Note) -> Written
     ensures { OnOk result (out.new ≡ wrote (note_json note.now) out.old) }
 {
     let path = note.path.as_slice();
@@ -82,7 +82,7 @@ fn write_note(out: &mut JsonText, note: &Note) -> Result<(), AllocError>
 }
 
 /// Adds notes.
-fn write_each_note(out: &mut JsonText, notes: &[Note]) -> Result<(), AllocError>
+fn write_each_note(out: &mut JsonText, notes: &[Note]) -> Written
     ensures { OnOk result (out.new ≡ wrote_each note_json notes.now out.old) }
 {
     for note in notes {
@@ -93,7 +93,7 @@ fn write_each_note(out: &mut JsonText, notes: &[Note]) -> Result<(), AllocError>
 
 /// Adds the list of notes.
 #[tactic(auto, using(crate::proofs::Written::listed_written))]
-fn write_notes(out: &mut JsonText, notes: &[Note]) -> Result<(), AllocError>
+fn write_notes(out: &mut JsonText, notes: &[Note]) -> Written
     ensures { OnOk result (out.new ≡ wrote (listed note_json notes.now) out.old) }
 {
     out.begin_list()?;
@@ -103,7 +103,7 @@ fn write_notes(out: &mut JsonText, notes: &[Note]) -> Result<(), AllocError>
 
 /// Adds a replacement.
 #[tactic(auto, unfolding(crate::specs::Lines::replacement_json))]
-fn write_replacement(out: &mut JsonText, replacement: &Replacement) -> Result<(), AllocError>
+fn write_replacement(out: &mut JsonText, replacement: &Replacement) -> Written
     ensures { OnOk result (out.new ≡ wrote (replacement_json replacement.now) out.old) }
 {
     out.begin()?;
@@ -113,10 +113,7 @@ fn write_replacement(out: &mut JsonText, replacement: &Replacement) -> Result<()
 }
 
 /// Adds replacements.
-fn write_each_replacement(
-    out: &mut JsonText,
-    replacements: &[Replacement],
-) -> Result<(), AllocError>
+fn write_each_replacement(out: &mut JsonText, replacements: &[Replacement]) -> Written
     ensures { OnOk result (out.new ≡ wrote_each replacement_json replacements.now out.old) }
 {
     for replacement in replacements {
@@ -127,7 +124,7 @@ fn write_each_replacement(
 
 /// Adds the list of replacements.
 #[tactic(auto, using(crate::proofs::Written::listed_written))]
-fn write_replacements(out: &mut JsonText, replacements: &[Replacement]) -> Result<(), AllocError>
+fn write_replacements(out: &mut JsonText, replacements: &[Replacement]) -> Written
     ensures { OnOk result (out.new ≡ wrote (listed replacement_json replacements.now) out.old) }
 {
     out.begin_list()?;
@@ -137,7 +134,7 @@ fn write_replacements(out: &mut JsonText, replacements: &[Replacement]) -> Resul
 
 /// Adds what to do.
 #[tactic(auto, unfolding(crate::specs::Lines::some_help_json))]
-fn write_some_help(out: &mut JsonText, help: &Help) -> Result<(), AllocError>
+fn write_some_help(out: &mut JsonText, help: &Help) -> Written
     ensures { OnOk result (out.new ≡ wrote (some_help_json help.now) out.old) }
 {
     out.begin()?;
@@ -148,7 +145,7 @@ fn write_some_help(out: &mut JsonText, help: &Help) -> Result<(), AllocError>
 }
 
 /// Adds what to do, if that is said.
-fn write_help(out: &mut JsonText, help: &Option<Help>) -> Result<(), AllocError>
+fn write_help(out: &mut JsonText, help: &Option<Help>) -> Written
     ensures { OnOk result (out.new ≡ wrote (help_json help.now) out.old) }
 {
     match help {
@@ -158,7 +155,7 @@ fn write_help(out: &mut JsonText, help: &Option<Help>) -> Result<(), AllocError>
 }
 
 /// Begins the object of a diagnostic of a file of this name.
-fn write_head(out: &mut JsonText, file: &str, diagnostic: &Diagnostic) -> Result<(), AllocError>
+fn write_head(out: &mut JsonText, file: &str, diagnostic: &Diagnostic) -> Written
     ensures { OnOk result (out.new ≡ wrote_line_head file.now diagnostic.now out.old) }
 {
     out.begin()?;
@@ -170,7 +167,7 @@ fn write_head(out: &mut JsonText, file: &str, diagnostic: &Diagnostic) -> Result
 
 /// Adds the object of a diagnostic of a file of this name.
 #[tactic(auto, unfolding(crate::specs::Lines::line_json))]
-fn write_line(out: &mut JsonText, file: &str, diagnostic: &Diagnostic) -> Result<(), AllocError>
+fn write_line(out: &mut JsonText, file: &str, diagnostic: &Diagnostic) -> Written
     ensures { OnOk result (out.new ≡ wrote (line_json file.now diagnostic.now) out.old) }
 {
     write_head(out, file, diagnostic)?;
@@ -185,12 +182,7 @@ fn write_line(out: &mut JsonText, file: &str, diagnostic: &Diagnostic) -> Result
 
 /// Adds the line of a diagnostic.
 #[tactic(auto, unfolding(crate::specs::Lines::line_text), using(crate::proofs::Written::written))]
-fn push_line(
-    text: &mut Vec<u8>,
-    alloc: Global,
-    file: &str,
-    diagnostic: &Diagnostic,
-) -> Result<(), AllocError>
+fn push_line(text: &mut Vec<u8>, alloc: Global, file: &str, diagnostic: &Diagnostic) -> Written
     ensures { OnOk result (text.new.items ≡ text.old.items ++ line_text file.now diagnostic.now) }
 {
     let mut out = JsonText::new(alloc);

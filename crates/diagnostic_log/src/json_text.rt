@@ -12,6 +12,9 @@ use json::Writer;
 use std::alloc::{AllocError, Global};
 use std::marker::Model;
 
+/// What a call that writes returns: an error says that memory was refused.
+pub(crate) type Written = Result<(), AllocError>;
+
 /// The text, which a contract sees as its tokens.
 #[derive(Drop)]
 pub(crate) struct JsonText {
@@ -57,42 +60,42 @@ impl JsonText {
     }
 
     /// Begins an object.
-    pub(crate) fn begin(&mut self) -> Result<(), AllocError>
+    pub(crate) fn begin(&mut self) -> Written
         ensures { OnOk result (self.new ≡ self.old ++ begin_object ∷ []) }
     {
         self.out.begin_object()
     }
 
     /// Ends an object.
-    pub(crate) fn end(&mut self) -> Result<(), AllocError>
+    pub(crate) fn end(&mut self) -> Written
         ensures { OnOk result (self.new ≡ self.old ++ end_object ∷ []) }
     {
         self.out.end_object()
     }
 
     /// Begins a member; its value comes next.
-    pub(crate) fn key(&mut self, name: &str) -> Result<(), AllocError>
+    pub(crate) fn key(&mut self, name: &str) -> Written
         ensures { OnOk result (self.new ≡ self.old ++ key name.now ∷ []) }
     {
         self.out.key(name)
     }
 
     /// Begins a list.
-    pub(crate) fn begin_list(&mut self) -> Result<(), AllocError>
+    pub(crate) fn begin_list(&mut self) -> Written
         ensures { OnOk result (self.new ≡ self.old ++ begin_array ∷ []) }
     {
         self.out.begin_array()
     }
 
     /// Ends a list.
-    pub(crate) fn end_list(&mut self) -> Result<(), AllocError>
+    pub(crate) fn end_list(&mut self) -> Written
         ensures { OnOk result (self.new ≡ self.old ++ end_array ∷ []) }
     {
         self.out.end_array()
     }
 
     /// Adds a member that is a text.
-    pub(crate) fn text(&mut self, name: &str, text: &str) -> Result<(), AllocError>
+    pub(crate) fn text(&mut self, name: &str, text: &str) -> Written
         ensures { OnOk result (self.new ≡ added name.now (string text.now) self.old) }
     {
         self.out.key(name)?;
@@ -100,7 +103,7 @@ impl JsonText {
     }
 
     /// Adds a member that is a number.
-    pub(crate) fn number(&mut self, name: &str, value: usize) -> Result<(), AllocError>
+    pub(crate) fn number(&mut self, name: &str, value: usize) -> Written
         ensures { OnOk result (self.new ≡ added name.now (number (decimal value)) self.old) }
     {
         self.out.key(name)?;
@@ -108,7 +111,7 @@ impl JsonText {
     }
 
     /// Adds a member that is true or false.
-    pub(crate) fn boolean(&mut self, name: &str, value: bool) -> Result<(), AllocError>
+    pub(crate) fn boolean(&mut self, name: &str, value: bool) -> Written
         ensures { OnOk result (self.new ≡ added name.now (boolean value) self.old) }
     {
         self.out.key(name)?;
@@ -116,14 +119,14 @@ impl JsonText {
     }
 
     /// Adds the value of what there is not.
-    pub(crate) fn null(&mut self) -> Result<(), AllocError>
+    pub(crate) fn null(&mut self) -> Written
         ensures { OnOk result (self.new ≡ wrote null self.old) }
     {
         self.out.null()
     }
 
     /// Adds a member that is a message: a sentence, which gets its period.
-    pub(crate) fn message(&mut self, name: &str, sentence: &str) -> Result<(), AllocError>
+    pub(crate) fn message(&mut self, name: &str, sentence: &str) -> Written
         ensures { OnOk result (self.new ≡ added name.now (message_json sentence.now) self.old) }
     {
         let text = format!(in self.alloc; "{sentence}.")?;

@@ -4,19 +4,14 @@ ghost use Rattle.std.specs.Prelude.{◌≡◌, OnOk};
 ghost use Rattle.diagnostic_log.specs.Wrote.{wrote, wrote_each};
 ghost use Rattle.diagnostic_log.specs.Notes.{note_json, related_json, wrote_help};
 
-use crate::json_text::JsonText;
+use crate::json_text::{JsonText, Written};
 use crate::places::write_said;
 use crate::text::LoggedText;
 use diagnostics::diagnostic::{Diagnostic, Help, Note, Span};
-use std::alloc::AllocError;
 
 /// Adds the places of notes.
 #[tactic(auto, unfolding(crate::specs::Notes::note_json))]
-fn write_each_note(
-    out: &mut JsonText,
-    text: &LoggedText<'_>,
-    notes: &[Note],
-) -> Result<(), AllocError>
+fn write_each_note(out: &mut JsonText, text: &LoggedText<'_>, notes: &[Note]) -> Written
     ensures { OnOk result (out.new ≡ wrote_each (note_json text.now) notes.now out.old) }
 {
     for note in notes {
@@ -31,7 +26,7 @@ fn write_help(
     text: &LoggedText<'_>,
     span: Option<Span>,
     help: &Option<Help>,
-) -> Result<(), AllocError>
+) -> Written
     ensures { OnOk result (out.new ≡ wrote_help text.now span help.now out.old) }
 {
     match help {
@@ -46,7 +41,7 @@ pub(crate) fn write_related(
     out: &mut JsonText,
     text: &LoggedText<'_>,
     diagnostic: &Diagnostic,
-) -> Result<(), AllocError>
+) -> Written
     ensures { OnOk result (out.new ≡ wrote (related_json text.now diagnostic.now) out.old) }
 {
     out.begin_list()?;

@@ -6,10 +6,9 @@ ghost use Rattle.diagnostic_log.specs.Places.{end_column, location_json, physica
 
 use crate::artifact::write_artifact;
 use crate::columns::column_in;
-use crate::json_text::JsonText;
+use crate::json_text::{JsonText, Written};
 use crate::text::{LoggedText, LoggedTexts};
 use diagnostics::diagnostic::{Source, Span};
-use std::alloc::AllocError;
 
 /// The text that is meant.
 pub(crate) fn text_in<'t, 'a>(texts: &'t LoggedTexts<'a>, source: Source) -> &'t LoggedText<'a>
@@ -31,11 +30,7 @@ fn end_column(span: Span) -> usize
 }
 
 /// Adds a part of a line.
-pub(crate) fn write_region(
-    out: &mut JsonText,
-    text: &LoggedText<'_>,
-    span: Span,
-) -> Result<(), AllocError>
+pub(crate) fn write_region(out: &mut JsonText, text: &LoggedText<'_>, span: Span) -> Written
     ensures { OnOk result (out.new ≡ wrote (region_json text.now span) out.old) }
 {
     out.begin()?;
@@ -47,11 +42,7 @@ pub(crate) fn write_region(
 
 /// Adds a place in a text, or the text as a whole.
 #[tactic(auto, unfolding(crate::specs::Places::physical_json))]
-fn write_physical(
-    out: &mut JsonText,
-    text: &LoggedText<'_>,
-    span: Option<Span>,
-) -> Result<(), AllocError>
+fn write_physical(out: &mut JsonText, text: &LoggedText<'_>, span: Option<Span>) -> Written
     ensures { OnOk result (out.new ≡ wrote (physical_json text.now span) out.old) }
 {
     out.begin()?;
@@ -70,7 +61,7 @@ pub(crate) fn write_location(
     out: &mut JsonText,
     text: &LoggedText<'_>,
     span: Option<Span>,
-) -> Result<(), AllocError>
+) -> Written
     ensures { OnOk result (out.new ≡ wrote (location_json text.now span) out.old) }
 {
     out.begin()?;
@@ -86,7 +77,7 @@ pub(crate) fn write_said(
     text: &LoggedText<'_>,
     span: Option<Span>,
     sentence: &str,
-) -> Result<(), AllocError>
+) -> Written
     ensures { OnOk result (out.new ≡ wrote (said_json text.now span sentence.now) out.old) }
 {
     out.begin()?;

@@ -6,14 +6,13 @@ ghost use Rattle.diagnostic_log.specs.Results.{fingerprints_json, locations_json
 
 use crate::fixes::write_fixes;
 use crate::flows::write_all_flows;
-use crate::json_text::JsonText;
+use crate::json_text::{JsonText, Written};
 use crate::notes::write_related;
 use crate::places::{text_in, write_location};
 use crate::rule_lists::rule_index;
 use crate::text::{LoggedText, LoggedTexts};
 use diagnostics::code::Code;
 use diagnostics::diagnostic::{Diagnostic, Severity, Span};
-use std::alloc::AllocError;
 
 /// How grave a diagnostic is, in the word of the formats.
 pub(crate) fn severity_word(severity: Severity) -> &'static str
@@ -28,11 +27,7 @@ pub(crate) fn severity_word(severity: Severity) -> &'static str
 
 /// Adds the list of the one place of a result.
 #[tactic(auto, unfolding(crate::specs::Results::locations_json))]
-fn write_locations(
-    out: &mut JsonText,
-    text: &LoggedText<'_>,
-    span: Option<Span>,
-) -> Result<(), AllocError>
+fn write_locations(out: &mut JsonText, text: &LoggedText<'_>, span: Option<Span>) -> Written
     ensures { OnOk result (out.new ≡ wrote (locations_json text.now span) out.old) }
 {
     out.begin_list()?;
@@ -42,7 +37,7 @@ fn write_locations(
 
 /// Adds what stays of a result when its lines move.
 #[tactic(auto, unfolding(crate::specs::Results::fingerprints_json))]
-fn write_fingerprints(out: &mut JsonText, diagnostic: &Diagnostic) -> Result<(), AllocError>
+fn write_fingerprints(out: &mut JsonText, diagnostic: &Diagnostic) -> Written
     ensures { OnOk result (out.new ≡ wrote (fingerprints_json diagnostic.now) out.old) }
 {
     out.begin()?;
@@ -52,7 +47,7 @@ fn write_fingerprints(out: &mut JsonText, diagnostic: &Diagnostic) -> Result<(),
 }
 
 /// Begins a result.
-fn write_head(out: &mut JsonText, rules: &[Code], diagnostic: &Diagnostic) -> Result<(), AllocError>
+fn write_head(out: &mut JsonText, rules: &[Code], diagnostic: &Diagnostic) -> Written
     ensures { OnOk result (out.new ≡ wrote_head rules.now diagnostic.now out.old) }
 {
     out.begin()?;
@@ -68,7 +63,7 @@ fn write_result(
     texts: &LoggedTexts<'_>,
     rules: &[Code],
     diagnostic: &Diagnostic,
-) -> Result<(), AllocError>
+) -> Written
     ensures { OnOk result (out.new ≡ wrote (result_json rules.now texts.now diagnostic.now) out.old) }
 {
     let text = text_in(texts, diagnostic.source);
@@ -92,7 +87,7 @@ fn write_each_result(
     texts: &LoggedTexts<'_>,
     rules: &[Code],
     diagnostics: &[Diagnostic],
-) -> Result<(), AllocError>
+) -> Written
     ensures { OnOk result (out.new ≡ wrote_each (result_json rules.now texts.now) diagnostics.now out.old) }
 {
     for diagnostic in diagnostics {
@@ -108,7 +103,7 @@ pub(crate) fn write_results(
     texts: &LoggedTexts<'_>,
     rules: &[Code],
     diagnostics: &[Diagnostic],
-) -> Result<(), AllocError>
+) -> Written
     ensures { OnOk result (out.new ≡ wrote (listed (result_json rules.now texts.now) diagnostics.now) out.old) }
 {
     out.begin_list()?;

@@ -6,7 +6,7 @@ ghost use Rattle.diagnostic_log.specs.Wrote.{listed, wrote, wrote_each, wrote_me
 ghost use Rattle.diagnostic_log.specs.Log.{artifacts_json, bases_json, exit_code, input_members, invocations_json, is_error, is_standard_input, log_json, log_text, reads_standard_input, rule_help, rule_json, rule_uri, run_json, tool_json};
 
 use crate::artifact::{Artifact, write_artifact};
-use crate::json_text::JsonText;
+use crate::json_text::{JsonText, Written};
 use crate::results::write_results;
 use crate::rule_lists::rules_of;
 use crate::rules::{rule_section, rule_short};
@@ -32,7 +32,7 @@ fn rule_uri(alloc: Global, code: Code) -> Result<String, AllocError>
 }
 
 /// Adds a rule.
-fn write_rule(out: &mut JsonText, code: Code) -> Result<(), AllocError>
+fn write_rule(out: &mut JsonText, code: Code) -> Written
     ensures { OnOk result (out.new ≡ wrote (rule_json code) out.old) }
 {
     let help = rule_help(out.alloc(), code)?;
@@ -46,7 +46,7 @@ fn write_rule(out: &mut JsonText, code: Code) -> Result<(), AllocError>
 }
 
 /// Adds rules.
-fn write_each_rule(out: &mut JsonText, rules: &[Code]) -> Result<(), AllocError>
+fn write_each_rule(out: &mut JsonText, rules: &[Code]) -> Written
     ensures { OnOk result (out.new ≡ wrote_each rule_json rules.now out.old) }
 {
     for rule in rules {
@@ -57,7 +57,7 @@ fn write_each_rule(out: &mut JsonText, rules: &[Code]) -> Result<(), AllocError>
 
 /// Adds the list of the rules.
 #[tactic(auto, using(crate::proofs::Written::listed_written))]
-fn write_rules(out: &mut JsonText, rules: &[Code]) -> Result<(), AllocError>
+fn write_rules(out: &mut JsonText, rules: &[Code]) -> Written
     ensures { OnOk result (out.new ≡ wrote (listed rule_json rules.now) out.old) }
 {
     out.begin_list()?;
@@ -67,7 +67,7 @@ fn write_rules(out: &mut JsonText, rules: &[Code]) -> Result<(), AllocError>
 
 /// Adds the tool, with its rules.
 #[tactic(auto, unfolding(crate::specs::Log::tool_json))]
-fn write_tool(out: &mut JsonText, rules: &[Code]) -> Result<(), AllocError>
+fn write_tool(out: &mut JsonText, rules: &[Code]) -> Written
     ensures { OnOk result (out.new ≡ wrote (tool_json rules.now) out.old) }
 {
     out.begin()?;
@@ -105,7 +105,7 @@ fn exit_code(diagnostics: &[Diagnostic]) -> usize
 }
 
 /// Adds standard input, if it is read, and ends what is said of the run.
-fn write_input(out: &mut JsonText, reads_input: bool) -> Result<(), AllocError>
+fn write_input(out: &mut JsonText, reads_input: bool) -> Written
     ensures { OnOk result (out.new ≡ wrote_members (input_members reads_input) out.old) }
 {
     if reads_input {
@@ -116,7 +116,7 @@ fn write_input(out: &mut JsonText, reads_input: bool) -> Result<(), AllocError>
 }
 
 /// Adds what is said of the one run of the program, which may read standard input.
-fn write_invocations(out: &mut JsonText, code: usize, reads_input: bool) -> Result<(), AllocError>
+fn write_invocations(out: &mut JsonText, code: usize, reads_input: bool) -> Written
     ensures { OnOk result (out.new ≡ wrote (invocations_json code reads_input) out.old) }
 {
     out.begin_list()?;
@@ -129,7 +129,7 @@ fn write_invocations(out: &mut JsonText, code: usize, reads_input: bool) -> Resu
 
 /// Adds what relative URIs are relative to.
 #[tactic(auto, unfolding(crate::specs::Log::bases_json))]
-fn write_bases(out: &mut JsonText) -> Result<(), AllocError>
+fn write_bases(out: &mut JsonText) -> Written
     ensures { OnOk result (out.new ≡ wrote bases_json out.old) }
 {
     out.begin()?;
@@ -142,7 +142,7 @@ fn write_bases(out: &mut JsonText) -> Result<(), AllocError>
 
 /// Adds the texts that have no URI: standard input, if it is read.
 #[tactic(auto, unfolding(crate::specs::Log::artifacts_json))]
-fn write_artifacts(out: &mut JsonText, reads_input: bool) -> Result<(), AllocError>
+fn write_artifacts(out: &mut JsonText, reads_input: bool) -> Written
     ensures { OnOk result (out.new ≡ wrote (artifacts_json reads_input) out.old) }
 {
     out.begin_list()?;
@@ -179,7 +179,7 @@ fn write_run(
     texts: &LoggedTexts<'_>,
     rules: &[Code],
     diagnostics: &[Diagnostic],
-) -> Result<(), AllocError>
+) -> Written
     ensures { OnOk result (out.new ≡ wrote (run_json rules.now texts.now diagnostics.now) out.old) }
 {
     let reads_input = reads_standard_input(texts);
@@ -205,7 +205,7 @@ fn write_log(
     texts: &LoggedTexts<'_>,
     rules: &[Code],
     diagnostics: &[Diagnostic],
-) -> Result<(), AllocError>
+) -> Written
     ensures { OnOk result (out.new ≡ wrote (log_json rules.now texts.now diagnostics.now) out.old) }
 {
     out.begin()?;
