@@ -6,7 +6,7 @@ use Rattle.jobs.specs.declared.job.Paths.{Paths}
 use Rattle.jobs.specs.declared.job.Texts.{Texts}
 use Rattle.verdict_report.specs.declared.fault.ServeFault.{ServeFault}
 use Rattle.verdict_report.specs.declared.fault.ServeFault.TheVariants as serve
-use Rattle.verdict_report.specs.JobTexts.{IsDone}
+use Rattle.verdict_report.specs.JobTexts.{IsCutOff, IsDone}
 use Rattle.program_edge.specs.declared.fault.Fault.{Fault}
 use Rattle.program_edge.specs.declared.fault.Fault.TheVariants.{Serve}
 use Rattle.program_edge.specs.declared.unread.Unread.{Unread}
@@ -20,11 +20,13 @@ pub record Streams : Type 0 where
   pub output : Option (List ℕ)
   pub errors : Option (List ℕ)
 
--- the job was not done: after a fault other than Write nothing was written before the fault is told
-pub record IsNotDone (ending : Ending) (old new : Streams) : Type 0 where
+-- the job was not done: before the fault is told, after Write a beginning of its report was written, after
+-- another fault nothing
+pub record IsNotDone (job : Job) (texts : Texts) (ending : Ending) (old new : Streams) : Type 0 where
   pub fault : ServeFault
   pub output : Option (List ℕ)
   pub nothing : fault ≢ serve.Write → Keeps old.output output
+  pub begun : fault ≡ serve.Write → IsCutOff job texts old.output output
   pub told : IsTold (Serve fault) ending.status ending.is_told output new.output old.errors new.errors
 
 -- the job was done: its report was added to standard output, and nothing to standard error
@@ -34,7 +36,7 @@ pub record IsJobDone (job : Job) (texts : Texts) (ending : Ending) (old new : St
   pub told : ending.is_told ≡ true
 
 abbrev pub IsServed : Job → Result Texts Unread → Ending → Streams → Streams → Type 0
-IsServed job (Ok texts) ending old new = IsJobDone job texts ending old new ⊎ IsNotDone ending old new
+IsServed job (Ok texts) ending old new = IsJobDone job texts ending old new ⊎ IsNotDone job texts ending old new
 IsServed job (Err unread) ending old new = IsTold (unread_fault job unread) ending.status ending.is_told old.output new.output old.errors new.errors
 
 -- the texts of the job were read, and the job served

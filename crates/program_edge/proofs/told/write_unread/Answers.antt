@@ -4,9 +4,9 @@ use Rattle.std.specs.String.{string_bytes}
 use Rattle.std.specs.Io.KnownBytes.{Appends}
 use Rattle.std.proofs.KnownBytes.{Appends-trans}
 use Rattle.std.proofs.lemmas.Result.{on_ok_weaker}
+use Rattle.verdict_report.specs.Writing.{Begins}
 use Rattle.program_edge.specs.Telling.{reason_words}
-use Rattle.program_edge.specs.Writing.{Begins}
-use Rattle.program_edge.proofs.BeginsLemmas.{first, next}
+use Rattle.verdict_report.proofs.BeginsLemmas.{first, next}
 use Rattle.program_edge.proofs.told.write_unread.Goals as goal
 
 -- the file's name, and the reason
