@@ -82,7 +82,12 @@ impl Firsts {
     }
 
     /// Adds a name that is not there.
-    pub(crate) fn add(&mut self, alloc: Global, name: &Name, number: usize) -> Result<(), AllocError>
+    pub(crate) fn add(
+        &mut self,
+        alloc: Global,
+        name: &Name,
+        number: usize,
+    ) -> Result<(), AllocError>
         requires { lookup self.old name.now ≡ None }
         ensures { OnOk result (self.new ≡ self.old ++ (name.now, number) ∷ []) }
     {
