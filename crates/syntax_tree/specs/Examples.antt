@@ -24,6 +24,7 @@ use Rattle.syntax_tree.specs.declared.unknown_names.UsedAs.TheVariants.{Target, 
 use Rattle.syntax_tree.specs.Repeats.{repeats}
 use Rattle.syntax_tree.specs.UnknownNames.{unknown_names}
 use Rattle.syntax_tree.specs.Amounts.{amounts}
+use Rattle.syntax_tree.specs.WholeFaults.{task_entries}
 use Rattle.syntax_tree.specs.Details.{detail_of, operand_spans, mark_spans, create_span, targets_span, create_spans, target_spans}
 
 -- lines, each with its LF
@@ -136,3 +137,12 @@ pub amounts_are : amounts (tree_of (text (codes "A: li $8,70000" ∷ codes "halt
     so_much 0 0 ∷ so_much 0 0 ∷ so_much 2 0 ∷ so_much 3 0 ∷ so_much 3 0 ∷ so_much 3 2 ∷ []
 unfolding items_from line_items tokens_items spans_after operands_of after_one after_two operand_at base_at load_immediate halt numbers_of bytes_of byte_statement line_tokens tokens_after token_of kind_of number_of magnitude_of number_in register_of register_named
 amounts_are = refl
+
+-- two tasks at one instruction, and one behind the last
+abbrev pub entries_text : List ℕ
+entries_text = text (codes ".task A create=- targets=-" ∷ codes ".task B create=- targets=-" ∷ codes "A: B: halt" ∷ codes "C: .task C create=- targets=-" ∷ [])
+
+pub entries_are : task_entries (tree_of entries_text) ≡
+    record { task = 0; label = 2; entry = 0 } ∷ record { task = 1; label = 3; entry = 0 } ∷ record { task = 6; label = 5; entry = 1 } ∷ []
+unfolding items_from line_items tokens_items spans_after operands_of halt task_of registers_at registers_of places_of targets_of line_tokens tokens_after token_of kind_of number_of magnitude_of number_in register_of register_named
+entries_are = refl
