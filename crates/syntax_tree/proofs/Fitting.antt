@@ -187,6 +187,14 @@ built_is : (q p : Listing) (f : Option BuildFault) → built q f ≡ Ok p → q 
 built_is q p None h = cc
 built_is q p (Some f) h = absurd cc
 
+conclude : (items : List Item) (made p : Listing) → Fits no_parts made items → made ≡ p → AreOf items p
+conclude items made p grown same =
+    let count : length (code_items items) ≡ length made.code = omega (arith, grown.code) in
+    record {
+      code = count ∙ ap (λ (q : Listing). length q.code) same;
+      tasks = names_found items ∙ sym grown.names ∙ ap (λ (q : Listing). names_in q) same;
+    }
+
 pub text_fits : (text : List ℕ) (p : Listing) → parse text ≡ Ok p → AreOf (tree_of text) p
 unfolding parse program_of
 text_fits text p h =
@@ -198,8 +206,4 @@ text_fits text p h =
     let made = first_ok (parts layout.0.labels no_parts items.0) (λ q. built q (build_fault q)) p within.1 in
     let same = built_is made.0 p (build_fault made.0) made.2 in
     let grown = fits layout.0.labels no_parts made.0 (tree_of text) items.0 (sym (unplaced_are 1 section.Text (lines text)) ∙ items.1) made.1 in
-    let count : length (code_items (tree_of text)) ≡ length made.0.code = omega (arith, grown.code) in
-    record {
-      code = count ∙ ap (λ (q : Listing). length q.code) same;
-      tasks = names_found (tree_of text) ∙ sym grown.names ∙ ap (λ (q : Listing). names_in q) same;
-    }
+    conclude (tree_of text) made.0 p grown same

@@ -6,9 +6,9 @@ use Rattle.program_tokens.specs.Numbers.{number_of, magnitude_of, number_in}
 use Rattle.program_tokens.specs.Registers.{register_of, register_named}
 use Rattle.program_tokens.specs.Grammar.{line_tokens, tokens_after, token_of, kind_of}
 use Rattle.program_tokens.specs.Spans.{spans_after}
-use Rattle.program_statements.specs.Operands.{operand_at, after_one, after_two, operands_of}
-use Rattle.program_statements.specs.Rows.{halt, imm}
-use Rattle.program_statements.specs.Statements.{no_marks}
+use Rattle.program_statements.specs.Operands.{base_at, operand_at, after_one, after_two, operands_of}
+use Rattle.program_statements.specs.Rows.{halt, imm, jump, load_address, load_immediate}
+use Rattle.program_statements.specs.Statements.{no_marks, registers_of, registers_at, places_of, targets_of, task_of, numbers_of, bytes_of, byte_statement}
 use Rattle.program_statements.specs.declared.statement.Section.TheVariants.{Text}
 use Rattle.program_statements.specs.declared.statement.Instruction.TheVariants as instruction
 use Rattle.program_statements.specs.declared.statement.Statement.TheVariants as statement
@@ -19,6 +19,12 @@ use Rattle.syntax_tree.specs.declared.item.Said.{Said}
 use Rattle.syntax_tree.specs.declared.item.Said.TheVariants as said
 use Rattle.syntax_tree.specs.declared.item.Item.{Item}
 use Rattle.syntax_tree.specs.Trees.{tokens_items, line_items, items_from, tree_of, first_fault}
+use Rattle.syntax_tree.specs.declared.amounts.Amounts.{Amounts}
+use Rattle.syntax_tree.specs.declared.unknown_names.UsedAs.TheVariants.{Target, Operand}
+use Rattle.syntax_tree.specs.Repeats.{repeats}
+use Rattle.syntax_tree.specs.UnknownNames.{unknown_names}
+use Rattle.syntax_tree.specs.Amounts.{amounts}
+use Rattle.syntax_tree.specs.WholeFaults.{task_entries}
 use Rattle.syntax_tree.specs.Details.{detail_of, operand_spans, mark_spans, create_span, targets_span, create_spans, target_spans}
 
 -- lines, each with its LF
@@ -97,3 +103,46 @@ its_marks = refl
 pub no_operands : operand_spans (detail_of (codes "T: halt !s") its_item) ≡ []
 unfolding spans_after line_tokens tokens_after token_of kind_of
 no_operands = refl
+
+-- The program as a whole.
+
+abbrev pub so_much : (code bytes : ℕ) → Amounts
+so_much code bytes = record { code = code; bytes = bytes; fixed = 0; tasks = 0 }
+
+-- labels, a task and the start a second time, each with where they stand first; a label and a task of one name are two
+-- things
+abbrev pub repeating_text : List ℕ
+repeating_text = text (codes "A: B: halt" ∷ codes ".start A" ∷ codes "B: A: .start C" ∷ codes ".task A create=- targets=-" ∷ [])
+
+pub repeats_are : repeats (tree_of repeating_text) ≡
+    record { item = 4; first = 1 } ∷ record { item = 5; first = 0 } ∷ record { item = 6; first = 3 } ∷ []
+unfolding items_from line_items tokens_items spans_after operands_of halt task_of registers_at registers_of places_of targets_of line_tokens tokens_after token_of kind_of number_of magnitude_of number_in register_of register_named
+repeats_are = refl
+
+-- each use of a name is told; data are no place to go, and have an address
+abbrev pub unknown_text : List ℕ
+unknown_text = text (codes ".task T create=- targets=T,U,@3" ∷ codes "T: j W" ∷ codes "la $8,D" ∷ codes "j D" ∷ codes "j W" ∷ codes ".data" ∷ codes "D:" ∷ [])
+
+pub unknown_are : unknown_names (tree_of unknown_text) ≡
+    record { item = 0; name = codes "U"; used_as = Target 1 }
+    ∷ record { item = 2; name = codes "W"; used_as = Operand }
+    ∷ record { item = 4; name = codes "D"; used_as = Operand }
+    ∷ record { item = 5; name = codes "W"; used_as = Operand }
+    ∷ []
+unfolding items_from line_items tokens_items spans_after operands_of after_one after_two operand_at jump load_address task_of registers_at registers_of places_of targets_of line_tokens tokens_after token_of kind_of number_of magnitude_of number_in register_of register_named
+unknown_are = refl
+
+-- `li` of a large number is two instructions
+pub amounts_are : amounts (tree_of (text (codes "A: li $8,70000" ∷ codes "halt" ∷ codes ".data" ∷ codes ".byte 1,2" ∷ codes "D:" ∷ []))) ≡
+    so_much 0 0 ∷ so_much 0 0 ∷ so_much 2 0 ∷ so_much 3 0 ∷ so_much 3 0 ∷ so_much 3 2 ∷ []
+unfolding items_from line_items tokens_items spans_after operands_of after_one after_two operand_at base_at load_immediate halt numbers_of bytes_of byte_statement line_tokens tokens_after token_of kind_of number_of magnitude_of number_in register_of register_named
+amounts_are = refl
+
+-- two tasks at one instruction, and one behind the last
+abbrev pub entries_text : List ℕ
+entries_text = text (codes ".task A create=- targets=-" ∷ codes ".task B create=- targets=-" ∷ codes "A: B: halt" ∷ codes "C: .task C create=- targets=-" ∷ [])
+
+pub entries_are : task_entries (tree_of entries_text) ≡
+    record { task = 0; label = 2; entry = 0 } ∷ record { task = 1; label = 3; entry = 0 } ∷ record { task = 6; label = 5; entry = 1 } ∷ []
+unfolding items_from line_items tokens_items spans_after operands_of halt task_of registers_at registers_of places_of targets_of line_tokens tokens_after token_of kind_of number_of magnitude_of number_in register_of register_named
+entries_are = refl

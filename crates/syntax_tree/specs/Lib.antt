@@ -5,5 +5,6 @@ pub mod Firsts
 pub mod Repeats
 pub mod UnknownNames
 pub mod Amounts
+pub mod WholeFaults
 pub mod Laws
 pub mod Examples

@@ -1,5 +1,5 @@
 -- The items of which the instructions and the tasks of a program are (own choice).
-use Rattle.std.specs.Prelude.{◌≡◌, ℕ, List, [], ◌∷◌, ◌++◌, Bool, true, false, length, map, replicate}
+use Rattle.std.specs.Prelude.{◌≡◌, ℕ, List, [], ◌∷◌, ◌++◌, Bool, true, false, length, map, replicate, find, Option}
 use Rattle.std.specs.List.{filter}
 use Rattle.task_descriptor.specs.Listing.{Listing}
 use Rattle.program_statements.specs.declared.statement.Statement.TheVariants as statement
@@ -42,6 +42,14 @@ is_data _ = false
 -- the pieces of data, in the order of the text
 abbrev pub data_items : List Item → List Item
 data_items items = filter (λ item. is_data item.said) items
+
+abbrev pub is_start : Said → Bool
+is_start (said.Statement (statement.Start name)) = true
+is_start _ = false
+
+-- where the program starts: the first `.start`, if there is one
+abbrev pub start_item : List Item → Option Item
+start_item items = find (λ item. is_start item.said) items
 
 abbrev pub is_fault : Said → Bool
 is_fault (said.Fault kind) = true

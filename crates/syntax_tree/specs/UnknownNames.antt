@@ -1,5 +1,5 @@
 -- Names that are no labels of the wanted kind (own choice): all of them, each with the item that uses it.
-use Rattle.std.specs.Prelude.{ℕ, ◌+◌, Bool, true, false, List, [], ◌∷◌, ◌++◌, slice_get, Option, Some, None, is_some, if◌then◌else◌}
+use Rattle.std.specs.Prelude.{ℕ, ◌+◌, Bool, true, false, List, [], ◌∷◌, ◌++◌, slice_get, Option, Some, None, is_some}
 use Rattle.program_statements.specs.declared.statement.Section.TheVariants as section
 use Rattle.program_statements.specs.declared.statement.Target.{Target}
 use Rattle.program_statements.specs.declared.statement.Target.TheVariants as target

@@ -13,3 +13,4 @@ pub mod repeats;
 mod spans;
 pub mod tree;
 pub mod unknown_names;
+pub mod whole_faults;

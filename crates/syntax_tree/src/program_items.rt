@@ -2,7 +2,8 @@
 
 ghost use Rattle.std.specs.Prelude.{◌≡◌, ◌++◌, map, replicate, IfOk, OnOk};
 ghost use Rattle.std.specs.List.{filter};
-ghost use Rattle.syntax_tree.specs.ProgramItems.{instructions_of, code_items, is_task, task_items, is_label, label_list, is_data, data_items, is_fault, fault_items};
+ghost use Rattle.std.specs.Option.{option_copied};
+ghost use Rattle.syntax_tree.specs.ProgramItems.{instructions_of, code_items, is_task, task_items, is_label, label_list, is_data, data_items, is_start, start_item, is_fault, fault_items};
 
 use crate::item::{Item, Said};
 use annotated_asm::line::instruction_count;
@@ -118,6 +119,20 @@ pub fn data_items<'a>(alloc: Global, items: &'a [Item]) -> Result<Vec<&'a Item>,
         }
     }
     Ok(found)
+}
+
+/// Whether it says where the program starts.
+fn is_start(item: &Item) -> bool
+    ensures { result ≡ is_start item.now.said }
+{
+    matches!(&item.said, Said::Statement(Statement::Start(_)))
+}
+
+/// The first `.start`, if there is one.
+pub fn start_item(items: &[Item]) -> Option<&Item>
+    ensures { option_copied result ≡ start_item items.now }
+{
+    items.iter().find(|item| is_start(item))
 }
 
 /// Whether it is a fault of a line.

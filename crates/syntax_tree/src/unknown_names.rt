@@ -55,7 +55,7 @@ fn add_label(
 }
 
 /// The labels of a text, each with the number of the first item of its name.
-fn labels_in(alloc: Global, items: &[Item]) -> Result<Firsts, AllocError>
+pub(crate) fn labels_in(alloc: Global, items: &[Item]) -> Result<Firsts, AllocError>
     ensures { IfOk result (λ labels. labels ≡ labels_in items.now) }
 {
     let mut labels = Firsts::new(alloc, NameKey::of(items));
