@@ -40,7 +40,7 @@ result_members texts d =
     member (codes "locations") (locations_json text d.span)
     (member (codes "relatedLocations") (related_json text d)
     (member (codes "codeFlows") (flows_json text d.notes)
-    (member (codes "fixes") (fixes_json texts.program d.help)
+    (member (codes "fixes") (fixes_json text d.help)
     (member (codes "partialFingerprints") (fingerprints_json d) no_members))))
 
 unfoldable pub result_json : List Code → LoggedTexts → Diagnostic → Json
