@@ -1,5 +1,5 @@
 -- The list of fixes: none, or that of the help.
-use Rattle.std.proofs.Common.{◌≡◌, List, [], ◌∷◌, ◌++◌, Bool, true, false, refl}
+use Rattle.std.proofs.Common.{◌≡◌, List, [], ◌∷◌, ◌++◌, true, false, refl}
 use Rattle.std.specs.Prelude.{if◌then◌else◌, Some, None}
 use Rattle.json.specs.Token.{Token}
 use Rattle.json.specs.Json.{no_items, item}

@@ -1,5 +1,5 @@
 -- The paths of notes are those of the notes that have one.
-use Rattle.std.proofs.Common.{◌≡◌, List, [], ◌∷◌, ◌++◌, Bool, true, false, refl, ◌∙◌}
+use Rattle.std.proofs.Common.{◌≡◌, List, [], ◌∷◌, ◌++◌, true, false, refl, ◌∙◌}
 use Rattle.std.specs.Prelude.{filter, if◌then◌else◌}
 use Rattle.json.specs.Token.{Token}
 use Rattle.json.specs.Json.{Json, no_items}
@@ -7,7 +7,7 @@ use Rattle.diagnostics.specs.declared.diagnostic.Span.{Span}
 use Rattle.diagnostics.specs.declared.diagnostic.Note.{Note}
 use Rattle.diagnostic_log.specs.Wrote.{wrote, wrote_each, wrote_items, items_then, listed}
 use Rattle.diagnostic_log.specs.Seen.{SeenText}
-use Rattle.diagnostic_log.specs.Flows.{back_of, flow_json, flows_json, front_of, has_path, told, wrote_flow, wrote_flows}
+use Rattle.diagnostic_log.specs.Flows.{back_of, flow_json, flows_json, front_of, has_path, told, wrote_flows}
 use Rattle.diagnostic_log.proofs.Written.{items_wrote}
 
 filtered : (text : SeenText) (notes : List Note) (old : List Token) →

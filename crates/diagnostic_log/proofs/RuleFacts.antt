@@ -1,12 +1,12 @@
 -- Declaring a rule keeps those that are declared, so that in the end each result finds its own.
-use Rattle.std.proofs.Common.{◌≡◌, List, [], ◌∷◌, ◌++◌, Bool, true, false, suc, refl, sym, ap, ◌∙◌}
+use Rattle.std.proofs.Common.{◌≡◌, List, [], ◌∷◌, ◌++◌, Bool, true, false, suc, refl, sym, ap}
 use Rattle.std.specs.Prelude.{◌&&◌, ◌||◌, if◌then◌else◌, fold, slice_get}
 use Rattle.std.specs.List.{list_all}
 use Rattle.std.proofs.lemmas.Cmp.{nat_list_eq_equiv}
 use Rattle.diagnostics.specs.Codes.{code_id}
 use Rattle.diagnostics.specs.declared.code.Code.{Code}
 use Rattle.diagnostics.specs.declared.diagnostic.Diagnostic.{Diagnostic}
-use Rattle.diagnostic_log.specs.RuleLists.{declared, each_names_its_rule, is_declared, is_rule, is_same, rule_index, rules_of}
+use Rattle.diagnostic_log.specs.RuleLists.{declared, each_names_its_rule, is_declared, is_rule, is_same, rule_index}
 
 differ : true ≡ false → ⊥
 differ is = cc

@@ -1,6 +1,5 @@
 -- Written piece by piece, a value's tokens stand after what there was.
-use Rattle.std.proofs.Common.{◌≡◌, List, [], ◌∷◌, ◌++◌, refl, ◌∙◌, ap, sym, append_assoc}
-use Rattle.std.specs.Prelude.{fold}
+use Rattle.std.proofs.Common.{◌≡◌, List, [], ◌∷◌, ◌++◌, refl, ◌∙◌, ap, append_assoc}
 use Rattle.json.specs.Token.{Token}
 use Rattle.json.specs.Json.{Json, null, boolean, number, string, array, object, Items, no_items, item, Members, no_members, member}
 use Rattle.json.specs.Tree.{json_tokens, items_tokens, members_tokens}

@@ -1,5 +1,5 @@
 -- What is put in place of what as a JSON value (sections 3.55 to 3.57): a help with replacements is a fix, and they
--- are made together in the program text.
+-- are made together in the text of the diagnostic.
 use Rattle.std.specs.Prelude.{List, Bool, nat_lt, if◌then◌else◌, length, codes, Option, Some, None}
 use Rattle.json.specs.Token.{Token}
 use Rattle.json.specs.Json.{Json, string, array, object, Items, no_items, item, no_members, member}

@@ -1,6 +1,6 @@
 -- The paths of notes as JSON values (sections 3.36 to 3.38). A path of more than a hundred places is cut in its
 -- middle.
-use Rattle.std.specs.Prelude.{ℕ, ◌-◌, List, [], ◌++◌, Bool, true, false, ◌==◌, nat_lt, if◌then◌else◌, codes, drop, filter, fold, length, max, take, Some}
+use Rattle.std.specs.Prelude.{ℕ, ◌-◌, List, ◌++◌, Bool, ◌==◌, nat_lt, if◌then◌else◌, codes, drop, filter, fold, length, max, take, Some}
 use Rattle.std.specs.Fmt.{decimal}
 use Rattle.json.specs.Token.{Token}
 use Rattle.json.specs.Json.{Json, array, object, no_items, item, Members, no_members, member}

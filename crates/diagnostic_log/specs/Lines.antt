@@ -1,9 +1,9 @@
 -- Diagnostics as lines of JSON (own choice; docs/FORMATS.md has the keys): an object for each. Its keys are always
 -- there; what there is not is null. Columns and widths are in bytes, as in the text form.
-use Rattle.std.specs.Prelude.{ℕ, ◌-◌, List, [], ◌∷◌, ◌++◌, flat_map, length, Option, Some, None, codes}
+use Rattle.std.specs.Prelude.{ℕ, List, [], ◌∷◌, ◌++◌, flat_map, Option, Some, None, codes}
 use Rattle.std.specs.Fmt.{decimal}
 use Rattle.json.specs.Token.{Token}
-use Rattle.json.specs.Json.{Json, null, number, string, array, object, no_items, Members, no_members, member}
+use Rattle.json.specs.Json.{Json, null, number, string, object, Members, no_members, member}
 use Rattle.json.specs.Tree.{json_tokens}
 use Rattle.json.specs.Print.{print}
 use Rattle.diagnostics.specs.Codes.{code_id}

@@ -28,8 +28,8 @@ severity_word Note = codes "note"
 unfoldable pub locations_json : SeenText → Option Span → Json
 locations_json text span = array (item (location_json text span) no_items)
 
--- What stays of a result when its lines move (section 3.27.17, own choice): its rule and its sentence, in which no
--- line is named. Two results of a log may share them.
+-- What stays of a result when its lines move (section 3.27.17, own choice): its rule and its sentence. Two results
+-- of a log may share them.
 unfoldable pub fingerprints_json : Diagnostic → Json
 fingerprints_json d =
     object (member (codes "rule/v1") (string (code_id d.code)) (member (codes "sentence/v1") (string d.message) no_members))
@@ -40,7 +40,7 @@ result_members texts d =
     member (codes "locations") (locations_json text d.span)
     (member (codes "relatedLocations") (related_json text d)
     (member (codes "codeFlows") (flows_json text d.notes)
-    (member (codes "fixes") (fixes_json texts.program d.help)
+    (member (codes "fixes") (fixes_json text d.help)
     (member (codes "partialFingerprints") (fingerprints_json d) no_members))))
 
 unfoldable pub result_json : List Code → LoggedTexts → Diagnostic → Json

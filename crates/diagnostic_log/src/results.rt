@@ -75,7 +75,7 @@ fn write_result(
     out.key("codeFlows")?;
     write_all_flows(out, text, diagnostic.notes.as_slice())?;
     out.key("fixes")?;
-    write_fixes(out, &texts.program, &diagnostic.help)?;
+    write_fixes(out, text, &diagnostic.help)?;
     out.key("partialFingerprints")?;
     write_fingerprints(out, diagnostic)?;
     out.end()
