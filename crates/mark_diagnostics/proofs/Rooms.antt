@@ -69,12 +69,16 @@ flat_range f a (suc n) =
     ap (λ zs. f a ++ zs) (flat_range f (a + 1) n ∙ ap (λ (k : ℕ). flat_map f (range_with_len (a + 1) n) ++ f k) e)
     ∙ sym (append_assoc (f a) (flat_map f (range_with_len (a + 1) n)) (f (a + suc n)))
 
+-- what belongs to one number more is at the end
+pub range_more : {X : Type 0} (f : ℕ → List X) (n : ℕ) → flat_map f (range_with_len 0 n) ++ f n ≡ flat_map f (range_with_len 0 (n + 1))
+range_more f n =
+    let e : n ≡ 0 + n = omega arith in
+    ap (λ (k : ℕ). flat_map f (range_with_len 0 n) ++ f k) e
+    ∙ sym (flat_range f 0 n) ∙ ap (λ (k : ℕ). flat_map f (range_with_len 0 k)) (sym (add-one n))
+
 pub one_task_more : (p : Listing) (cert : List (List (ℕ × ℕ))) (n : ℕ)
     → flat_map (task_complaints p cert) (range_with_len 0 n) ++ task_complaints p cert n ≡ flat_map (task_complaints p cert) (range_with_len 0 (n + 1))
-one_task_more p cert n =
-    let e : n ≡ 0 + n = omega arith in
-    ap (λ (k : ℕ). flat_map (task_complaints p cert) (range_with_len 0 n) ++ task_complaints p cert k) e
-    ∙ sym (flat_range (task_complaints p cert) 0 n) ∙ ap (λ (k : ℕ). flat_map (task_complaints p cert) (range_with_len 0 k)) (sym (add-one n))
+one_task_more p cert n = range_more (task_complaints p cert) n
 
 others_step : (b : Bool) (f : Finding) (rest : List Finding) (n : ℕ) → length rest ≤ n → length ((if b then [] else f ∷ []) ++ rest) ≤ suc n
 others_step true f rest n h = omega (arith, h)

@@ -9,3 +9,5 @@ pub mod ExitDiagnostics
 pub mod More
 pub mod MarkErrors
 pub mod Examples
+pub mod StopWarnings
+pub mod CostlyDiagnostics

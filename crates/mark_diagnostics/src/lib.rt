@@ -1,6 +1,7 @@
 //! Diagnostics about a program's marks: what is wrong with them, with a path that shows it and a remedy.
 #![tactic(auto)]
 
+pub mod costly;
 pub mod error;
 mod exit;
 mod group;
@@ -14,6 +15,7 @@ mod remedy;
 mod sending;
 mod spans;
 mod stop_note;
+pub mod stop_warning;
 mod target;
 mod text;
 pub mod told;
