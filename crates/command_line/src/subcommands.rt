@@ -59,7 +59,7 @@ fn program_name<'a>(alloc: Global) -> Command<'a>
     ensures { IsSubcommand program_name_shape result }
 {
     subcommand(alloc, "multiscalar", help::PROGRAM, help::PROGRAM_LONG)
-        .version(help::VERSION)
+        .version(help::VERSION_AND_TOOLCHAIN)
         .after_help(help::STATUS)
         .subcommand_required(true)
 }
