@@ -1,3 +1,4 @@
 pub mod FoundLemmas
 pub mod BeginsLemmas
 mod AskedLemmas
+mod ReportLemmas
