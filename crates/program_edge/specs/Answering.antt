@@ -10,9 +10,10 @@ use Rattle.command_line.specs.declared.request.Request.{Request}
 use Rattle.report_texts.specs.OutputTexts.{Report}
 use Rattle.verdict_report.specs.declared.fault.ServeFault.{ServeFault}
 use Rattle.verdict_report.specs.declared.fault.ServeFault.TheVariants as serve
-use Rattle.verdict_report.specs.JobTexts.{IsDone, IsReportOf}
+use Rattle.verdict_report.specs.JobTexts.{IsCutOff, IsDone, IsReportOf}
 use Rattle.whole_file.specs.Files.{ChangesAt, Files, Same}
 use Rattle.whole_file.specs.declared.unwritten.Unwritten.{Unwritten}
+use Rattle.verdict_report.specs.Writing.{Begins}
 use Rattle.program_edge.specs.declared.fault.Fault.{Fault}
 use Rattle.program_edge.specs.declared.fault.Fault.TheVariants.{NotWritten, Serve}
 use Rattle.program_edge.specs.declared.unread.Unread.{Unread}
@@ -33,11 +34,13 @@ abbrev pub IsToldAlone : Fault → Ending → World → World → Type 0
 IsToldAlone fault ending old new =
     IsTold fault ending.status ending.is_told old.output new.output old.errors new.errors × Same old.files new.files
 
--- the job was not done: after a fault other than Write nothing was written before the fault is told
-pub record IsNotDone (ending : Ending) (old new : World) : Type 0 where
+-- the job was not done: before the fault is told, after Write a beginning of its report was written, after
+-- another fault nothing
+pub record IsNotDone (job : Job) (texts : Texts) (ending : Ending) (old new : World) : Type 0 where
   pub fault : ServeFault
   pub output : Option (List ℕ)
   pub nothing : fault ≢ serve.Write → Keeps old.output output
+  pub begun : fault ≡ serve.Write → IsCutOff job texts old.output output
   pub told : IsTold (Serve fault) ending.status ending.is_told output new.output old.errors new.errors
   pub files : Same old.files new.files
 
@@ -54,6 +57,13 @@ pub record IsShown (report : Report) (ending : Ending) (old new : World) : Type 
   pub written : Appends old.output new.output report.bytes
   pub silent : Keeps old.errors new.errors
   pub told : ending.is_told ≡ true
+  pub files : Same old.files new.files
+
+-- standard output took a beginning of a report, and then failed, which is told
+pub record IsBroken (report : Report) (ending : Ending) (old new : World) : Type 0 where
+  pub output : Option (List ℕ)
+  pub begun : Begins old.output output report.bytes
+  pub told : IsTold (Serve serve.Write) ending.status ending.is_told output new.output old.errors new.errors
   pub files : Same old.files new.files
 
 -- the file took the report, and holds nothing else
@@ -74,7 +84,7 @@ pub record IsNotKept (path : String Global) (ending : Ending) (old new : World) 
 
 -- what becomes of a report that a file is to take: a refusal goes to standard output
 abbrev pub IsTaken : (watched refused : Bool) → (path : String Global) → Report → Ending → World → World → Type 0
-IsTaken watched true path report ending old new = IsShown report ending old new
+IsTaken watched true path report ending old new = IsShown report ending old new ⊎ IsBroken report ending old new
 IsTaken watched false path report ending old new = IsKept watched path report ending old new ⊎ IsNotKept path ending old new
 
 -- the job was done, and a file is to take its report
@@ -90,7 +100,7 @@ IsDelivered watched (Some path) job texts ending old new = IsPut watched job pat
 
 abbrev pub IsServed : (watched : Bool) → Request → Result Texts Unread → Ending → World → World → Type 0
 IsServed watched request (Ok texts) ending old new =
-    IsDelivered watched request.output request.job texts ending old new ⊎ IsNotDone ending old new
+    IsDelivered watched request.output request.job texts ending old new ⊎ IsNotDone request.job texts ending old new
 IsServed watched request (Err unread) ending old new = IsToldAlone (unread_fault request.job unread) ending old new
 
 -- the texts of the job were read, and the job served

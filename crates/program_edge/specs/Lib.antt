@@ -1,6 +1,5 @@
 pub mod FileTexts
 pub mod Usage
-pub mod Writing
 pub mod Refusals
 pub mod Telling
 pub mod Asking

@@ -13,9 +13,9 @@ use Rattle.clap.specs.Values.{kind_of}
 use Rattle.command_line.specs.declared.words.UsageFault.{UsageFault}
 use Rattle.command_line.specs.declared.words.UsageFault.TheVariants as usage
 use Rattle.verdict_report.specs.FaultText.{serve_fault_text}
+use Rattle.verdict_report.specs.Writing.{Begins}
 use Rattle.whole_file.specs.Refusals.{unwritten_words}
 use Rattle.program_edge.specs.Usage.{is_shown}
-use Rattle.program_edge.specs.Writing.{Begins}
 
 -- why a file gives no text; the limit is that of a certificate or a script
 abbrev pub reason_words : Reason → List ℕ

@@ -2,6 +2,7 @@
 ghost use Rattle.std.specs.Prelude.{◌≡◌, ◌≢◌, ◌⊎◌, Err, IfOk, OnOk};
 ghost use Rattle.std.specs.Io.KnownBytes.{Appends};
 ghost use Rattle.verdict_report.specs.JobTexts.{IsReportOf};
+ghost use Rattle.verdict_report.specs.Writing.{Begins};
 ghost use Rattle.program_edge.specs.Answering.{IsAnswered, IsDelivered, IsNotDone, IsRead, IsTaken};
 ghost use Rattle.program_edge.specs.Refusals.{is_refusal};
 ghost use Rattle.program_edge.specs.Telling.{unread_fault};
@@ -21,6 +22,7 @@ use std::sync::Wait;
 use std::thread::Threads;
 use verdict_report::fault::ServeFault;
 use verdict_report::serve::serve;
+use verdict_report::writing::write_bytes;
 use whole_file::folder::Folder;
 use whole_file::replacing::replace;
 
@@ -95,7 +97,7 @@ fn deliver<D: Folder, O: Write, E: Write, R: Threads + Wait + Sync>(
     ensures { IsDelivered D.is_watched place job.now texts.now result
         record { output = O.contents output.old; errors = E.contents errors.old; files = D.known folder.old }
         record { output = O.contents output.new; errors = E.contents errors.new; files = D.known folder.new }
-        ⊎ IsNotDone result
+        ⊎ IsNotDone job.now texts.now result
         record { output = O.contents output.old; errors = E.contents errors.old; files = D.known folder.old }
         record { output = O.contents output.new; errors = E.contents errors.new; files = D.known folder.new } }
 {
@@ -153,9 +155,6 @@ fn take<D: Folder, O: Write, E: Write>(
     ensures { IsTaken D.is_watched (is_refusal job.now report.now.status report.now.bytes.items) path
         record { bytes = report.now.bytes.items; status = report.now.status } result
         record { output = O.contents output.old; errors = E.contents errors.old; files = D.known folder.old }
-        record { output = O.contents output.new; errors = E.contents errors.new; files = D.known folder.new }
-        ⊎ IsNotDone result
-        record { output = O.contents output.old; errors = E.contents errors.old; files = D.known folder.old }
         record { output = O.contents output.new; errors = E.contents errors.new; files = D.known folder.new } }
 {
     let bytes = report.bytes.as_slice();
@@ -179,8 +178,9 @@ fn take<D: Folder, O: Write, E: Write>(
 
 // Writes bytes, so that they have arrived.
 fn write_whole<W: Write>(bytes: &[u8], writer: &mut W) -> io::Result<()>
-    ensures { OnOk result (Appends (W.contents writer.old) (W.contents writer.new) bytes.now) }
+    ensures whole { OnOk result (Appends (W.contents writer.old) (W.contents writer.new) bytes.now) }
+    ensures part { Begins (W.contents writer.old) (W.contents writer.new) bytes.now }
 {
-    writer.write_all(bytes)?;
+    write_bytes(bytes, writer)?;
     writer.flush()
 }

@@ -16,4 +16,3 @@ pub mod told;
 pub mod unread;
 pub mod usage;
 pub mod words;
-mod writing;

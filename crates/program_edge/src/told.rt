@@ -3,15 +3,15 @@ ghost use Rattle.std.specs.Prelude.{◌≡◌, ◌∷◌, ◌++◌, [], OnOk, co
 ghost use Rattle.std.specs.Io.KnownBytes.{Appends};
 ghost use Rattle.std.specs.String.{string_bytes};
 ghost use Rattle.verdict_report.specs.FaultText.{serve_fault_text};
+ghost use Rattle.verdict_report.specs.Writing.{Begins};
 ghost use Rattle.program_edge.specs.Telling.{IsTold, file_words, name_of, said_of, unread_words};
-ghost use Rattle.program_edge.specs.Writing.{Begins};
 
 use crate::fault::Fault;
 use crate::unread::Unread;
-use crate::writing::write_text;
 use std::io;
 use std::io::Write;
 use verdict_report::fault::ServeFault;
+use verdict_report::writing::write_text;
 
 /// How the program ends.
 #[derive(Clone, Copy, Debug, PartialEq, Eq)]
