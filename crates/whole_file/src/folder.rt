@@ -25,10 +25,11 @@ pub trait Folder {
     /// # Errors
     ///
     /// What the system tells; `InTheWay` where there is a file of this name, `NoPlainFile` where the other name
-    /// is that of something else than a file.
+    /// is that of something else than a file. Then all is as it was.
     fn create(&mut self, name: &str, place: &str) -> Result<Self::File, Unwritten>
         ensures empty { IfOk result (λ file. is_watched ≡ true → Self.File.contents file ≡ Some []) }
-        ensures others { ChangesOnly (known self.old) (known self.new) name.now };
+        ensures others { ChangesOnly (known self.old) (known self.new) name.now }
+        ensures err { OnErr result (Same (known self.old) (known self.new)) };
 
     /// Ends the writing of a file that was made under this name: what was written is on the disk.
     ///

@@ -1,5 +1,5 @@
 //! Writing a file whole, or not at all.
-ghost use Rattle.std.specs.Prelude.{◌≡◌, ◌≢◌, ℕ, true, List, Some, OnOk, OnErr};
+ghost use Rattle.std.specs.Prelude.{◌≡◌, ◌≢◌, ℕ, true, List, [], Some, OnOk, OnErr};
 ghost use Rattle.std.specs.String.{string_bytes};
 ghost use Rattle.whole_file.specs.Files.{ChangesAt, ChangesOnly};
 
@@ -27,7 +27,8 @@ pub fn replace<F: Folder>(
 {
     let number = folder.number();
     let new = format!(in alloc; "{name}.{number}.new")?;
-    match make(folder, new.as_str(), name, bytes) {
+    let file = folder.create(new.as_str(), name)?;
+    match fill(folder, new.as_str(), file, bytes) {
         Ok(()) => take_place(folder, new.as_str(), name),
         Err(reason) => {
             folder.remove(new.as_str());
@@ -36,12 +37,17 @@ pub fn replace<F: Folder>(
     }
 }
 
-// Makes the new file, with all bytes. A file that is not made is not there either, unless it cannot be removed.
-fn make<F: Folder>(folder: &mut F, new: &str, name: &str, bytes: &[u8]) -> Result<(), Unwritten>
+// Writes all bytes to the new file, which is empty.
+fn fill<F: Folder>(
+    folder: &mut F,
+    new: &str,
+    mut file: F::File,
+    bytes: &[u8],
+) -> Result<(), Unwritten>
+    requires { F.is_watched ≡ true → F.File.contents file ≡ Some [] }
     ensures ok { OnOk result (F.is_watched ≡ true → F.known folder.new new.now ≡ Some bytes.now) }
     ensures others { ChangesOnly (F.known folder.old) (F.known folder.new) new.now }
 {
-    let mut file = folder.create(new, name)?;
     match file.write_all(bytes) {
         Ok(()) => folder.finish(new, file),
         Err(error) => Err(unwritten_of(error.kind())),

@@ -53,8 +53,10 @@ impl<R: Files> Folder for SystemFolder<'_, R> {
         let rights = rights_of(self.rt, place)?;
         let file = File::create_new(self.rt, name).map_err(|error| unwritten_of(error.kind()))?;
         if let Some(rights) = rights {
-            file.set_permissions(rights)
-                .map_err(|error| unwritten_of(error.kind()))?;
+            if let Err(error) = file.set_permissions(rights) {
+                self.remove(name);
+                return Err(unwritten_of(error.kind()));
+            }
         }
         Ok(NewFile { file })
     }

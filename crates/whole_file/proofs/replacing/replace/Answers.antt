@@ -15,7 +15,9 @@ pub returns-in-Ok-clause-err : goal.returns-in-Ok-clause-err
 returns-in-Ok-clause-err g c =
     let new : string_bytes c.in_ok-new.new ≡ new_name c.args.name.now c.number-number.result = c.in_ok-new.ensures.ok in
     on_err_weaker c.take_place.result
-    (λ stays. stays ∙ c.make.ensures.others c.args.name.now
+    (λ stays. stays ∙ c.fill.ensures.others c.args.name.now
+    (λ e. new_name-other c.args.name.now c.number-number.result (sym (c.as_str-2.ensures.value ∙ new) ∙ sym e))
+    ∙ c.in_ok-file.ensures.others c.args.name.now
     (λ e. new_name-other c.args.name.now c.number-number.result (sym (c.as_str.ensures.value ∙ new) ∙ sym e)))
     c.take_place.ensures.err
 
@@ -24,5 +26,7 @@ returns-clause-err g c =
     let new : string_bytes c.in_ok-new.new ≡ new_name c.args.name.now c.number-number.result = c.in_ok-new.ensures.ok in
     c.remove.ensures.others c.args.name.now
     (λ e. new_name-other c.args.name.now c.number-number.result (sym (c.as_str-in-Err.ensures.value ∙ new) ∙ sym e))
-    ∙ c.make.ensures.others c.args.name.now
+    ∙ c.fill.ensures.others c.args.name.now
+    (λ e. new_name-other c.args.name.now c.number-number.result (sym (c.as_str-2.ensures.value ∙ new) ∙ sym e))
+    ∙ c.in_ok-file.ensures.others c.args.name.now
     (λ e. new_name-other c.args.name.now c.number-number.result (sym (c.as_str.ensures.value ∙ new) ∙ sym e))
