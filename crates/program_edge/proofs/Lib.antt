@@ -1,2 +1,3 @@
 pub mod FoundLemmas
 mod AskedLemmas
+mod ReportLemmas

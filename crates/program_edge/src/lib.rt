@@ -10,6 +10,7 @@ pub mod asked;
 pub mod fault;
 pub mod named_files;
 pub mod program;
+pub mod refusal;
 pub mod texts;
 pub mod told;
 pub mod unread;

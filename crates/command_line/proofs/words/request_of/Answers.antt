@@ -7,7 +7,7 @@ use Rattle.clap.specs.Kinds.{HasKind}
 use Rattle.clap.specs.Faults.{fault_of, is_simple_and_free}
 use Rattle.command_line.specs.CommandLine.{command_line}
 use Rattle.command_line.proofs.Entered.{entered, job_there, named, no_job_there, not_entered, refused, simple, simple_and_free}
-use Rattle.command_line.proofs.words.job_of.Goals as goal
+use Rattle.command_line.proofs.words.request_of.Goals as goal
 use Rattle.command_line.specs.Asked.{values_in}
 
 pub returns-in_err-matches-clause-fault : goal.returns-in_err-matches-clause-fault
@@ -19,8 +19,8 @@ returns-in_err-matches-clause-fault c =
     let p = err_from_is_err_and c.from_residual-in_err-matches.result c.from_residual-in_err-matches.ensures.1 in
     rw p.1 (refused words error p.0 (kinds simple_and_free) p.2)
 
-pub returns-in-Some-clause-job : goal.returns-in-Some-clause-job
-returns-in-Some-clause-job c =
+pub returns-in-Some-clause-request : goal.returns-in-Some-clause-request
+returns-in-Some-clause-request c =
     let words = map string_bytes c.args.words.now in
     let m = c.in_ok-matches.matches in
     let name = c.in-Some.name.now in
@@ -30,7 +30,7 @@ returns-in-Some-clause-job c =
     sym (matched simple).1 ∙ entered m name rows c.in-Some.ensures.name c.in-Some.ensures.rows in
     let right = subst (λ (a : App). is_simple_and_free a ≡ true → fault_of a words ≡ []) c.in_ok-command.ensures
     c.in_ok-matches.ensures.kinds simple_and_free in
-    job_there words name rows c.read_job.result right is c.read_job.ensures
+    job_there words name rows c.read_request.result right is c.read_request.ensures
 
 pub returns-in-Some-clause-fault : goal.returns-in-Some-clause-fault
 returns-in-Some-clause-fault c =
@@ -43,7 +43,7 @@ returns-in-Some-clause-fault c =
     sym (matched simple).1 ∙ entered m name rows c.in-Some.ensures.name c.in-Some.ensures.rows in
     let right = subst (λ (a : App). is_simple_and_free a ≡ true → fault_of a words ≡ []) c.in_ok-command.ensures
     c.in_ok-matches.ensures.kinds simple_and_free in
-    no_job_there words name rows c.read_job.result right is c.read_job.ensures
+    no_job_there words name rows c.read_request.result right is c.read_request.ensures
 
 pub returns-clause-fault : goal.returns-clause-fault
 returns-clause-fault c =
