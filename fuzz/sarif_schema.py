@@ -2,7 +2,7 @@
 """Checks a log against SARIF 2.1.0: the parts of its schema that the logs of this program use, and what the text of
 the standard demands beside the schema.
 
-    python3 sarif_schema.py LOG..        of the form that `explain --format sarif` writes; `-` is standard input
+    python3 sarif_schema.py LOG..        of the form that the crate `diagnostic_log` writes; `-` is standard input
 
 The schema's parts are written from the standard: each object with its properties, which of them it requires, and
 that it has no others. Beside it stand the sections that are checked in words. No validator of others is used.
