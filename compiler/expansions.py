@@ -326,7 +326,7 @@ class Expander:
         return [Instruction("nor", (into, of, 0))]
 
     def of_abs(self) -> Expansion:
-        into, of, after = self.register(0), self.register(len(self.operands) - 1), self.fresh()
+        into, of = self.register(0), self.register(len(self.operands) - 1)
         return [
             Instruction("sra", (ASSEMBLER, of), Expression(31)),
             Instruction("xor", (into, of, ASSEMBLER)),
@@ -420,7 +420,7 @@ class Expander:
         is_load = self.name.startswith("l")
         register = self.register(0)
         before, memory = self.address(1)
-        wide, narrow = FIRST_KEPT, SECOND_KEPT
+        wide = FIRST_KEPT
         made = [
             *before,
             Instruction("addiu", (wide, memory.base), memory.offset),
@@ -463,34 +463,30 @@ class Expander:
         ]
 
     def of_ulw(self) -> Expansion:
+        self.only(2)
         before, memory = self.address(1)
-        into, offset, base = self.register(0), memory.offset, memory.base
-        if base == ASSEMBLER or into == ASSEMBLER or offset.half or offset.number > 32764:
+        number = number_of(memory.offset)
+        if before or number is None or number > 32764 or self.register(0) == memory.base:
             raise self.wrong()
-        return unaligned_load(into, offset.number, base)
+        return (unaligned_load if self.name == "ulw" else unaligned_store)(self.register(0), memory.offset, memory.base)
 
-    def of_usw(self) -> Expansion:
-        before, memory = self.address(1)
-        of, offset, base = self.register(0), memory.offset, memory.base
-        if base == ASSEMBLER or of == ASSEMBLER or offset.half or offset.number > 32764:
-            raise self.wrong()
-        return unaligned_store(of, offset.number, base)
+    of_usw = of_ulw
 
 
-def unaligned_load(into: int, offset: int, base: int) -> Expansion:
+def unaligned_load(into: int, offset: Expression, base: int) -> Expansion:
     """A word at any address, byte for byte."""
-    made = [Instruction("lbu", (ASSEMBLER, base), Expression(offset))]
+    made = [Instruction("lbu", (ASSEMBLER, base), offset)]
     for byte in (1, 2, 3):
         made += [
-            Instruction("lbu", (FIRST_KEPT, base), Expression(offset + byte)),
+            Instruction("lbu", (FIRST_KEPT, base), offset.plus(byte)),
             Instruction("sll", (FIRST_KEPT, FIRST_KEPT), Expression(8 * byte)),
             Instruction("or", (into if byte == 3 else ASSEMBLER, ASSEMBLER, FIRST_KEPT)),
         ]
     return made
 
 
-def unaligned_store(of: int, offset: int, base: int) -> Expansion:
-    made = [Instruction("sb", (of, base), Expression(offset))]
+def unaligned_store(of: int, offset: Expression, base: int) -> Expansion:
+    made = [Instruction("sb", (of, base), offset)]
     for byte in (1, 2, 3):
-        made += [Instruction("srl", (ASSEMBLER, of), Expression(8 * byte)), Instruction("sb", (ASSEMBLER, base), Expression(offset + byte))]
+        made += [Instruction("srl", (ASSEMBLER, of), Expression(8 * byte)), Instruction("sb", (ASSEMBLER, base), offset.plus(byte))]
     return made

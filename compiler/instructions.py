@@ -55,6 +55,9 @@ class Expression:
     symbol: str = ""
     half: str = ""
 
+    def plus(self, number: int) -> "Expression":
+        return Expression(self.number + number, self.symbol, self.half)
+
     def half_of(self, value: int) -> int:
         value &= 0xFFFFFFFF
         if self.half == "hi":

@@ -3,7 +3,7 @@
 from dataclasses import dataclass, field
 from typing import Callable, Iterator
 
-from instructions import Expression, Instruction
+from instructions import LINK, Expression, Instruction
 from reader import DATA, READ_ONLY, ZEROS, Datum, Unit, read_unit
 from refusal import Place, Refused, refuse
 
@@ -32,7 +32,7 @@ class Program:
     stack: int = 0
     # Labels of code that nothing reaches, which was left out.
     dropped: set[str] = field(default_factory=set)
-    # What is defined nowhere. A halt stands for each, and must not be reached.
+    # What is defined nowhere. A return stands for each, and must not be reached.
     missing: dict[str, Place] = field(default_factory=dict)
 
     def index_of(self) -> dict[str, int]:
@@ -60,7 +60,7 @@ def link(units: list[Unit], run_time: Callable[[str], list[Unit]]) -> Program:
             program.data[part] += [Datum(alignment=8), *data] if data else []
         program.named |= {symbol: place for symbol, place in unit.named.items() if symbol not in program.named}
     program.data[ZEROS] += commons(units)
-    program.code += [Instruction("halt", (), None, place, labels=[name]) for name, place in missing.items()]
+    program.code += [Instruction("jr", (LINK,), None, place, labels=[name]) for name, place in missing.items()]
     without_nops(program)
     return program
 

@@ -6,9 +6,9 @@ import re
 from dataclasses import dataclass, field
 from pathlib import Path
 
-from delay_slots import taken_apart
-from expansions import Expander, Memory, Operand, Register, number_of
-from instructions import ASSEMBLER, KEPT, REGISTER_NAMES, Expression, Instruction
+from delay_slots import JUMPS, taken_apart
+from expansions import Expander, Memory, Operand, Register, unaligned_load, unaligned_store
+from instructions import KEPT, REGISTER_NAMES, Expression, Instruction
 from refusal import Place, Refused, refuse
 
 NAME = r"[A-Za-z_.$][\w.$]*"
@@ -182,6 +182,8 @@ class Reader:
         # By section of code, the labels that stand before its next instruction.
         self.labels: dict[str, list[str]] = {}
         self.table: Instruction | None = None
+        # The half of a word that was accessed last: its instruction, register, lowest byte, place among the raw ones, labels.
+        self.half: tuple[str, int, Memory, int, list[str]] | None = None
 
     @property
     def place(self) -> Place:
@@ -260,6 +262,8 @@ class Reader:
         if not self.raw[-1][0]:
             self.raw[-1][0].append(Instruction("sll", (0, 0), Expression(0), self.place))
         last = self.raw[-1][0][-1]
+        if "!f" in own and not last.writes:
+            raise refuse(self.place, f"!f stands at an instruction that writes no register: {last.name}")
         last.own_forward = "!f" in own
         last.own_stop = next((it for it in own if it != "!f"), "")
 
@@ -436,11 +440,38 @@ class Reader:
             self.add([Instruction("release", tuple(self.register(it) for it in parted(parts[1], ",")))])
             return
         operands = [self.operand(it) for it in parted(parts[1], ",")] if len(parts) > 1 else []
-        made = Expander(name, operands, self.place, self.fresh).expand()
         note = re.sub(r"\s+", " ", statement)
+        made = self.both_halves(name, operands, note) or Expander(name, operands, self.place, self.fresh).expand()
         for it in made:
             it.note = note if len(made) > 1 or it.value is not None and it.value.half else it.note
         self.add(made)
+
+    def both_halves(self, name: str, operands: list[Operand], note: str) -> list[Instruction]:
+        """A pair such as lwl and lwr of one word at any address, which takes less than each alone."""
+        half, self.half = self.half, None
+        if name not in ("lwl", "lwr", "swl", "swr") or len(operands) != 2 or not isinstance(operands[1], Memory):
+            return [] if name != "nop" else self.still(half)
+        register, memory = operands[0].number, operands[1]
+        lowest = Memory(memory.offset.plus(-3 if name[2] == "l" else 0), memory.base)
+        other = name[:2] + ("r" if name[2] == "l" else "l")
+        is_pair = half and half[:3] == (other, register, lowest) and not self.labels.get(self.name) and register != memory.base
+        if is_pair and self.is_free(half[3]):
+            self.raw[half[3]] = [], self.raw[half[3]][1]
+            self.labels.setdefault(self.name, []).extend(half[4])
+            return (unaligned_load if name[0] == "l" else unaligned_store)(register, lowest.offset, memory.base)
+        self.half = name, register, lowest, len(self.raw), list(self.labels.get(self.name, []))
+        return []
+
+    def is_free(self, index: int) -> bool:
+        """Whether a raw instruction has no mark and does not stand in a delay slot."""
+        before, has_slots = self.raw[index - 1] if index else ([], False)
+        is_marked = any(it.own_forward or it.own_stop or it.begins_task for it in self.raw[index][0])
+        return not is_marked and not (has_slots and before and before[-1].form in JUMPS)
+
+    def still(self, half: tuple[str, int, Memory, int, list[str]] | None) -> list[Instruction]:
+        """A nop between two halves changes nothing."""
+        self.half = half
+        return []
 
     def add(self, made: list[Instruction]) -> None:
         if not made and self.after_own_task:

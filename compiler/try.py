@@ -68,7 +68,7 @@ class Trial:
 
 def command(words: list[str], seconds: float = 20) -> tuple[int, str]:
     try:
-        done = subprocess.run(words, capture_output=True, text=True, timeout=seconds, check=False)
+        done = subprocess.run(words, capture_output=True, text=True, timeout=seconds, check=False, cwd=OUT)
     except subprocess.TimeoutExpired:
         return -1, "too long"
     return done.returncode, done.stdout + (done.stderr if done.returncode else "")
