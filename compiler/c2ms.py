@@ -67,11 +67,11 @@ def translate(words: argparse.Namespace) -> int:
     head = [f"Made by c2ms.py from {' '.join(Path(it).name for it in words.files)}, {compiling.version()} -O{words.level}."]
     choices = chosen(program, settings_of(words), tool, head)
     best = best_of(choices)
+    put_out(words, best)
     if not words.quiet:
         say(best.summary())
         if len(choices) > 1:
             say("measured: " + "; ".join(it.short() for it in choices))
-    put_out(words, best)
     return run(words, tool, best) if words.run else 0
 
 

@@ -9,7 +9,7 @@ from refusal import Place, Refused, refuse
 
 MOST_INSTRUCTIONS = 4096
 CODE_START, READ_ONLY_START, DATA_START, MEMORY = 0x00400000, 0x10000000, 0x10010000, 0x10000
-START, STACK_TOP = "start", "top_of_the_stack"
+START, STACK_TOP = "_start", "top_of_the_stack"
 # The caller of a function has 16 bytes for its arguments above its own stack pointer.
 START_TEXT = f"""
         .globl {START}
@@ -52,6 +52,7 @@ def link(units: list[Unit], run_time: Callable[[str], list[Unit]]) -> Program:
         if not more:
             break
         units += more
+    drop_weak(units)
     refuse_doubles(units)
     program = Program(data={READ_ONLY: [], DATA: [], ZEROS: []}, missing=missing)
     for unit in units:
@@ -82,9 +83,23 @@ def missing_names(units: list[Unit]) -> dict[str, Place]:
     missing: dict[str, Place] = {}
     for unit in units:
         for symbol, place in unit.named.items():
-            if symbol not in defined and symbol not in unit.weak:
+            if symbol not in defined:
                 missing.setdefault(symbol, place)
     return missing
+
+
+def drop_weak(units: list[Unit]) -> None:
+    """A weak definition gives way to another; those of the run-time files are weak."""
+    strong = {it for unit in units for it in unit.defined - unit.weak} | {it for unit in units for it in unit.common}
+    for unit in units:
+        for name in unit.defined & unit.weak:
+            if name not in strong:
+                strong.add(name)
+                continue
+            unit.defined.discard(name)
+            for holder in (*unit.code, *(datum for part in unit.data.values() for datum in part)):
+                if name in holder.labels:
+                    holder.labels.remove(name)
 
 
 def refuse_doubles(units: list[Unit]) -> None:
@@ -92,7 +107,7 @@ def refuse_doubles(units: list[Unit]) -> None:
     seen: dict[str, Unit] = {}
     for unit in units:
         for name in unit.defined:
-            if name in seen and name not in unit.weak | seen[name].weak:
+            if name in seen:
                 reasons.append((Place(unit.file), f"{name} is defined in {seen[name].file} too"))
             seen.setdefault(name, unit)
     if reasons:

@@ -166,6 +166,8 @@ class Reader:
         self.number = number
         self.line = 0
         self.section, self.name, self.previous, self.pushed = CODE, ".text", ".text", []
+        # Words and halves are aligned, except after .align 0.
+        self.aligns_itself = True
         self.constants: dict[str, Expression] = {}
         self.files: dict[str, str] = {}
         self.source: Place | None = None
@@ -358,6 +360,7 @@ class Reader:
         if name.startswith((".tdata", ".tbss")):
             raise refuse(self.place, "thread-local data are not supported")
         self.previous, self.name, self.section = self.name, name, section_of(name)
+        self.aligns_itself = True
 
     def read_file(self, rest: str) -> None:
         found = re.match(r'(\d+)\s+(.*)$', rest)
@@ -368,7 +371,8 @@ class Reader:
 
     def read_location(self, rest: str) -> None:
         words = rest.split()
-        if self.section == CODE and words[0] in self.files:
+        # A line of C that writes a word is more to a reader than the line of the header that does.
+        if self.section == CODE and words[0] in self.files and not self.files[words[0]].endswith("multiscalar.h"):
             self.source = Place(self.files[words[0]], int(words[1]))
 
     def read_set(self, rest: str) -> None:
@@ -393,7 +397,9 @@ class Reader:
         number = calculated(parted(rest, ",")[0]) if rest else 0
         if number is None or number > 16 and word != ".balign":
             raise refuse(self.place, f"{word} {rest} is not an alignment")
-        if self.section != CODE:
+        if number == 0 and word == ".align":
+            self.aligns_itself = False
+        elif self.section != CODE:
             self.data().append(Datum(alignment=number if word == ".balign" else 1 << number, place=self.place))
 
     def read_data(self, word: str, rest: str) -> None:
@@ -402,6 +408,8 @@ class Reader:
                 raise refuse(self.place, f"{word} puts data into the code, which the machine keeps apart")
             raise refuse(self.place, f"the directive {word} is not known")
         if word in SIZES:
+            if self.aligns_itself and word not in (".2byte", ".4byte", ".8byte"):
+                self.data().append(Datum(alignment=SIZES[word]))
             for part in parted(rest, ","):
                 self.add_value(self.expression(part), SIZES[word])
         elif word in (".ascii", ".asciz", ".string"):
@@ -556,6 +564,7 @@ def read_unit(text: str, file: str, number: int, is_run_time: bool = False) -> U
     defined |= {it for part in unit.data.values() for datum in part for it in datum.labels}
     unit.defined = defined
     own = {it: f"{it}@{number}" for it in defined if it not in unit.globals}
+    unit.weak |= unit.globals if is_run_time else set()
     return renamed(unit, own)
 
 

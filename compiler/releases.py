@@ -40,10 +40,10 @@ def sent_by(made: Cut, masks: list[set[int]], index: int) -> set[int]:
     return written if written and not written & later else set()
 
 
-def unsent(made: Cut, masks: list[set[int]], is_cut: bool) -> tuple[list[set[int]], dict[tuple[int, int], set[int]]]:
+def unsent(made: Cut, masks: list[set[int]], mode: str) -> tuple[list[set[int]], dict[tuple[int, int], set[int]]]:
     """By instruction, the registers of create masks that some path brings there unsent; and what each edge brings.
 
-    With `is_cut`, a register leaves where nothing writes it any more, as it is released there.
+    A register that is released, as the mode has it, is unsent no more.
     """
     code = made.flow.code
     arriving: list[set[int]] = [set() for _ in code]
@@ -56,14 +56,20 @@ def unsent(made: Cut, masks: list[set[int]], is_cut: bool) -> tuple[list[set[int
     while waiting:
         index = waiting.pop()
         seen.add(index)
-        held = arriving[index] & masks[index] if is_cut else arriving[index]
-        left = held - sent_by(made, masks, index)
+        released = arriving[index] - masks[index] if mode == "early" else due_at_end(made, masks, arriving, index)
+        left = arriving[index] - released - sent_by(made, masks, index)
         for place in made.inner(index):
             brought[index, place] = left
             if not left <= arriving[place] or place not in seen:
                 arriving[place] |= left
                 waiting.append(place)
     return arriving, brought
+
+
+def due_at_end(made: Cut, masks: list[set[int]], arriving: list[set[int]], index: int) -> set[int]:
+    """What to release where a task may end; a single register is sent as soon without."""
+    due = arriving[index] - masks[index] if made.stop_of(index) else set()
+    return due if len(due) > 1 else set()
 
 
 def with_releases(made: Cut, mode: str) -> list[Instruction]:
@@ -76,7 +82,7 @@ def with_releases(made: Cut, mode: str) -> list[Instruction]:
 
 def early(made: Cut, masks: list[set[int]]) -> list[Instruction]:
     code = made.flow.code
-    _, brought = unsent(made, masks, is_cut=True)
+    _, brought = unsent(made, masks, "early")
     on_edge = {edge: left - masks[edge[1]] for edge, left in brought.items()}
     result: list[Instruction] = []
     for index, it in enumerate(code):
@@ -98,11 +104,11 @@ def targets_of(on_edge: dict[tuple[int, int], set[int]]) -> set[int]:
 
 def late(made: Cut, masks: list[set[int]]) -> list[Instruction]:
     code = made.flow.code
-    arriving, _ = unsent(made, masks, is_cut=False)
+    arriving, _ = unsent(made, masks, "late")
     result: list[Instruction] = []
     for index, it in enumerate(code):
-        due = arriving[index] - masks[index] if made.stop_of(index) else set()
-        if len(due) > 1:
+        due = due_at_end(made, masks, arriving, index)
+        if due:
             result.append(release(it, due, takes_labels=True))
         result.append(it)
     return result

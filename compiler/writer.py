@@ -5,7 +5,7 @@ from collections import Counter
 from pathlib import Path
 
 from instructions import HI, LO, Instruction
-from linking import DATA, DATA_START, READ_ONLY, READ_ONLY_START, ZEROS, Program, image_of, is_local, value_of
+from linking import DATA, DATA_START, READ_ONLY, READ_ONLY_START, START, ZEROS, Program, image_of, is_local, value_of
 from refusal import Place
 from tasks import Cut, Task, order_targets
 
@@ -97,7 +97,7 @@ class Writer:
     def text(self) -> str:
         self.own_forwards.clear()
         lines = [f"# {plain(it)}" for it in self.head]
-        lines += ["", ".start start"]
+        lines += ["", f".start {self.names.of_index[self.index_of[START]]}"]
         lines += self.descriptors()
         lines += ["", ".text"]
         lines += self.code(len(lines))

@@ -2,6 +2,9 @@
 #ifndef MULTISCALAR_H
 #define MULTISCALAR_H
 
+/* Computes a variable here, and not later, so that the next task gets it early. It changes no value. */
+#define SETTLE(variable) __asm__ volatile("" : "+r"(variable))
+
 #if defined(__mips__) && !defined(MULTISCALAR_HOST)
 
 /* Writes a word to the output. */
