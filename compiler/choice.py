@@ -1,6 +1,5 @@
 """Makes annotated texts of a program, by one policy or several, and takes the one with the fewest steps."""
 
-import copy
 from collections import Counter
 from dataclasses import dataclass, field
 
@@ -82,7 +81,7 @@ def divided(program: Program, way: Way) -> Cut:
 
 def written(program: Program, way: Way, tool: Tool, head: list[str], is_plain: bool) -> Choice:
     """An accepted text, made in one way. The run on one unit says which target follows most often."""
-    program = copy.deepcopy(program)
+    program = program.copied()
     made = divided(program, way)
     about = [*head, f"Tasks: {way}. This translation is not proved; `multiscalar check` judges its marks."]
     writer = Writer(program, made, Counter(), about)

@@ -1,6 +1,7 @@
 """From files to a program: GCC, the reader, the run-time files, and the limits."""
 
 import functools
+import pickle
 import re
 import subprocess
 from dataclasses import dataclass
@@ -58,20 +59,22 @@ class Compiling:
 
 
 @functools.cache
-def run_time_text(gcc: str, name: str) -> str:
+def run_time_unit(gcc: str, name: str, number: int) -> bytes:
+    """A run-time file as it was read, for pickle: each program changes its own copy."""
     compiling = Compiling(gcc, "2", flags=("no-tree-loop-distribute-patterns",))
-    return compiling.assembly(str(RUN_TIME / name))
+    return pickle.dumps(read_unit(compiling.assembly(str(RUN_TIME / name)), name, number, is_run_time=True))
 
 
 def run_time_files(gcc: str, missing: dict[str, Place]) -> list[Unit]:
     """The run-time files that define one of the missing names."""
     found: list[Unit] = []
     for number, name in enumerate(("small.S", "division.S", "integers.c", "floats.c"), 9000):
-        if (RUN_TIME / name).exists():
-            unit = read_unit(run_time_text(gcc, name), name, number, is_run_time=True)
-            if unit.defined & set(missing):
-                found.append(unit)
-                missing = {it: place for it, place in missing.items() if it not in unit.defined}
+        if not missing:
+            break
+        unit = pickle.loads(run_time_unit(gcc, name, number))
+        if unit.defined & set(missing):
+            found.append(unit)
+            missing = {it: place for it, place in missing.items() if it not in unit.defined}
     return found
 
 

@@ -1,6 +1,6 @@
 """Puts files together: one code, one read-only data, one data memory; what is missing comes from the run-time files."""
 
-from dataclasses import dataclass, field
+from dataclasses import dataclass, field, replace
 from typing import Callable, Iterator
 
 from instructions import LINK, Expression, Instruction
@@ -35,6 +35,11 @@ class Program:
     # What is defined nowhere. A return stands for each, and must not be reached.
     missing: dict[str, Place] = field(default_factory=dict)
 
+    def copied(self) -> "Program":
+        """A copy with its own code; data stay shared, since nothing changes them after the layout."""
+        code = [replace(it, labels=list(it.labels), targets=list(it.targets)) for it in self.code]
+        return replace(self, code=code, dropped=set(self.dropped))
+
     def index_of(self) -> dict[str, int]:
         return {label: index for index, it in enumerate(self.code) for label in it.labels}
 
@@ -45,7 +50,7 @@ class Program:
 
 def link(units: list[Unit], run_time: Callable[[str], list[Unit]]) -> Program:
     """Refuses what is defined twice, or nowhere. `run_time` gives units for the missing names, if it has any."""
-    units = [read_unit(START_TEXT, "start", 9999), *units]
+    units = [read_unit(START_TEXT, "", 9999), *units]
     while True:
         missing = missing_names(units)
         more = [it for it in (run_time(missing) if missing else []) if it.file not in {unit.file for unit in units}]
@@ -184,8 +189,12 @@ def lay_out(program: Program, least_stack: int) -> None:
     size = placed(program, memory, 0) + 7 & ~7
     if size + least_stack > MEMORY:
         raise refuse(Place(), f"data take {size} bytes and the stack at least {least_stack}; there are {MEMORY}")
-    program.stack = MEMORY - size
-    placed(program, memory, DATA_START + program.stack)
+    # So that nothing moves when the data move up.
+    alignment = max([8, *(it.alignment for it in memory)])
+    program.stack = (MEMORY - size) // alignment * alignment
+    end = placed(program, memory, DATA_START + program.stack)
+    if program.stack < least_stack or end > DATA_START + MEMORY:
+        raise refuse(Place(), f"data take {size} bytes, aligned to {alignment}, and the stack at least {least_stack}; there are {MEMORY}")
     program.addresses[STACK_TOP] = DATA_START + program.stack - 16
 
 

@@ -24,6 +24,8 @@ IGNORED = """.globl .global .local .weak .ent .end .frame .mask .fmask .type .si
 .gnu_attribute .module .nan .insn .hidden .protected .internal .abicalls .option .cfi_sections .cfi_def_cfa_offset .cfi_offset
 .cfi_restore .cfi_def_cfa .cfi_def_cfa_register .cfi_remember_state .cfi_restore_state .cfi_return_column .cfi_register .cfi_same_value
 .cfi_undefined .cfi_window_save .p2alignw .p2alignl .loc_mark_labels .psize .addrsig .addrsig_sym""".split()
+# Sections for debuggers and linkers.
+UNUSED = (".debug", ".mdebug", ".note", ".gnu", ".comment", ".pdr", ".reginfo", ".MIPS", ".eh_frame", ".stab", ".line")
 READ_ONLY, DATA, ZEROS, CODE, OTHER = "rodata", "data", "bss", "text", "other"
 SIZES = {".byte": 1, ".half": 2, ".short": 2, ".hword": 2, ".2byte": 2, ".word": 4, ".long": 4, ".int": 4, ".4byte": 4, ".dword": 8, ".8byte": 8, ".quad": 8}
 
@@ -59,17 +61,22 @@ class Unit:
     named: dict[str, Place] = field(default_factory=dict)
 
 
-def section_of(name: str) -> str:
-    """Which part of memory a section belongs to."""
+def section_of(name: str, flags: str) -> str | None:
+    """Which part of memory a section belongs to, by its name or by its flags; None where neither says."""
     for prefixes, part in (
-        ((".text", ".init.text", ".exit.text"), CODE),
+        ((".text",), CODE),
         ((".data.rel.ro", ".rodata", ".rdata", ".lit"), READ_ONLY),
         ((".data", ".sdata", ".tm_clone"), DATA),
         ((".bss", ".sbss"), ZEROS),
     ):
         if name.startswith(prefixes):
             return part
-    return OTHER
+    if name.startswith(UNUSED):
+        return OTHER
+    for letter, part in (("x", CODE), ("w", DATA), ("a", READ_ONLY)):
+        if letter in flags:
+            return part
+    return OTHER if flags.strip('"') == "" and '"' in flags else None
 
 
 def without_comment(line: str) -> tuple[str, str]:
@@ -166,6 +173,8 @@ class Reader:
         self.number = number
         self.line = 0
         self.section, self.name, self.previous, self.pushed = CODE, ".text", ".text", []
+        # The part of memory of each section that was named.
+        self.parts: dict[str, str] = {}
         # Words and halves are aligned, except after .align 0.
         self.aligns_itself = True
         self.constants: dict[str, Expression] = {}
@@ -324,7 +333,8 @@ class Reader:
         elif word in (".section", ".pushsection"):
             if word == ".pushsection":
                 self.pushed.append(self.name)
-            self.enter(parted(rest, ",")[0].strip('"'))
+            name, *flags = parted(rest, ",")
+            self.enter(name.strip('"'), "".join(flags[:1]))
         elif word == ".previous" or word == ".popsection" and self.pushed:
             self.enter(self.previous if word == ".previous" else self.pushed.pop())
         elif word == ".file":
@@ -354,12 +364,16 @@ class Reader:
         else:
             self.read_data(word, rest)
 
-    def enter(self, name: str) -> None:
+    def enter(self, name: str, flags: str = "") -> None:
         if name.startswith((".init_array", ".ctors", ".fini_array", ".dtors")):
             raise refuse(self.place, "functions that run before or after main are not supported")
         if name.startswith((".tdata", ".tbss")):
             raise refuse(self.place, "thread-local data are not supported")
-        self.previous, self.name, self.section = self.name, name, section_of(name)
+        part = self.parts.get(name) or section_of(name, flags)
+        if part is None or name in (".init", ".fini"):
+            raise refuse(self.place, f"what the section {name} is for is not known")
+        self.parts[name] = part
+        self.previous, self.name, self.section = self.name, name, part
         self.aligns_itself = True
 
     def read_file(self, rest: str) -> None:

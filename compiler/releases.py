@@ -83,23 +83,22 @@ def with_releases(made: Cut, mode: str) -> list[Instruction]:
 def early(made: Cut, masks: list[set[int]]) -> list[Instruction]:
     code = made.flow.code
     _, brought = unsent(made, masks, "early")
-    on_edge = {edge: left - masks[edge[1]] for edge, left in brought.items()}
+    into: dict[int, dict[int, set[int]]] = {}
+    for (earlier, place), left in brought.items():
+        if left - masks[place]:
+            into.setdefault(place, {})[earlier] = left - masks[place]
     result: list[Instruction] = []
     for index, it in enumerate(code):
-        ways = {earlier: due for (earlier, place), due in on_edge.items() if place == index} if index in targets_of(on_edge) else {}
+        ways = into.get(index, {})
         from_above = ways.get(index - 1, set())
         from_afar = set().union(*(due for earlier, due in ways.items() if earlier != index - 1))
-        if from_afar and not it.form == "release":
+        if from_afar:
             # All ways into the place pass here: what some of them have sent before is not sent again.
             result.append(release(it, from_afar | from_above, takes_labels=True))
         elif from_above:
             result.append(release(it, from_above, takes_labels=False))
         result.append(it)
     return result
-
-
-def targets_of(on_edge: dict[tuple[int, int], set[int]]) -> set[int]:
-    return {place for (_, place), due in on_edge.items() if due}
 
 
 def late(made: Cut, masks: list[set[int]]) -> list[Instruction]:

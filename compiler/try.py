@@ -171,7 +171,7 @@ class Trials:
         _, said = command([self.tool.command, "replay", "--least", "--units", "4", text, str(script)], 60)
         lines = said.split("\n")[:-1]
         count = events.count("\n")
-        if lines[count:] != wanted or not all(it.endswith(" ok") for it in lines[:count]):
+        if lines[count:] != wanted or said.count(" ok\n") != count:
             return f"different: replay: {' '.join(lines[-3:])}"
         return "same"
 
@@ -211,7 +211,7 @@ def own_trials() -> list[Trial]:
 
 
 def csmith_trials(count: int, first: int) -> list[Trial]:
-    """Each program of csmith at one level, in two ways; both change from program to program."""
+    """Each program of csmith at one level and in one way; both change from program to program."""
     trials = []
     for number in range(first, first + count):
         source = OUT / f"csmith{number}.c"
@@ -221,8 +221,7 @@ def csmith_trials(count: int, first: int) -> list[Trial]:
             if status:
                 source.unlink(missing_ok=True)
                 raise SystemExit(f"csmith: {said}")
-        for turn in (0, 3):
-            trials.append(Trial(str(source), LEVELS[number // 3 % 3], WAYS[(number + turn) % len(WAYS)], True))
+        trials.append(Trial(str(source), LEVELS[number // 3 % 3], WAYS[number // 2 % len(WAYS)], True))
     return trials
 
 
