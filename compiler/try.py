@@ -178,7 +178,7 @@ class Trials:
 
 def digest_of_translator() -> str:
     files = sorted(it for pattern in ("*.py", "runtime/*", "include/**/*", "csmith/*") for it in HERE.glob(pattern))
-    return hashlib.sha256(b"".join(it.read_bytes() for it in files if it.is_file() and it.name not in ("try.py", "c2ms.py"))).hexdigest()[:12]
+    return hashlib.sha256(b"".join(it.read_bytes() for it in files if it.is_file() and not it.name.startswith(("try", "c2ms")))).hexdigest()[:12]
 
 
 class Kept:
