@@ -1,6 +1,5 @@
 """Makes annotated texts of a program, by one policy or several, and takes the one with the fewest steps."""
 
-from collections import Counter
 from dataclasses import dataclass, field
 
 from flow import Flow
@@ -84,11 +83,10 @@ def written(program: Program, way: Way, tool: Tool, head: list[str], is_plain: b
     program = program.copied()
     made = divided(program, way)
     about = [*head, f"Tasks: {way}. This translation is not proved; `multiscalar check` judges its marks."]
-    writer = Writer(program, made, Counter(), about)
+    writer = Writer(program, made, about)
     text = marked(writer, tool)
     if not is_plain:
-        writer.followed = tool.followers(text)
-        text = marked(writer, tool)
+        text = writer.in_order(text, tool.followers(text))
     is_right, said = tool.verdict(text)
     if not is_right:
         raise ToolFailed(f"the text that was made ({way}) is not accepted, which is a fault of c2ms.py:\n{said[:1000]}")

@@ -17,6 +17,7 @@ It needs gcc, gcc-mipsel-linux-gnu, qemu-user, libc6-dev-mipsel-cross, csmith an
 import argparse
 import hashlib
 import json
+import random
 import re
 import subprocess
 import sys
@@ -119,7 +120,8 @@ class Trials:
     def program(self, trial: Trial) -> Program:
         key = trial.source, trial.level
         if key not in self.programs:
-            self.programs = {}
+            if len(self.programs) > 30:
+                self.programs.clear()
             try:
                 self.programs[key] = program_of([trial.source], Compiling(level=trial.level, folders=includes(trial.is_csmith)), 1024)
             except (Refused, CompilerFailed) as fault:
@@ -267,9 +269,9 @@ def arguments() -> argparse.Namespace:
     return parser.parse_args()
 
 
-def in_turn(first: list[Trial], second: list[Trial], is_quick: bool) -> list[Trial]:
-    """All trials; a quick run takes some of each kind first."""
-    return [*first[::19], *second[::29], *first, *second] if is_quick else [*first, *second]
+def in_turn(trials: list[Trial]) -> list[Trial]:
+    """All trials, mixed in the same way each time, so that a run which is stopped has tried some of each kind."""
+    return random.Random(1).sample(trials, len(trials))
 
 
 def main() -> int:
@@ -284,7 +286,7 @@ def main() -> int:
     rows: dict[Trial, str] = {}
     with tempfile.TemporaryDirectory() as folder:
         trials = Trials(tool, Path(folder))
-        wanted = in_turn(own_trials(), csmith_trials(30 if words.quick else words.csmith, words.first), words.quick)
+        wanted = in_turn(own_trials() + csmith_trials(30 if words.quick else words.csmith, words.first))
         for trial in wanted:
             if time.monotonic() > end:
                 break

@@ -7,7 +7,7 @@ from pathlib import Path
 from instructions import HI, LO, Instruction
 from linking import DATA, DATA_START, READ_ONLY, READ_ONLY_START, START, ZEROS, Program, image_of, is_local, value_of
 from refusal import Place
-from tasks import Cut, Task, order_targets
+from tasks import Cut, order_targets
 
 LONGEST_NAME, LONGEST_COMMENT = 32, 100
 BYTES_IN_LINE = 32
@@ -85,11 +85,10 @@ def owners(made: Cut) -> dict[int, str]:
 
 
 class Writer:
-    def __init__(self, program: Program, made: Cut, followed: Counter, head: list[str]) -> None:
+    def __init__(self, program: Program, made: Cut, head: list[str]) -> None:
         self.program, self.made, self.head = program, made, head
         self.index_of = program.index_of()
         self.names = Names(made)
-        self.followed = followed
         self.sources: dict[str, list[str]] = {}
         # Lines of the text with a forward bit of the author's own.
         self.own_forwards: dict[int, Place] = {}
@@ -105,13 +104,19 @@ class Writer:
         return "\n".join(lines) + "\n"
 
     def descriptors(self) -> list[str]:
-        names = self.names.of_index
-        ordered = order_targets(self.made, lambda entry, place: self.followed[names[entry], names[place]])
-        return [self.descriptor(task, ordered[task.entry]) for task in self.made.tasks]
+        targets = self.targets(Counter())
+        return [f".task {name} create=- targets={','.join(places) or '-'}" for name, places in targets.items()]
 
-    def descriptor(self, task: Task, targets: list[int]) -> str:
-        places = ",".join(self.names.of_index[it] for it in targets) or "-"
-        return f".task {self.names.of_index[task.entry]} create=- targets={places}"
+    def targets(self, followed: Counter) -> dict[str, list[str]]:
+        """The names of each task's targets, what followed most often first."""
+        names = self.names.of_index
+        ordered = order_targets(self.made, lambda entry, place: followed[names[entry], names[place]])
+        return {names[task.entry]: [names[it] for it in ordered[task.entry]] for task in self.made.tasks}
+
+    def in_order(self, text: str, followed: Counter) -> str:
+        """A text with its targets in the order in which they followed."""
+        targets = self.targets(followed)
+        return re.sub(r"^(\.task (\w+) .* targets=)(?!-).*$", lambda it: it[1] + ",".join(targets[it[2]]), text, flags=re.M)
 
     # Code
 
