@@ -24,8 +24,10 @@ import sys
 import tempfile
 import time
 from collections import Counter
+from concurrent.futures import FIRST_COMPLETED, Future, ProcessPoolExecutor, wait
 from dataclasses import dataclass
 from pathlib import Path
+from typing import Iterator
 
 from choice import Settings, Way, best_of, chosen, written
 from compiling import CompilerFailed, Compiling, program_of
@@ -264,6 +266,7 @@ def arguments() -> argparse.Namespace:
     parser.add_argument("--csmith", type=int, default=300, metavar="N", help="how many programs of csmith (300)")
     parser.add_argument("--first", type=int, default=1, metavar="SEED", help="the first seed (1)")
     parser.add_argument("--steps", choices=list(LEVELS), help="also a table of steps at this level")
+    parser.add_argument("--workers", type=int, default=1, metavar="N", help="how many processes share the work (1)")
     parser.add_argument("--anew", action="store_true", help="takes nothing from earlier runs")
     parser.add_argument("--multiscalar", metavar="COMMAND", help="the command multiscalar")
     return parser.parse_args()
@@ -274,6 +277,36 @@ def in_turn(trials: list[Trial]) -> list[Trial]:
     return random.Random(1).sample(trials, len(trials))
 
 
+# What a worker has.
+WORKER: list[Trials] = []
+
+
+def begin_worker(command: str, folder: str) -> None:
+    WORKER.append(Trials(Tool(command), Path(tempfile.mkdtemp(dir=folder))))
+
+
+def result_of(trial: Trial) -> str:
+    try:
+        return WORKER[0].result(trial)
+    except SystemExit as failed:
+        return f"different: {failed}"
+
+
+def tried(wanted: list[Trial], command: str, workers: int, end: float) -> Iterator[tuple[Trial, str]]:
+    """The results, as they come, until the time is over."""
+    waiting = list(reversed(wanted))
+    with tempfile.TemporaryDirectory() as folder, ProcessPoolExecutor(workers, initializer=begin_worker, initargs=(command, folder)) as pool:
+        running: dict[Future, Trial] = {}
+        while waiting or running:
+            while waiting and len(running) < 2 * workers and time.monotonic() < end:
+                trial = waiting.pop()
+                running[pool.submit(result_of, trial)] = trial
+            if not running:
+                return
+            for future in wait(running, return_when=FIRST_COMPLETED).done:
+                yield running.pop(future), future.result()
+
+
 def main() -> int:
     words = arguments()
     OUT.mkdir(exist_ok=True)
@@ -282,22 +315,16 @@ def main() -> int:
     except ToolFailed as failed:
         raise SystemExit(f"try: {failed}") from None
     kept = Kept(OUT / "try.jsonl", digest_of_translator())
-    end = time.monotonic() + (55 if words.quick else words.seconds)
-    rows: dict[Trial, str] = {}
-    with tempfile.TemporaryDirectory() as folder:
-        trials = Trials(tool, Path(folder))
-        wanted = in_turn(own_trials() + csmith_trials(30 if words.quick else words.csmith, words.first))
-        for trial in wanted:
-            if time.monotonic() > end:
-                break
-            result = None if words.anew else kept.get(trial)
-            if result is None:
-                result = trials.result(trial)
-                kept.put(trial, result)
-            if trial not in rows and result.startswith("different"):
-                print(f"{trial.name()}: {result}", flush=True)
-            rows[trial] = result
+    end = time.monotonic() + (50 if words.quick else words.seconds)
+    wanted = in_turn(own_trials() + csmith_trials(30 if words.quick else words.csmith, words.first))
+    rows = {} if words.anew else {trial: kept.get(trial) for trial in wanted if kept.get(trial)}
+    for trial, result in tried([it for it in wanted if it not in rows], tool.command, words.workers, end):
+        kept.put(trial, result)
+        rows[trial] = result
     found = list(rows.items())
+    for trial, result in found:
+        if result.startswith("different"):
+            print(f"{trial.name()}: {result}")
     print(table(found))
     print(reasons(found))
     if words.steps:
