@@ -33,14 +33,16 @@ def arguments() -> argparse.Namespace:
     add("-D", dest="macros", metavar="NAME[=VALUE]", action="append", default=[], help="defines a macro")
     add("-f", dest="flags", metavar="FLAG", action="append", default=[], help="another flag -fFLAG for GCC")
     add("--tasks", choices=[*POLICIES, "auto"], default="auto", help="where tasks begin (auto)")
-    add("--leaves", choices=["own", "joined", "auto"], default="auto", help="whether functions that call nothing are tasks of their own or part of those that call them (auto)")
+    leaves = "whether functions that call nothing are tasks of their own or part of those that call them (auto)"
+    add("--leaves", choices=["own", "joined", "auto"], default="auto", help=leaves)
     add("--release", choices=[*MODES, "auto"], default="auto", help="where release instructions are put (auto)")
     add("--plain", action="store_true", help="only create masks, forward bits and stops; targets in the order of the code")
     add("--units", type=int, default=4, metavar="N", help="how many units auto and --run have, 1 to 16 (4)")
     add("--run", action="store_true", help="checks the text and runs it")
     add("--stack", type=int, default=1024, metavar="BYTES", help="what the stack has to have at least (1024)")
     add("--gcc", default="mipsel-linux-gnu-gcc", metavar="COMMAND", help="the compiler (mipsel-linux-gnu-gcc)")
-    add("--multiscalar", metavar="COMMAND", help="the command multiscalar; else $MULTISCALAR, else the one beside this folder")
+    command = "the command multiscalar; else $MULTISCALAR, else the one built in these sources, else that on PATH"
+    add("--multiscalar", metavar="COMMAND", help=command)
     add("--quiet", action="store_true", help="says nothing of what was chosen")
     return parser.parse_args()
 

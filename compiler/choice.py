@@ -50,7 +50,9 @@ class Choice:
     def steps(self) -> str:
         if not self.last:
             return "not measured"
-        return f"{self.last.steps} steps" if self.last.end != "out of budget" else f"out of budget, {self.last.retired / self.last.steps:.2f} per step"
+        if self.last.end == "out of budget":
+            return f"out of budget, {self.last.retired / self.last.steps:.2f} per step"
+        return f"{self.last.steps} steps"
 
     def short(self) -> str:
         return f"{self.way}: {self.steps()}"
@@ -74,7 +76,8 @@ def divided(program: Program, way: Way) -> Cut:
     if len(made.tasks) > MOST_TASKS:
         raise refuse(Place(), f"the policy {way.policy} makes {len(made.tasks)} tasks; there are at most {MOST_TASKS}")
     if len(program.code) > MOST_INSTRUCTIONS:
-        raise refuse(Place(), f"with its trees and releases ({way}) the program has {len(program.code)} instructions; there are at most {MOST_INSTRUCTIONS}")
+        why = f"with its trees and releases ({way}) the program has {len(program.code)} instructions"
+        raise refuse(Place(), f"{why}; there are at most {MOST_INSTRUCTIONS}")
     return made
 
 
@@ -110,7 +113,7 @@ def marked(writer: Writer, tool: Tool) -> str:
 def chosen(program: Program, settings: Settings, tool: Tool, head: list[str]) -> list[Choice]:
     """The texts that were made. First the policies are compared, then, with the best of them, where releases go."""
     policies = POLICIES if settings.tasks == "auto" else (settings.tasks,)
-    leaves = ("own", "joined") if settings.leaves == "auto" and not settings.plain else (settings.leaves if settings.leaves != "auto" else "own",)
+    leaves = (settings.leaves,) if settings.leaves != "auto" else ("own",) if settings.plain else ("own", "joined")
     first = ("none" if settings.plain else "early") if settings.release == "auto" else settings.release
     ways = [Way(policy, leaf, first) for policy in policies for leaf in leaves]
     measured = len(ways) > 1 or settings.release == "auto" and not settings.plain

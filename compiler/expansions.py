@@ -4,9 +4,10 @@ The registers $1 (the assembler's own), $26 and $27 (kept from compilers) hold w
 """
 
 from dataclasses import dataclass
+from typing import Callable
 
 from instructions import ASSEMBLER, FIRST_KEPT, FORM_OF, GLOBAL_POINTER, LINK, SECOND_KEPT, Expression, Instruction
-from refusal import Place, refuse
+from refusal import Place, Refused, refuse
 
 
 @dataclass(frozen=True)
@@ -25,9 +26,9 @@ class Memory:
 Operand = Register | Memory | Expression
 Expansion = list[Instruction]
 
-WITH_NUMBER = {"addu": "addiu", "addiu": "addiu", "and": "andi", "or": "ori", "xor": "xori", "slt": "slti", "sltu": "sltiu", "slti": "slti", "sltiu": "sltiu", "andi": "andi", "ori": "ori", "xori": "xori"}
-LOGIC = {"andi", "ori", "xori"}
 WITH_REGISTER = {"addiu": "addu", "andi": "and", "ori": "or", "xori": "xor", "slti": "slt", "sltiu": "sltu"}
+WITH_NUMBER = {register: number for number, register in WITH_REGISTER.items()} | {number: number for number in WITH_REGISTER}
+LOGIC = {"andi", "ori", "xori"}
 BY_REGISTER = {"sll": "sllv", "srl": "srlv", "sra": "srav"}
 # Branches that compare two registers: the comparison, whether its operands change places, the branch on its result.
 COMPARED = {"blt": ("slt", False, "bne"), "bge": ("slt", False, "beq"), "bgt": ("slt", True, "bne"), "ble": ("slt", True, "beq")}
@@ -80,13 +81,13 @@ def trap() -> Expansion:
 class Expander:
     """Expands one instruction of one place; labels of its own have names from `fresh`."""
 
-    def __init__(self, name: str, operands: list[Operand], place: Place, fresh):
+    def __init__(self, name: str, operands: list[Operand], place: Place, fresh: Callable[[], str]) -> None:
         self.name, self.operands, self.place, self.fresh = name, operands, place, fresh
 
-    def fault(self, why: str):
+    def fault(self, why: str) -> Refused:
         return refuse(self.place, f"{self.name} {why}")
 
-    def wrong(self):
+    def wrong(self) -> Refused:
         return self.fault("with these operands is not known")
 
     def register(self, index: int) -> int:

@@ -27,7 +27,8 @@ IGNORED = """.globl .global .local .weak .ent .end .frame .mask .fmask .type .si
 # Sections for debuggers and linkers.
 UNUSED = (".debug", ".mdebug", ".note", ".gnu", ".comment", ".pdr", ".reginfo", ".MIPS", ".eh_frame", ".stab", ".line")
 READ_ONLY, DATA, ZEROS, CODE, OTHER = "rodata", "data", "bss", "text", "other"
-SIZES = {".byte": 1, ".half": 2, ".short": 2, ".hword": 2, ".2byte": 2, ".word": 4, ".long": 4, ".int": 4, ".4byte": 4, ".dword": 8, ".8byte": 8, ".quad": 8}
+SIZES = {".byte": 1} | dict.fromkeys((".half", ".short", ".hword", ".2byte"), 2)
+SIZES |= dict.fromkeys((".word", ".long", ".int", ".4byte"), 4) | dict.fromkeys((".dword", ".quad", ".8byte"), 8)
 
 
 @dataclass
@@ -123,7 +124,7 @@ OPERATORS = {
 def calculated(text: str) -> int | None:
     """The value of an expression of numbers alone, or None."""
 
-    def value(node) -> int:
+    def value(node: ast.AST) -> int:
         if isinstance(node, ast.Constant) and type(node.value) is int:
             return node.value
         if isinstance(node, ast.BinOp):

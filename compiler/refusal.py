@@ -17,7 +17,7 @@ class Place:
 class Refused(Exception):
     """The program cannot be translated, for one reason or several."""
 
-    def __init__(self, reasons: list[tuple[Place, str]]):
+    def __init__(self, reasons: list[tuple[Place, str]]) -> None:
         super().__init__("refused")
         self.reasons = reasons
 
