@@ -8,7 +8,7 @@ from refusal import Place, Refused, refuse
 from releases import MODES, with_releases
 from tasks import MOST_TASKS, POLICIES, Cut, cut, spread, wide_jumps
 from tool import Steps, Tool, ToolFailed
-from writer import Writer
+from writer import Writer, aligned
 
 
 @dataclass(frozen=True)
@@ -107,7 +107,7 @@ def marked(writer: Writer, tool: Tool) -> str:
             reasons.append((place, "!f stands here, and the task may write the register again"))
     if reasons:
         raise Refused(reasons)
-    return done
+    return aligned(done)
 
 
 def chosen(program: Program, settings: Settings, tool: Tool, head: list[str]) -> list[Choice]:

@@ -11,6 +11,7 @@ from tasks import Cut, order_targets
 
 LONGEST_NAME, LONGEST_COMMENT = 32, 100
 BYTES_IN_LINE = 32
+COMMENT_COLUMN = 39
 
 
 def plain(text: str) -> str:
@@ -148,7 +149,7 @@ class Writer:
     def line(self, index: int, it: Instruction) -> str:
         marks = " ".join(filter(None, ("!f" if it.own_forward else "", self.made.stop_of(index))))
         words = f"        {self.instruction(it)}{'  ' + marks if marks else ''}"
-        return f"{words:<39} # {plain(it.note)}" if it.note else words
+        return f"{words:<{COMMENT_COLUMN}} # {plain(it.note)}" if it.note else words
 
     def number(self, it: Instruction) -> int:
         return value_of(self.program, self.index_of, it.value)
@@ -190,6 +191,11 @@ class Writer:
     def labels(self, data: list) -> list[str]:
         names = [name for datum in data for name in datum.labels]
         return [f"# {self.program.addresses[it]:#010x} {plain(it.split('@')[0])}" for it in names]
+
+
+def aligned(text: str) -> str:
+    """Moves comments back to their column, after forward bits were put before them."""
+    return re.sub(r"^(        .*?) +# ", lambda it: f"{it[1]:<{COMMENT_COLUMN}} # ", text, flags=re.M)
 
 
 def bytes_text(image: bytes) -> list[str]:

@@ -10,14 +10,14 @@
 .text
 _start:
         lui   $29,4097                  # la $sp, top_of_the_stack
-        ori   $29,$29,65520 !f             # la $sp, top_of_the_stack
+        ori   $29,$29,65520 !f          # la $sp, top_of_the_stack
         jal   main !f  !s
 _start_after_main:
         halt
 # program.c:18:     for (const char *at = text; at < text + sizeof text;) {
 main:
         lui   $5,4096                   # lui $5,%hi(text)
-        addiu $5,$5,12 !f                  # addiu $5,$5,%lo(text)
+        addiu $5,$5,12 !f               # addiu $5,$5,%lo(text)
 # program.c:17:     unsigned state = BETWEEN, words = 0, numbers = 0, names = 0;
         move  $8,$0 !f
         move  $9,$0 !f
@@ -27,10 +27,10 @@ main:
         li    $11,2 !f
 # program.c:26:         state = next[before][kind];
         lui   $7,4096                   # lui $7,%hi(next)
-        addiu $7,$7,0 !f                   # addiu $7,$7,%lo(next)
+        addiu $7,$7,0 !f                # addiu $7,$7,%lo(next)
 # program.c:18:     for (const char *at = text; at < text + sizeof text;) {
         lui   $6,4096                   # lui $6,%hi(text+88)
-        addiu $6,$6,100 !f                 # addiu $6,$6,%lo(text+88)
+        addiu $6,$6,100 !f              # addiu $6,$6,%lo(text+88)
         j     L4  !s
 # program.c:24:         unsigned kind = letter - '0' < 10 ? DIGIT : (letter | 32) - 'a' < 26 ? LETTER : SPACE;
 L5:

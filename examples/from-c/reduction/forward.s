@@ -10,7 +10,7 @@
 .text
 _start:
         lui   $29,4097                  # la $sp, top_of_the_stack
-        ori   $29,$29,65520 !f             # la $sp, top_of_the_stack
+        ori   $29,$29,65520 !f          # la $sp, top_of_the_stack
         jal   main !f  !s
 _start_after_main:
         halt

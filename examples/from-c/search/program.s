@@ -10,14 +10,14 @@
 .text
 _start:
         lui   $29,4097                  # la $sp, top_of_the_stack
-        ori   $29,$29,65520 !f             # la $sp, top_of_the_stack
+        ori   $29,$29,65520 !f          # la $sp, top_of_the_stack
         jal   main !f  !s
 _start_after_main:
         halt
 # program.c:10:     for (const char *at = text; at < text + sizeof text - sizeof word;) {
 main:
         lui   $3,4096                   # lui $3,%hi(text)
-        addiu $3,$3,0 !f                   # addiu $3,$3,%lo(text)
+        addiu $3,$3,0 !f                # addiu $3,$3,%lo(text)
 # program.c:9:     unsigned count = 0;
         move  $10,$0 !f
 # program.c:16:         while (n < sizeof word - 1 && here[n] == word[n])
@@ -29,7 +29,7 @@ main:
         move  $11,$3 !f
 # program.c:10:     for (const char *at = text; at < text + sizeof text - sizeof word;) {
         lui   $5,4096                   # lui $5,%hi(text+112)
-        addiu $5,$5,112 !f                 # addiu $5,$5,%lo(text+112)
+        addiu $5,$5,112 !f              # addiu $5,$5,%lo(text+112)
         j     L4  !s
 L2:
         sltu  $2,$3,$5

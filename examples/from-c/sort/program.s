@@ -11,7 +11,7 @@
 .text
 _start:
         lui   $29,4097                  # la $sp, top_of_the_stack
-        ori   $29,$29,65440 !f             # la $sp, top_of_the_stack
+        ori   $29,$29,65440 !f          # la $sp, top_of_the_stack
         jal   main !f  !s
 _start_after_main:
         halt
@@ -20,11 +20,11 @@ main:
         move  $7,$0 !f
 # program.c:19:         unsigned number = numbers[now], rank = 0;
         lui   $8,4096                   # lui $8,%hi(numbers)
-        addiu $8,$8,0 !f                   # addiu $8,$8,%lo(numbers)
+        addiu $8,$8,0 !f                # addiu $8,$8,%lo(numbers)
         addiu $6,$8,80 !f
 # program.c:22:         sorted[rank] = number;
         lui   $9,4098                   # lui $9,%hi(sorted)
-        addiu $9,$9,-80 !f  !s             # addiu $9,$9,%lo(sorted)
+        addiu $9,$9,-80 !f  !s          # addiu $9,$9,%lo(sorted)
 # program.c:16:         SETTLE(now);
 L3:
         move  $2,$7
@@ -53,7 +53,7 @@ L2:
         sltiu $2,$7,40
         bne   $2,$0,L3  !st
         lui   $2,4098                   # lui $2,%hi(sorted)
-        addiu $2,$2,-80 !f                 # addiu $2,$2,%lo(sorted)
+        addiu $2,$2,-80 !f              # addiu $2,$2,%lo(sorted)
         addiu $4,$2,80 !f  !s
 # program.c:25:         out(sorted[n]);
 L4:
