@@ -39,7 +39,7 @@ class Compiling:
 
     def call(self, words: list[str]) -> str:
         try:
-            done = subprocess.run([self.gcc, *words], capture_output=True, text=True, check=False)
+            done = subprocess.run([self.gcc, *words], capture_output=True, text=True, errors="surrogateescape", check=False)
         except OSError as error:
             raise CompilerFailed(f"c2ms: {self.gcc}: {error.strerror}; on Debian: apt-get install gcc-mipsel-linux-gnu\n") from None
         if done.returncode:
@@ -52,7 +52,7 @@ class Compiling:
     def assembly(self, file: str) -> str:
         """What GCC makes of a C file, or the preprocessor of a file of assembler text."""
         if file.endswith(".s"):
-            return Path(file).read_text(errors="replace")
+            return Path(file).read_text(errors="surrogateescape")
         if file.endswith(".S"):
             return self.call(["-E", "-x", "assembler-with-cpp", *self.preprocessor_words(), file])
         return self.call([*FLAGS, f"-O{self.level}", *(f"-f{it}" for it in self.flags), *self.preprocessor_words(), "-o", "-", file])

@@ -113,6 +113,7 @@ class Flow:
             function.returns = True
             return []
         if it.form == "jump_register":
+            function.returns |= it.may_return and index not in self.tables
             return self.tables.get(index) or sorted(self.loose_places() | self.by_address)
         places = [self.at(it.destination)] if it.destination else []
         return places + ([index + 1] if it.goes_on else [])
@@ -147,8 +148,11 @@ class Flow:
             return sorted(self.by_address)
         places: set[int] = set()
         for function in self.functions.values():
-            if index in function.members:
-                places |= function.returns_to if self.is_return(index, function.entry) else self.loose_places() | self.by_address
+            if index not in function.members:
+                continue
+            is_return = self.is_return(index, function.entry)
+            places |= function.returns_to if is_return or it.may_return else set()
+            places |= set() if is_return else self.loose_places() | self.by_address
         return sorted(it for it in places if it < len(self.code))
 
     def loop_heads(self, function: Function) -> list[tuple[int, set[int]]]:

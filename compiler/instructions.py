@@ -92,6 +92,8 @@ class Instruction:
     # Of a jump to an address in a register: the label of the table of places that follows it, and where it may go.
     table: str = ""
     targets: list[str] = field(default_factory=list)
+    # A jump through a register other than $31 that a person wrote: it may be a return.
+    may_return: bool = False
     # A jump that calls a run-time routine: the label where that comes back to.
     comes_back: str = ""
 

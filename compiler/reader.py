@@ -8,7 +8,7 @@ from pathlib import Path
 
 from delay_slots import JUMPS, taken_apart
 from expansions import Expander, Memory, Operand, Register, unaligned_load, unaligned_store
-from instructions import KEPT, REGISTER_NAMES, Expression, Instruction
+from instructions import ASSEMBLER, KEPT, REGISTER_NAMES, Expression, Instruction
 from refusal import Place, Refused, refuse
 
 NAME = r"[A-Za-z_.$][\w.$]*"
@@ -115,14 +115,28 @@ def parted(text: str, separator: str) -> list[str]:
 
 
 OPERATORS = {
-    ast.Add: operator.add, ast.Sub: operator.sub, ast.Mult: operator.mul, ast.Div: operator.floordiv, ast.Mod: operator.mod,
-    ast.LShift: operator.lshift, ast.RShift: operator.rshift, ast.BitAnd: operator.and_, ast.BitOr: operator.or_,
-    ast.BitXor: operator.xor, ast.USub: operator.neg, ast.UAdd: operator.pos, ast.Invert: operator.invert,
+    ast.Add: operator.add, ast.Sub: operator.sub, ast.Mult: operator.mul, ast.LShift: operator.lshift, ast.RShift: operator.rshift,
+    ast.BitAnd: operator.and_, ast.BitOr: operator.or_, ast.BitXor: operator.xor, ast.Div: lambda left, right: int(left / right),
+    ast.USub: operator.neg, ast.UAdd: operator.pos, ast.Invert: operator.invert,
 }
+# The assembler and Python agree on what binds closer only inside a line of these.
+CLASSES = [{ast.Add, ast.Sub, ast.Mult, ast.Div}, {ast.LShift}, {ast.RShift}, {ast.BitAnd}, {ast.BitOr}, {ast.BitXor}]
 
 
 def calculated(text: str) -> int | None:
-    """The value of an expression of numbers alone, or None."""
+    """The value of an expression of numbers alone, or None. What stands in parentheses is calculated first."""
+    while True:
+        inner = re.search(r"\(([^()]*)\)", text)
+        if not inner:
+            return calculated_flat(text)
+        value = calculated_flat(inner[1])
+        if value is None:
+            return None
+        text = f"{text[: inner.start()]} {value} {text[inner.end() :]}"
+
+
+def calculated_flat(text: str) -> int | None:
+    """The value of an expression without parentheses."""
 
     def value(node: ast.AST) -> int:
         if isinstance(node, ast.Constant) and type(node.value) is int:
@@ -133,9 +147,14 @@ def calculated(text: str) -> int | None:
             return OPERATORS[type(node.op)](value(node.operand))
         raise KeyError
 
+    def is_plain(tree: ast.AST) -> bool:
+        used = {type(node.op) for node in ast.walk(tree) if isinstance(node, ast.BinOp)}
+        return not used or any(used <= it for it in CLASSES)
+
     octal = re.sub(r"(?<![\w.])0+(?=[0-7]+(?![\w.]))", "0o", text.strip())
     try:
-        return value(ast.parse(octal, mode="eval").body)
+        tree = ast.parse(octal, mode="eval").body
+        return value(tree) if is_plain(tree) else None
     except (SyntaxError, KeyError, ValueError, ZeroDivisionError, RecursionError):
         return None
 
@@ -143,12 +162,12 @@ def calculated(text: str) -> int | None:
 def string_bytes(text: str, place: Place) -> bytes:
     """The bytes of a quoted string of the assembler."""
     text = text.strip()
-    if len(text) < 2 or text[0] != '"' or text[-1] != '"':
+    if not re.fullmatch(r'"(\\.|[^"\\])*"', text, re.S):
         raise refuse(place, f"{text} is not a string")
     made, index, body = bytearray(), 0, text[1:-1]
     while index < len(body):
         if body[index] != "\\":
-            made += body[index].encode("latin-1" if ord(body[index]) < 256 else "utf-8")
+            made += body[index].encode("utf-8", "surrogateescape")
             index += 1
             continue
         octal = re.match(r"\\([0-7]{1,3})", body[index:])
@@ -508,6 +527,8 @@ class Reader:
             made[0].begins_task |= self.after_own_task
             self.after_own_task = False
             self.table = made[-1] if made[-1].form == "jump_register" else None
+            if self.table:
+                made[-1].may_return = self.unit.file.endswith((".s", ".S")) and not self.is_run_time
         self.raw.append((made, self.no_reorder))
 
     def name_symbol(self, value: Expression) -> None:
@@ -521,8 +542,8 @@ class Reader:
             raise refuse(self.place, "floating-point registers: the machine has none; use -msoft-float code")
         if number > 31 or not text.strip().startswith("$"):
             raise refuse(self.place, f"{text} is not a register")
-        if number in KEPT and not self.is_run_time:
-            raise refuse(self.place, f"${number} is kept for the run-time routines")
+        if number in (ASSEMBLER, *KEPT) and not self.is_run_time:
+            raise refuse(self.place, f"${number} is kept for expansions and run-time routines")
         return number
 
     def operand(self, text: str) -> Operand:
@@ -568,7 +589,10 @@ class Reader:
             number = self.local_labels.get(word[:-1], 0) + (word[-1] == "f")
             return Expression(symbol=f".local.{word[:-1]}.{number}")
         if word[0].isdigit():
-            return Expression(int(word, 0) if not re.fullmatch(r"0\d+", word) else int(word, 8))
+            number = calculated(word)
+            if number is None:
+                raise refuse(self.place, f"{word} is not a number")
+            return Expression(number)
         return self.constants.get(word, Expression(symbol=word))
 
 

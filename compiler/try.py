@@ -81,6 +81,12 @@ def includes(is_csmith: bool) -> list[str]:
     return [str(HERE / "include"), *([str(HERE / "csmith"), CSMITH_HEADERS] if is_csmith else [])]
 
 
+def files_of(source: str) -> list[str]:
+    """A program's files: its C and, if there is one of the same name, its assembler text."""
+    assembly = Path(source).with_suffix(".S")
+    return [source, str(assembly)] if assembly.exists() else [source]
+
+
 class References:
     """What a program prints elsewhere; None where it takes too long there."""
 
@@ -96,10 +102,12 @@ class References:
     def found(self, trial: Trial) -> list[str] | None:
         headers = [f"-I{it}" for it in includes(trial.is_csmith)]
         built = str(self.folder / "reference")
-        compilers = [["mipsel-linux-gnu-gcc", "-static", "-DMULTISCALAR_HOST"]] + ([] if trial.is_csmith else [["gcc"]])
+        files = files_of(trial.source)
+        compilers = [["mipsel-linux-gnu-gcc", "-static", "-fno-pic", "-fno-pie", "-mno-abicalls", "-DMULTISCALAR_HOST"]]
+        compilers += [] if trial.is_csmith or len(files) > 1 else [["gcc"]]
         printed = []
         for compiler in compilers:
-            status, said = command([*compiler, "-w", "-O1", *headers, "-o", built, trial.source], 60)
+            status, said = command([*compiler, "-w", "-O1", *headers, "-o", built, *files], 60)
             if status:
                 raise SystemExit(f"{trial.source}: {said}")
             status, said = command([*(["qemu-mipsel"] if "-static" in compiler else []), built], 5)
@@ -125,7 +133,7 @@ class Trials:
             if len(self.programs) > 30:
                 self.programs.clear()
             try:
-                self.programs[key] = program_of([trial.source], Compiling(level=trial.level, folders=includes(trial.is_csmith)), 1024)
+                self.programs[key] = program_of(files_of(trial.source), Compiling(level=trial.level, folders=includes(trial.is_csmith)), 1024)
             except (Refused, CompilerFailed) as fault:
                 self.programs[key] = fault
         found = self.programs[key]
@@ -197,7 +205,7 @@ class Kept:
                 self.results[row["key"]] = row["result"]
 
     def key(self, trial: Trial) -> str:
-        source = hashlib.sha256(Path(trial.source).read_bytes()).hexdigest()[:12]
+        source = hashlib.sha256(b"".join(Path(it).read_bytes() for it in files_of(trial.source))).hexdigest()[:12]
         return f"{self.translator} {source} {trial.name()}"
 
     def get(self, trial: Trial) -> str | None:
@@ -250,7 +258,7 @@ def steps_table(tool: Tool, level: str) -> str:
     """What `auto` chooses for 4 units, and its steps on 1, 2, 4, 8 and 16."""
     lines = [f"{'program':<14} {'instructions':>12} {'tasks':>6}  {'way':<36}" + "".join(f"{units:>9}" for units in (1, 2, 4, 8, 16)) + f"{'plain, 4':>10}"]
     for source in sorted((HERE / "programs").glob("*.c")):
-        program = program_of([str(source)], Compiling(level=level), 1024)
+        program = program_of(files_of(str(source)), Compiling(level=level), 1024)
         best = best_of(chosen(program, Settings(), tool, []))
         plain = tool.curve(written(program, Way(best.way.policy, best.way.leaves, "none"), tool, [], True).text, 4)
         curve = tool.curve(best.text, 16)
