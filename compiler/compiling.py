@@ -4,6 +4,7 @@ import functools
 import pickle
 import re
 import subprocess
+import sys
 from dataclasses import dataclass
 from pathlib import Path
 
@@ -16,7 +17,7 @@ HERE = Path(__file__).resolve().parent
 RUN_TIME = HERE / "runtime"
 # Code without delay slots, position independence, floating-point registers, and without a C library.
 FLAGS = """-S -g1 -march=mips1 -mabi=32 -mno-abicalls -fno-pic -fno-pie -fno-delayed-branch -msoft-float -G0 -ffreestanding
--mno-check-zero-division -fno-stack-protector -fno-asynchronous-unwind-tables -fno-unwind-tables -w""".split()
+-mno-check-zero-division -fno-stack-protector -fno-asynchronous-unwind-tables -fno-unwind-tables""".split()
 
 
 class CompilerFailed(Exception):
@@ -32,6 +33,7 @@ class Compiling:
     folders: tuple[str, ...] | list[str] = ()
     macros: tuple[str, ...] | list[str] = ()
     flags: tuple[str, ...] | list[str] = ()
+    shows_warnings: bool = True
 
     def version(self) -> str:
         first = self.call(["--version"]).split("\n", 1)[0]
@@ -44,6 +46,8 @@ class Compiling:
             raise CompilerFailed(f"c2ms: {self.gcc}: {error.strerror}; on Debian: apt-get install gcc-mipsel-linux-gnu\n") from None
         if done.returncode:
             raise CompilerFailed(done.stderr)
+        if self.shows_warnings:
+            sys.stderr.write(done.stderr)
         return done.stdout
 
     def preprocessor_words(self) -> list[str]:
@@ -61,7 +65,7 @@ class Compiling:
 @functools.cache
 def run_time_unit(gcc: str, name: str, number: int) -> bytes:
     """A run-time file as it was read, for pickle: each program changes its own copy."""
-    compiling = Compiling(gcc, "2", flags=("no-tree-loop-distribute-patterns",))
+    compiling = Compiling(gcc, "2", flags=("no-tree-loop-distribute-patterns",), shows_warnings=False)
     return pickle.dumps(read_unit(compiling.assembly(str(RUN_TIME / name)), name, number, is_run_time=True))
 
 

@@ -133,7 +133,7 @@ class Trials:
             if len(self.programs) > 30:
                 self.programs.clear()
             try:
-                self.programs[key] = program_of(files_of(trial.source), Compiling(level=trial.level, folders=includes(trial.is_csmith)), 1024)
+                self.programs[key] = program_of(files_of(trial.source), Compiling(level=trial.level, folders=includes(trial.is_csmith), shows_warnings=False), 1024)
             except (Refused, CompilerFailed) as fault:
                 self.programs[key] = fault
         found = self.programs[key]
@@ -258,7 +258,7 @@ def steps_table(tool: Tool, level: str) -> str:
     """What `auto` chooses for 4 units, and its steps on 1, 2, 4, 8 and 16."""
     lines = [f"{'program':<14} {'instructions':>12} {'tasks':>6}  {'way':<36}" + "".join(f"{units:>9}" for units in (1, 2, 4, 8, 16)) + f"{'plain, 4':>10}"]
     for source in sorted((HERE / "programs").glob("*.c")):
-        program = program_of(files_of(str(source)), Compiling(level=level), 1024)
+        program = program_of(files_of(str(source)), Compiling(level=level, shows_warnings=False), 1024)
         best = best_of(chosen(program, Settings(), tool, []))
         plain = tool.curve(written(program, Way(best.way.policy, best.way.leaves, "none"), tool, [], True).text, 4)
         curve = tool.curve(best.text, 16)
