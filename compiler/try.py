@@ -26,6 +26,7 @@ import time
 from collections import Counter
 from concurrent.futures import FIRST_COMPLETED, Future, ProcessPoolExecutor, wait
 from dataclasses import dataclass
+from itertools import repeat
 from pathlib import Path
 from typing import Iterator
 
@@ -254,17 +255,26 @@ def reasons(rows: list[tuple[Trial, str]]) -> str:
     return "\n".join(f"{count:>6}  {reason}" for reason, count in counts.most_common())
 
 
-def steps_table(tool: Tool, level: str) -> str:
-    """What `auto` chooses for 4 units, and its steps on 1, 2, 4, 8 and 16."""
-    lines = [f"{'program':<14} {'instructions':>12} {'tasks':>6}  {'way':<36}" + "".join(f"{units:>9}" for units in (1, 2, 4, 8, 16)) + f"{'plain, 4':>10}"]
-    for source in sorted((HERE / "programs").glob("*.c")):
-        program = program_of(files_of(str(source)), Compiling(level=level, shows_warnings=False), 1024)
-        best = best_of(chosen(program, Settings(), tool, []))
-        plain = tool.curve(written(program, Way(best.way.policy, best.way.leaves, "none"), tool, [], True).text, 4)
-        curve = tool.curve(best.text, 16)
-        steps = "".join(f"{curve[units - 1].steps:>9}" for units in (1, 2, 4, 8, 16))
-        lines.append(f"{source.stem:<14} {best.instructions:>12} {best.tasks:>6}  {str(best.way):<36}{steps}{plain[3].steps:>10}")
-    return "\n".join(lines)
+STEPS_ON = (1, 2, 4, 8, 16)
+
+
+def steps_row(command: str, source: str, level: str) -> str:
+    """What `auto` chooses for 4 units, its steps, and the steps of that way with forward bits alone."""
+    tool = Tool(command)
+    program = program_of(files_of(source), Compiling(level=level, shows_warnings=False), 1024)
+    best = best_of(chosen(program, Settings(), tool, []))
+    plain = tool.curve(written(program, Way(best.way.policy, best.way.leaves, "none"), tool, [], True).text, 4)
+    curve = tool.curve(best.text, max(STEPS_ON))
+    steps = "".join(f"{curve[units - 1].steps:>8}" for units in STEPS_ON)
+    return f"{Path(source).stem:<14} {best.instructions:>5} {best.tasks:>6}  {str(best.way):<36}{steps}{plain[3].steps:>8}"
+
+
+def steps_table(command: str, level: str, workers: int) -> Iterator[str]:
+    units = "".join(f"{units:>8}" for units in STEPS_ON)
+    yield f"{'-O' + level:<14} {'size':>5} {'tasks':>6}  {'way':<36}{units}{'plain 4':>8}"
+    sources = sorted(str(it) for it in (HERE / "programs").glob("*.c"))
+    with ProcessPoolExecutor(workers) as pool:
+        yield from pool.map(steps_row, repeat(command), sources, repeat(level))
 
 
 def arguments() -> argparse.Namespace:
@@ -336,7 +346,8 @@ def main() -> int:
     print(table(found))
     print(reasons(found))
     if words.steps:
-        print(steps_table(tool, words.steps))
+        for line in steps_table(tool.command, words.steps, words.workers):
+            print(line, flush=True)
     count = Counter(result.split(":")[0] for result in rows.values())
     left = len(set(wanted)) - len(rows)
     print(f"{count['same']} agree, {count['different']} differ, {count['refused']} refused, {count['too long']} too long, {left} not tried")
