@@ -18,10 +18,8 @@ HALF = re.compile(r"%(hi|lo)\s*\((.*)\)$", re.S)
 TERM = re.compile(rf"\s*([-+]?)\s*(0[xX][0-9a-fA-F]+|\d+[fb](?![\w.$])|\d+|'(?:\\.|[^\\])'|{NAME})")
 
 # Directives that say nothing about what the program does.
-IGNORED = """.globl .global .local .weak .ent .end .frame .mask .fmask .type .size .ident .cfi_startproc .cfi_endproc
-.gnu_attribute .module .nan .insn .hidden .protected .internal .abicalls .option .cfi_sections .cfi_def_cfa_offset .cfi_offset
-.cfi_restore .cfi_def_cfa .cfi_def_cfa_register .cfi_remember_state .cfi_restore_state .cfi_return_column .cfi_register .cfi_same_value
-.cfi_undefined .cfi_window_save .p2alignw .p2alignl .loc_mark_labels .psize .addrsig .addrsig_sym""".split()
+IGNORED = """.ent .end .frame .mask .fmask .type .size .ident .gnu_attribute .module .nan .insn .hidden .protected
+.internal .abicalls .option .loc_mark_labels .psize .addrsig .addrsig_sym""".split()
 # Sections for debuggers and linkers.
 UNUSED = (".debug", ".mdebug", ".note", ".gnu", ".comment", ".pdr", ".reginfo", ".MIPS", ".eh_frame", ".stab", ".line")
 READ_ONLY, DATA, ZEROS, CODE, OTHER = "rodata", "data", "bss", "text", "other"
@@ -269,7 +267,7 @@ class Reader:
             self.unit.weak.update(parted(rest, ","))
         elif word in (".comm", ".lcomm"):
             self.reserve(word, parted(rest, ","))
-        elif self.section == OTHER or word in IGNORED:
+        elif self.section == OTHER or word in IGNORED or word.startswith(".cfi_"):
             return
         elif word in (".align", ".p2align", ".balign"):
             self.align(word, rest)
