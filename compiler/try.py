@@ -51,10 +51,11 @@ WAYS = [
 UNITS = (1, 4, 16)
 # Sizes that often fit 4,096 instructions; three kinds, in turn.
 CSMITH = [
-    "--max-funcs 2 --max-block-depth 2 --max-block-size 3 --max-expr-complexity 4 --max-array-dim 2 --max-array-len-per-dim 4 --no-bitfields",
-    "--max-funcs 4 --max-block-depth 2 --max-block-size 3 --max-expr-complexity 5 --max-array-dim 2 --max-array-len-per-dim 5 --packed-struct",
-    "--max-funcs 5 --max-block-depth 3 --max-block-size 4 --max-expr-complexity 6 --max-array-dim 2 --max-array-len-per-dim 6 --no-volatiles",
+    "--max-funcs 2 --max-block-depth 2 --max-block-size 3 --max-expr-complexity 4 --max-array-len-per-dim 4 --no-bitfields",
+    "--max-funcs 4 --max-block-depth 2 --max-block-size 3 --max-expr-complexity 5 --max-array-len-per-dim 5 --packed-struct",
+    "--max-funcs 5 --max-block-depth 3 --max-block-size 4 --max-expr-complexity 6 --max-array-len-per-dim 6 --no-volatiles",
 ]
+FOR_ALL = "--no-argc --no-float --concise --max-array-dim 2"
 
 
 @dataclass(frozen=True)
@@ -134,7 +135,8 @@ class Trials:
             if len(self.programs) > 30:
                 self.programs.clear()
             try:
-                self.programs[key] = program_of(files_of(trial.source), Compiling(level=trial.level, folders=includes(trial.is_csmith), shows_warnings=False), 1024)
+                compiling = Compiling(level=trial.level, folders=includes(trial.is_csmith), shows_warnings=False)
+                self.programs[key] = program_of(files_of(trial.source), compiling, 1024)
             except (Refused, CompilerFailed) as fault:
                 self.programs[key] = fault
         found = self.programs[key]
@@ -190,8 +192,9 @@ class Trials:
 
 
 def digest_of_translator() -> str:
-    files = sorted(it for pattern in ("*.py", "runtime/*", "include/**/*", "csmith/*") for it in HERE.glob(pattern))
-    return hashlib.sha256(b"".join(it.read_bytes() for it in files if it.is_file() and not it.name.startswith(("try", "c2ms")))).hexdigest()[:12]
+    found = sorted(it for pattern in ("*.py", "runtime/*", "include/**/*", "csmith/*") for it in HERE.glob(pattern))
+    files = [it for it in found if it.is_file() and not it.name.startswith(("try", "c2ms"))]
+    return hashlib.sha256(b"".join(it.read_bytes() for it in files)).hexdigest()[:12]
 
 
 class Kept:
@@ -229,11 +232,12 @@ def csmith_trials(count: int, first: int) -> list[Trial]:
     for number in range(first, first + count):
         source = OUT / f"csmith{number}.c"
         if not source.exists():
-            made = ["csmith", "--seed", str(number), "--no-argc", "--no-float", "--concise", *CSMITH[number % len(CSMITH)].split()]
-            status, said = command([*made, "--output", str(source)], 60)
+            made = ["csmith", "--seed", str(number), *FOR_ALL.split(), *CSMITH[number % len(CSMITH)].split()]
+            half = source.with_suffix(".half")
+            status, said = command([*made, "--output", str(half)], 60)
             if status:
-                source.unlink(missing_ok=True)
                 raise SystemExit(f"csmith: {said}")
+            half.rename(source)
         trials.append(Trial(str(source), LEVELS[number // 3 % 3], WAYS[number // 2 % len(WAYS)], True))
     return trials
 
@@ -246,7 +250,8 @@ def table(rows: list[tuple[Trial, str]]) -> str:
         for key in ((kind, f"-O{trial.level}", str(trial.way)), (kind, "all", "all")):
             groups.setdefault(key, Counter())[result.split(":")[0]] += 1
     for (kind, level, way), counts in sorted(groups.items()):
-        lines.append(f"{kind:<10} {level:<6} {way:<36} {counts['same']:>6} {counts['refused']:>8} {counts['too long']:>9} {counts['different']:>10}")
+        row = f"{counts['same']:>6} {counts['refused']:>8} {counts['too long']:>9} {counts['different']:>10}"
+        lines.append(f"{kind:<10} {level:<6} {way:<36} {row}")
     return "\n".join(lines)
 
 
@@ -313,7 +318,8 @@ def result_of(trial: Trial) -> str:
 def tried(wanted: list[Trial], command: str, workers: int, end: float) -> Iterator[tuple[Trial, str]]:
     """The results, as they come, until the time is over."""
     waiting = list(reversed(wanted))
-    with tempfile.TemporaryDirectory() as folder, ProcessPoolExecutor(workers, initializer=begin_worker, initargs=(command, folder)) as pool:
+    folder = tempfile.TemporaryDirectory()
+    with folder as at, ProcessPoolExecutor(workers, initializer=begin_worker, initargs=(command, at)) as pool:
         running: dict[Future, Trial] = {}
         while waiting or running:
             while waiting and len(running) < 2 * workers and time.monotonic() < end:
