@@ -181,9 +181,11 @@ class Trials:
 
     def replayed(self, text: str, wanted: list[str]) -> str:
         script = self.folder / "run.events"
-        _, events = command([self.tool.command, "run", "--least", "--units", "4", "--emit", "script", text], 60)
+        first, events = command([self.tool.command, "run", "--least", "--units", "4", "--emit", "script", text], 60)
         script.write_text(events)
-        _, said = command([self.tool.command, "replay", "--least", "--units", "4", text, str(script)], 60)
+        second, said = command([self.tool.command, "replay", "--least", "--units", "4", text, str(script)], 60)
+        if min(first, second) < 0 or first == 3:
+            return "too long: the script of a run on 4 units"
         lines = said.split("\n")[:-1]
         count = events.count("\n")
         if lines[count:] != wanted or said.count(" ok\n") != count:
