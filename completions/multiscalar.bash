@@ -2,14 +2,14 @@
 
 _multiscalar_options() {
     case $1 in
-        seq) echo "--budget --help" ;;
-        print) echo "--help" ;;
-        annotate) echo "--emit --help" ;;
-        explain) echo "--format --no-warnings --help" ;;
-        check) echo "--workers --least --help" ;;
-        replay) echo "--units --emit --least --help" ;;
-        run) echo "--units --budget --predict --workers --schedule --emit --least --help" ;;
-        curve) echo "--units --budget --predict --emit --least --help" ;;
+        seq) echo "--budget --output --help" ;;
+        print) echo "--output --help" ;;
+        annotate) echo "--emit --in-place --output --help" ;;
+        explain) echo "--format --no-warnings --output --help" ;;
+        check) echo "--workers --least --output --help" ;;
+        replay) echo "--units --emit --least --output --help" ;;
+        run) echo "--units --budget --predict --workers --schedule --emit --least --output --help" ;;
+        curve) echo "--units --budget --predict --emit --least --output --help" ;;
     esac
 }
 

@@ -176,7 +176,7 @@ def of_example(folder, calls, units=2, workers=1):
 
 
 def served(folder, script="script.events"):
-    """Cases of `job_of` and `serve`."""
+    """Cases of `request_of` and `serve`."""
     lines = ["seq P", "print P", "annotate P", "annotate P --emit cert", "annotate P --emit keep", "annotate P --emit marks",
              "explain P", "explain P C", "explain P --no-warnings", "explain P C --format sarif",
              "check P C", "check P C --workers 4", "check P --least"]
@@ -187,7 +187,7 @@ def served(folder, script="script.events"):
     if (folder / script).exists():
         lines += ["replay P C S --units 2", "replay P --least S", *(f"replay P C S --units 2 --emit {emit}" for emit in ("summary", "svg", "trace", "json"))]
     for line in lines:
-        for call in ("serve", "job_of"):
+        for call in ("serve", "request_of"):
             yield Case(call, f"{folder.name}, {line}", folder / "program.s", folder / "certificate.cert2",
                        folder / (script if (folder / script).exists() else "program.s"), 1, 1, line.split())
 
@@ -255,7 +255,7 @@ def worked_cases(folder):
     yield from of_example(count, ["Unit::exec", "Unit::exec_ahead", "Machine::new", "apply", "finish", "Burst::run", "apply_burst", "run_threads"])
     yield from of_example(folder / "long tasks", ["Unit::take", "Burst::run", "apply_burst"])
     for line in ("seq P", "check P C --workers 3", "replay P C S --units 2", "run P C --units 2", "annotate P --emit cert"):
-        for call in ("job_of", "serve"):
+        for call in ("request_of", "serve"):
             yield Case(call, line, count / "program.s", count / "certificate.cert2", count / "script.events", 1, 1, line.split())
 
 

@@ -22,6 +22,7 @@ import urllib.parse
 import accepted as generator
 import costly_marks
 import explain
+import sarif_schema
 from accepted import accepted
 from model import Fault, assemble, certify, print_program, verdict
 
@@ -81,6 +82,7 @@ def read_log(text):
     """The results of a log, whose required fields are there; ValueError where something is wrong."""
     need(text.endswith(b"\n") and text.count(b"\n") == 1, "one line")
     log = json.loads(text.decode("utf-8"), object_pairs_hook=once)
+    sarif_schema.check(log, sarif_schema.LOG, "log")
     need(log["version"] == "2.1.0", "version")
     need(log["$schema"] == "https://json.schemastore.org/sarif-2.1.0.json", "$schema")
     need(isinstance(log["runs"], list) and len(log["runs"]) == 1, "one run")

@@ -24,6 +24,8 @@ commit=$(git rev-parse HEAD)
 SOURCE_DATE_EPOCH=$(git log -1 --format=%ct)
 export SOURCE_DATE_EPOCH
 toolchain=$(rt version)
+named=$(sed -n 's/^pub const VERSION_AND_TOOLCHAIN: &str = "\(.*\)";$/\1/p' crates/command_line/src/help.rt)
+[ "$version (proved with $toolchain)" = "$named" ] || refuse "this toolchain is $toolchain, and --version says $named"
 name=multiscalar-$version-x86_64-linux
 work=$(mktemp -d)
 trap 'rm -rf "$work"' EXIT

@@ -6,6 +6,7 @@ use Rattle.std.proofs.lemmas.Bool.{false≢true}
 use Rattle.mips_instructions.specs.declared.instruction.Op.TheVariants as op
 use Rattle.mips_instructions.specs.declared.instruction.LogicKind.TheVariants.{Ori}
 use Rattle.task_descriptor.specs.Listing.{Listing, build_fault}
+use Rattle.task_descriptor.specs.declared.program.BuildFault.{BuildFault}
 use Rattle.task_descriptor.specs.declared.program.BuildFault.TheVariants.{TooMany}
 use Rattle.task_descriptor.specs.declared.descriptor.Descriptor.{Descriptor}
 use Rattle.program_statements.specs.Steps.{◌>>=◌}
@@ -25,6 +26,7 @@ use Rattle.annotated_asm.specs.declared.item.Item.{Item}
 use Rattle.annotated_asm.specs.declared.layout.Layout.{Layout}
 use Rattle.annotated_asm.specs.Layout.{is_beyond}
 use Rattle.annotated_asm.specs.ProgramText.{built, program_of}
+use Rattle.annotated_asm.specs.Steps.{Answers}
 use Rattle.annotated_asm.specs.declared.table.Symbol.{Symbol}
 
 -- a stage without a fault
@@ -119,3 +121,8 @@ built_of items layout made within h =
     ap (λ (r : Result (Unit {0}) AsmFault). r >>= λ _. if is_beyond layout.sizes then Err (fault.Build TooMany) else (parts layout.labels no_parts items >>= λ p. built p (build_fault p))) (parts_known layout.labels no_parts made items h)
     ∙ (ap (λ b. if b then Err (fault.Build TooMany) else (parts layout.labels no_parts items >>= λ p. built p (build_fault p))) within
     ∙ ap (λ (r : Result Listing AsmFault). r >>= λ p. built p (build_fault p)) h)
+
+-- what the last stage gives is an answer to itself
+pub built_answers : (p : Listing) (f : Option BuildFault) → Answers (λ q. q) (built p f) (built p f)
+built_answers p None = refl
+built_answers p (Some f) = refl

@@ -1,22 +1,32 @@
 //! The assembler.
 
 ghost use Rattle.std.specs.Prelude.{◌≡◌, ◌⊎◌, Ok, Err, IfOk};
-ghost use Rattle.task_descriptor.specs.Listing.{Listing, listing_of};
+ghost use Rattle.task_descriptor.specs.Listing.{Listing, listing_of, build_fault};
 ghost use Rattle.annotated_asm.specs.Steps.{Answers};
-ghost use Rattle.annotated_asm.specs.ProgramText.{program_of, parse, Spells};
+ghost use Rattle.annotated_asm.specs.ProgramText.{built, program_of, parse, Spells};
 
 use crate::fault::AsmFault;
 use crate::item::{Item, items_of};
 use crate::layout::{Layout, is_beyond, laid_out};
 use crate::resolve::{check_names, parts_of};
 use std::alloc::Global;
-use task_descriptor::program::{BuildFault, Program};
+use task_descriptor::program::{BuildFault, Parts, Program};
 
 /// The longest text, in bytes.
 pub const MOST_TEXT: usize = 4_194_304;
 
 /// The most lines that such a text has: one more than its bytes.
 pub const MOST_LINES: usize = 4_194_305;
+
+/// The program that parts make. It takes no memory, so each refusal is the parts' own.
+fn built(parts: Parts) -> Result<Program, AsmFault>
+    ensures { result ≡ built (listing_of parts) (build_fault (listing_of parts)) }
+{
+    match Program::build(parts) {
+        Ok(program) => Ok(program),
+        Err((_, fault)) => Err(AsmFault::Build(fault)),
+    }
+}
 
 /// The program of items whose layout is known.
 #[tactic(auto, unfolding(crate::specs::ProgramText::program_of))]
@@ -35,10 +45,7 @@ fn program_of(alloc: Global, items: &[Item], layout: &Layout) -> Result<Program,
             return Err(fault);
         }
     };
-    match Program::build(parts) {
-        Ok(program) => Ok(program),
-        Err((_, fault)) => Err(AsmFault::Build(fault)),
-    }
+    built(parts)
 }
 
 /// The program that a text spells, or its first fault.

@@ -1,5 +1,5 @@
 -- Setting by setting: what is read of an argument changes in one place, or not at all.
-use Rattle.std.proofs.Common.{◌≡◌, ◌∙◌, ap, refl, false, [], ◌∷◌, Option, Some, Bor}
+use Rattle.std.proofs.Common.{◌≡◌, ◌∙◌, ap, refl, ℕ, false, [], ◌∷◌, Option, Some, Bor}
 use Rattle.clap.specs.Words.{Rule, Text, rule_of}
 use Rattle.clap.specs.declared.builder.arg.Arg.{Arg}
 use Rattle.clap.specs.declared.builder.ArgAction.{ArgAction}
@@ -19,6 +19,10 @@ set f new with_setting old by read local is =
 pub with_long : (old new : Arg) (name : Bor Text) {r : Rule} →
     new ≡ record old { long = Some name } → Is r old → Is (record r { long = Some name.now }) new
 with_long old new name by is = set (λ r. record r { long = Some name.now }) new _ old by refl refl is
+
+pub with_short : (old new : Arg) (letter : ℕ) {r : Rule} →
+    new ≡ record old { short = Some letter } → Is r old → Is (record r { short = Some letter }) new
+with_short old new letter by is = set (λ r. record r { short = Some letter }) new _ old by refl refl is
 
 pub with_value_name : (old new : Arg) (name : Bor Text) {r : Rule} →
     new ≡ record old { val_names = One name } → Is r old → Is (record r { value_names = 1 }) new

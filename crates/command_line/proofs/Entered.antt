@@ -11,10 +11,9 @@ use Rattle.clap.specs.declared.error.Error.{Error}
 use Rattle.clap.specs.declared.error.kind.ErrorKind.TheVariants as kind
 use Rattle.clap.specs.declared.parser.matches.ArgMatches.{ArgMatches}
 use Rattle.clap.specs.declared.parser.matches.ArgMatches.TheViews.{out-ArgMatches, out-SubCommand}
-use Rattle.jobs.specs.declared.job.Job.{Job}
-use Rattle.jobs.specs.declared.job.Paths.{Paths}
 use Rattle.command_line.specs.CommandLine.{command_line}
-use Rattle.command_line.specs.Asked.{AskFor, IsAsked, IsFaultOf, IsFrom, Reads, Refuses}
+use Rattle.command_line.specs.Asked.{AskFor, IsFaultOf, IsFrom, IsRequested, ReadsRequest, RefusesRequest}
+use Rattle.command_line.specs.declared.request.Request.{Request}
 use Rattle.command_line.specs.declared.words.UsageFault.{UsageFault}
 use Rattle.command_line.specs.declared.words.UsageFault.TheVariants.{Words, Predict, Emit, OutOfMemory}
 
@@ -77,25 +76,25 @@ named words right none =
     absurd (cc)
 
 fault_there : (words : List Text) (name : Text) (rows : List Row) (fault : UsageFault) →
-    fault_of command_line words ≡ [] → subcommand_of command_line words ≡ Some (name, rows) → Refuses name rows fault →
+    fault_of command_line words ≡ [] → subcommand_of command_line words ≡ Some (name, rows) → RefusesRequest name rows fault →
     IsFaultOf words fault
-fault_there words name rows (Words error) right e h = inr (right, subst (λ (o : Option (Text × List Row)). IsSomeAnd o (λ p. Refuses p.0 p.1 (Words error))) (sym e) h)
+fault_there words name rows (Words error) right e h = inr (right, subst (λ (o : Option (Text × List Row)). IsSomeAnd o (λ p. RefusesRequest p.0 p.1 (Words error))) (sym e) h)
 fault_there words name rows OutOfMemory right e h = tt
 fault_there words name rows Predict right e h =
-    (right, subst (λ (o : Option (Text × List Row)). IsSomeAnd o (λ p. Refuses p.0 p.1 Predict)) (sym e) h)
+    (right, subst (λ (o : Option (Text × List Row)). IsSomeAnd o (λ p. RefusesRequest p.0 p.1 Predict)) (sym e) h)
 fault_there words name rows Emit right e h =
-    (right, subst (λ (o : Option (Text × List Row)). IsSomeAnd o (λ p. Refuses p.0 p.1 Emit)) (sym e) h)
+    (right, subst (λ (o : Option (Text × List Row)). IsSomeAnd o (λ p. RefusesRequest p.0 p.1 Emit)) (sym e) h)
 
 -- what is read of the subcommand that the words name
-pub job_there : (words : List Text) (name : Text) (rows : List Row) (r : Result (Job × Paths) UsageFault) →
-    fault_of command_line words ≡ [] → subcommand_of command_line words ≡ Some (name, rows) → Reads name rows r →
-    IfOk r (λ asked. AskFor words asked.0 asked.1)
+pub job_there : (words : List Text) (name : Text) (rows : List Row) (r : Result Request UsageFault) →
+    fault_of command_line words ≡ [] → subcommand_of command_line words ≡ Some (name, rows) → ReadsRequest name rows r →
+    IfOk r (λ asked. AskFor words asked)
 job_there words name rows (Ok asked) right e h =
-    (right, subst (λ (o : Option (Text × List Row)). IsSomeAnd o (λ p. IsAsked p.0 p.1 asked.0 asked.1)) (sym e) h)
+    (right, subst (λ (o : Option (Text × List Row)). IsSomeAnd o (λ p. IsRequested p.0 p.1 asked)) (sym e) h)
 job_there words name rows (Err fault) right e h = tt
 
-pub no_job_there : (words : List Text) (name : Text) (rows : List Row) (r : Result (Job × Paths) UsageFault) →
-    fault_of command_line words ≡ [] → subcommand_of command_line words ≡ Some (name, rows) → Reads name rows r →
+pub no_job_there : (words : List Text) (name : Text) (rows : List Row) (r : Result Request UsageFault) →
+    fault_of command_line words ≡ [] → subcommand_of command_line words ≡ Some (name, rows) → ReadsRequest name rows r →
     IfErr r (IsFaultOf words)
 no_job_there words name rows (Ok asked) right e h = tt
 no_job_there words name rows (Err fault) right e h = fault_there words name rows fault right e h

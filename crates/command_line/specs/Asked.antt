@@ -1,7 +1,9 @@
 -- Which job the words of a command line ask for, over which files, or why none (own choice). Which
 -- subcommand the words name, and with which values, is what `clap` makes of them.
-use Rattle.std.specs.Prelude.{◌≡◌, ◌≢◌, ◌⊎◌, ◌≤◌, ℕ, Bool, true, false, not, List, [], Option, is_none, Some, None, Result, IsSome, IfSome, IsSomeAnd, ⊤, if◌then◌else◌, codes, option_and_then, MatchResult, unwrap_or}
+use Rattle.std.specs.Prelude.{◌≡◌, ◌≢◌, ◌⊎◌, ◌≤◌, ℕ, Bool, true, false, not, List, [], Option, is_none, Some, None, Result, Ok, Err, ◌&&◌, IsSome, IfSome, IsSomeAnd, ⊤, if◌then◌else◌, codes, option_and_then, MatchResult, unwrap_or}
 use Rattle.std.specs.String.{string_bytes}
+use Rattle.std.specs.declared.string.String.{String}
+use Rattle.std.specs.declared.alloc.Global.{Global}
 use Rattle.std.specs.List.{list_any}
 use Rattle.std.specs.Option.{option_map, option_map_or}
 use Rattle.std.specs.Str.{bytes_eq}
@@ -18,6 +20,7 @@ use Rattle.jobs.specs.Files.{HasFilesOf, has_certificate, has_script}
 use Rattle.jobs.specs.declared.job.CertificateSource.{CertificateSource}
 use Rattle.jobs.specs.declared.job.CertificateSource.TheVariants.{File, Least}
 use Rattle.jobs.specs.declared.job.Emit.{Emit}
+use Rattle.jobs.specs.declared.job.Emit.TheVariants as emit
 use Rattle.jobs.specs.declared.job.Format.{Format}
 use Rattle.jobs.specs.declared.job.ReplayEmit.{ReplayEmit}
 use Rattle.jobs.specs.declared.job.RunEmit.{RunEmit}
@@ -29,6 +32,7 @@ use Rattle.jobs.specs.declared.job.Job.TheVariants.{Seq, Print, Annotate, Explai
 use Rattle.jobs.specs.declared.job.Paths.{Paths}
 use Rattle.command_line.specs.Words.{curve_emit_of, emit_of, format_of, prediction_of, replay_emit_of, run_emit_of, schedule_of}
 use Rattle.command_line.specs.CommandLine.{command_line}
+use Rattle.command_line.specs.declared.request.Request.{Request}
 use Rattle.command_line.specs.declared.words.UsageFault.{UsageFault}
 use Rattle.command_line.specs.declared.words.UsageFault.TheVariants.{Words, Predict, Emit as EmitFault, OutOfMemory}
 
@@ -54,9 +58,6 @@ schedule_in values = option_and_then schedule_of (first_of (codes "schedule") va
 abbrev pub format_in : List Row → Option Format
 format_in values = option_and_then format_of (first_of (codes "format") values)
 
-abbrev pub emit_in : List Row → Option Emit
-emit_in values = option_and_then emit_of (first_of (codes "emit") values)
-
 abbrev pub run_emit_in : List Row → Option RunEmit
 run_emit_in values = option_and_then run_emit_of (first_of (codes "emit") values)
 
@@ -69,6 +70,15 @@ curve_emit_in values = option_and_then curve_emit_of (first_of (codes "emit") va
 -- an option without a value is given
 abbrev pub is_given : Text → List Row → Bool
 is_given id values = option_map_or (λ word. bytes_eq word (codes "true")) (first_of id values) false
+
+-- the result takes the place of the program text
+abbrev pub is_in_place : List Row → Bool
+is_in_place values = is_given (codes "in-place") values
+
+-- the value of `--emit` of `annotate`
+abbrev pub emit_in : List Row → Option Emit
+emit_in values =
+    emit_of (unwrap_or (first_of (codes "emit") values) (if is_in_place values then codes "marks" else codes "text"))
 
 -- `--least` is given
 abbrev pub is_least : List Row → Bool
@@ -134,11 +144,37 @@ Names values job paths = (first_of (codes "program") values ≡ Some (string_byt
 abbrev pub IsAsked : Text → List Row → Job → Paths → Type 0
 IsAsked name values job paths = Gives name values job × Names values job paths × HasFilesOf job paths
 
--- the words ask for the job over these files: `clap` has no fault for them, and the subcommand that it
--- makes of them gives the job
-abbrev pub AskFor : List Text → Job → Paths → Type 0
-AskFor words job paths = (fault_of command_line words ≡ [])
-    × IsSomeAnd (subcommand_of command_line words) (λ p. IsAsked p.0 p.1 job paths)
+-- the job writes a program text
+abbrev pub writes_program : Job → Bool
+writes_program (Annotate emit.Text) = true
+writes_program (Annotate emit.Marks) = true
+writes_program _ = false
+
+-- `--in-place` can be meant: nothing else takes the result, which is a program text, and the program is in a file
+abbrev pub fits_in_place : List Row → Job → Bool
+fits_in_place values job = is_none (first_of (codes "output") values)
+    && (writes_program job && option_map_or (λ name. not (bytes_eq name (codes "-"))) (first_of (codes "program") values) false)
+
+-- the file of this name, where it is not `-`, standard output
+abbrev pub but_standard : Text → Option Text
+but_standard name = if bytes_eq name (codes "-") then None else Some name
+
+-- the file that takes the result, none for standard output; `None` where `--in-place` cannot be meant
+abbrev pub destination_in : List Row → Job → Option (Option Text)
+destination_in values job =
+    if is_in_place values then (if fits_in_place values job then Some (first_of (codes "program") values) else None)
+    else Some (option_and_then but_standard (first_of (codes "output") values))
+
+-- the request of a subcommand with these values
+abbrev pub IsRequested : Text → List Row → Request → Type 0
+IsRequested name values request = IsAsked name values request.job request.paths
+    × (destination_in values request.job ≡ Some (option_map string_bytes request.output))
+
+-- the words ask for this: `clap` has no fault for them, and it is the request of the subcommand that `clap` makes
+-- of them
+abbrev pub AskFor : List Text → Request → Type 0
+AskFor words request = (fault_of command_line words ≡ [])
+    × IsSomeAnd (subcommand_of command_line words) (λ p. IsRequested p.0 p.1 request)
 
 -- a number is given and is none from 1 to the most
 abbrev pub IsOutside : (most : ℕ) → Option ℕ → Type 0
@@ -198,6 +234,24 @@ Refuses name values fault = IsLack (Lacks name values) fault
 abbrev pub Reads : Text → List Row → Result (Job × Paths) UsageFault → Type 0
 Reads name values result = MatchResult result (λ r. IsAsked name values r.0 r.1) (Refuses name values)
 
+-- what reading the file that takes the result comes to
+abbrev pub IsDestination : Option (Option Text) → Result (Option (String Global)) UsageFault → Type 0
+IsDestination destination (Ok output) = destination ≡ Some (option_map string_bytes output)
+IsDestination destination (Err fault) = (fault ≡ OutOfMemory) ⊎ (IsOfKind kind.ArgumentConflict fault × (destination ≡ None))
+
+-- the job is given, and `--in-place` cannot be meant
+abbrev pub IsMisplaced : Text → List Row → UsageFault → Type 0
+IsMisplaced name values fault = IsOfKind kind.ArgumentConflict fault
+    × (job : Job) × (paths : Paths) × IsAsked name values job paths × (destination_in values job ≡ None)
+
+-- why a subcommand with these values asks for nothing
+abbrev pub RefusesRequest : Text → List Row → UsageFault → Type 0
+RefusesRequest name values fault = Refuses name values fault ⊎ IsMisplaced name values fault
+
+-- what a subcommand with these values asks for
+abbrev pub ReadsRequest : Text → List Row → Result Request UsageFault → Type 0
+ReadsRequest name values result = MatchResult result (IsRequested name values) (RefusesRequest name values)
+
 -- a fault of `clap`'s, or memory ran out
 abbrev pub IsFrom : Error → UsageFault → Type 0
 IsFrom error (Words same) = (same ≡ error) × (kind_of error ≢ kind.OutOfMemory)
@@ -206,7 +260,7 @@ IsFrom error fault = (fault ≡ OutOfMemory) × (kind_of error ≡ kind.OutOfMem
 -- `clap` has no fault for the words, and the subcommand that it makes of them gives no job
 abbrev pub IsRefused : List Text → UsageFault → Type 0
 IsRefused words fault = (fault_of command_line words ≡ [])
-    × IsSomeAnd (subcommand_of command_line words) (λ p. Refuses p.0 p.1 fault)
+    × IsSomeAnd (subcommand_of command_line words) (λ p. RefusesRequest p.0 p.1 fault)
 
 -- why the words ask for no job: `clap`'s fault has one of the kinds that it has for them; or it has none,
 -- and the subcommand gives no job

@@ -20,10 +20,17 @@ free_file id = record (new_rule id) { action = Some Set; value_names = 1 }
 abbrev pub flag : Text → Rule
 flag id = record (new_rule id) { long = Some id; action = Some SetTrue }
 
--- an option `--id` with a word for its value, and the word that it has where it is not given
+-- an option `--id` with a word for its value; it need not be given
+abbrev pub free_word : Text → Rule
+free_word id = record (new_rule id) { long = Some id; action = Some Set; value_names = 1 }
+
+-- the same with the word that it has where it is not given
 abbrev pub word : Text → Text → Rule
-word id otherwise =
-    record (new_rule id) { long = Some id; action = Some Set; value_names = 1; defaults = otherwise ∷ [] }
+word id otherwise = record (free_word id) { defaults = otherwise ∷ [] }
+
+-- an option `--id` with a file for its value, which has a letter, too; it need not be given
+abbrev pub file_option : Text → ℕ → Rule
+file_option id letter = record (free_word id) { short = Some letter }
 
 -- an option `--id` with a number 1..=most for its value; it need not be given
 abbrev pub free_number : Text → ℕ → Rule
@@ -54,6 +61,14 @@ free_script = free_file (codes "script")
 -- the least certificate in place of one that is named
 abbrev pub least : Rule
 least = flag (codes "least")
+
+-- the file that takes the result: `--output` or `-o`
+abbrev pub output : Rule
+output = file_option (codes "output") 111
+
+-- the program's own file takes the result
+abbrev pub in_place : Rule
+in_place = flag (codes "in-place")
 
 -- no warnings of marks that are right but cost speed
 abbrev pub no_warnings : Rule
@@ -88,31 +103,31 @@ abbrev pub subcommand : Text → List Rule → Shape
 subcommand name rules = record (new_shape name) { rules = rules }
 
 abbrev pub seq : Shape
-seq = subcommand (codes "seq") (program ∷ budget ∷ [])
+seq = subcommand (codes "seq") (program ∷ budget ∷ output ∷ [])
 
 abbrev pub print : Shape
-print = subcommand (codes "print") (program ∷ [])
+print = subcommand (codes "print") (program ∷ output ∷ [])
 
 abbrev pub annotate : Shape
-annotate = subcommand (codes "annotate") (program ∷ word (codes "emit") (codes "text") ∷ [])
+annotate = subcommand (codes "annotate") (program ∷ free_word (codes "emit") ∷ output ∷ in_place ∷ [])
 
 abbrev pub explain : Shape
-explain = subcommand (codes "explain") (program ∷ free_certificate ∷ no_warnings ∷ layout ∷ [])
+explain = subcommand (codes "explain") (program ∷ free_certificate ∷ no_warnings ∷ layout ∷ output ∷ [])
 
 abbrev pub check : Shape
-check = subcommand (codes "check") (program ∷ free_certificate ∷ least ∷ checkers ∷ [])
+check = subcommand (codes "check") (program ∷ free_certificate ∷ least ∷ checkers ∷ output ∷ [])
 
 abbrev pub replay : Shape
 replay = subcommand (codes "replay") (program ∷ certificate ∷ free_script ∷ least ∷ units
-    ∷ word (codes "emit") (codes "answers") ∷ [])
+    ∷ word (codes "emit") (codes "answers") ∷ output ∷ [])
 
 abbrev pub run : Shape
 run = subcommand (codes "run") (program ∷ free_certificate ∷ least ∷ schedule ∷ units ∷ workers ∷ budget
-    ∷ word (codes "predict") (codes "first") ∷ word (codes "emit") (codes "report") ∷ [])
+    ∷ word (codes "predict") (codes "first") ∷ word (codes "emit") (codes "report") ∷ output ∷ [])
 
 abbrev pub curve : Shape
 curve = subcommand (codes "curve") (program ∷ free_certificate ∷ least ∷ most_units ∷ budget
-    ∷ word (codes "predict") (codes "first") ∷ word (codes "emit") (codes "table") ∷ [])
+    ∷ word (codes "predict") (codes "first") ∷ word (codes "emit") (codes "table") ∷ output ∷ [])
 
 -- the program, which has a version, and of which a subcommand is wanted
 abbrev pub program_name : Shape
@@ -131,11 +146,12 @@ alone s = record { top = s; subs = [] }
 
 abbrev pub app_named : Text → App
 app_named name =
-    if bytes_eq name (codes "explain") then alone explain
+    if bytes_eq name (codes "annotate") then alone annotate
+    else (if bytes_eq name (codes "explain") then alone explain
     else (if bytes_eq name (codes "check") then alone check
     else (if bytes_eq name (codes "replay") then alone replay
     else (if bytes_eq name (codes "run") then alone run
-    else (if bytes_eq name (codes "curve") then alone curve else command_line))))
+    else (if bytes_eq name (codes "curve") then alone curve else command_line)))))
 
 -- the command is the subcommand s, without an argument that is global
 abbrev pub IsSubcommand : Shape → Command → Type 0

@@ -1,3 +1,4 @@
 pub mod Words
 pub mod CommandLine
 pub mod Asked
+pub mod Examples

@@ -1,7 +1,11 @@
 //! What `--help` and `--version` say.
 
-/// The version that `--version` names.
+/// The version.
 pub const VERSION: &str = "0.1.0";
+
+/// What `--version` says behind the program's name: the version, and the toolchain that proves the program, as
+/// `rt version` names it. `release/build.sh` builds with no other.
+pub const VERSION_AND_TOOLCHAIN: &str = "0.1.0 (proved with rattle-kit-13f logic dac8208d650f15bf)";
 
 /// What the program is for, in one line.
 pub const PROGRAM: &str = "Runs and checks annotated Multiscalar programs";
@@ -22,8 +26,8 @@ pub const STATUS: &str = "Exit status:
   2  wrong usage, a file that cannot be read, out of memory, or output that cannot be written
   3  out of budget
 
-Results and refusals of texts go to standard output. A fault of status 2 is one line on standard
-error; wrong usage is explained there.";
+Results and refusals of texts go to standard output; with -o FILE, results go to FILE. A fault of
+status 2 is one line on standard error; wrong usage is explained there.";
 
 /// `seq`, in one line.
 pub const SEQ: &str = "Runs a program, one instruction after another";
@@ -55,18 +59,21 @@ For example:
 /// `annotate`, in one line.
 pub const ANNOTATE: &str = "Proposes a program's annotations, or its certificate";
 
+/// The usage of `annotate`.
+pub const ANNOTATE_USAGE: &str = "multiscalar annotate [OPTIONS] <PROGRAM>";
+
 /// `annotate`.
 pub const ANNOTATE_LONG: &str =
     "Proposes which registers each task creates and where values are forwarded; stops, releases and
 targets stay as they are. The proposal is not trusted: `check` judges it like any other.
 
 With `--emit marks` it writes your own text with the proposed create masks and forward bits; comments,
-labels and layout stay as they are.
+labels and layout stay as they are. With `--in-place` that text takes the place of PROGRAM.
 
 For example, a certificate of the program as it stands:
   ./multiscalar annotate --emit keep examples/count/program.s
 and a text with new marks in place of the old:
-  ./multiscalar annotate --emit marks examples/five-findings/program.s";
+  ./multiscalar annotate --emit marks -o right.s examples/five-findings/program.s";
 
 /// `explain`, in one line.
 pub const EXPLAIN: &str = "Says which of a program's annotations are wrong, and why";
@@ -252,7 +259,21 @@ pub const CURVE_BUDGET: &str = "How many events end a run, 1 to 1000000";
 /// `--emit` of `annotate`.
 pub const ANNOTATE_EMIT: &str =
     "What is written: text (the proposed program), cert (its certificate), keep (the certificate of the
-program as it stands) or marks (your own text with the proposed marks)";
+program as it stands) or marks (your own text with the proposed marks)
+
+[default: text; with --in-place: marks]";
+
+/// `--output`.
+pub const OUTPUT: &str =
+    "Writes the result to FILE, whole or not at all; a text that is refused leaves FILE as it is";
+
+/// `--in-place`.
+pub const IN_PLACE: &str =
+    "Writes the text with the proposed marks to PROGRAM itself, whole or not at all";
+
+/// Why words with `--in-place` give no job.
+pub const NOT_IN_PLACE: &str =
+    "with --in-place PROGRAM is a file, there is no --output, and the value of --emit is marks or text";
 
 /// `--emit` of `replay`.
 pub const REPLAY_EMIT: &str =

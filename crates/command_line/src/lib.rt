@@ -2,5 +2,6 @@
 #![tactic(auto)]
 
 pub mod help;
+pub mod request;
 mod subcommands;
 pub mod words;

@@ -2,9 +2,9 @@
 ghost use Rattle.std.specs.Prelude.{◌≡◌, ◌≤◌, IfOk, IsOkAnd, false};
 ghost use Rattle.clap.specs.Words.{AddsSubcommand, app_of, new_app, rule_of};
 ghost use Rattle.clap.specs.declared.builder.command.Command.TheViews.{out-Command as fields_of};
-ghost use Rattle.command_line.specs.CommandLine.{IsSubcommand, app_named, command_line, program_name as program_name_shape, file as file_rule, flag as flag_rule, free_file as free_file_rule, word as word_rule};
+ghost use Rattle.command_line.specs.CommandLine.{IsSubcommand, app_named, command_line, program_name as program_name_shape, file as file_rule, file_option as file_option_rule, free_word as free_word_rule, flag as flag_rule, free_file as free_file_rule, word as word_rule};
 ghost use Rattle.command_line.specs.CommandLine.{free_number as free_number_rule, number as number_rule};
-ghost use Rattle.command_line.specs.CommandLine.{program as program_rule, certificate as certificate_rule, free_certificate as free_certificate_rule, free_script as free_script_rule, least as least_rule, no_warnings as no_warnings_rule, layout as layout_rule, schedule as schedule_rule};
+ghost use Rattle.command_line.specs.CommandLine.{program as program_rule, certificate as certificate_rule, free_certificate as free_certificate_rule, free_script as free_script_rule, least as least_rule, output as output_rule, in_place as in_place_rule, no_warnings as no_warnings_rule, layout as layout_rule, schedule as schedule_rule};
 ghost use Rattle.command_line.specs.CommandLine.{budget as budget_rule, units as units_rule, most_units as most_units_rule, checkers as checkers_rule, workers as workers_rule};
 ghost use Rattle.command_line.specs.CommandLine.{seq as seq_shape, print as print_shape, annotate as annotate_shape, explain as explain_shape, check as check_shape, replay as replay_shape, run as run_shape, curve as curve_shape};
 
@@ -34,6 +34,7 @@ pub(crate) fn command_named<'a>(alloc: Global, name: &str) -> Result<Command<'a>
     ensures { IfOk result (λ c. app_of c ≡ app_named name.now) }
 {
     match name {
+        "annotate" => annotate(alloc),
         "explain" => explain(alloc),
         "check" => check(alloc),
         "replay" => replay(alloc),
@@ -59,7 +60,7 @@ fn program_name<'a>(alloc: Global) -> Command<'a>
     ensures { IsSubcommand program_name_shape result }
 {
     subcommand(alloc, "multiscalar", help::PROGRAM, help::PROGRAM_LONG)
-        .version(help::VERSION)
+        .version(help::VERSION_AND_TOOLCHAIN)
         .after_help(help::STATUS)
         .subcommand_required(true)
 }
@@ -71,6 +72,19 @@ fn free_file<'a>(alloc: Global, id: &'a str, name: &'a str, text: &'a str) -> Ar
 {
     Arg::new(alloc, id)
         .value_name(name)
+        .help(text)
+        .action(ArgAction::Set)
+}
+
+// An option with a file for its value, which has a letter, too; it need not be given.
+fn file_option<'a>(alloc: Global, id: &'a str, letter: char, text: &'a str) -> Arg<'a>
+    ensures rule { rule_of result ≡ file_option_rule id.entry.now letter }
+    ensures local { result.global ≡ false }
+{
+    Arg::new(alloc, id)
+        .long(id)
+        .short(letter)
+        .value_name("FILE")
         .help(text)
         .action(ArgAction::Set)
 }
@@ -94,9 +108,9 @@ fn flag<'a>(alloc: Global, id: &'a str, text: &'a str) -> Arg<'a>
         .action(ArgAction::SetTrue)
 }
 
-// An option with a word for its value, and the word that it has where it is not given.
-fn word<'a>(alloc: Global, id: &'a str, name: &'a str, text: &'a str, otherwise: &'a str) -> Arg<'a>
-    ensures rule { rule_of result ≡ word_rule id.entry.now otherwise.entry.now }
+// An option with a word for its value; it need not be given.
+fn free_word<'a>(alloc: Global, id: &'a str, name: &'a str, text: &'a str) -> Arg<'a>
+    ensures rule { rule_of result ≡ free_word_rule id.entry.now }
     ensures local { result.global ≡ false }
 {
     Arg::new(alloc, id)
@@ -104,7 +118,14 @@ fn word<'a>(alloc: Global, id: &'a str, name: &'a str, text: &'a str, otherwise:
         .value_name(name)
         .help(text)
         .action(ArgAction::Set)
-        .default_value(otherwise)
+}
+
+// An option with a word for its value, and the word that it has where it is not given.
+fn word<'a>(alloc: Global, id: &'a str, name: &'a str, text: &'a str, otherwise: &'a str) -> Arg<'a>
+    ensures rule { rule_of result ≡ word_rule id.entry.now otherwise.entry.now }
+    ensures local { result.global ≡ false }
+{
+    free_word(alloc, id, name, text).default_value(otherwise)
 }
 
 // An option with a number for its value, from 1; it need not be given.
@@ -164,6 +185,22 @@ fn least<'a>(alloc: Global) -> Arg<'a>
     ensures local { result.global ≡ false }
 {
     flag(alloc, "least", help::LEAST)
+}
+
+// The file that takes the result.
+fn output<'a>(alloc: Global) -> Arg<'a>
+    ensures rule { rule_of result ≡ output_rule }
+    ensures local { result.global ≡ false }
+{
+    file_option(alloc, "output", 'o', help::OUTPUT)
+}
+
+// The program's own file takes the result.
+fn in_place<'a>(alloc: Global) -> Arg<'a>
+    ensures rule { rule_of result ≡ in_place_rule }
+    ensures local { result.global ≡ false }
+{
+    flag(alloc, "in-place", help::IN_PLACE)
 }
 
 fn no_warnings<'a>(alloc: Global) -> Arg<'a>
@@ -246,22 +283,29 @@ fn seq<'a>(alloc: Global) -> Result<Command<'a>, AllocError>
 {
     subcommand(alloc, "seq", help::SEQ, help::SEQ_LONG)
         .arg(program(alloc))?
-        .arg(budget(alloc, "The most instructions, 1 to 1000000"))
+        .arg(budget(alloc, "The most instructions, 1 to 1000000"))?
+        .arg(output(alloc))
 }
 
 fn print<'a>(alloc: Global) -> Result<Command<'a>, AllocError>
     ensures { IfOk result (IsSubcommand print_shape) }
 {
-    subcommand(alloc, "print", help::PRINT, help::PRINT_LONG).arg(program(alloc))
+    subcommand(alloc, "print", help::PRINT, help::PRINT_LONG)
+        .arg(program(alloc))?
+        .arg(output(alloc))
 }
 
 fn annotate<'a>(alloc: Global) -> Result<Command<'a>, AllocError>
     ensures { IfOk result (IsSubcommand annotate_shape) }
 {
-    let emit = word(alloc, "emit", "WHAT", help::ANNOTATE_EMIT, "text");
-    subcommand(alloc, "annotate", help::ANNOTATE, help::ANNOTATE_LONG)
-        .arg(program(alloc))?
-        .arg(emit)
+    let arguments = vec![in alloc;
+        program(alloc),
+        free_word(alloc, "emit", "WHAT", help::ANNOTATE_EMIT),
+        output(alloc),
+        in_place(alloc),
+    ]?;
+    let command = subcommand(alloc, "annotate", help::ANNOTATE, help::ANNOTATE_LONG);
+    with_usage(command, help::ANNOTATE_USAGE).args(arguments)
 }
 
 fn explain<'a>(alloc: Global) -> Result<Command<'a>, AllocError>
@@ -272,6 +316,7 @@ fn explain<'a>(alloc: Global) -> Result<Command<'a>, AllocError>
         free_certificate(alloc, help::EXPLAIN_CERTIFICATE),
         no_warnings(alloc),
         layout(alloc),
+        output(alloc),
     ]?;
     let command = subcommand(alloc, "explain", help::EXPLAIN, help::EXPLAIN_LONG);
     with_usage(command, help::EXPLAIN_USAGE).args(arguments)
@@ -285,6 +330,7 @@ fn check<'a>(alloc: Global) -> Result<Command<'a>, AllocError>
         free_certificate(alloc, help::CERTIFICATE),
         least(alloc),
         checkers(alloc),
+        output(alloc),
     ]?;
     let command = subcommand(alloc, "check", help::CHECK, help::CHECK_LONG);
     with_usage(command, help::CHECK_USAGE).args(arguments)
@@ -300,6 +346,7 @@ fn replay<'a>(alloc: Global) -> Result<Command<'a>, AllocError>
         least(alloc),
         units(alloc),
         word(alloc, "emit", "WHAT", help::REPLAY_EMIT, "answers"),
+        output(alloc),
     ]?;
     let command = subcommand(alloc, "replay", help::REPLAY, help::REPLAY_LONG);
     with_usage(command, help::REPLAY_USAGE).args(arguments)
@@ -318,6 +365,7 @@ fn run<'a>(alloc: Global) -> Result<Command<'a>, AllocError>
         budget(alloc, help::RUN_BUDGET),
         word(alloc, "predict", "HOW", help::PREDICT, "first"),
         word(alloc, "emit", "WHAT", help::RUN_EMIT, "report"),
+        output(alloc),
     ]?;
     let command = subcommand(alloc, "run", help::RUN, help::RUN_LONG);
     with_usage(command, help::RUN_USAGE).args(arguments)
@@ -334,6 +382,7 @@ fn curve<'a>(alloc: Global) -> Result<Command<'a>, AllocError>
         budget(alloc, help::CURVE_BUDGET),
         word(alloc, "predict", "HOW", help::PREDICT, "first"),
         word(alloc, "emit", "WHAT", help::CURVE_EMIT, "table"),
+        output(alloc),
     ]?;
     let command = subcommand(alloc, "curve", help::CURVE, help::CURVE_LONG);
     with_usage(command, help::CURVE_USAGE).args(arguments)

@@ -4,12 +4,13 @@ ghost use Rattle.std.specs.String.{string_bytes};
 ghost use Rattle.std.specs.List.{slice_split};
 ghost use Rattle.clap.specs.Words.{first_of};
 ghost use Rattle.clap.specs.declared.error.kind.ErrorKind.TheVariants.{InvalidValue, MissingSubcommand};
-ghost use Rattle.command_line.specs.Asked.{AskFor, IsFaultOf, IsFrom, IsLack, IsMisfit, IsNoNumber, IsNoValue, IsOutside, IsOfKind, IsSource, Reads, is_given, curve_emit_in, emit_in, format_in, number_at, predict_in, replay_emit_in, run_emit_in, schedule_in, values_in};
+ghost use Rattle.command_line.specs.Asked.{AskFor, IsFaultOf, IsFrom, IsLack, IsMisfit, IsNoNumber, IsNoValue, IsOutside, IsOfKind, IsSource, Reads, ReadsRequest, IsDestination, destination_in, is_in_place, is_given, curve_emit_in, fits_in_place, emit_in, format_in, number_at, predict_in, replay_emit_in, run_emit_in, schedule_in, values_in};
 ghost use Rattle.command_line.specs.Words.{listed_number, listed_numbers, all_there, curve_emit_of, emit_of, format_of, prediction_of, replay_emit_of, run_emit_of, schedule_of};
 ghost use Rattle.jobs.specs.Files.{HasFilesOf, is_in_file};
 ghost use Rattle.command_line.specs.declared.words.UsageFault.TheVariants.{OutOfMemory, Predict, Emit as EmitFault};
 
 use crate::help;
+use crate::request::Request;
 use crate::subcommands::{command, command_named};
 use clap::ArgMatches;
 use clap::error::ErrorKind;
@@ -28,8 +29,9 @@ pub enum UsageFault {
     /// certificate nor `--least`, or both; or the value of an option is none: of `--schedule` neither `threads`
     /// nor `steps`; of `--format` neither `text` nor `sarif`; of `--emit` for `replay` none of `answers`,
     /// `summary`, `svg`, `trace` and `json`, for `run` none of `report`, `script`, `summary`, `svg`, `trace` and
-    /// `json`, for `curve` neither `table` nor `svg`; of `--predict` for `curve` as below. The fault is `clap`'s,
-    /// with its text.
+    /// `json`, for `curve` neither `table` nor `svg`; of `--predict` for `curve` as below; or `--in-place` stands
+    /// beside `--output` or a certificate that is to be written, or the program is standard input. The fault is
+    /// `clap`'s, with its text.
     #[error("1 Words")]
     Words(clap::Error),
     /// 2: for `run`, the value of `--predict` is neither `first`, `last` nor 1 to 64 numbers 0..=15.
@@ -62,20 +64,82 @@ impl From<clap::Error> for UsageFault {
     }
 }
 
-/// The job that a command line asks for, and the names of its files. The first word is the program's
-/// own name. What `clap` decides comes first, then whether there are as many files as `--least` asks for,
-/// then the values of `--format`, of `--schedule`, of `--predict` for `curve`, of `--emit`, and at last of
-/// `--predict` for `run`. (own choice)
-pub fn job_of(alloc: Global, words: &[String]) -> Result<(Job, Paths), UsageFault>
-    ensures files { IfOk result (λ r. HasFilesOf r.0 r.1) }
-    ensures job { IfOk result (λ r. AskFor (map string_bytes words.now) r.0 r.1) }
+/// What a command line asks for. The first word is the program's own name. What `clap` decides comes first,
+/// then whether there are as many files as `--least` asks for, then the values of `--format`, of `--schedule`, of
+/// `--predict` for `curve`, of `--emit`, of `--predict` for `run`, and at last whether `--in-place` can be meant.
+/// (own choice)
+pub fn request_of(alloc: Global, words: &[String]) -> Result<Request, UsageFault>
+    ensures files { IfOk result (λ r. HasFilesOf r.job r.paths) }
+    ensures request { IfOk result (λ r. AskFor (map string_bytes words.now) r) }
     ensures fault { IfErr result (IsFaultOf (map string_bytes words.now)) }
 {
     let matches = command(alloc)?.try_get_matches_from(words)?;
     match matches.subcommand() {
-        Some((name, values)) => read_job(alloc, name, values),
+        Some((name, values)) => read_request(alloc, name, values),
         None => Err(no_job(alloc)),
     }
+}
+
+// What a subcommand asks for.
+fn read_request(alloc: Global, name: &str, values: &ArgMatches<'_>) -> Result<Request, UsageFault>
+    ensures { ReadsRequest name.now (values_in values.now) result }
+{
+    let (job, paths) = read_job(alloc, name, values)?;
+    let output = read_output(alloc, values, &job)?;
+    Ok(Request { job, paths, output })
+}
+
+// The file that takes the result of a job, if it is not standard output.
+fn read_output(
+    alloc: Global,
+    values: &ArgMatches<'_>,
+    job: &Job,
+) -> Result<Option<String>, UsageFault>
+    ensures { IsDestination (destination_in (values_in values.now) job.now) result }
+{
+    if is_given(values, "in-place") {
+        return read_place(alloc, values, job);
+    }
+    match text(values, "output") {
+        Some("-") => Ok(None),
+        Some(name) => Ok(Some(String::from_str(alloc, name)?)),
+        None => Ok(None),
+    }
+}
+
+// The program's own file, where it may take the result.
+fn read_place(
+    alloc: Global,
+    values: &ArgMatches<'_>,
+    job: &Job,
+) -> Result<Option<String>, UsageFault>
+    requires { is_in_place (values_in values.now) ≡ true }
+    ensures { IsDestination (destination_in (values_in values.now) job.now) result }
+{
+    if fits_in_place(values, job) {
+        free_path(alloc, values, "program")
+    } else {
+        Err(fault_of_kind(
+            alloc,
+            "annotate",
+            ErrorKind::ArgumentConflict,
+            help::NOT_IN_PLACE,
+        ))
+    }
+}
+
+// Whether `--in-place` can be meant.
+fn fits_in_place(values: &ArgMatches<'_>, job: &Job) -> bool
+    ensures { result ≡ fits_in_place (values_in values.now) job.now }
+{
+    text(values, "output").is_none()
+        && matches!(
+            job,
+            Job::Annotate {
+                emit: Emit::Text | Emit::Marks
+            }
+        )
+        && text(values, "program").is_some_and(|name| name != "-")
 }
 
 // The fault of words that `clap` lets through and that are no job, of which there are none.
@@ -333,9 +397,13 @@ fn read_print(alloc: Global, values: &ArgMatches<'_>) -> Result<(Job, Paths), Us
 fn read_annotate(alloc: Global, values: &ArgMatches<'_>) -> Result<(Job, Paths), UsageFault>
     ensures { Reads (codes "annotate") (values_in values.now) result }
 {
-    let emit = text(values, "emit")
-        .and_then(read_emit)
-        .ok_or(UsageFault::Emit)?;
+    let otherwise = if is_given(values, "in-place") {
+        "marks"
+    } else {
+        "text"
+    };
+    let emit = text(values, "emit").unwrap_or(otherwise);
+    let emit = read_emit(emit).ok_or(UsageFault::Emit)?;
     Ok((Job::Annotate { emit }, program_path(alloc, values)?))
 }
 

@@ -1,9 +1,14 @@
-//! The program `multiscalar`. What it does is in `program_edge`; here it is given its two streams.
+//! The program `multiscalar`. What it does is in `program_edge`; here it is given its two streams, and the files that it
+//! may write.
 #![tactic(auto)]
 
 use program_edge::program::run;
+use std::process;
 use std::process::ExitCode;
+use whole_file::system::SystemFolder;
 
 fn main(rt: HostRuntime) -> ExitCode {
-    ExitCode::from(run(&rt, &mut rt.stdout(), &mut rt.stderr()))
+    let mut folder = SystemFolder::new(&rt, process::id(rt.process()));
+    let status = run(&rt, &mut folder, &mut rt.stdout(), &mut rt.stderr());
+    ExitCode::from(status)
 }

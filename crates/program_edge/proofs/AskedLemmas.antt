@@ -6,8 +6,7 @@ use Rattle.std.specs.declared.alloc.Global.{Global}
 use Rattle.std.specs.declared.string.String.{String}
 use Rattle.std.specs.declared.vec.Vec.{Vec}
 use Rattle.clap.specs.Words.{Text}
-use Rattle.jobs.specs.declared.job.Job.{Job}
-use Rattle.jobs.specs.declared.job.Paths.{Paths}
+use Rattle.command_line.specs.declared.request.Request.{Request}
 use Rattle.command_line.specs.declared.words.UsageFault.TheVariants as usage
 use Rattle.program_edge.specs.declared.fault.Fault.{Fault}
 use Rattle.program_edge.specs.declared.fault.Fault.TheVariants.{OutOfMemory}
@@ -28,7 +27,7 @@ unread known got fault is h = go known (subst (AreWordsOf known) is h)
     go NotAllTexts (inr e) = inr (ap (λ f. Err f) e)
     go (Are words) e = subst (λ f. IsAskedBy words (Err f)) (sym e) (out_of_memory words)
 
-pub read : (known : KnownWords) (got : Result (Vec (String Global) Global) Fault) (words : Vec (String Global) Global) (asked : Result (Job × Paths) Fault)
+pub read : (known : KnownWords) (got : Result (Vec (String Global) Global) Fault) (words : Vec (String Global) Global) (asked : Result Request Fault)
     → got ≡ Ok words → AreWordsOf known got → IsAskedBy (map string_bytes words.items) asked → IsAskedOf known asked
 read known got words asked is h by = go known (subst (AreWordsOf known) is h)
   where

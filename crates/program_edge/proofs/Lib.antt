@@ -1,3 +1,3 @@
 pub mod FoundLemmas
-pub mod BeginsLemmas
 mod AskedLemmas
+mod ReportLemmas

@@ -1,57 +1,124 @@
 -- How the program ends, for what it was asked and what its files hold (own choice).
-use Rattle.std.specs.Prelude.{◌≡◌, ◌≢◌, ◌⊎◌, ℕ, true, List, Option, Result, Ok, Err}
-use Rattle.std.specs.Io.KnownBytes.{Keeps}
+use Rattle.std.specs.Prelude.{◌≡◌, ◌≢◌, ◌⊎◌, ℕ, Bool, true, false, List, Option, Some, None, Result, Ok, Err}
+use Rattle.std.specs.Io.KnownBytes.{Appends, Keeps}
+use Rattle.std.specs.String.{string_bytes}
+use Rattle.std.specs.declared.string.String.{String}
+use Rattle.std.specs.declared.alloc.Global.{Global}
 use Rattle.jobs.specs.declared.job.Job.{Job}
-use Rattle.jobs.specs.declared.job.Paths.{Paths}
 use Rattle.jobs.specs.declared.job.Texts.{Texts}
+use Rattle.command_line.specs.declared.request.Request.{Request}
+use Rattle.report_texts.specs.OutputTexts.{Report}
 use Rattle.verdict_report.specs.declared.fault.ServeFault.{ServeFault}
 use Rattle.verdict_report.specs.declared.fault.ServeFault.TheVariants as serve
-use Rattle.verdict_report.specs.JobTexts.{IsDone}
+use Rattle.verdict_report.specs.JobTexts.{IsCutOff, IsDone, IsReportOf}
+use Rattle.whole_file.specs.Files.{ChangesAt, Files, Same}
+use Rattle.whole_file.specs.declared.unwritten.Unwritten.{Unwritten}
+use Rattle.verdict_report.specs.Writing.{Begins}
 use Rattle.program_edge.specs.declared.fault.Fault.{Fault}
-use Rattle.program_edge.specs.declared.fault.Fault.TheVariants.{Serve}
+use Rattle.program_edge.specs.declared.fault.Fault.TheVariants.{NotWritten, Serve}
 use Rattle.program_edge.specs.declared.unread.Unread.{Unread}
 use Rattle.program_edge.specs.declared.told.Ending.{Ending}
 use Rattle.program_edge.specs.FileTexts.{Known, AreTextsOf}
 use Rattle.program_edge.specs.Asking.{KnownWords, IsAskedOf}
+use Rattle.program_edge.specs.Refusals.{is_refusal}
 use Rattle.program_edge.specs.Telling.{IsTold, unread_fault}
 
--- what the two streams hold, where that is known
-pub record Streams : Type 0 where
+-- what the two streams and the files hold, where that is known
+pub record World : Type 0 where
   pub output : Option (List ℕ)
   pub errors : Option (List ℕ)
+  pub files : Files
 
--- the job was not done: after a fault other than Write nothing was written before the fault is told
-pub record IsNotDone (ending : Ending) (old new : Streams) : Type 0 where
+-- a fault was told, and no file changed
+abbrev pub IsToldAlone : Fault → Ending → World → World → Type 0
+IsToldAlone fault ending old new =
+    IsTold fault ending.status ending.is_told old.output new.output old.errors new.errors × Same old.files new.files
+
+-- the job was not done: before the fault is told, after Write a beginning of its report was written, after
+-- another fault nothing
+pub record IsNotDone (job : Job) (texts : Texts) (ending : Ending) (old new : World) : Type 0 where
   pub fault : ServeFault
   pub output : Option (List ℕ)
   pub nothing : fault ≢ serve.Write → Keeps old.output output
+  pub begun : fault ≡ serve.Write → IsCutOff job texts old.output output
   pub told : IsTold (Serve fault) ending.status ending.is_told output new.output old.errors new.errors
+  pub files : Same old.files new.files
 
--- the job was done: its report was added to standard output, and nothing to standard error
-pub record IsJobDone (job : Job) (texts : Texts) (ending : Ending) (old new : Streams) : Type 0 where
+-- the job was done: its report was added to standard output, and nothing to standard error or to a file
+pub record IsJobDone (job : Job) (texts : Texts) (ending : Ending) (old new : World) : Type 0 where
   pub done : IsDone job texts ending.status old.output new.output
   pub silent : Keeps old.errors new.errors
   pub told : ending.is_told ≡ true
+  pub files : Same old.files new.files
 
-abbrev pub IsServed : Job → Result Texts Unread → Ending → Streams → Streams → Type 0
-IsServed job (Ok texts) ending old new = IsJobDone job texts ending old new ⊎ IsNotDone ending old new
-IsServed job (Err unread) ending old new = IsTold (unread_fault job unread) ending.status ending.is_told old.output new.output old.errors new.errors
+-- standard output took a report
+pub record IsShown (report : Report) (ending : Ending) (old new : World) : Type 0 where
+  pub answered : ending.status ≡ report.status
+  pub written : Appends old.output new.output report.bytes
+  pub silent : Keeps old.errors new.errors
+  pub told : ending.is_told ≡ true
+  pub files : Same old.files new.files
+
+-- standard output took a beginning of a report, and then failed, which is told
+pub record IsBroken (report : Report) (ending : Ending) (old new : World) : Type 0 where
+  pub output : Option (List ℕ)
+  pub begun : Begins old.output output report.bytes
+  pub told : IsTold (Serve serve.Write) ending.status ending.is_told output new.output old.errors new.errors
+  pub files : Same old.files new.files
+
+-- the file took the report, and holds nothing else
+pub record IsKept (watched : Bool) (path : String Global) (report : Report) (ending : Ending) (old new : World) : Type 0 where
+  pub answered : ending.status ≡ report.status
+  pub kept : watched ≡ true → new.files (string_bytes path) ≡ Some report.bytes
+  pub others : ChangesAt old.files new.files (string_bytes path)
+  pub silent : Keeps old.output new.output
+  pub no_error : Keeps old.errors new.errors
+  pub told : ending.is_told ≡ true
+
+-- the file did not take the report: it is as it was, and why is told
+pub record IsNotKept (path : String Global) (ending : Ending) (old new : World) : Type 0 where
+  pub reason : Unwritten
+  pub stays : new.files (string_bytes path) ≡ old.files (string_bytes path)
+  pub others : ChangesAt old.files new.files (string_bytes path)
+  pub told : IsTold (NotWritten path reason) ending.status ending.is_told old.output new.output old.errors new.errors
+
+-- what becomes of a report that a file is to take: a refusal goes to standard output
+abbrev pub IsTaken : (watched refused : Bool) → (path : String Global) → Report → Ending → World → World → Type 0
+IsTaken watched true path report ending old new = IsShown report ending old new ⊎ IsBroken report ending old new
+IsTaken watched false path report ending old new = IsKept watched path report ending old new ⊎ IsNotKept path ending old new
+
+-- the job was done, and a file is to take its report
+pub record IsPut (watched : Bool) (job : Job) (path : String Global) (texts : Texts) (ending : Ending) (old new : World) : Type 0 where
+  pub report : Report
+  pub right : IsReportOf job texts report
+  pub taken : IsTaken watched (is_refusal job report.status report.bytes) path report ending old new
+
+-- the job was done, with its report where it was asked for
+abbrev pub IsDelivered : (watched : Bool) → Option (String Global) → Job → Texts → Ending → World → World → Type 0
+IsDelivered watched None job texts ending old new = IsJobDone job texts ending old new
+IsDelivered watched (Some path) job texts ending old new = IsPut watched job path texts ending old new
+
+abbrev pub IsServed : (watched : Bool) → Request → Result Texts Unread → Ending → World → World → Type 0
+IsServed watched request (Ok texts) ending old new =
+    IsDelivered watched request.output request.job texts ending old new ⊎ IsNotDone request.job texts ending old new
+IsServed watched request (Err unread) ending old new = IsToldAlone (unread_fault request.job unread) ending old new
 
 -- the texts of the job were read, and the job served
-pub record IsRead (known : List ℕ → Known) (job : Job) (paths : Paths) (ending : Ending) (old new : Streams) : Type 0 where
+pub record IsRead (watched : Bool) (known : List ℕ → Known) (request : Request) (ending : Ending) (old new : World) : Type 0 where
   pub read : Result Texts Unread
-  pub texts : AreTextsOf known job paths read
-  pub served : IsServed job read ending old new
+  pub texts : AreTextsOf known request.job request.paths read
+  pub served : IsServed watched request read ending old new
 
--- how the program ends on a job, or on a fault of its words
-abbrev pub IsAnswered : (known : List ℕ → Known) → (asked : Result (Job × Paths) Fault) → Ending → Streams → Streams → Type 0
-IsAnswered known (Ok asked) ending old new = IsRead known asked.0 asked.1 ending old new
-IsAnswered known (Err fault) ending old new = IsTold fault ending.status ending.is_told old.output new.output old.errors new.errors
+-- how the program ends on a request, or on a fault of its words
+abbrev pub IsAnswered : (watched : Bool) → (known : List ℕ → Known) → (asked : Result Request Fault) → Ending → World → World → Type 0
+IsAnswered watched known (Ok request) ending old new = IsRead watched known request ending old new
+IsAnswered watched known (Err fault) ending old new = IsToldAlone fault ending old new
 
--- a run of the program on words and files of which this is known
-pub record IsRunOf (words : KnownWords) (known : List ℕ → Known) (status : ℕ) (old new : Streams) : Type 0 where
-  pub asked : Result (Job × Paths) Fault
+-- a run of the program on words and files of which this is known; `watched` says whether it is known what the
+-- files that it writes hold
+pub record IsRunOf (watched : Bool) (words : KnownWords) (known : List ℕ → Known) (status : ℕ) (old new : World) : Type 0 where
+  pub asked : Result Request Fault
   pub by_words : IsAskedOf words asked
   pub ending : Ending
-  pub answered : IsAnswered known asked ending old new
+  pub answered : IsAnswered watched known asked ending old new
   pub ended : status ≡ ending.status

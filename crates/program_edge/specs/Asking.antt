@@ -7,9 +7,9 @@ use Rattle.std.specs.declared.string.String.{String}
 use Rattle.std.specs.declared.vec.Vec.{Vec}
 use Rattle.clap.specs.Words.{Text}
 use Rattle.jobs.specs.Files.{HasFilesOf}
-use Rattle.jobs.specs.declared.job.Job.{Job}
 use Rattle.jobs.specs.declared.job.Paths.{Paths}
 use Rattle.command_line.specs.Asked.{AskFor, IsFaultOf as IsFaultOfWords}
+use Rattle.command_line.specs.declared.request.Request.{Request}
 use Rattle.command_line.specs.declared.words.UsageFault.{UsageFault}
 use Rattle.program_edge.specs.declared.fault.Fault.{Fault}
 use Rattle.program_edge.specs.declared.fault.Fault.TheVariants.{InputTwice, NoText, OutOfMemory}
@@ -24,16 +24,15 @@ abbrev pub input_count : Paths → ℕ
 input_count paths =
     input_of (string_bytes paths.program) + input_of (string_bytes paths.certificate) + input_of (string_bytes paths.script)
 
--- the words ask for this job over these files
-abbrev pub Ask : List Text → Job → Paths → Type 0
-Ask words job paths = AskFor words job paths × HasFilesOf job paths
+-- the words ask for this
+abbrev pub Ask : List Text → Request → Type 0
+Ask words request = AskFor words request × HasFilesOf request.job request.paths
 
 -- the words ask for a job of which more than one file is standard input
 pub record AskForInputTwice (words : List Text) : Type 0 where
-  pub job : Job
-  pub paths : Paths
-  pub asked : Ask words job paths
-  pub twice : 1 < input_count paths
+  pub request : Request
+  pub asked : Ask words request
+  pub twice : 1 < input_count request.paths
 
 -- the words ask for no job: what is told is told of a fault that they have
 pub record IsTheirFault (words : List Text) (told : Fault) : Type 0 where
@@ -42,8 +41,8 @@ pub record IsTheirFault (words : List Text) (told : Fault) : Type 0 where
   pub told_so : IsFaultOf fault told
 
 -- what the words come to: a job of which at most one file is standard input, or why there is none
-abbrev pub IsAskedBy : List Text → Result (Job × Paths) Fault → Type 0
-IsAskedBy words (Ok asked) = Ask words asked.0 asked.1 × (input_count asked.1 ≤ 1)
+abbrev pub IsAskedBy : List Text → Result Request Fault → Type 0
+IsAskedBy words (Ok asked) = Ask words asked × (input_count asked.paths ≤ 1)
 IsAskedBy words (Err InputTwice) = AskForInputTwice words
 IsAskedBy words (Err told) = IsTheirFault words told
 
@@ -63,7 +62,7 @@ AreWordsOf known (Err fault) = (fault ≡ NoText) ⊎ (fault ≡ OutOfMemory)
 
 -- what a process is asked for whose words are known so far: the job that these words ask for, or their
 -- fault; `NoText` where one of them is no text. Memory may run out
-abbrev pub IsAskedOf : KnownWords → Result (Job × Paths) Fault → Type 0
+abbrev pub IsAskedOf : KnownWords → Result Request Fault → Type 0
 IsAskedOf AnyWords asked = (asked ≡ Err NoText) ⊎ ((words : List Text) × IsAskedBy words asked)
 IsAskedOf NotAllTexts asked = (asked ≡ Err NoText) ⊎ (asked ≡ Err OutOfMemory)
 IsAskedOf (Are words) asked = IsAskedBy words asked

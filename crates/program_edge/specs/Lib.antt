@@ -1,6 +1,6 @@
 pub mod FileTexts
 pub mod Usage
-pub mod Writing
+pub mod Refusals
 pub mod Telling
 pub mod Asking
 pub mod Answering

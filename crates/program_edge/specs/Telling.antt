@@ -3,7 +3,7 @@ use Rattle.std.specs.Prelude.{◌≡◌, ℕ, Bool, true, false, List, [], ◌�
 use Rattle.std.specs.Io.KnownBytes.{Appends, Keeps}
 use Rattle.std.specs.String.{string_bytes}
 use Rattle.program_edge.specs.declared.fault.Fault.{Fault}
-use Rattle.program_edge.specs.declared.fault.Fault.TheVariants.{Help, Words, NoText, Predict, Emit, OutOfMemory, InputTwice, File, Explained, Serve}
+use Rattle.program_edge.specs.declared.fault.Fault.TheVariants.{Help, Words, NoText, Predict, Emit, OutOfMemory, InputTwice, File, Explained, Serve, NotWritten}
 use Rattle.program_edge.specs.declared.unread.Reason.{Reason}
 use Rattle.program_edge.specs.declared.unread.Reason.TheVariants as reason
 use Rattle.program_edge.specs.declared.unread.Unread.{Unread}
@@ -13,8 +13,9 @@ use Rattle.clap.specs.Values.{kind_of}
 use Rattle.command_line.specs.declared.words.UsageFault.{UsageFault}
 use Rattle.command_line.specs.declared.words.UsageFault.TheVariants as usage
 use Rattle.verdict_report.specs.FaultText.{serve_fault_text}
+use Rattle.verdict_report.specs.Writing.{Begins}
+use Rattle.whole_file.specs.Refusals.{unwritten_words}
 use Rattle.program_edge.specs.Usage.{is_shown}
-use Rattle.program_edge.specs.Writing.{Begins}
 
 -- why a file gives no text; the limit is that of a certificate or a script
 abbrev pub reason_words : Reason → List ℕ
@@ -25,9 +26,13 @@ reason_words reason.TooLong = codes "longer than 134217728 bytes"
 reason_words reason.OutOfMemory = codes "out of memory"
 reason_words reason.Other = codes "cannot be read"
 
+-- a file, and a reason
+abbrev pub file_words : (path : List ℕ) → (reason : List ℕ) → List ℕ
+file_words path reason = (codes "file " ++ path) ++ (codes ": " ++ reason)
+
 -- the file that gives no text, and why
 abbrev pub unread_words : Unread → List ℕ
-unread_words unread = (codes "file " ++ string_bytes unread.path) ++ (codes ": " ++ reason_words unread.reason)
+unread_words unread = file_words (string_bytes unread.path) (reason_words unread.reason)
 
 -- what a fault is called: the text that `clap` wrote, or what stands behind `multiscalar: `
 abbrev pub name_of : Fault → List ℕ
@@ -41,6 +46,7 @@ name_of InputTwice = codes "5 InputTwice: only one file can be - (standard input
 name_of (File path) = codes "file " ++ string_bytes path
 name_of (Explained unread) = unread_words unread
 name_of (Serve fault) = serve_fault_text fault
+name_of (NotWritten path reason) = file_words (string_bytes path) (unwritten_words reason)
 
 -- what is said: a text as it stands, or one line
 abbrev pub said_of : Fault → List ℕ

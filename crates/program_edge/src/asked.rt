@@ -7,15 +7,16 @@ ghost use Rattle.program_edge.specs.Telling.{IsFaultOf};
 use crate::fault::Fault;
 use crate::usage::UsageText;
 use crate::words::ProcessWords;
-use command_line::words::{UsageFault, job_of};
-use jobs::job::{Job, Paths};
+use command_line::request::Request;
+use command_line::words::{UsageFault, request_of};
+use jobs::job::Paths;
 use std::alloc::{AllocError, Global};
 
 /// The name of standard input. A file of this name is `./-`. (own choice)
 pub const STANDARD_INPUT: &str = "-";
 
-/// The job that the words of a process ask for, or why there is none. (own choice)
-pub fn asked<W: ProcessWords>(alloc: Global, process: &W) -> Result<(Job, Paths), Fault>
+/// What the words of a process ask for, or why they ask for nothing. (own choice)
+pub fn asked<W: ProcessWords>(alloc: Global, process: &W) -> Result<Request, Fault>
     ensures { IsAskedOf (W.known_words process.now) result }
 {
     match process.words(alloc) {
@@ -24,20 +25,20 @@ pub fn asked<W: ProcessWords>(alloc: Global, process: &W) -> Result<(Job, Paths)
     }
 }
 
-/// The job that words ask for, or their fault. The first word is the program's own name. (own choice)
+/// What words ask for, or their fault. The first word is the program's own name. (own choice)
 ///
 /// # Errors
 ///
 /// `InputTwice` exactly where the words ask for a job of which more than one file is standard input; else
-/// what `fault_of` gives for the fault of `job_of`.
-pub fn asked_by(alloc: Global, words: &[String]) -> Result<(Job, Paths), Fault>
+/// what `fault_of` gives for the fault of `request_of`.
+pub fn asked_by(alloc: Global, words: &[String]) -> Result<Request, Fault>
     ensures { IsAskedBy (map string_bytes words.now) result }
 {
-    let asked = match job_of(alloc, words) {
+    let asked = match request_of(alloc, words) {
         Ok(asked) => asked,
         Err(fault) => return Err(fault_of(alloc, fault)),
     };
-    if inputs(&asked.1) > 1 {
+    if inputs(&asked.paths) > 1 {
         return Err(Fault::InputTwice);
     }
     Ok(asked)

@@ -3,6 +3,7 @@
 use crate::unread::Unread;
 use crate::usage::UsageText;
 use verdict_report::fault::ServeFault;
+use whole_file::unwritten::Unwritten;
 
 /// Why the program does no job: it says so, and ends with status 2, or with 0 for help and the version.
 #[derive(Debug, Drop)]
@@ -27,4 +28,6 @@ pub enum Fault {
     Explained(Unread),
     /// The job was not done.
     Serve(ServeFault),
+    /// The file of this path does not take the result.
+    NotWritten(String, Unwritten),
 }

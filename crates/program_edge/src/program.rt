@@ -1,4 +1,4 @@
-//! The program, but for its two streams.
+//! The program, but for its two streams and the files that it writes.
 ghost use Rattle.program_edge.specs.Answering.{IsRunOf};
 
 use crate::answer::answer;
@@ -9,17 +9,20 @@ use std::io::Write;
 use std::marker::Sync;
 use std::sync::Wait;
 use std::thread::Threads;
+use whole_file::folder::Folder;
 
-/// Runs the program on the words and the files of a process, and answers its status, 0 to 3. (own choice)
-pub fn run<R: ProcessWords + NamedFiles + AllocGlobal + Threads + Wait + Sync, O: Write, E: Write>(
-    rt: &R,
-    output: &mut O,
-    errors: &mut E,
-) -> u8
-    ensures { IsRunOf (R.known_words rt.now) (R.known rt.now) result
-        record { output = O.contents output.old; errors = E.contents errors.old }
-        record { output = O.contents output.new; errors = E.contents errors.new } }
+/// Runs the program on the words and the files of a process, and answers its status, 0 to 3. A result may go to a
+/// file of `folder`. (own choice)
+pub fn run<
+    R: ProcessWords + NamedFiles + AllocGlobal + Threads + Wait + Sync,
+    D: Folder,
+    O: Write,
+    E: Write,
+>(rt: &R, folder: &mut D, output: &mut O, errors: &mut E) -> u8
+    ensures { IsRunOf D.is_watched (R.known_words rt.now) (R.known rt.now) result
+        record { output = O.contents output.old; errors = E.contents errors.old; files = D.known folder.old }
+        record { output = O.contents output.new; errors = E.contents errors.new; files = D.known folder.new } }
 {
     let alloc = rt.alloc();
-    answer(rt, alloc, asked(alloc, rt), rt, output, errors).status
+    answer(rt, alloc, asked(alloc, rt), rt, folder, output, errors).status
 }

@@ -3,15 +3,15 @@ ghost use Rattle.std.specs.Prelude.{◌≡◌, ◌∷◌, ◌++◌, [], OnOk, co
 ghost use Rattle.std.specs.Io.KnownBytes.{Appends};
 ghost use Rattle.std.specs.String.{string_bytes};
 ghost use Rattle.verdict_report.specs.FaultText.{serve_fault_text};
-ghost use Rattle.program_edge.specs.Telling.{IsTold, name_of, said_of, unread_words};
-ghost use Rattle.program_edge.specs.Writing.{Begins};
+ghost use Rattle.verdict_report.specs.Writing.{Begins};
+ghost use Rattle.program_edge.specs.Telling.{IsTold, file_words, name_of, said_of, unread_words};
 
 use crate::fault::Fault;
 use crate::unread::Unread;
-use crate::writing::write_text;
 use std::io;
 use std::io::Write;
 use verdict_report::fault::ServeFault;
+use verdict_report::writing::write_text;
 
 /// How the program ends.
 #[derive(Clone, Copy, Debug, PartialEq, Eq)]
@@ -94,6 +94,7 @@ fn write_name<W: Write>(fault: &Fault, writer: &mut W) -> io::Result<()>
         Fault::File(path) => write_path(path.as_str(), writer),
         Fault::Explained(unread) => write_unread(unread, writer),
         Fault::Serve(fault) => write_text(serve_words(*fault), writer),
+        Fault::NotWritten(path, reason) => write_reason(path.as_str(), reason.words(), writer),
     }
 }
 
@@ -111,9 +112,17 @@ fn write_unread<W: Write>(unread: &Unread, writer: &mut W) -> io::Result<()>
     ensures whole { OnOk result (Appends (W.contents writer.old) (W.contents writer.new) (unread_words unread.now)) }
     ensures part { Begins (W.contents writer.old) (W.contents writer.new) (unread_words unread.now) }
 {
-    write_path(unread.path.as_str(), writer)?;
+    write_reason(unread.path.as_str(), unread.reason.words(), writer)
+}
+
+// Writes the name of a file, and a reason.
+fn write_reason<W: Write>(path: &str, reason: &str, writer: &mut W) -> io::Result<()>
+    ensures whole { OnOk result (Appends (W.contents writer.old) (W.contents writer.new) (file_words path.now reason.now)) }
+    ensures part { Begins (W.contents writer.old) (W.contents writer.new) (file_words path.now reason.now) }
+{
+    write_path(path, writer)?;
     write_text(": ", writer)?;
-    write_text(unread.reason.words(), writer)
+    write_text(reason, writer)
 }
 
 // The number and the name of why a job was not done.

@@ -24,9 +24,10 @@ use Rattle.machine_events.specs.declared.event.Standing.{Standing}
 use Rattle.machine_events.specs.declared.event.Standing.TheVariants.{Running, Halted, Trapped, Unlisted}
 use Rattle.sequencer.specs.Choices.{choices_of, choice_of}
 use Rattle.sequencer.specs.Machines.{MachineView, Applies, IsAnswered, answer_to, state, units_of}
+use Rattle.unit_turns.specs.FirstAllowed.{registers, first_allowed}
 use Rattle.synchronous_runner.specs.declared.predictor.Predictor.{Predictor}
 use Rattle.synchronous_runner.specs.Predictions.{answer_for, asked}
-use Rattle.synchronous_runner.specs.Steps.{Course, beginning, goes_on, with_event, with_targets, with_task, turn_of, turn, turns, step, after_steps, registers, tries, first_allowed, Takes}
+use Rattle.synchronous_runner.specs.Steps.{Course, beginning, goes_on, with_event, with_targets, with_task, turn_of, turn, turns, step, after_steps, tries, Takes}
 use Rattle.synchronous_runner.specs.Courses.{course}
 
 -- an event that is applied

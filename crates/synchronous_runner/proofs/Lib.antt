@@ -1,5 +1,4 @@
 pub mod Tries
 pub mod Going
 pub mod Looping
-pub mod Assigning
 pub mod Together

@@ -7,10 +7,11 @@ use Rattle.mips_plain.specs.MemoryMap.{region, effective}
 use Rattle.machine_model.specs.Refusals.{least}
 use Rattle.machine_model.specs.Examples.{count}
 use Rattle.machine_events.specs.declared.event.Event.TheVariants.{Assign, Exec, Transfer, Drain, Retire}
+use Rattle.unit_turns.specs.FirstAllowed.{registers, first_allowed}
 use Rattle.synchronous_runner.specs.declared.predictor.Predictor.TheVariants as predictor
 use Rattle.synchronous_runner.specs.Predictions.{answer_for, asked}
 use Rattle.synchronous_runner.specs.Lockstep.{FromLast}
-use Rattle.synchronous_runner.specs.Steps.{Course, beginning, registers, first_allowed, goes_on, after_steps}
+use Rattle.synchronous_runner.specs.Steps.{Course, beginning, goes_on, after_steps}
 
 -- the first task begins
 pub one_step : (after_steps count 2 100 1 (beginning count predictor.First)).events ≡ Assign 0 ∷ []

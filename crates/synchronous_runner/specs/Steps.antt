@@ -3,15 +3,15 @@
 -- behind it see from the next step on: in one step a register goes one unit further at most. It says how
 -- far the marks let tasks overlap; it is no model of a processor's time, and knows no latencies and no
 -- caches.
-use Rattle.std.specs.Prelude.{◌≡◌, ℕ, zero, suc, ◌<◌, List, [], ◌∷◌, ◌++◌, Bool, true, false, ◌&&◌, nat_lt, if◌then◌else◌, length, map, is_none, Option, Some, None}
-use Rattle.std.specs.List.{find, range_with_len}
+use Rattle.std.specs.Prelude.{◌≡◌, ℕ, zero, suc, ◌<◌, List, [], ◌∷◌, ◌++◌, Bool, true, false, ◌&&◌, nat_lt, if◌then◌else◌, length, map, Option, Some, None}
 use Rattle.task_descriptor.specs.Listing.{Listing}
 use Rattle.machine_model.specs.Machine.{State, opening}
-use Rattle.machine_model.specs.Answer.{is_running, refusal, after}
+use Rattle.machine_model.specs.Answer.{is_running, after}
 use Rattle.machine_model.specs.HeadEvent.{head_event}
 use Rattle.machine_events.specs.declared.event.Event.{Event}
 use Rattle.machine_events.specs.declared.event.Event.TheVariants.{Exec, Transfer, Drain, Squash}
 use Rattle.sequencer.specs.Choices.{choices_of, choice_of}
+use Rattle.unit_turns.specs.FirstAllowed.{registers, first_allowed}
 use Rattle.synchronous_runner.specs.declared.predictor.Predictor.{Predictor}
 use Rattle.synchronous_runner.specs.Predictions.{answer_for, asked}
 
@@ -36,15 +36,8 @@ with_event p c (Some e) = record c { state = after p c.state e; events = c.event
 -- A unit at work behind the head: it squashes what is wrong behind it, else executes, else takes a
 -- register, else sends one, the least register first.
 
-unfoldable pub registers : List ℕ
-registers = range_with_len 0 34
-
 abbrev pub tries : (k : ℕ) → List Event
 tries k = Squash k ∷ Exec k ∷ map (Transfer k) registers ++ map (Drain k) registers
-
--- the first of some events that the machine allows
-unfoldable pub first_allowed : Listing → (units : ℕ) → State → List Event → Option Event
-first_allowed p units s events = find (λ e. is_none (refusal p units s e)) events
 
 -- The free unit behind the tail: it takes the task that may follow. Behind a tail that has not stopped the
 -- predictor is asked which.

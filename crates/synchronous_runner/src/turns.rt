@@ -5,8 +5,9 @@ ghost use Rattle.machine_model.specs.Answer.{most_events};
 ghost use Rattle.machine_events.specs.declared.event.Refused.TheVariants as refused;
 ghost use Rattle.machine_events.specs.declared.event.Standing.TheVariants as standing;
 ghost use Rattle.sequencer.specs.Machines.{state, units_of, answer_to, SameRing};
+ghost use Rattle.unit_turns.specs.FirstAllowed.{first_allowed};
 ghost use Rattle.synchronous_runner.specs.declared.predictor.Predictor.{Predictor};
-ghost use Rattle.synchronous_runner.specs.Steps.{goes_on as goes_on_by, tries, first_allowed, with_event, with_task, turn_of, turn};
+ghost use Rattle.synchronous_runner.specs.Steps.{goes_on as goes_on_by, tries, with_event, with_task, turn_of, turn};
 ghost use Rattle.synchronous_runner.specs.Courses.{course};
 
 use crate::predictor::Predictor;
@@ -14,6 +15,7 @@ use machine_events::event::{Event, Refused, Standing};
 use machine_model::laws::next_is_after;
 use sequencer::machine::Machine;
 use sequencer::predict::Predict;
+use unit_turns::laws::law_first_allowed;
 
 /// Whether the run goes on: the machine has not ended, and has fewer events than the budget.
 pub(crate) fn goes_on(machine: &Machine<'_>, budget: u32) -> bool
@@ -95,6 +97,7 @@ fn event_at_work(machine: &Machine<'_>, position: u32) -> Option<Event>
     ensures allowed { IfSome result (λ e. answer_to machine.now e ≡ Ok tt) }
 {
     machine.law_answers();
+    law_first_allowed();
     if machine.enabled(Event::Squash(position)) {
         return Some(Event::Squash(position));
     }

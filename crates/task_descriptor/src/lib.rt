@@ -10,4 +10,4 @@ pub mod name;
 pub mod places;
 pub mod program;
 mod registers;
-pub mod same;
+mod same;

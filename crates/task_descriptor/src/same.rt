@@ -22,8 +22,8 @@ pub(crate) fn is_same_code(code: &[Marked], other: &[Marked]) -> bool
     true
 }
 
-/// Whether two instructions and their marks are the same. Takes no memory.
-pub fn is_same_instruction(marked: &Marked, other: &Marked) -> bool
+/// Whether two instructions and their marks are the same.
+fn is_same_instruction(marked: &Marked, other: &Marked) -> bool
     ensures { IsTrue result ↔ (marked.now ≡ other.now) }
 {
     is_same_op(&marked.op, &other.op)
@@ -52,8 +52,8 @@ pub(crate) fn are_same_tasks(tasks: &[Descriptor], others: &[Descriptor]) -> boo
     true
 }
 
-/// Whether two tasks have the same name, entry, create mask and targets. Takes no memory.
-pub fn is_same_task(task: &Descriptor, other: &Descriptor) -> bool
+/// Whether two tasks have the same name, entry, create mask and targets.
+fn is_same_task(task: &Descriptor, other: &Descriptor) -> bool
     ensures { IsTrue result ↔ (task.now ≡ other.now) }
 {
     if task.entry != other.entry || task.create != other.create {

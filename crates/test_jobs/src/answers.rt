@@ -1,6 +1,6 @@
 //! One run of a job, as the program does it, but for its files; and tables of runs.
 
-use command_line::words::job_of;
+use command_line::words::request_of;
 use jobs::job::Texts;
 use std::alloc::Global;
 use std::process::Abort;
@@ -172,8 +172,8 @@ pub fn expect(
 /// What the words write of texts, and the status.
 pub fn answer(rt: &impl Bench, alloc: Global, words: &str, texts: &Texts) -> (Vec<u8>, u8) {
     let words = words_of(rt, alloc, words);
-    let job = job_of(alloc, words.as_slice()).ok();
-    let (job, _) = job.expect(rt, "a job");
+    let request = request_of(alloc, words.as_slice()).ok();
+    let job = request.expect(rt, "a request").job;
     let mut written = Vec::new(alloc);
     let status = serve(rt, alloc, &job, texts, &mut written).ok();
     (written, status.expect(rt, "a status"))

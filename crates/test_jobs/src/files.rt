@@ -105,12 +105,25 @@ fn expect_fetched(rt: &impl Abort, alloc: Global, most: u64, expected: &[u8]) {
 // A file that is held in memory. It may say another size than it has, and its positioned reads fail
 // from an offset on.
 #[derive(Drop)]
-struct Held {
+pub struct Held {
     bytes: Vec<u8>,
     offset: usize,
     told: Option<u64>,
     fails_from: u64,
     is_worn: bool,
+}
+
+impl Held {
+    /// A file with these bytes, which one thread reads.
+    pub fn new(bytes: Vec<u8>) -> Held {
+        Held {
+            bytes,
+            offset: 0,
+            told: None,
+            fails_from: 0,
+            is_worn: false,
+        }
+    }
 }
 
 impl Read for Held {

@@ -1,7 +1,7 @@
 //! Each job, with its report flushed.
 
 use crate::held_back::HeldBack;
-use command_line::words::job_of;
+use command_line::words::request_of;
 use jobs::job::{Job, Texts};
 use std::alloc::Global;
 use std::io;
@@ -60,9 +60,8 @@ fn job(rt: &impl Abort, alloc: Global, line: &str) -> Job {
     for word in line.split(' ') {
         push_word(rt, alloc, &mut words, word);
     }
-    let job = job_of(alloc, words.as_slice()).ok();
-    let (job, _) = job.expect(rt, "a job");
-    job
+    let request = request_of(alloc, words.as_slice()).ok();
+    request.expect(rt, "a request").job
 }
 
 fn push_word(rt: &impl Abort, alloc: Global, words: &mut Vec<String>, word: &str) {

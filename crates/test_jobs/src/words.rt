@@ -1,9 +1,10 @@
 //! Which words give which job, and which are refused.
 
 use crate::answers::words_of;
-use command_line::words::{UsageFault, job_of};
+use command_line::request::Request;
+use command_line::words::{UsageFault, request_of};
 use jobs::job::{
-    CertificateSource, CurveEmit, Emit, Job, Paths, Prediction, ReplayEmit, RunEmit, Schedule,
+    CertificateSource, CurveEmit, Emit, Job, Prediction, ReplayEmit, RunEmit, Schedule,
 };
 use std::alloc::Global;
 use std::process::Abort;
@@ -336,10 +337,10 @@ fn reads_runs(rt: HostRuntime) {
     }
 }
 
-// The job of the words, or why there is none.
-fn read(rt: &impl Abort, alloc: Global, line: &str) -> Result<(Job, Paths), UsageFault> {
+// What the words ask for, or why they ask for nothing.
+fn read(rt: &impl Abort, alloc: Global, line: &str) -> Result<Request, UsageFault> {
     let words = words_of(rt, alloc, line);
-    job_of(alloc, words.as_slice())
+    request_of(alloc, words.as_slice())
 }
 
 #[test]
@@ -351,7 +352,7 @@ fn reads_jobs(rt: HostRuntime) {
 
 // Asserts the job of the words, and the names of its files.
 fn expect_read(rt: &impl Abort, alloc: Global, line: &str, wanted: Wanted) {
-    let (job, paths) = read(rt, alloc, line).ok().expect(rt, "a job");
+    let Request { job, paths, .. } = read(rt, alloc, line).ok().expect(rt, "a job");
     let (certificate, script) = wanted.files();
     assert!(rt; Wanted::of(&job) == wanted, "{line}");
     assert!(rt; job.has_certificate() == !certificate.is_empty(), "{line}");
@@ -365,7 +366,7 @@ fn expect_path(rt: &impl Abort, line: &str, path: &String, expected: &str) {
     assert!(rt; path.as_str() == expected, "{line}");
 }
 
-const NO_JOBS: [&str; 43] = [
+const NO_JOBS: [&str; 50] = [
     "seq",
     "seq a.s b.s",
     "seq a.s --budget 0",
@@ -409,7 +410,44 @@ const NO_JOBS: [&str; 43] = [
     "curve --least a.s --predict 16",
     "curve a.s a.cert --predict 16 --emit xml",
     "foo",
+    "print a.s -o b.s -o c.s",
+    "print a.s -o",
+    "print --in-place a.s",
+    "annotate --in-place -",
+    "annotate --in-place -o b.s a.s",
+    "annotate --in-place --emit cert a.s",
+    "annotate --in-place --emit keep a.s",
 ];
+
+// Where the result of a job goes: to a file, or to standard output.
+const PLACES: [(&str, Option<&str>); 9] = [
+    ("print a.s", None),
+    ("print a.s -o b.s", Some("b.s")),
+    ("print -ob.s a.s", Some("b.s")),
+    ("print --output=b.s a.s", Some("b.s")),
+    ("print -o - a.s", None),
+    ("run --least --emit svg -o a.svg a.s", Some("a.svg")),
+    ("annotate -o b.s a.s", Some("b.s")),
+    ("annotate --in-place a.s", Some("a.s")),
+    ("annotate --in-place --emit text a.s", Some("a.s")),
+];
+
+#[test]
+fn reads_where_the_result_goes(rt: HostRuntime) {
+    for &(line, place) in &PLACES {
+        expect_place(&rt, rt.alloc(), line, place);
+    }
+}
+
+// Asserts where the result goes of what the words ask for.
+fn expect_place(rt: &impl Abort, alloc: Global, line: &str, place: Option<&str>) {
+    let request = read(rt, alloc, line).ok().expect(rt, "a job");
+    match (&request.output, place) {
+        (Some(path), Some(wanted)) => expect_path(rt, line, path, wanted),
+        (None, None) => {}
+        _ => assert!(rt; false, "{line}"),
+    }
+}
 
 #[test]
 fn refuses_words(rt: HostRuntime) {

@@ -2,7 +2,8 @@
 //! streams, and its status: findings; a check by three workers, who fetch and read a certificate of 317,709
 //! bytes, where each of 48 tasks may write $8 and does not say so; the three files of `replay`; a program
 //! text on standard input; a missing file; wrong words; every help; what is said of a wrong value, and of a
-//! file that the words lack. Last, the program does what its own words ask for, on the two streams of the
+//! file that the words lack; files that cannot take a result, a refused
+//! text that changes none, and what cannot be done in place. Last, the program does what its own words ask for, on the two streams of the
 //! process and with its status: a file is missing, so it writes nothing to standard output.
 #![tactic(auto)]
 
@@ -18,8 +19,9 @@ use std::process::ExitCode;
 use std::rt::Files;
 use std::sync::Wait;
 use std::thread::Threads;
+use whole_file::system::SystemFolder;
 
-const LINES: [&str; 29] = [
+const LINES: [&str; 36] = [
     "check five-findings.s five-findings.cert2",
     "check --workers 3 large.s large.cert2",
     "replay --units 2 count.s count.cert2 count.events",
@@ -49,7 +51,17 @@ const LINES: [&str; 29] = [
     "run count.s",
     "curve count.s",
     "replay count.s count.cert2",
+    "print -o missing/count.s count.s",
+    "print --output /dev/null count.s",
+    "run -o count.out five-findings.s five-findings.cert2",
+    "check -o - count.s count.cert2",
+    "annotate --in-place -",
+    "annotate --in-place -o count.s count.s",
+    "annotate --in-place --emit keep count.s",
 ];
+
+// The number of the process, by which new files are named.
+const NUMBER: u32 = 1;
 
 fn main(rt: HostRuntime) -> ExitCode {
     for &line in &LINES {
@@ -57,7 +69,9 @@ fn main(rt: HostRuntime) -> ExitCode {
             return ExitCode::FAILURE;
         }
     }
-    ExitCode::from(run(&rt, &mut rt.stdout(), &mut rt.stderr()))
+    let mut folder = SystemFolder::new(&rt, NUMBER);
+    let status = run(&rt, &mut folder, &mut rt.stdout(), &mut rt.stderr());
+    ExitCode::from(status)
 }
 
 // The program on these words: what it writes to its two streams, and its status.
@@ -76,7 +90,8 @@ where
     let files = SystemFiles::new(rt);
     let mut errors = Vec::new(alloc);
     let asked = asked_by(alloc, words.as_slice());
-    let ending = answer(rt, alloc, asked, &files, output, &mut errors);
+    let mut folder = SystemFolder::new(rt, NUMBER);
+    let ending = answer(rt, alloc, asked, &files, &mut folder, output, &mut errors);
     if !errors.is_empty() {
         writeln!(output, "standard error:")?;
         output.write_all(errors.as_slice())?;

@@ -138,18 +138,6 @@ task D
 6 00000000
 ";
 
-/// The certificate of `LOAD_OF_7` and `LOAD_OF_8`.
-pub const LOAD_CERTIFICATE: &str = "cert 1
-task A
-0 00000100
-1 00000100
-2 00000100
-3 00000000
-task B
-4 00000000
-5 00000000
-";
-
 /// The certificate of `PAIR`.
 pub const PAIR_CERTIFICATE: &str = "cert 1
 task A

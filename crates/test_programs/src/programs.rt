@@ -224,46 +224,6 @@ C: out $9
 D: halt
 ";
 
-/// `COUNT`, where the first task names a target twice.
-pub const COUNT_WITH_THREE_TARGETS: &str = ".start A
-.task A create=$8,$9,$10 targets=A,B,A
-.task B create=- targets=-
-A:
-addiu $8,$8,1 !f
-addu $9,$9,$8 !f
-slti $10,$8,4
-bne $10,$0,A !s
-B:
-out $9
-halt
-";
-
-/// Loads 7 from read-only data and puts it out.
-pub const LOAD_OF_7: &str = ".task A create=$8 targets=B
-.task B create=- targets=-
-.rodata
-K: .word 7
-.text
-A: la $8,K
-lw $8,0($8)
-j B !s
-B: out $8
-halt
-";
-
-/// `LOAD_OF_7` with 8 in its place.
-pub const LOAD_OF_8: &str = ".task A create=$8 targets=B
-.task B create=- targets=-
-.rodata
-K: .word 8
-.text
-A: la $8,K
-lw $8,0($8)
-j B !s
-B: out $8
-halt
-";
-
 /// `RELEASE` with $7, which is never written, in the create mask.
 pub const RELEASE_CREATES_MORE: &str = ".task A create=$7,$8,$9 targets=B
 .task B create=- targets=-

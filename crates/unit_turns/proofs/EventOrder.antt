@@ -16,7 +16,7 @@ use Rattle.machine_events.specs.declared.event.Event.TheVariants.{Exec, Transfer
 use Rattle.machine_events.specs.declared.event.Refused.{Refused}
 use Rattle.machine_events.specs.declared.event.Refused.TheVariants.{NoSuch, Ended, Full}
 use Rattle.processor_steps.specs.LeastRegisters.{IsLeast}
-use Rattle.unit_turns.specs.FirstAllowed.{registers, first_allowed}
+use Rattle.unit_turns.specs.FirstAllowed.{registers, first_allowed, TakesAllowed, SkipsRefused, GoesByLists, TakesLeast, AllowedIsUnrefused}
 use Rattle.unit_turns.specs.Turns.{own_events}
 
 -- what is found in a list of events, one for each register
@@ -53,7 +53,7 @@ ok_parts true None rest e = refl
 ok_parts true (Some why) rest e = absurd (cc)
 ok_parts false o rest e = absurd (cc)
 
-pub allowed_by : (p : Listing) (units : ℕ) (s : State) (n : ℕ) (e : Event) → answer p units s n e ≡ Ok tt → refusal p units s e ≡ None
+pub allowed_by : AllowedIsUnrefused
 allowed_by p units s n e h = ok_parts (is_running s.outcome) (refusal p units s e) (unless (nat_lt n most_events) Full None) h
 
 room_parts : (running room : Bool) (o : Option Refused) → ok_unless (unless running Ended (option_or o (unless room Full None))) ≡ Ok tt → room ≡ true
@@ -76,6 +76,25 @@ unfolding registers
 least_found refusals None is below = nothing (λ r. is_none (refusals r)) 34 0 (λ r l. is_there (refusals r) (is.none r (omega arith)))
 least_found refusals (Some r) is below =
     first (λ s. is_none (refusals s)) 34 0 r (omega arith) (omega arith) (ap is_none is.holds) (λ s l. is_there (refusals s) (is.least s l))
+
+-- the first allowed of one event and others, of two lists, of an event for each register
+
+pub takes_allowed : TakesAllowed
+unfolding first_allowed
+takes_allowed p units s e es unrefused = cond-true (is_none (refusal p units s e)) (Some e) _ (ap is_none unrefused)
+
+pub skips_refused : SkipsRefused
+unfolding first_allowed
+skips_refused p units s e es refused = cond-false (is_none (refusal p units s e)) (Some e) _ (is_there _ refused)
+
+pub goes_by_lists : GoesByLists
+unfolding first_allowed
+goes_by_lists p units s front behind = find-append (λ e. is_none (refusal p units s e)) front behind
+
+pub takes_least : TakesLeast
+unfolding first_allowed
+takes_least p units s event o is below =
+    find_map (λ e. is_none (refusal p units s e)) event registers ∙ ap (option_map event) (least_found (λ r. refusal p units s (event r)) o is below)
 
 -- the four kinds of events, one after another
 

@@ -1,4 +1,4 @@
-//! Laws of every machine: each call does nothing, and its contract is what follows for a turn.
+//! Laws: each call does nothing, and its contract is what follows for a turn.
 
 ghost use Rattle.std.specs.Prelude.{◌≡◌, ℕ, ◌<◌, ◌≤◌, ◌↔◌, length, Some, None};
 ghost use Rattle.machine_model.specs.Machine.{State};
@@ -10,6 +10,7 @@ ghost use Rattle.machine_events.specs.declared.event.Event.TheVariants.{Exec};
 ghost use Rattle.machine_events.specs.declared.event.Standing.TheVariants as standing;
 ghost use Rattle.sequencer.specs.Machines.{state, units_of};
 ghost use Rattle.sequencer.specs.Rings.{unit_for};
+ghost use Rattle.unit_turns.specs.FirstAllowed.{TakesAllowed, SkipsRefused, GoesByLists, TakesLeast, AllowedIsUnrefused};
 ghost use Rattle.unit_turns.specs.Turns.{IsOwn, MayChoose, MayWait, NamesRegister, turn_of};
 ghost use Rattle.unit_turns.specs.declared.turn.Turn.TheVariants.{Choose, Wait};
 
@@ -50,6 +51,17 @@ pub fn law_head_unit(machine: &Machine<'_>)
 {
     let _ = machine.length();
 }
+
+/// What the first allowed of some events is: the first event, where nothing refuses it, else that of the
+/// others; of two lists that of the front one, else that of the other; of an event for each register that of
+/// the least register. What the machine allows, nothing refuses.
+pub fn law_first_allowed()
+    ensures takes { TakesAllowed }
+    ensures skips { SkipsRefused }
+    ensures lists { GoesByLists }
+    ensures least { TakesLeast }
+    ensures unrefused { AllowedIsUnrefused }
+{}
 
 /// An event is a unit's own where the machine step allows it, or where nothing refuses it, and the history
 /// has room.

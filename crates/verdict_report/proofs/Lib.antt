@@ -1,2 +1,3 @@
 mod Addresses
 mod Plays
+pub mod BeginsLemmas

@@ -10,6 +10,7 @@ use Rattle.report_texts.specs.CheckText.{check_text}
 use Rattle.verdict_report.specs.ReplayText.{replay_text}
 use Rattle.verdict_report.specs.RunText.{IsRunText}
 use Rattle.verdict_report.specs.CurveText.{IsCurveText}
+use Rattle.verdict_report.specs.Writing.{Begins}
 use Rattle.report_texts.specs.AnnotateText.{IsAnnotateReport}
 use Rattle.report_texts.specs.CertificateTexts.{OfCertificate}
 use Rattle.explain_report.specs.ExplainText.{IsExplainReport}
@@ -50,3 +51,9 @@ pub record IsDone (job : Job) (texts : Texts) (status : ℕ) (old new : Option (
   pub right : IsReportOf job texts report
   pub answered : status ≡ report.status
   pub written : Appends old new report.bytes
+
+-- the writer failed: what went out is a beginning of a report of the job
+pub record IsCutOff (job : Job) (texts : Texts) (old new : Option (List ℕ)) : Type 0 where
+  pub report : Report
+  pub right : IsReportOf job texts report
+  pub begun : Begins old new report.bytes

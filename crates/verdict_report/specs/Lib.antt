@@ -1,4 +1,5 @@
 pub mod FaultText
+pub mod Writing
 pub mod MachineText
 pub mod ReplayText
 pub mod RunText

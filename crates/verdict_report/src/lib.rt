@@ -14,3 +14,4 @@ pub mod replaying;
 pub mod running;
 pub mod scheduled;
 pub mod serve;
+pub mod writing;

@@ -3,13 +3,15 @@ ghost use Rattle.std.specs.Prelude.{◌≡◌, ◌≢◌, Err, IfOk, OnOk, OnErr
 ghost use Rattle.std.specs.Io.KnownBytes.{Appends, Keeps};
 ghost use Rattle.std.specs.Option.{option_map};
 ghost use Rattle.std.specs.String.{string_bytes};
-ghost use Rattle.verdict_report.specs.JobTexts.{IsDone, IsExplainedIn, IsReportOf};
+ghost use Rattle.verdict_report.specs.JobTexts.{IsCutOff, IsDone, IsExplainedIn, IsReportOf};
+ghost use Rattle.verdict_report.specs.Writing.{Begins};
 
 use crate::curving::curve;
 use crate::fault::ServeFault;
 use crate::ran::Extent;
 use crate::replaying::replay;
 use crate::running::run;
+use crate::writing::write_bytes;
 use explain_report::explaining::explain;
 use explain_report::logging::explain_log;
 use jobs::job::{Format, Job, Texts};
@@ -24,7 +26,8 @@ use std::sync::Wait;
 use std::thread::Threads;
 
 /// Does a job: builds its text whole, writes it, and answers the status of the program, 0 to 3. Want of
-/// memory may come at any point; nothing is written then. `check` and `run` make threads. (own choice)
+/// memory may come at any point; nothing is written then. Where the writer fails, what went out is a
+/// beginning of the text. `check` and `run` make threads. (own choice)
 pub fn serve<W: Write, R: Threads + Wait + Sync>(
     rt: &R,
     alloc: Global,
@@ -36,6 +39,8 @@ pub fn serve<W: Write, R: Threads + Wait + Sync>(
         (W.contents writer.old) (W.contents writer.new)) }
     ensures nothing { OnErr result (result ≢ Err ServeFault.Write →
         Keeps (W.contents writer.old) (W.contents writer.new)) }
+    ensures begun { result ≡ Err ServeFault.Write →
+        IsCutOff job.now texts.now (W.contents writer.old) (W.contents writer.new) }
     ensures own { result ≢ Err ServeFault.Foreign }
 {
     let report = report_of(rt, alloc, job, texts)?;
@@ -122,8 +127,9 @@ fn explain_in(
 // Writes the whole text.
 fn deliver<W: Write>(writer: &mut W, text: &[u8]) -> Result<(), ServeFault>
     ensures ok { OnOk result (Appends (W.contents writer.old) (W.contents writer.new) text.now) }
+    ensures part { Begins (W.contents writer.old) (W.contents writer.new) text.now }
     ensures err { OnErr result (result ≡ Err ServeFault.Write) }
 {
-    writer.write_all(text).map_err(|_| ServeFault::Write)?;
+    write_bytes(text, writer).map_err(|_| ServeFault::Write)?;
     writer.flush().map_err(|_| ServeFault::Write)
 }

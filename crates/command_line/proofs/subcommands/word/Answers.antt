@@ -1,12 +1,8 @@
--- Setting by setting.
-use Rattle.command_line.proofs.ClapRules.{with_action, with_default, with_help, with_long, with_value_name}
+-- One setting more.
+use Rattle.command_line.proofs.ClapRules.{with_default}
 use Rattle.command_line.proofs.subcommands.word.Goals as goal
 
 pub returns : goal.returns
 returns c =
-    let one = with_long c.new.result _ _ c.long.ensures (c.new.ensures.rule, c.new.ensures.optional.1) in
-    let two = with_value_name c.long.result _ _ c.value_name.ensures one in
-    let three = with_help c.value_name.result _ _ c.help.ensures two in
-    let four = with_action c.help.result _ _ c.action.ensures three in
-    let five = with_default c.action.result _ _ c.default_value.ensures four in
-    record { rule = five.0; local = five.1 }
+    let all = with_default c.free_word.result _ _ c.default_value.ensures (c.free_word.ensures.rule, c.free_word.ensures.local) in
+    record { rule = all.0; local = all.1 }

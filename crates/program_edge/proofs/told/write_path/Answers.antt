@@ -2,7 +2,7 @@
 use Rattle.std.proofs.Common.{codes}
 use Rattle.std.proofs.KnownBytes.{Appends-trans}
 use Rattle.std.proofs.lemmas.Result.{on_ok_weaker}
-use Rattle.program_edge.proofs.BeginsLemmas.{first, next}
+use Rattle.verdict_report.proofs.BeginsLemmas.{first, next}
 use Rattle.program_edge.proofs.told.write_path.Goals as goal
 
 pub returns-in_err-write_text-clause-part : goal.returns-in_err-write_text-clause-part

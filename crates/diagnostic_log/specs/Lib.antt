@@ -1,0 +1,15 @@
+pub mod Wrote
+pub mod Sentences
+pub mod Uris
+pub mod Artifacts
+pub mod Seen
+pub mod Places
+pub mod Notes
+pub mod Flows
+pub mod Fixes
+pub mod Rules
+pub mod RuleLists
+pub mod Results
+pub mod Log
+pub mod Lines
+pub mod Examples

@@ -1,0 +1,114 @@
+//! The rules of a log: what a diagnostic can be an instance of, and where that is explained.
+
+ghost use Rattle.std.specs.Prelude.{◌≡◌};
+ghost use Rattle.diagnostic_log.specs.Rules.{rule_section, rule_short};
+
+use diagnostics::code::Code;
+
+/// What is wrong, or could be better, where a rule is broken: one sentence.
+pub(crate) fn rule_short(code: Code) -> &'static str
+    ensures { result.now ≡ rule_short code }
+{
+    match code {
+        Code::EntryWithoutMask => "The certificate has no mask at the first instruction of a task",
+        Code::NextWithoutMask =>
+            "The certificate has no mask at an instruction that comes next inside a task",
+        Code::LacksDestination =>
+            "A mask of the certificate lacks a register that its instruction writes",
+        Code::LacksNext =>
+            "A mask of the certificate lacks a register that may be written from there on",
+        Code::ExceedsCreate => "A task may write a register that its create mask lacks",
+        Code::ForwardedInNext => "A register that is forwarded may be written again",
+        Code::ReleasedInNext => "A register that is released may be written again",
+        Code::SentNotCreated =>
+            "A register that is forwarded or released is not in the create mask",
+        Code::ExitNotListed => "A task can go on to a place that is not one of its targets",
+        Code::FallsOff => "A task can go on to an index that has no instruction",
+        Code::IndirectGoesOn => "A task goes on over a jump to an address in a register",
+        Code::TargetNotEntry => "A target is not where a task begins",
+        Code::TooLong => "The program text is too long",
+        Code::NotAscii => "A line of the program text has a byte that no text has",
+        Code::Token => "A line of the program text has bytes that are no token",
+        Code::Mnemonic => "There is no such instruction or directive",
+        Code::Operand => "A statement cannot take these operands",
+        Code::Number => "A number is out of its range",
+        Code::Mark => "A mark is unknown, stands a second time, or stands on a directive",
+        Code::Duplicate => "A label, a task or .start stands a second time",
+        Code::Unknown => "A name is no label of the kind that is wanted",
+        Code::TooMany => "The program is larger than a program may be",
+        Code::NoTask => "The program has no task",
+        Code::BadEntry => "A task begins where there is no instruction",
+        Code::DuplicateEntry => "Two tasks begin at one instruction",
+        Code::BadMask => "A create mask has $0, which nothing writes",
+        Code::BadMark => "An instruction cannot have its mark, or releases nothing",
+        Code::BadStart => "The program starts where no task begins",
+        Code::Header => "The first line is not that of a certificate",
+        Code::Line => "A line is none of a certificate",
+        Code::TaskName => "A line names a task that is not the program's next one",
+        Code::MissingTask => "The certificate lacks a task of the program",
+        Code::Shape => "The indices of a task do not rise, or one is too large",
+        Code::Unfit => "The certificate is not one of the program as it stands",
+        Code::ScriptLine => "A line of the event script is no event",
+        Code::ScriptTaskName =>
+            "A line of the event script names a task that the program does not have",
+        Code::NeverProduced =>
+            "A create mask has a register that no instruction of the task writes or releases",
+        Code::NotForwarded => "A last update has no forward bit",
+        Code::SentBefore => "A release names a register that was sent before",
+        Code::Unreached => "No task reaches the code from here on",
+        Code::NoExit => "A task has targets, and no path in it comes to an exit",
+        Code::TargetNotTaken => "A task lists a target that none of its exits takes",
+        Code::GoesIntoTask =>
+            "A task goes on, without a stop, into the first instruction of a task",
+        Code::More => "There is more than is shown",
+    }
+}
+
+/// The section of the documents that explains a rule, as a file of the folder docs/ and an anchor in it.
+pub(crate) fn rule_section(code: Code) -> &'static str
+    ensures { result.now ≡ rule_section code }
+{
+    match code {
+        Code::EntryWithoutMask => "RULES.md#rule-1-the-entry-has-no-mask",
+        Code::NextWithoutMask => "RULES.md#rule-2-an-instruction-that-comes-next-has-no-mask",
+        Code::LacksDestination => "RULES.md#rule-3-a-mask-lacks-what-the-instruction-writes",
+        Code::LacksNext => "RULES.md#rule-4-a-mask-lacks-what-may-be-written-later",
+        Code::ExceedsCreate => "RULES.md#rule-5-the-entrys-mask-exceeds-the-create-mask",
+        Code::ForwardedInNext => "RULES.md#rule-6-a-forwarded-register-may-be-written-again",
+        Code::ReleasedInNext => "RULES.md#rule-7-a-released-register-may-be-written-again",
+        Code::SentNotCreated =>
+            "RULES.md#rule-8-a-forwarded-or-released-register-is-not-in-the-create-mask",
+        Code::ExitNotListed => "RULES.md#rule-9-an-exit-is-not-listed",
+        Code::FallsOff => "RULES.md#rule-10-the-task-goes-on-to-an-index-without-an-instruction",
+        Code::IndirectGoesOn => "RULES.md#rule-11-an-indirect-jump-that-does-not-end-the-task",
+        Code::TargetNotEntry => "RULES.md#rule-12-a-target-is-not-where-a-task-begins",
+        Code::TooLong
+        | Code::NotAscii
+        | Code::Token
+        | Code::Mnemonic
+        | Code::Operand
+        | Code::Number
+        | Code::Mark
+        | Code::Duplicate
+        | Code::Unknown
+        | Code::TooMany
+        | Code::NoTask
+        | Code::BadEntry
+        | Code::DuplicateEntry
+        | Code::BadMask
+        | Code::BadMark
+        | Code::BadStart => "FORMATS.md#what-is-refused",
+        Code::Header | Code::Line | Code::TaskName | Code::MissingTask | Code::Shape =>
+            "FORMATS.md#certificates",
+        Code::Unfit => "RULES.md#what-a-certificate-is",
+        Code::ScriptLine | Code::ScriptTaskName => "FORMATS.md#event-scripts",
+        Code::NeverProduced
+        | Code::NotForwarded
+        | Code::SentBefore
+        | Code::Unreached
+        | Code::NoExit
+        | Code::TargetNotTaken
+        | Code::GoesIntoTask => "RULES.md#warnings-marks-that-cost-speed",
+        Code::More => "FORMATS.md#what-explain-says",
+    }
+}

@@ -1,0 +1,222 @@
+//! What a diagnostic is an instance of.
+
+ghost use Rattle.std.specs.Prelude.{◌≡◌, option_map};
+ghost use Rattle.diagnostics.specs.Codes.{code_id, code_label, code_before_line};
+
+/// What a diagnostic is an instance of. Each has an identifier that stays from version to version.
+#[derive(Clone, Copy, Debug, PartialEq, Eq)]
+pub enum Code {
+    /// Rule 1 of the checker; the rules 1 to 4 judge certificates alone.
+    EntryWithoutMask,
+    /// Rule 2.
+    NextWithoutMask,
+    /// Rule 3.
+    LacksDestination,
+    /// Rule 4.
+    LacksNext,
+    /// Rule 5.
+    ExceedsCreate,
+    /// Rule 6.
+    ForwardedInNext,
+    /// Rule 7.
+    ReleasedInNext,
+    /// Rule 8.
+    SentNotCreated,
+    /// Rule 9.
+    ExitNotListed,
+    /// Rule 10.
+    FallsOff,
+    /// Rule 11.
+    IndirectGoesOn,
+    /// Rule 12.
+    TargetNotEntry,
+    /// Fault 1 of a program text.
+    TooLong,
+    /// Fault 2.
+    NotAscii,
+    /// Fault 3.
+    Token,
+    /// Fault 4.
+    Mnemonic,
+    /// Fault 5.
+    Operand,
+    /// Fault 6.
+    Number,
+    /// Fault 7.
+    Mark,
+    /// Fault 8.
+    Duplicate,
+    /// Fault 9.
+    Unknown,
+    /// Fault 10, part 1.
+    TooMany,
+    /// Part 2.
+    NoTask,
+    /// Part 3.
+    BadEntry,
+    /// Part 4.
+    DuplicateEntry,
+    /// Part 5.
+    BadMask,
+    /// Part 6.
+    BadMark,
+    /// Part 7.
+    BadStart,
+    /// Fault 1 of a certificate's text.
+    Header,
+    /// Fault 2.
+    Line,
+    /// Fault 3.
+    TaskName,
+    /// Fault 4.
+    MissingTask,
+    /// Fault 5.
+    Shape,
+    /// The certificate can be read, but is not one of the program as it stands.
+    Unfit,
+    /// Fault 1 of an event script's text.
+    ScriptLine,
+    /// Fault 2.
+    ScriptTaskName,
+    /// A warning: a create mask has a register that no instruction of the task writes or releases.
+    NeverProduced,
+    /// A warning: a last update has no forward bit.
+    NotForwarded,
+    /// A warning: a release names a register that was sent before.
+    SentBefore,
+    /// A warning: no task reaches the code from here on.
+    Unreached,
+    /// A warning: a task has targets, and no way through it comes to an exit.
+    NoExit,
+    /// A warning: a task lists a target that no exit takes.
+    TargetNotTaken,
+    /// A warning: a task goes on, without a stop, into the first instruction of a task.
+    GoesIntoTask,
+    /// How many things are not shown.
+    More,
+}
+
+impl Code {
+    /// The identifier: the rule's number, or the number and the name of the fault.
+    pub fn id(self) -> &'static str
+        ensures { result.now ≡ code_id self }
+    {
+        match self {
+            Code::EntryWithoutMask => "rule1",
+            Code::NextWithoutMask => "rule2",
+            Code::LacksDestination => "rule3",
+            Code::LacksNext => "rule4",
+            Code::ExceedsCreate => "rule5",
+            Code::ForwardedInNext => "rule6",
+            Code::ReleasedInNext => "rule7",
+            Code::SentNotCreated => "rule8",
+            Code::ExitNotListed => "rule9",
+            Code::FallsOff => "rule10",
+            Code::IndirectGoesOn => "rule11",
+            Code::TargetNotEntry => "rule12",
+            Code::TooLong => "refused-1-TooLong",
+            Code::NotAscii => "refused-2-NotAscii",
+            Code::Token => "refused-3-Token",
+            Code::Mnemonic => "refused-4-Mnemonic",
+            Code::Operand => "refused-5-Operand",
+            Code::Number => "refused-6-Number",
+            Code::Mark => "refused-7-Mark",
+            Code::Duplicate => "refused-8-Duplicate",
+            Code::Unknown => "refused-9-Unknown",
+            Code::TooMany => "refused-10-Build-1-TooMany",
+            Code::NoTask => "refused-10-Build-2-NoTask",
+            Code::BadEntry => "refused-10-Build-3-BadEntry",
+            Code::DuplicateEntry => "refused-10-Build-4-DuplicateEntry",
+            Code::BadMask => "refused-10-Build-5-BadMask",
+            Code::BadMark => "refused-10-Build-6-BadMark",
+            Code::BadStart => "refused-10-Build-7-BadStart",
+            Code::Header => "certificate-1-Header",
+            Code::Line => "certificate-2-Line",
+            Code::TaskName => "certificate-3-TaskName",
+            Code::MissingTask => "certificate-4-MissingTask",
+            Code::Shape => "certificate-5-Shape",
+            Code::Unfit => "certificate-unfit",
+            Code::ScriptLine => "script-1-Line",
+            Code::ScriptTaskName => "script-2-TaskName",
+            Code::NeverProduced => "warning-NeverProduced",
+            Code::NotForwarded => "warning-NotForwarded",
+            Code::SentBefore => "warning-SentBefore",
+            Code::Unreached => "warning-Unreached",
+            Code::NoExit => "warning-NoExit",
+            Code::TargetNotTaken => "warning-TargetNotTaken",
+            Code::GoesIntoTask => "warning-GoesIntoTask",
+            Code::More => "more",
+        }
+    }
+
+    /// The words that end an error in the text form, if there are some: the number and the name that the other
+    /// subcommands give.
+    pub fn label(self) -> Option<&'static str>
+        ensures { option_map (λ words. words.now) result ≡ code_label self }
+    {
+        match self {
+            Code::EntryWithoutMask => Some("rule 1"),
+            Code::NextWithoutMask => Some("rule 2"),
+            Code::LacksDestination => Some("rule 3"),
+            Code::LacksNext => Some("rule 4"),
+            Code::ExceedsCreate => Some("rule 5"),
+            Code::ForwardedInNext => Some("rule 6"),
+            Code::ReleasedInNext => Some("rule 7"),
+            Code::SentNotCreated => Some("rule 8"),
+            Code::ExitNotListed => Some("rule 9"),
+            Code::FallsOff => Some("rule 10"),
+            Code::IndirectGoesOn => Some("rule 11"),
+            Code::TargetNotEntry => Some("rule 12"),
+            Code::TooLong => Some("1 TooLong"),
+            Code::NotAscii => Some("2 NotAscii"),
+            Code::Token => Some("3 Token"),
+            Code::Mnemonic => Some("4 Mnemonic"),
+            Code::Operand => Some("5 Operand"),
+            Code::Number => Some("6 Number"),
+            Code::Mark => Some("7 Mark"),
+            Code::Duplicate => Some("8 Duplicate"),
+            Code::Unknown => Some("9 Unknown"),
+            Code::TooMany => Some("10 Build 1 TooMany"),
+            Code::NoTask => Some("10 Build 2 NoTask"),
+            Code::BadEntry => Some("10 Build 3 BadEntry"),
+            Code::DuplicateEntry => Some("10 Build 4 DuplicateEntry"),
+            Code::BadMask => Some("10 Build 5 BadMask"),
+            Code::BadMark => Some("10 Build 6 BadMark"),
+            Code::BadStart => Some("10 Build 7 BadStart"),
+            Code::Header => Some("1 Header"),
+            Code::Line => Some("2 Line"),
+            Code::TaskName => Some("3 TaskName"),
+            Code::MissingTask => Some("4 MissingTask"),
+            Code::Shape => Some("5 Shape"),
+            Code::ScriptLine => Some("1 Line"),
+            Code::ScriptTaskName => Some("2 TaskName"),
+            Code::Unfit
+            | Code::NeverProduced
+            | Code::NotForwarded
+            | Code::SentBefore
+            | Code::Unreached
+            | Code::NoExit
+            | Code::TargetNotTaken
+            | Code::GoesIntoTask
+            | Code::More => None,
+        }
+    }
+
+    /// What stands between these words and the number of the line, where they name the line.
+    pub fn before_line(self) -> Option<&'static str>
+        ensures { option_map (λ words. words.now) result ≡ code_before_line self }
+    {
+        match self {
+            Code::NotAscii
+            | Code::Token
+            | Code::Mnemonic
+            | Code::Operand
+            | Code::Number
+            | Code::Mark
+            | Code::Duplicate
+            | Code::Unknown => Some(" line "),
+            Code::Line | Code::TaskName | Code::ScriptLine | Code::ScriptTaskName => Some(" "),
+            _ => None,
+        }
+    }
+}

@@ -1,0 +1,88 @@
+//! Diagnostics: what is said of one mistake, or of one thing that could be better.
+
+use crate::code::Code;
+use crate::listed::Listed;
+use crate::words::Words;
+
+/// A part of one line of a text.
+#[derive(Clone, Copy, Debug, PartialEq, Eq)]
+pub struct Span {
+    /// The line, from 1.
+    pub line: u32,
+    /// Where it begins, in bytes of the line, from 1.
+    pub column: usize,
+    /// How many bytes it has; 0 is the place before the byte at `column`.
+    pub width: usize,
+}
+
+/// How grave a diagnostic is.
+#[derive(Clone, Copy, Debug, PartialEq, Eq)]
+pub enum Severity {
+    /// Something is wrong.
+    Error,
+    /// Something is right, but could be better.
+    Warning,
+    /// Something to know, as how many more there are.
+    Note,
+}
+
+/// Which of the texts of a command a diagnostic is about.
+#[derive(Clone, Copy, Debug, PartialEq, Eq)]
+pub enum Source {
+    /// The program text.
+    Program,
+    /// The certificate.
+    Certificate,
+    /// The event script.
+    Script,
+}
+
+/// A further place that shows what is said, in the same text.
+#[derive(Debug, Drop)]
+pub struct Note {
+    /// The place; `None` where the note is about the text as a whole.
+    pub span: Option<Span>,
+    /// What is said of it: one sentence without a period, which begins with a small letter.
+    pub message: Words,
+    /// The places on the way, in their order; empty where there is no way.
+    pub path: Listed<Span>,
+}
+
+/// A text to put in place of a part of the text that the diagnostic is about. At a span of width 0 it is put in; an empty text takes
+/// the span out.
+#[derive(Debug, Drop)]
+pub struct Replacement {
+    /// What is replaced.
+    pub span: Span,
+    /// What is put there, without a line feed.
+    pub text: Words,
+}
+
+/// What to do.
+#[derive(Debug, Drop)]
+pub struct Help {
+    /// What to do, in words.
+    pub message: Words,
+    /// Where the remedy is exact, the changes that make it, which are made together; empty where it is not. No two
+    /// of their spans have a byte in common.
+    pub replacements: Listed<Replacement>,
+}
+
+/// What is said of one mistake, or of one thing that could be better.
+#[derive(Debug, Drop)]
+pub struct Diagnostic {
+    /// How grave it is.
+    pub severity: Severity,
+    /// What it is an instance of.
+    pub code: Code,
+    /// The text that it is about.
+    pub source: Source,
+    /// The part of that text that is meant; `None` where the text as a whole is.
+    pub span: Option<Span>,
+    /// What is said: one sentence without a period, which begins with a small letter.
+    pub message: Words,
+    /// Further places that show it, in the order in which they are said.
+    pub notes: Listed<Note>,
+    /// What to do, if that can be said.
+    pub help: Option<Help>,
+}

@@ -1,0 +1,15 @@
+//! What is said of a program, its marks, its certificate or an event script: as values, of which each renderer makes
+//! its own form, and in the text form of gcc and clang.
+#![tactic(auto)]
+
+pub mod code;
+pub mod colour;
+pub mod diagnostic;
+mod excerpt;
+pub mod files;
+mod label;
+pub mod laws;
+pub mod listed;
+pub mod quotation;
+pub mod text;
+pub mod words;

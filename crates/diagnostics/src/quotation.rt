@@ -1,0 +1,28 @@
+//! Bytes of a text as a message quotes them.
+
+ghost use Rattle.std.specs.Prelude.{◌≡◌, IfOk};
+ghost use Rattle.diagnostics.specs.Quotations.{quoted};
+
+use crate::excerpt::{first, shown_text};
+use crate::words;
+use crate::words::Words;
+use std::alloc::{AllocError, Global};
+
+/// How many bytes a message quotes at most (own choice).
+const MOST_QUOTED: usize = 40;
+
+/// Bytes of a text as a message quotes them: as an excerpt shows them, and of more than 40 only the first.
+///
+/// # Errors
+///
+/// `AllocError` where memory was refused.
+#[tactic(auto, unfolding(crate::specs::Quotations::quoted))]
+pub fn quoted(alloc: Global, bytes: &[u8]) -> Result<Words, AllocError>
+    ensures { IfOk result (λ words. words ≡ quoted bytes.now) }
+{
+    let shown = shown_text(alloc, first(bytes, MOST_QUOTED))?;
+    if bytes.len() > MOST_QUOTED {
+        return words!(in alloc; "`{shown}..`");
+    }
+    words!(in alloc; "`{shown}`")
+}

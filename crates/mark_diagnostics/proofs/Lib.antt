@@ -1,0 +1,6 @@
+mod Numbers
+mod Lists
+mod Steps
+mod Rooms
+mod Counting
+mod Complaining

@@ -1,0 +1,13 @@
+pub mod Naming
+pub mod Spans
+pub mod MarkPlaces
+pub mod Complaints
+pub mod StopNotes
+pub mod MaskDiagnostics
+pub mod SendingDiagnostics
+pub mod ExitDiagnostics
+pub mod More
+pub mod MarkErrors
+pub mod Examples
+pub mod StopWarnings
+pub mod CostlyDiagnostics

@@ -1,0 +1,12 @@
+//! Where a register could be sent that is sent too early.
+
+/// What to do where the register is written again.
+#[derive(Clone, Copy, Debug, PartialEq, Eq)]
+pub enum Later {
+    /// Nothing: it may be written yet again from there on.
+    Nowhere,
+    /// Nothing, since the instruction of this index forwards it.
+    Is(u32),
+    /// To put a forward bit on the instruction of this index.
+    Put(u32),
+}

@@ -1,0 +1,92 @@
+-- The parts of an item, each with its place (own choice): operands, lists, registers, targets and marks.
+use Rattle.std.specs.Prelude.{ℕ, zero, suc, ◌+◌, ◌-◌, Bool, true, false, List, [], ◌∷◌, length, take, drop, take_while, Result, Ok, Err, nat_lt, nat_le, if◌then◌else◌}
+use Rattle.program_tokens.specs.Grammar.{line_tokens}
+use Rattle.program_tokens.specs.Spans.{line_spans}
+use Rattle.program_tokens.specs.declared.token.Token.{Token}
+use Rattle.program_tokens.specs.declared.token.Token.TheVariants as token
+use Rattle.program_tokens.specs.declared.token.LineFault.{LineFault as TokenFault}
+use Rattle.program_tokens.specs.declared.span.Span.{Span as Place}
+use Rattle.program_statements.specs.Statements.{mark_count}
+use Rattle.syntax_tree.specs.declared.item.Span.{Span}
+use Rattle.syntax_tree.specs.declared.item.Item.{Item}
+use Rattle.syntax_tree.specs.Trees.{column_at, end_at}
+
+-- the tokens of a line from an item's first on, and their places
+pub record Parts : Type 0 where
+  pub line : ℕ
+  pub tokens : List Token
+  pub places : List Place
+
+abbrev pub tokens_or_none : Result (List Token) TokenFault → List Token
+tokens_or_none (Ok tokens) = tokens
+tokens_or_none (Err fault) = []
+
+-- the parts of an item in the bytes of its line; a line that has no tokens has none, and no line of a text is longer
+-- than 4,194,304 bytes
+abbrev pub detail_of : (line : List ℕ) → Item → Parts
+detail_of line item =
+    if nat_lt 4194304 (length line) then record { line = item.line; tokens = []; places = [] }
+    else record {
+      line = item.line;
+      tokens = drop item.token (tokens_or_none (line_tokens line));
+      places = drop item.token (line_spans line);
+    }
+
+-- what stands from the first byte of one token to the last of another
+abbrev pub between : Parts → (first last : ℕ) → Span
+between d first last = record {
+  line = d.line;
+  column = column_at d.places first;
+  width = end_at d.places last - column_at d.places first;
+}
+
+abbrev pub is_comma : Token → Bool
+is_comma token.Comma = true
+is_comma _ = false
+
+-- what stands between the commas of these tokens, the first of which has number k; the part that the next comma or the
+-- end closes begins with the token of number `first`
+abbrev pub comma_parts : Parts → (first k : ℕ) → List Token → List Span
+comma_parts d first k [] = between d first (k - 1) ∷ []
+comma_parts d first k (t ∷ rest) =
+    if is_comma t then between d first (k - 1) ∷ comma_parts d (k + 1) (k + 1) rest
+    else comma_parts d first (k + 1) rest
+
+-- the same of the tokens from one number on and before another
+abbrev pub listed : Parts → (first until : ℕ) → List Span
+listed d first until = if nat_le until first then [] else comma_parts d first first (take (until - first) (drop first d.tokens))
+
+-- the operands behind a mnemonic or a directive, and before the marks: of a `release` its registers, of data its numbers
+abbrev pub operand_spans : Parts → List Span
+operand_spans d = listed d 1 (length d.tokens - mark_count d.tokens)
+
+-- n tokens, the first of which has this number
+abbrev pub token_spans : Parts → (number n : ℕ) → List Span
+token_spans d number zero = []
+token_spans d number (suc n) = between d number number ∷ token_spans d (number + 1) n
+
+abbrev pub mark_spans : Parts → List Span
+mark_spans d = token_spans d (length d.tokens - mark_count d.tokens) (mark_count d.tokens)
+
+-- The number, in the tokens of a `.task NAME create=REGS targets=TS`, of the word `targets`: it is the first name
+-- behind `create=`.
+abbrev pub is_no_name : Token → Bool
+is_no_name (token.Name name) = false
+is_no_name _ = true
+
+abbrev pub targets_number : List Token → ℕ
+targets_number tokens = 4 + length (take_while is_no_name (drop 4 tokens))
+
+-- `create=REGS` is what stands from the word `create` to the word `targets`, and `targets=TS` is the rest
+abbrev pub create_span : Parts → Span
+create_span d = between d 2 (targets_number d.tokens - 1)
+
+abbrev pub targets_span : Parts → Span
+targets_span d = between d (targets_number d.tokens) (length d.tokens - 1)
+
+-- the registers behind `create=`, and the targets behind `targets=`; where there are none, the `-`
+abbrev pub create_spans : Parts → List Span
+create_spans d = listed d 4 (targets_number d.tokens)
+
+abbrev pub target_spans : Parts → List Span
+target_spans d = listed d (targets_number d.tokens + 2) (length d.tokens)

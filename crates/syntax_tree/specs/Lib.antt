@@ -1,0 +1,10 @@
+pub mod Trees
+pub mod ProgramItems
+pub mod Details
+pub mod Firsts
+pub mod Repeats
+pub mod UnknownNames
+pub mod Amounts
+pub mod WholeFaults
+pub mod Laws
+pub mod Examples

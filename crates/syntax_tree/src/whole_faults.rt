@@ -1,0 +1,172 @@
+//! What the items of a text show of a fault of its program as a whole.
+
+ghost use Rattle.std.specs.Prelude.{◌≡◌, ◌++◌, slice_get, IfOk, OnOk};
+ghost use Rattle.mips_instructions.specs.Words.{has};
+ghost use Rattle.syntax_tree.specs.WholeFaults.{section_limit, task_limit, limit_passed, creates_zero, entry_at, entry_of, entry_said, task_entries};
+
+use crate::amounts::{Amounts, amounts_before, with_said};
+use crate::firsts::Firsts;
+use crate::item::{Item, Said};
+use crate::unknown_names::labels_in;
+use mips_instructions::number::RegSet;
+use program_statements::statement::{Section, Statement, Task};
+use std::alloc::{AllocError, Global};
+
+/// A limit of a program.
+#[derive(Clone, Copy, Debug, PartialEq, Eq)]
+pub enum Limit {
+    /// 4,096 instructions.
+    Code,
+    /// 65,536 bytes of data.
+    Bytes,
+    /// 65,536 bytes of read-only data.
+    Fixed,
+    /// 1,024 tasks.
+    Tasks,
+    /// 16 targets of a task.
+    Targets,
+}
+
+/// Where a task begins.
+#[derive(Clone, Copy, Debug, PartialEq, Eq)]
+pub struct TaskEntry {
+    /// The number of its `.task` among the items, from 0 on.
+    pub task: usize,
+    /// The number of the first label of its name.
+    pub label: usize,
+    /// The index of the instruction behind that label.
+    pub entry: u64,
+}
+
+/// The limit of a section that is passed with so much, if one is.
+fn section_limit(section: Section, behind: Amounts) -> Option<Limit>
+    ensures { result ≡ section_limit section behind }
+{
+    match section {
+        Section::Text if behind.code > 4_096 => Some(Limit::Code),
+        Section::Data if behind.bytes > 65_536 => Some(Limit::Bytes),
+        Section::Rodata if behind.fixed > 65_536 => Some(Limit::Fixed),
+        _ => None,
+    }
+}
+
+/// The limit that is passed with a task before which so much stands, if one is.
+fn task_limit(before: Amounts, task: &Task) -> Option<Limit>
+    ensures { result ≡ task_limit before task.now }
+{
+    if task.targets.as_slice().len() > 16 {
+        return Some(Limit::Targets);
+    }
+    if before.tasks >= 1_024 {
+        return Some(Limit::Tasks);
+    }
+    None
+}
+
+/// The limit that is passed with an item of a section before which so much stands, if one is.
+pub fn limit_passed(before: Amounts, section: Section, said: &Said) -> Option<Limit>
+    ensures { result ≡ limit_passed before section said.now }
+{
+    match said {
+        Said::Statement(Statement::Code(_, _) | Statement::Bytes(_) | Statement::Space(_)) =>
+            section_limit(section, with_said(before, section, said)),
+        Said::Statement(Statement::Task(task)) => task_limit(before, task),
+        _ => None,
+    }
+}
+
+/// Whether a set has `$0`.
+fn has_zero(set: RegSet) -> bool
+    ensures { result ≡ has set 0 }
+{
+    set.bits() % 2 == 1
+}
+
+/// Whether it is a task whose create mask has `$0`.
+pub fn creates_zero(said: &Said) -> bool
+    ensures { result ≡ creates_zero said.now }
+{
+    match said {
+        Said::Statement(Statement::Task(task)) => has_zero(task.create),
+        _ => false,
+    }
+}
+
+/// How much stands before an item, if there is one of this number.
+fn amounts_at(all: &[Amounts], number: usize) -> Option<Amounts>
+    ensures { result ≡ slice_get all.now number }
+{
+    all.get(number).copied()
+}
+
+/// Adds where a task begins, if it is known what stands before its label.
+fn add_at(
+    found: &mut Vec<TaskEntry>,
+    task: usize,
+    label: usize,
+    before: Option<Amounts>,
+) -> Result<(), AllocError>
+    ensures { OnOk result (found.new.items ≡ found.old.items ++ entry_at task label before) }
+{
+    match before {
+        None => Ok(()),
+        Some(before) => {
+            found.push(TaskEntry {
+                task,
+                label,
+                entry: before.code,
+            })?;
+            Ok(())
+        }
+    }
+}
+
+/// Adds where a task begins, if a label has its name.
+fn add_entry(
+    found: &mut Vec<TaskEntry>,
+    all: &[Amounts],
+    task: usize,
+    label: Option<usize>,
+) -> Result<(), AllocError>
+    ensures { OnOk result (found.new.items ≡ found.old.items ++ entry_of all.now task label) }
+{
+    match label {
+        None => Ok(()),
+        Some(label) => add_at(found, task, label, amounts_at(all, label)),
+    }
+}
+
+/// Adds where the task of an item begins, if it is one.
+fn add_said(
+    found: &mut Vec<TaskEntry>,
+    labels: &Firsts,
+    all: &[Amounts],
+    number: usize,
+    said: &Said,
+) -> Result<(), AllocError>
+    ensures { OnOk result (found.new.items ≡ found.old.items ++ entry_said labels.now all.now number said.now) }
+{
+    match said {
+        Said::Statement(Statement::Task(task)) => {
+            add_entry(found, all, number, labels.get(&task.name))
+        }
+        _ => Ok(()),
+    }
+}
+
+/// Where the tasks begin whose names are labels, in the order of the text.
+///
+/// # Errors
+///
+/// `AllocError` where memory was refused.
+pub fn task_entries(alloc: Global, items: &[Item]) -> Result<Vec<TaskEntry>, AllocError>
+    ensures { IfOk result (λ found. found.items ≡ task_entries items.now) }
+{
+    let labels = labels_in(alloc, items)?;
+    let all = amounts_before(alloc, items)?;
+    let mut found = Vec::new(alloc);
+    for (number, item) in items.iter().enumerate() {
+        add_said(&mut found, &labels, &all, number, &item.said)?;
+    }
+    Ok(found)
+}

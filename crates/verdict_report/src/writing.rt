@@ -1,0 +1,47 @@
+//! Writing bytes, so that it is known what went out where the writer failed.
+ghost use Rattle.std.specs.Prelude.{◌≡◌, OnOk};
+ghost use Rattle.std.specs.Io.KnownBytes.{Appends};
+ghost use Rattle.verdict_report.specs.Writing.{Begins};
+
+use std::io;
+use std::io::{ErrorKind, Write};
+
+/// Writes a text whole, as `write_bytes` writes its bytes.
+///
+/// # Errors
+///
+/// Those of `write_bytes`.
+pub fn write_text<W: Write>(text: &str, writer: &mut W) -> io::Result<()>
+    ensures whole { OnOk result (Appends (W.contents writer.old) (W.contents writer.new) text.now) }
+    ensures part { Begins (W.contents writer.old) (W.contents writer.new) text.now }
+{
+    write_bytes(text.as_bytes(), writer)
+}
+
+/// Writes bytes whole; after an error what went out is a beginning of them. A write that was interrupted is
+/// made again.
+///
+/// # Errors
+///
+/// As the writer; also where it takes nothing.
+pub fn write_bytes<W: Write>(bytes: &[u8], writer: &mut W) -> io::Result<()>
+    ensures whole { OnOk result (Appends (W.contents writer.old) (W.contents writer.new) bytes.now) }
+    ensures part { Begins (W.contents writer.old) (W.contents writer.new) bytes.now }
+{
+    let mut rest = bytes;
+    for _turn in 0..u64::MAX {
+        if rest.is_empty() {
+            return Ok(());
+        }
+        match writer.write(rest) {
+            Ok(0) => return Err(io::Error::from(ErrorKind::WriteZero)),
+            Ok(count) => rest = &rest[count..],
+            Err(error) => {
+                if error.kind() != ErrorKind::Interrupted {
+                    return Err(error);
+                }
+            }
+        }
+    }
+    Err(io::Error::from(ErrorKind::Interrupted))
+}
