@@ -1,0 +1,19 @@
+/* Sums a function of each number: rounds that need little of each other. */
+#include "multiscalar.h"
+
+static unsigned mixed(unsigned value)
+{
+    value ^= value << 13;
+    value ^= value >> 17;
+    value ^= value << 5;
+    return value;
+}
+
+int main(void)
+{
+    unsigned sum = 0;
+    for (unsigned n = 1; n <= 200; n++)
+        sum += mixed(mixed(n)) >> 4;
+    out(sum);
+    return 0;
+}

@@ -1,0 +1,517 @@
+"""Reads assembler text as GCC writes it for MIPS, and as people write it for the GNU assembler."""
+
+import re
+from dataclasses import dataclass, field
+from pathlib import Path
+
+from assembler_text import calculated, parted, string_bytes, without_comment
+from delay_slots import JUMPS, taken_apart
+from expansions import Expander, Memory, Operand, Register, unaligned_load, unaligned_store
+from instructions import ASSEMBLER, KEPT, REGISTER_NAMES, Expression, Instruction
+from refusal import Place, Refused, refuse
+
+NAME = r"[A-Za-z_.$][\w.$]*"
+LABEL = re.compile(rf"\s*({NAME}|\d+)\s*:(?!:)")
+ASSIGNED = re.compile(rf"\s*({NAME})\s*=(?!=)\s*(.+)$")
+ADDRESS = re.compile(r"(.*)\(\s*(\$(?:\d+|[a-z]\w*))\s*\)$", re.S)
+HALF = re.compile(r"%(hi|lo)\s*\((.*)\)$", re.S)
+TERM = re.compile(rf"\s*([-+]?)\s*(0[xX][0-9a-fA-F]+|\d+[fb](?![\w.$])|\d+|'(?:\\.|[^\\])'|{NAME})")
+
+# Directives that say nothing about what the program does.
+IGNORED = """.ent .end .frame .mask .fmask .type .size .ident .gnu_attribute .module .nan .insn .hidden .protected
+.internal .abicalls .option .loc_mark_labels .psize .addrsig .addrsig_sym""".split()
+# Sections for debuggers and linkers.
+UNUSED = (".debug", ".mdebug", ".note", ".gnu", ".comment", ".pdr", ".reginfo", ".MIPS", ".eh_frame", ".stab", ".line")
+READ_ONLY, DATA, ZEROS, CODE, OTHER = "rodata", "data", "bss", "text", "other"
+SIZES = {".byte": 1} | dict.fromkeys((".half", ".short", ".hword", ".2byte"), 2)
+SIZES |= dict.fromkeys((".word", ".long", ".int", ".4byte"), 4) | dict.fromkeys((".dword", ".quad", ".8byte"), 8)
+
+
+@dataclass
+class Datum:
+    """A stretch of data: bytes, or an expression of some bytes, with the labels and the alignment before it."""
+
+    labels: list[str] = field(default_factory=list)
+    content: bytes = b""
+    value: Expression | None = None
+    alignment: int = 1
+    place: Place = Place()
+
+    @property
+    def size(self) -> int:
+        return 4 if self.value else len(self.content)
+
+
+@dataclass
+class Unit:
+    """One file: its code, its data by section, what it defines for others, what it only reserves."""
+
+    file: str
+    code: list[Instruction] = field(default_factory=list)
+    data: dict[str, list[Datum]] = field(default_factory=lambda: {READ_ONLY: [], DATA: [], ZEROS: []})
+    defined: set[str] = field(default_factory=set)
+    globals: set[str] = field(default_factory=set)
+    weak: set[str] = field(default_factory=set)
+    # Of .comm: size and alignment.
+    common: dict[str, tuple[int, int]] = field(default_factory=dict)
+    # The first place that names a symbol.
+    named: dict[str, Place] = field(default_factory=dict)
+
+
+def section_of(name: str, flags: str) -> str | None:
+    """Which part of memory a section belongs to, by its name or by its flags; None where neither says."""
+    for prefixes, part in (
+        ((".text",), CODE),
+        ((".data.rel.ro", ".rodata", ".rdata", ".lit"), READ_ONLY),
+        ((".data", ".sdata", ".tm_clone"), DATA),
+        ((".bss", ".sbss"), ZEROS),
+    ):
+        if name.startswith(prefixes):
+            return part
+    if name.startswith(UNUSED):
+        return OTHER
+    for letter, part in (("x", CODE), ("w", DATA), ("a", READ_ONLY)):
+        if letter in flags:
+            return part
+    return OTHER if flags.strip('"') == "" and '"' in flags else None
+
+
+class Reader:
+    """Reads one file, line by line."""
+
+    def __init__(self, file: str, number: int, is_run_time: bool) -> None:
+        self.unit = Unit(file)
+        self.is_run_time = is_run_time
+        self.number = number
+        self.line = 0
+        self.section, self.name, self.previous, self.pushed = CODE, ".text", ".text", []
+        # The part of memory of each section that was named.
+        self.parts: dict[str, str] = {}
+        # Words and halves are aligned, except after .align 0.
+        self.aligns_itself = True
+        self.constants: dict[str, Expression] = {}
+        self.files: dict[str, str] = {}
+        self.source: Place | None = None
+        # A line of the preprocessor: its number, its file, and where it stands.
+        self.marked: tuple[int, str, int] | None = None
+        self.no_reorder = False
+        self.count = 0
+        self.local_labels: dict[str, int] = {}
+        self.locals: set[str] = set()
+        self.after_own_task = False
+        self.faults: list[tuple[Place, str]] = []
+        # By section of code, per raw instruction: its expansion, and whether its delay slot follows.
+        self.raws: dict[str, list[tuple[list[Instruction], bool]]] = {}
+        # By section of code, the labels that stand before its next instruction.
+        self.labels: dict[str, list[str]] = {}
+        self.table: Instruction | None = None
+        # The half of a word that was accessed last: its instruction, register, lowest byte, place among the raw ones, labels.
+        self.half: tuple[str, int, Memory, int, list[str]] | None = None
+
+    @property
+    def place(self) -> Place:
+        return self.source or Place(self.unit.file, self.line)
+
+    @property
+    def raw(self) -> list[tuple[list[Instruction], bool]]:
+        return self.raws.setdefault(self.name, [])
+
+    def read(self, text: str) -> Unit:
+        text = re.sub(r"/\*.*?\*/", lambda it: "\n" * it[0].count("\n") + " ", text, flags=re.S)
+        for self.line, line in enumerate(text.split("\n"), 1):
+            try:
+                self.read_line(line)
+            except Refused as refused:
+                self.faults += refused.reasons
+        for name, raw in self.raws.items():
+            try:
+                self.unit.code += taken_apart(raw)
+            except Refused as refused:
+                self.faults += refused.reasons
+            if self.labels.get(name):
+                self.unit.code.append(Instruction("sll", (0, 0), Expression(0), self.place, labels=self.labels[name]))
+        if self.faults:
+            raise Refused(self.faults[:20])
+        return self.unit
+
+    def fresh(self) -> str:
+        self.count += 1
+        return f".after.{self.number}.{self.count}"
+
+    def read_line(self, line: str) -> None:
+        marker = re.match(r'#\s+(\d+)\s+"([^"]*)"', line)
+        if marker:
+            self.source, self.marked = None, (int(marker[1]), marker[2], self.line)
+            return
+        statements, comment = without_comment(line)
+        if self.marked:
+            first, file, at = self.marked
+            self.source = Place(file, first + self.line - at - 1)
+        marks = self.marks_of(comment)
+        count = len(self.raw)
+        for statement in parted(statements, ";"):
+            self.read_statement(statement)
+        self.keep_marks(marks, count)
+
+    # Marks of the author's own
+
+    def marks_of(self, comment: str) -> list[str]:
+        comment = comment.strip()
+        if not comment.startswith("!"):
+            return []
+        release = re.fullmatch(r"!release\s+(.*)", comment)
+        if release:
+            registers = tuple(self.register(it) for it in parted(release[1], ","))
+            self.add([Instruction("release", registers)])
+            return []
+        marks = comment.split()
+        wrong = [it for it in marks if it not in ("!f", "!s", "!st", "!sn", "!task")]
+        if wrong:
+            raise refuse(self.place, f"{wrong[0]} is no mark: !f, !s, !st, !sn, !task and !release are")
+        return marks
+
+    def keep_marks(self, marks: list[str], count: int) -> None:
+        if not marks:
+            return
+        if "!task" in marks:
+            self.after_own_task = len(self.raw) == count
+            if not self.after_own_task and self.raw[-1][0]:
+                self.raw[-1][0][0].begins_task = True
+        own = [it for it in marks if it != "!task"]
+        if not own:
+            return
+        if len(self.raw) == count:
+            raise refuse(self.place, f"{own[0]} stands at no instruction")
+        if not self.raw[-1][0]:
+            self.raw[-1][0].append(Instruction("sll", (0, 0), Expression(0), self.place))
+        last = self.raw[-1][0][-1]
+        if "!f" in own and not last.writes:
+            raise refuse(self.place, f"!f stands at an instruction that writes no register: {last.name}")
+        last.own_forward = "!f" in own
+        last.own_stop = next((it for it in own if it != "!f"), "")
+
+    # Statements
+
+    def read_statement(self, statement: str) -> None:
+        while True:
+            label = LABEL.match(statement)
+            if not label:
+                break
+            self.define(label[1])
+            statement = statement[label.end() :]
+        statement = statement.strip()
+        assigned = ASSIGNED.match(statement)
+        if assigned:
+            self.assign(assigned[1], assigned[2])
+        elif statement.startswith("."):
+            word, _, rest = statement.partition(" ") if " " in statement.split("\t")[0] else statement.partition("\t")
+            self.read_directive(word.strip(), rest.strip())
+        elif statement:
+            self.read_instruction(statement)
+
+    def assign(self, name: str, text: str) -> None:
+        if text.strip() == ".":
+            if self.section == CODE and not re.match(r"[$.]L[A-Z]", name):
+                self.define(name)
+            return
+        self.constants[name] = self.expression(text)
+
+    def define(self, name: str) -> None:
+        if name.isdigit():
+            self.local_labels[name] = self.local_labels.get(name, 0) + 1
+            name = f".local.{name}.{self.local_labels[name]}"
+        if self.section == OTHER or re.match(r"\$L(text|etext|FB|FE|BB|BE|BI|SI|VL|M|VU)\d+$|\$LC?F[BE]", name):
+            return
+        if self.section != CODE:
+            self.begin_table(name)
+            self.data().append(Datum([name], place=Place(self.unit.file)))
+        else:
+            self.labels.setdefault(self.name, []).append(name)
+
+    def data(self) -> list[Datum]:
+        return self.unit.data[self.section]
+
+    def begin_table(self, name: str) -> None:
+        """A label of read-only data right after a jump through a register begins the table of its places."""
+        if self.table is not None and self.section == READ_ONLY:
+            self.table.table = name
+        self.table = None
+
+    # Directives
+
+    def read_directive(self, word: str, rest: str) -> None:
+        if word in (".text", ".data", ".bss", ".rdata", ".rodata", ".sdata", ".sbss"):
+            self.enter(word)
+        elif word in (".section", ".pushsection"):
+            if word == ".pushsection":
+                self.pushed.append(self.name)
+            name, *flags = parted(rest, ",")
+            self.enter(name.strip('"'), "".join(flags[:1]))
+        elif word == ".previous" or word == ".popsection" and self.pushed:
+            self.enter(self.previous if word == ".previous" else self.pushed.pop())
+        elif word == ".file":
+            self.read_file(rest)
+        elif word == ".loc":
+            self.read_location(rest)
+        elif word == ".set":
+            self.read_set(rest)
+        elif word == ".equ":
+            name, _, value = rest.partition(",")
+            self.assign(name.strip(), value)
+        elif word in (".globl", ".global"):
+            self.unit.globals.update(it.strip() for it in re.split(r"[,\s]+", rest) if it.strip())
+        elif word == ".local":
+            self.locals.update(parted(rest, ","))
+        elif word == ".weak":
+            self.unit.globals.update(parted(rest, ","))
+            self.unit.weak.update(parted(rest, ","))
+        elif word in (".comm", ".lcomm"):
+            self.reserve(word, parted(rest, ","))
+        elif self.section == OTHER or word in IGNORED or word.startswith(".cfi_"):
+            return
+        elif word in (".align", ".p2align", ".balign"):
+            self.align(word, rest)
+        elif word in (".init_array", ".ctors"):
+            raise refuse(self.place, "constructors that run before main are not supported")
+        else:
+            self.read_data(word, rest)
+
+    def enter(self, name: str, flags: str = "") -> None:
+        if name.startswith((".init_array", ".ctors", ".fini_array", ".dtors")):
+            raise refuse(self.place, "functions that run before or after main are not supported")
+        if name.startswith((".tdata", ".tbss")):
+            raise refuse(self.place, "thread-local data are not supported")
+        part = self.parts.get(name) or section_of(name, flags)
+        if part is None or name in (".init", ".fini"):
+            raise refuse(self.place, f"what the section {name} is for is not known")
+        self.parts[name] = part
+        self.previous, self.name, self.section = self.name, name, part
+        self.aligns_itself = True
+
+    def read_file(self, rest: str) -> None:
+        found = re.match(r'(\d+)\s+(.*)$', rest)
+        if found:
+            names = re.findall(r'"((?:\\.|[^"])*)"', found[2])
+            if names:
+                self.files[found[1]] = str(Path(*names))
+
+    def read_location(self, rest: str) -> None:
+        words = rest.split()
+        # A line of C that writes a word is more to a reader than the line of the header that does.
+        if self.section == CODE and words[0] in self.files and not self.files[words[0]].endswith("multiscalar.h"):
+            self.source = Place(self.files[words[0]], int(words[1]))
+
+    def read_set(self, rest: str) -> None:
+        name, comma, value = rest.partition(",")
+        if comma:
+            self.assign(name.strip(), value)
+        elif name.strip() in ("noreorder", "reorder"):
+            self.no_reorder = name.strip() == "noreorder"
+        elif name.strip() in ("mips16", "micromips"):
+            raise refuse(self.place, f"{name.strip()} is another instruction set")
+
+    def reserve(self, word: str, parts: list[str]) -> None:
+        size, alignment = int(parts[1], 0), int(parts[2], 0) if len(parts) > 2 else 8
+        if word == ".lcomm":
+            self.locals.add(parts[0])
+        if parts[0] in self.locals:
+            self.unit.data[ZEROS].append(Datum([parts[0]], bytes(size), alignment=alignment, place=Place(self.unit.file)))
+        else:
+            self.unit.common[parts[0]] = (size, alignment)
+
+    def align(self, word: str, rest: str) -> None:
+        number = calculated(parted(rest, ",")[0]) if rest else 0
+        if number is None or number > 16 and word != ".balign":
+            raise refuse(self.place, f"{word} {rest} is not an alignment")
+        if number == 0 and word == ".align":
+            self.aligns_itself = False
+        elif self.section != CODE:
+            self.data().append(Datum(alignment=number if word == ".balign" else 1 << number, place=self.place))
+
+    def read_data(self, word: str, rest: str) -> None:
+        if self.section == CODE:
+            if word in SIZES or word in (".ascii", ".asciz", ".string", ".space", ".skip", ".zero", ".fill"):
+                raise refuse(self.place, f"{word} puts data into the code, which the machine keeps apart")
+            raise refuse(self.place, f"the directive {word} is not known")
+        if word in SIZES:
+            if self.aligns_itself and word not in (".2byte", ".4byte", ".8byte"):
+                self.data().append(Datum(alignment=SIZES[word]))
+            for part in parted(rest, ","):
+                self.add_value(self.expression(part), SIZES[word])
+        elif word in (".ascii", ".asciz", ".string"):
+            end = b"" if word == ".ascii" else b"\0"
+            self.data().append(Datum(content=b"".join(string_bytes(it, self.place) + end for it in parted(rest, ",")), place=self.place))
+        elif word in (".space", ".skip", ".zero"):
+            parts = [calculated(it) for it in parted(rest, ",")]
+            if not parts or None in parts or not 0 <= parts[0] <= 1 << 20:
+                raise refuse(self.place, f"{word} {rest} is not a number of bytes")
+            self.data().append(Datum(content=bytes([(parts[1] if len(parts) > 1 else 0) & 255]) * parts[0], place=self.place))
+        elif word == ".fill":
+            parts = [calculated(it) for it in parted(rest, ",")]
+            repeat, size, value = (parts + [1, 0])[: 3] if len(parts) < 3 else parts[:3]
+            self.data().append(Datum(content=(value & (1 << 8 * size) - 1).to_bytes(size, "little") * repeat, place=self.place))
+        else:
+            raise refuse(self.place, f"the directive {word} is not known")
+
+    def add_value(self, value: Expression, size: int) -> None:
+        if value.symbol:
+            if size != 4 or value.half:
+                raise refuse(self.place, f"the address {value} does not fit {size} bytes")
+            self.data().append(Datum(value=value, place=self.place))
+            self.name_symbol(value)
+        else:
+            number = value.half_of(value.number) if value.half else value.number
+            self.data().append(Datum(content=(number & (1 << 8 * size) - 1).to_bytes(size, "little"), place=self.place))
+
+    # Instructions and their operands
+
+    def read_instruction(self, statement: str) -> None:
+        if self.section != CODE:
+            raise refuse(self.place, f"an instruction outside the code: {statement}")
+        parts = statement.split(None, 1)
+        name = parts[0]
+        if name == "release":
+            self.add([Instruction("release", tuple(self.register(it) for it in parted(parts[1], ",")))])
+            return
+        operands = [self.operand(it) for it in parted(parts[1], ",")] if len(parts) > 1 else []
+        note = re.sub(r"\s+", " ", statement)
+        made = self.both_halves(name, operands, note) or Expander(name, operands, self.place, self.fresh).expand()
+        for it in made:
+            it.note = note if len(made) > 1 or it.value is not None and it.value.half else it.note
+        self.add(made)
+
+    def both_halves(self, name: str, operands: list[Operand], note: str) -> list[Instruction]:
+        """A pair such as lwl and lwr of one word at any address, which takes less than each alone."""
+        half, self.half = self.half, None
+        if name not in ("lwl", "lwr", "swl", "swr") or len(operands) != 2 or not isinstance(operands[1], Memory):
+            return [] if name != "nop" else self.still(half)
+        register, memory = operands[0].number, operands[1]
+        lowest = Memory(memory.offset.plus(-3 if name[2] == "l" else 0), memory.base)
+        other = name[:2] + ("r" if name[2] == "l" else "l")
+        is_pair = half and half[:3] == (other, register, lowest) and not self.labels.get(self.name) and register != memory.base
+        if is_pair and self.is_free(half[3]):
+            self.raw[half[3]] = [], self.raw[half[3]][1]
+            self.labels.setdefault(self.name, []).extend(half[4])
+            return (unaligned_load if name[0] == "l" else unaligned_store)(register, lowest.offset, memory.base)
+        self.half = name, register, lowest, len(self.raw), list(self.labels.get(self.name, []))
+        return []
+
+    def is_free(self, index: int) -> bool:
+        """Whether a raw instruction has no mark and does not stand in a delay slot."""
+        before, has_slots = self.raw[index - 1] if index else ([], False)
+        is_marked = any(it.own_forward or it.own_stop or it.begins_task for it in self.raw[index][0])
+        return not is_marked and not (has_slots and before and before[-1].form in JUMPS)
+
+    def still(self, half: tuple[str, int, Memory, int, list[str]] | None) -> list[Instruction]:
+        """A nop between two halves changes nothing."""
+        self.half = half
+        return []
+
+    def add(self, made: list[Instruction]) -> None:
+        if not made and self.after_own_task:
+            made = [Instruction("sll", (0, 0), Expression(0))]
+        for it in made:
+            it.place = self.place
+            if it.value:
+                self.name_symbol(it.value)
+        if made:
+            made[0].labels = self.labels.pop(self.name, []) + made[0].labels
+            made[0].begins_task |= self.after_own_task
+            self.after_own_task = False
+            self.table = made[-1] if made[-1].form == "jump_register" else None
+            if self.table:
+                made[-1].may_return = self.unit.file.endswith((".s", ".S")) and not self.is_run_time
+        self.raw.append((made, self.no_reorder))
+
+    def name_symbol(self, value: Expression) -> None:
+        if value.symbol:
+            self.unit.named.setdefault(value.symbol, self.place)
+
+    def register(self, text: str) -> int:
+        word = text.strip().removeprefix("$")
+        number = int(word) if word.isdigit() and len(word) < 3 else REGISTER_NAMES.get(word, 99)
+        if re.fullmatch(r"f\d+|f?cc\d", word):
+            raise refuse(self.place, "floating-point registers: the machine has none; use -msoft-float code")
+        if number > 31 or not text.strip().startswith("$"):
+            raise refuse(self.place, f"{text} is not a register")
+        if number in (ASSEMBLER, *KEPT) and not self.is_run_time:
+            raise refuse(self.place, f"${number} is kept for expansions and run-time routines")
+        return number
+
+    def operand(self, text: str) -> Operand:
+        address = ADDRESS.match(text)
+        if address:
+            offset = self.expression(address[1]) if address[1].strip() else Expression(0)
+            return Memory(offset, self.register(address[2]))
+        if text.startswith("$") and not re.match(r"\$L", text):
+            return Register(self.register(text))
+        return self.expression(text)
+
+    def expression(self, text: str) -> Expression:
+        text = text.strip()
+        half = HALF.match(text)
+        if half:
+            inner = self.expression(half[2])
+            if inner.half:
+                raise refuse(self.place, f"{text}: a half of a half")
+            return Expression(inner.number, inner.symbol, half[1])
+        number = calculated(text)
+        if number is not None:
+            return Expression(number)
+        return self.sum_of(text)
+
+    def sum_of(self, text: str) -> Expression:
+        total, symbol, at = 0, "", 0
+        while at < len(text):
+            term = TERM.match(text, at)
+            if not term or at and not term[1]:
+                raise refuse(self.place, f"{text} is not understood")
+            value = self.term(term[2])
+            if value.symbol and (symbol or term[1] == "-"):
+                raise refuse(self.place, f"{text}: only one address and a number can be added")
+            symbol = symbol or value.symbol
+            total += -value.number if term[1] == "-" else value.number
+            at = term.end() + len(text[term.end() :]) - len(text[term.end() :].lstrip())
+        return Expression(total, symbol)
+
+    def term(self, word: str) -> Expression:
+        if word[0] == "'":
+            return Expression(string_bytes(f'"{word[1:-1]}"', self.place)[0])
+        if re.fullmatch(r"\d+[fb]", word):
+            number = self.local_labels.get(word[:-1], 0) + (word[-1] == "f")
+            return Expression(symbol=f".local.{word[:-1]}.{number}")
+        if word[0].isdigit():
+            number = calculated(word)
+            if number is None:
+                raise refuse(self.place, f"{word} is not a number")
+            return Expression(number)
+        return self.constants.get(word, Expression(symbol=word))
+
+
+def read_unit(text: str, file: str, number: int, is_run_time: bool = False) -> Unit:
+    """The unit that an assembler file defines. Symbols that it does not make global get a name of this file."""
+    unit = Reader(file, number, is_run_time).read(text)
+    defined = {it for instruction in unit.code for it in instruction.labels}
+    defined |= {it for part in unit.data.values() for datum in part for it in datum.labels}
+    unit.defined = defined
+    own = {it: f"{it}@{number}" for it in defined if it not in unit.globals}
+    unit.weak |= unit.globals if is_run_time else set()
+    return renamed(unit, own)
+
+
+def renamed(unit: Unit, names: dict[str, str]) -> Unit:
+    def of_value(value: Expression | None) -> Expression | None:
+        return Expression(value.number, names.get(value.symbol, value.symbol), value.half) if value and value.symbol else value
+
+    for it in unit.code:
+        it.labels = [names.get(label, label) for label in it.labels]
+        it.value = of_value(it.value)
+        it.table = names.get(it.table, it.table)
+        it.comes_back = names.get(it.comes_back, it.comes_back)
+    for part in unit.data.values():
+        for datum in part:
+            datum.labels = [names.get(label, label) for label in datum.labels]
+            datum.value = of_value(datum.value)
+    unit.defined = {names.get(it, it) for it in unit.defined}
+    unit.named = {names.get(symbol, symbol): place for symbol, place in unit.named.items()}
+    return unit

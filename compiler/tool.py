@@ -1,0 +1,83 @@
+"""Calls the command multiscalar."""
+
+import os
+import re
+import shutil
+import subprocess
+import tempfile
+from collections import Counter
+from dataclasses import dataclass
+from pathlib import Path
+
+HERE = Path(__file__).resolve().parent
+
+
+class ToolFailed(Exception):
+    """The command answered something that a translated program should not get."""
+
+
+@dataclass(frozen=True)
+class Steps:
+    """One line of the table of `curve`."""
+
+    units: int
+    steps: int
+    retired: int
+    end: str
+
+    @property
+    def key(self) -> tuple:
+        """Less is better. Runs that ended compare by steps; others by the instructions that they retired in a step."""
+        ended = self.end != "out of budget"
+        return (0, self.steps) if ended else (1, -self.retired / max(self.steps, 1))
+
+
+def found_command() -> str:
+    """The program that is built in this repository, or one on PATH. The launcher would prove it first, for half an hour."""
+    built = HERE.parent / "crates" / "multiscalar" / "out" / "multiscalar"
+    command = str(built) if built.exists() else shutil.which("multiscalar")
+    if command is None or Path(command).resolve() == HERE.parent / "multiscalar":
+        raise ToolFailed("multiscalar is not built; build it (README.md), or name it with --multiscalar or in $MULTISCALAR")
+    return command
+
+
+class Tool:
+    def __init__(self, command: str | None = None, budget: int = 1_000_000) -> None:
+        self.command = command or os.environ.get("MULTISCALAR") or found_command()
+        self.budget = budget
+
+    def call(self, *words: str, text: str | None = None) -> subprocess.CompletedProcess:
+        return subprocess.run([self.command, *words], input=text, capture_output=True, text=True, check=False)
+
+    def on(self, text: str, subcommand: str, *words: str) -> subprocess.CompletedProcess:
+        """Calls a subcommand with a program text."""
+        with tempfile.NamedTemporaryFile("w", suffix=".s", delete=False) as file:
+            file.write(text)
+        try:
+            return self.call(subcommand, *words, file.name)
+        finally:
+            os.unlink(file.name)
+
+    def marked(self, text: str) -> str:
+        """The text with create masks and forward bits."""
+        done = self.on(text, "annotate", "--emit", "marks")
+        if done.returncode or done.stdout.startswith(("program refused", "marks refused")):
+            raise ToolFailed(f"annotate: {done.stdout[:500]}{done.stderr[:500]}")
+        return done.stdout
+
+    def verdict(self, text: str) -> tuple[bool, str]:
+        done = self.on(text, "check", "--least")
+        return done.returncode == 0, done.stdout + done.stderr
+
+    def followers(self, text: str) -> Counter:
+        """How often each task followed each, in the order of the program: the run on one unit, where nothing is predicted."""
+        done = self.on(text, "run", "--least", "--schedule", "steps", "--units", "1", "--emit", "script", "--budget", str(self.budget))
+        tasks = re.findall(r"^assign (\w+)$", done.stdout, re.M)
+        return Counter(zip(tasks, tasks[1:]))
+
+    def curve(self, text: str, units: int) -> list[Steps]:
+        done = self.on(text, "curve", "--least", "--units", str(units), "--budget", str(self.budget))
+        rows = re.findall(r"^ *(\d+) +(\d+) +(\d+) +\S+ +\S+ +\S+  (.*)$", done.stdout, re.M)
+        if len(rows) != units:
+            raise ToolFailed(f"curve: {done.stdout[:500]}{done.stderr[:500]}")
+        return [Steps(int(a), int(b), int(c), end) for a, b, c, end in rows]

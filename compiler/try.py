@@ -1,0 +1,366 @@
+#!/usr/bin/env python3
+"""Compares translated programs with the same C built for the host and for MIPS in QEMU.
+
+    compiler/try.py                    the programs of compiler/programs and 300 of csmith: half an hour of one core
+    compiler/try.py --quick            a minute of it
+    compiler/try.py --steps            beside that, the steps of the programs on 1, 2, 4, 8 and 16 units
+
+Each program is translated at -O0, -O1 and -O2, cut and marked in several ways, checked, and run: `seq`, `run` on 1, 4 and
+16 units, and `replay` of the script of a run. What is printed must be what the host prints (not of csmith's programs,
+whose meaning depends on the size of long) and what the program prints that GCC makes for MIPS32 and QEMU runs. The last
+line says how many agree; the status is 0 exactly if none differs. Results are kept in compiler/out, so a run that was
+stopped goes on where it was; a change of a program or of the translator makes its results void.
+
+It needs gcc, gcc-mipsel-linux-gnu, qemu-user, libc6-dev-mipsel-cross, csmith and libcsmith-dev.
+"""
+
+import argparse
+import hashlib
+import json
+import random
+import re
+import subprocess
+import sys
+import tempfile
+import time
+from collections import Counter
+from concurrent.futures import FIRST_COMPLETED, Future, ProcessPoolExecutor, wait
+from dataclasses import dataclass
+from itertools import repeat
+from pathlib import Path
+from typing import Iterator
+
+from choice import Settings, Way, best_of, chosen, written
+from compiling import CompilerFailed, Compiling, program_of
+from linking import Program
+from refusal import Refused
+from tool import Tool, ToolFailed
+
+HERE = Path(__file__).resolve().parent
+OUT = HERE / "out"
+CSMITH_HEADERS = "/usr/include/csmith"
+LEVELS = "012"
+WAYS = [
+    Way("calls", "own", "none"),
+    Way("calls", "joined", "early"),
+    Way("outer", "joined", "late"),
+    Way("loops", "own", "early"),
+    Way("loops", "joined", "late"),
+    Way("blocks", "own", "early"),
+]
+UNITS = (1, 4, 16)
+# Sizes that often fit 4,096 instructions; three kinds, in turn.
+CSMITH = [
+    "--max-funcs 2 --max-block-depth 2 --max-block-size 3 --max-expr-complexity 4 --max-array-len-per-dim 4 --no-bitfields",
+    "--max-funcs 4 --max-block-depth 2 --max-block-size 3 --max-expr-complexity 5 --max-array-len-per-dim 5 --packed-struct",
+    "--max-funcs 5 --max-block-depth 3 --max-block-size 4 --max-expr-complexity 6 --max-array-len-per-dim 6 --no-volatiles",
+]
+FOR_ALL = "--no-argc --no-float --concise --max-array-dim 2"
+
+
+@dataclass(frozen=True)
+class Trial:
+    """One program at one level, cut in one way."""
+
+    source: str
+    level: str
+    way: Way
+    is_csmith: bool
+
+    def name(self) -> str:
+        return f"{Path(self.source).stem} -O{self.level} {self.way}"
+
+
+def command(words: list[str], seconds: float = 20) -> tuple[int, str]:
+    try:
+        done = subprocess.run(words, capture_output=True, text=True, timeout=seconds, check=False, cwd=OUT)
+    except subprocess.TimeoutExpired:
+        return -1, "too long"
+    return done.returncode, done.stdout + (done.stderr if done.returncode else "")
+
+
+def includes(is_csmith: bool) -> list[str]:
+    return [str(HERE / "include"), *([str(HERE / "csmith"), CSMITH_HEADERS] if is_csmith else [])]
+
+
+def files_of(source: str) -> list[str]:
+    """A program's files: its C and, if there is one of the same name, its assembler text."""
+    assembly = Path(source).with_suffix(".S")
+    return [source, str(assembly)] if assembly.exists() else [source]
+
+
+class References:
+    """What a program prints elsewhere; None where it takes too long there."""
+
+    def __init__(self, folder: Path) -> None:
+        self.folder = folder
+        self.known: dict[str, list[str] | None] = {}
+
+    def of(self, trial: Trial) -> list[str] | None:
+        if trial.source not in self.known:
+            self.known[trial.source] = self.found(trial)
+        return self.known[trial.source]
+
+    def found(self, trial: Trial) -> list[str] | None:
+        headers = [f"-I{it}" for it in includes(trial.is_csmith)]
+        built = str(self.folder / "reference")
+        files = files_of(trial.source)
+        compilers = [["mipsel-linux-gnu-gcc", "-static", "-fno-pic", "-fno-pie", "-mno-abicalls", "-DMULTISCALAR_HOST"]]
+        compilers += [] if trial.is_csmith or len(files) > 1 else [["gcc"]]
+        printed = []
+        for compiler in compilers:
+            status, said = command([*compiler, "-w", "-O1", *headers, "-o", built, *files], 60)
+            if status:
+                raise SystemExit(f"{trial.source}: {said}")
+            status, said = command([*(["qemu-mipsel"] if "-static" in compiler else []), built], 5)
+            if status < 0:
+                return None
+            if status:
+                raise SystemExit(f"{trial.source}: the reference ended with status {status}")
+            printed.append(said.split())
+        if any(it != printed[0] for it in printed):
+            raise SystemExit(f"{trial.source}: the host and QEMU print different words")
+        return printed[0]
+
+
+class Trials:
+    def __init__(self, tool: Tool, folder: Path) -> None:
+        self.tool, self.folder = tool, folder
+        self.references = References(folder)
+        self.programs: dict[tuple[str, str], Program | Exception] = {}
+
+    def program(self, trial: Trial) -> Program:
+        key = trial.source, trial.level
+        if key not in self.programs:
+            if len(self.programs) > 30:
+                self.programs.clear()
+            try:
+                compiling = Compiling(level=trial.level, folders=includes(trial.is_csmith), shows_warnings=False)
+                self.programs[key] = program_of(files_of(trial.source), compiling, 1024)
+            except (Refused, CompilerFailed) as fault:
+                self.programs[key] = fault
+        found = self.programs[key]
+        if isinstance(found, Exception):
+            raise found
+        return found
+
+    def result(self, trial: Trial) -> str:
+        """`same`, or `refused: ..`, `too long: ..` or `different: ..`."""
+        wanted = self.references.of(trial)
+        if wanted is None:
+            return "too long: in QEMU"
+        try:
+            choice = written(self.program(trial), trial.way, self.tool, [], trial.way.release == "none")
+        except Refused as refused:
+            return f"refused: {refused.reasons[0][1]}"
+        except (CompilerFailed, ToolFailed) as failed:
+            return f"different: {failed}"
+        (self.folder / "program.s").write_text(choice.text)
+        return self.runs(wanted)
+
+    def runs(self, wanted: list[str]) -> str:
+        text = str(self.folder / "program.s")
+        status, said = command([self.tool.command, "seq", text])
+        lines = said.split("\n")[:-1]
+        if status == 3 or status < 0:
+            return "too long: more than 1000000 instructions"
+        if lines[:-1] != wanted or not lines[-1].startswith("halted"):
+            return f"different: seq: {' '.join(lines[-3:])}"
+        ends = set()
+        for units in UNITS:
+            status, said = command([self.tool.command, "run", "--least", "--units", str(units), text], 60)
+            if status == 3 or status < 0:
+                return f"too long: more than 1000000 events on {units} units"
+            lines = said.split("\n")[:-1]
+            if lines[:-2] != wanted or status:
+                return f"different: run on {units} units: {' '.join(lines[-3:])}"
+            ends.add(tuple(lines[-2:]))
+        if len(ends) > 1:
+            return f"different: the runs end as {ends}"
+        return self.replayed(text, [*wanted, *ends.pop()])
+
+    def replayed(self, text: str, wanted: list[str]) -> str:
+        script = self.folder / "run.events"
+        first, events = command([self.tool.command, "run", "--least", "--units", "4", "--emit", "script", text], 60)
+        script.write_text(events)
+        second, said = command([self.tool.command, "replay", "--least", "--units", "4", text, str(script)], 60)
+        if min(first, second) < 0 or first == 3:
+            return "too long: the script of a run on 4 units"
+        lines = said.split("\n")[:-1]
+        count = events.count("\n")
+        if lines[count:] != wanted or said.count(" ok\n") != count:
+            return f"different: replay: {' '.join(lines[-3:])}"
+        return "same"
+
+
+def digest_of_translator() -> str:
+    found = sorted(it for pattern in ("*.py", "runtime/*", "include/**/*", "csmith/*") for it in HERE.glob(pattern))
+    files = [it for it in found if it.is_file() and not it.name.startswith(("try", "c2ms"))]
+    return hashlib.sha256(b"".join(it.read_bytes() for it in files)).hexdigest()[:12]
+
+
+class Kept:
+    """Results of earlier runs, by what they depend on."""
+
+    def __init__(self, file: Path, translator: str) -> None:
+        self.file, self.translator = file, translator
+        self.results: dict[str, str] = {}
+        if file.exists():
+            for line in file.read_text().splitlines():
+                row = json.loads(line)
+                self.results[row["key"]] = row["result"]
+
+    def key(self, trial: Trial) -> str:
+        source = hashlib.sha256(b"".join(Path(it).read_bytes() for it in files_of(trial.source))).hexdigest()[:12]
+        return f"{self.translator} {source} {trial.name()}"
+
+    def get(self, trial: Trial) -> str | None:
+        return self.results.get(self.key(trial))
+
+    def put(self, trial: Trial, result: str) -> None:
+        self.results[self.key(trial)] = result
+        with self.file.open("a") as file:
+            file.write(json.dumps({"key": self.key(trial), "result": result}) + "\n")
+
+
+def own_trials() -> list[Trial]:
+    sources = sorted(str(it) for it in (HERE / "programs").glob("*.c"))
+    return [Trial(source, level, way, False) for source in sources for level in LEVELS for way in WAYS]
+
+
+def csmith_trials(count: int, first: int) -> list[Trial]:
+    """Each program of csmith at one level and in one way; both change from program to program."""
+    trials = []
+    for number in range(first, first + count):
+        source = OUT / f"csmith{number}.c"
+        if not source.exists():
+            made = ["csmith", "--seed", str(number), *FOR_ALL.split(), *CSMITH[number % len(CSMITH)].split()]
+            half = source.with_suffix(".half")
+            status, said = command([*made, "--output", str(half)], 60)
+            if status:
+                raise SystemExit(f"csmith: {said}")
+            half.rename(source)
+        trials.append(Trial(str(source), LEVELS[number // 3 % 3], WAYS[number // 2 % len(WAYS)], True))
+    return trials
+
+
+def table(rows: list[tuple[Trial, str]]) -> str:
+    lines = [f"{'programs':<10} {'level':<6} {'way':<36} {'same':>6} {'refused':>8} {'too long':>9} {'different':>10}"]
+    groups: dict[tuple[str, str, str], Counter] = {}
+    for trial, result in rows:
+        kind = "csmith" if trial.is_csmith else "own"
+        for key in ((kind, f"-O{trial.level}", str(trial.way)), (kind, "all", "all")):
+            groups.setdefault(key, Counter())[result.split(":")[0]] += 1
+    for (kind, level, way), counts in sorted(groups.items()):
+        row = f"{counts['same']:>6} {counts['refused']:>8} {counts['too long']:>9} {counts['different']:>10}"
+        lines.append(f"{kind:<10} {level:<6} {way:<36} {row}")
+    return "\n".join(lines)
+
+
+def reasons(rows: list[tuple[Trial, str]]) -> str:
+    counts = Counter(re.sub(r"\d+", "N", result) for _, result in rows if result.startswith(("refused", "too long")))
+    return "\n".join(f"{count:>6}  {reason}" for reason, count in counts.most_common())
+
+
+STEPS_ON = (1, 2, 4, 8, 16)
+
+
+def steps_row(command: str, source: str, level: str) -> str:
+    """What `auto` chooses for 4 units, its steps, and the steps of that way with forward bits alone."""
+    tool = Tool(command)
+    program = program_of(files_of(source), Compiling(level=level, shows_warnings=False), 1024)
+    best = best_of(chosen(program, Settings(), tool, []))
+    plain = tool.curve(written(program, Way(best.way.policy, best.way.leaves, "none"), tool, [], True).text, 4)
+    curve = tool.curve(best.text, max(STEPS_ON))
+    steps = "".join(f"{curve[units - 1].steps:>8}" for units in STEPS_ON)
+    return f"{Path(source).stem:<14} {best.instructions:>5} {best.tasks:>6}  {str(best.way):<36}{steps}{plain[3].steps:>8}"
+
+
+def steps_table(command: str, level: str, workers: int) -> Iterator[str]:
+    units = "".join(f"{units:>8}" for units in STEPS_ON)
+    yield f"{'-O' + level:<14} {'size':>5} {'tasks':>6}  {'way':<36}{units}{'plain 4':>8}"
+    sources = sorted(str(it) for it in (HERE / "programs").glob("*.c"))
+    with ProcessPoolExecutor(workers) as pool:
+        yield from pool.map(steps_row, repeat(command), sources, repeat(level))
+
+
+def arguments() -> argparse.Namespace:
+    parser = argparse.ArgumentParser(description=__doc__, formatter_class=argparse.RawDescriptionHelpFormatter)
+    parser.add_argument("--quick", action="store_true", help="stops after a minute")
+    parser.add_argument("--seconds", type=float, default=7200, help="stops after so long (7200)")
+    parser.add_argument("--csmith", type=int, default=300, metavar="N", help="how many programs of csmith (300)")
+    parser.add_argument("--first", type=int, default=1, metavar="SEED", help="the first seed (1)")
+    parser.add_argument("--steps", choices=list(LEVELS), help="also a table of steps at this level")
+    parser.add_argument("--workers", type=int, default=1, metavar="N", help="how many processes share the work (1)")
+    parser.add_argument("--anew", action="store_true", help="takes nothing from earlier runs")
+    parser.add_argument("--multiscalar", metavar="COMMAND", help="the command multiscalar")
+    return parser.parse_args()
+
+
+def in_turn(trials: list[Trial]) -> list[Trial]:
+    """All trials, mixed in the same way each time, so that a run which is stopped has tried some of each kind."""
+    return random.Random(1).sample(trials, len(trials))
+
+
+# What a worker has.
+WORKER: list[Trials] = []
+
+
+def begin_worker(command: str, folder: str) -> None:
+    WORKER.append(Trials(Tool(command), Path(tempfile.mkdtemp(dir=folder))))
+
+
+def result_of(trial: Trial) -> str:
+    try:
+        return WORKER[0].result(trial)
+    except SystemExit as failed:
+        return f"different: {failed}"
+
+
+def tried(wanted: list[Trial], command: str, workers: int, end: float) -> Iterator[tuple[Trial, str]]:
+    """The results, as they come, until the time is over."""
+    waiting = list(reversed(wanted))
+    folder = tempfile.TemporaryDirectory()
+    with folder as at, ProcessPoolExecutor(workers, initializer=begin_worker, initargs=(command, at)) as pool:
+        running: dict[Future, Trial] = {}
+        while waiting or running:
+            while waiting and len(running) < 2 * workers and time.monotonic() < end:
+                trial = waiting.pop()
+                running[pool.submit(result_of, trial)] = trial
+            if not running:
+                return
+            for future in wait(running, return_when=FIRST_COMPLETED).done:
+                yield running.pop(future), future.result()
+
+
+def main() -> int:
+    words = arguments()
+    OUT.mkdir(exist_ok=True)
+    try:
+        tool = Tool(words.multiscalar)
+    except ToolFailed as failed:
+        raise SystemExit(f"try: {failed}") from None
+    kept = Kept(OUT / "try.jsonl", digest_of_translator())
+    end = time.monotonic() + (50 if words.quick else words.seconds)
+    wanted = in_turn(own_trials() + csmith_trials(30 if words.quick else words.csmith, words.first))
+    rows = {} if words.anew else {trial: kept.get(trial) for trial in wanted if kept.get(trial)}
+    for trial, result in tried([it for it in wanted if it not in rows], tool.command, words.workers, end):
+        kept.put(trial, result)
+        rows[trial] = result
+    found = list(rows.items())
+    for trial, result in found:
+        if result.startswith("different"):
+            print(f"{trial.name()}: {result}")
+    print(table(found))
+    print(reasons(found))
+    if words.steps:
+        for line in steps_table(tool.command, words.steps, words.workers):
+            print(line, flush=True)
+    count = Counter(result.split(":")[0] for result in rows.values())
+    left = len(set(wanted)) - len(rows)
+    print(f"{count['same']} agree, {count['different']} differ, {count['refused']} refused, {count['too long']} too long, {left} not tried")
+    return 1 if count["different"] else 0
+
+
+if __name__ == "__main__":
+    sys.exit(main())
