@@ -3,12 +3,15 @@
 #![tactic(auto)]
 
 use program_edge::program::run;
+use std::io::IsTerminal;
 use std::process;
 use std::process::ExitCode;
 use whole_file::system::SystemFolder;
 
 fn main(rt: HostRuntime) -> ExitCode {
     let mut folder = SystemFolder::new(&rt, process::id(rt.process()));
-    let status = run(&rt, &mut folder, &mut rt.stdout(), &mut rt.stderr());
+    let mut errors = rt.stderr();
+    let is_terminal = errors.is_terminal();
+    let status = run(&rt, &mut folder, &mut rt.stdout(), &mut errors, is_terminal);
     ExitCode::from(status)
 }

@@ -20,6 +20,7 @@ use Rattle.program_edge.specs.declared.unread.Unread.{Unread}
 use Rattle.program_edge.specs.declared.told.Ending.{Ending}
 use Rattle.program_edge.specs.FileTexts.{Known, AreTextsOf}
 use Rattle.program_edge.specs.Asking.{KnownWords, IsAskedOf}
+use Rattle.program_edge.specs.Hints.{IsSaid, hint_for}
 use Rattle.program_edge.specs.Refusals.{is_refusal}
 use Rattle.program_edge.specs.Telling.{IsTold, unread_fault}
 
@@ -44,19 +45,17 @@ pub record IsNotDone (job : Job) (texts : Texts) (ending : Ending) (old new : Wo
   pub told : IsTold (Serve fault) ending.status ending.is_told output new.output old.errors new.errors
   pub files : Same old.files new.files
 
--- the job was done: its report was added to standard output, and nothing to standard error or to a file
-pub record IsJobDone (job : Job) (texts : Texts) (ending : Ending) (old new : World) : Type 0 where
+-- the job was done: its report was added to standard output, its hint to standard error, and nothing to a file
+pub record IsJobDone (hint : Report → List ℕ) (job : Job) (texts : Texts) (ending : Ending) (old new : World) : Type 0 where
   pub done : IsDone job texts ending.status old.output new.output
-  pub silent : Keeps old.errors new.errors
-  pub told : ending.is_told ≡ true
+  pub said : IsSaid (hint done.report) ending.is_told old.errors new.errors
   pub files : Same old.files new.files
 
--- standard output took a report
-pub record IsShown (report : Report) (ending : Ending) (old new : World) : Type 0 where
+-- standard output took a report, and standard error its hint
+pub record IsShown (hint : List ℕ) (report : Report) (ending : Ending) (old new : World) : Type 0 where
   pub answered : ending.status ≡ report.status
   pub written : Appends old.output new.output report.bytes
-  pub silent : Keeps old.errors new.errors
-  pub told : ending.is_told ≡ true
+  pub said : IsSaid hint ending.is_told old.errors new.errors
   pub files : Same old.files new.files
 
 -- standard output took a beginning of a report, and then failed, which is told
@@ -66,14 +65,13 @@ pub record IsBroken (report : Report) (ending : Ending) (old new : World) : Type
   pub told : IsTold (Serve serve.Write) ending.status ending.is_told output new.output old.errors new.errors
   pub files : Same old.files new.files
 
--- the file took the report, and holds nothing else
-pub record IsKept (watched : Bool) (path : String Global) (report : Report) (ending : Ending) (old new : World) : Type 0 where
+-- the file took the report, and holds nothing else; standard error took its hint
+pub record IsKept (watched : Bool) (hint : List ℕ) (path : String Global) (report : Report) (ending : Ending) (old new : World) : Type 0 where
   pub answered : ending.status ≡ report.status
   pub kept : watched ≡ true → new.files (string_bytes path) ≡ Some report.bytes
   pub others : ChangesAt old.files new.files (string_bytes path)
   pub silent : Keeps old.output new.output
-  pub no_error : Keeps old.errors new.errors
-  pub told : ending.is_told ≡ true
+  pub said : IsSaid hint ending.is_told old.errors new.errors
 
 -- the file did not take the report: it is as it was, and why is told
 pub record IsNotKept (path : String Global) (ending : Ending) (old new : World) : Type 0 where
@@ -83,42 +81,44 @@ pub record IsNotKept (path : String Global) (ending : Ending) (old new : World) 
   pub told : IsTold (NotWritten path reason) ending.status ending.is_told old.output new.output old.errors new.errors
 
 -- what becomes of a report that a file is to take: a refusal goes to standard output
-abbrev pub IsTaken : (watched refused : Bool) → (path : String Global) → Report → Ending → World → World → Type 0
-IsTaken watched true path report ending old new = IsShown report ending old new ⊎ IsBroken report ending old new
-IsTaken watched false path report ending old new = IsKept watched path report ending old new ⊎ IsNotKept path ending old new
+abbrev pub IsTaken : (watched refused : Bool) → (hint : List ℕ) → (path : String Global) → Report → Ending → World → World → Type 0
+IsTaken watched true hint path report ending old new = IsShown hint report ending old new ⊎ IsBroken report ending old new
+IsTaken watched false hint path report ending old new = IsKept watched hint path report ending old new ⊎ IsNotKept path ending old new
 
 -- the job was done, and a file is to take its report
-pub record IsPut (watched : Bool) (job : Job) (path : String Global) (texts : Texts) (ending : Ending) (old new : World) : Type 0 where
+pub record IsPut (watched : Bool) (hint : Report → List ℕ) (job : Job) (path : String Global) (texts : Texts) (ending : Ending) (old new : World) : Type 0 where
   pub report : Report
   pub right : IsReportOf job texts report
-  pub taken : IsTaken watched (is_refusal job report.status report.bytes) path report ending old new
+  pub taken : IsTaken watched (is_refusal job report.status report.bytes) (hint report) path report ending old new
 
 -- the job was done, with its report where it was asked for
-abbrev pub IsDelivered : (watched : Bool) → Option (String Global) → Job → Texts → Ending → World → World → Type 0
-IsDelivered watched None job texts ending old new = IsJobDone job texts ending old new
-IsDelivered watched (Some path) job texts ending old new = IsPut watched job path texts ending old new
+abbrev pub IsDelivered : (watched : Bool) → (hint : Report → List ℕ) → Option (String Global) → Job → Texts → Ending → World → World → Type 0
+IsDelivered watched hint None job texts ending old new = IsJobDone hint job texts ending old new
+IsDelivered watched hint (Some path) job texts ending old new = IsPut watched hint job path texts ending old new
 
-abbrev pub IsServed : (watched : Bool) → Request → Result Texts Unread → Ending → World → World → Type 0
-IsServed watched request (Ok texts) ending old new =
-    IsDelivered watched request.output request.job texts ending old new ⊎ IsNotDone request.job texts ending old new
-IsServed watched request (Err unread) ending old new = IsToldAlone (unread_fault request.job unread) ending old new
+-- the hint names the program's file; `is_terminal` says whether standard error is a terminal
+abbrev pub IsServed : (watched is_terminal : Bool) → Request → Result Texts Unread → Ending → World → World → Type 0
+IsServed watched is_terminal request (Ok texts) ending old new =
+    IsDelivered watched (λ report. hint_for is_terminal request.job (string_bytes request.paths.program) report) request.output request.job texts ending old new
+    ⊎ IsNotDone request.job texts ending old new
+IsServed watched is_terminal request (Err unread) ending old new = IsToldAlone (unread_fault request.job unread) ending old new
 
 -- the texts of the job were read, and the job served
-pub record IsRead (watched : Bool) (known : List ℕ → Known) (request : Request) (ending : Ending) (old new : World) : Type 0 where
+pub record IsRead (watched is_terminal : Bool) (known : List ℕ → Known) (request : Request) (ending : Ending) (old new : World) : Type 0 where
   pub read : Result Texts Unread
   pub texts : AreTextsOf known request.job request.paths read
-  pub served : IsServed watched request read ending old new
+  pub served : IsServed watched is_terminal request read ending old new
 
 -- how the program ends on a request, or on a fault of its words
-abbrev pub IsAnswered : (watched : Bool) → (known : List ℕ → Known) → (asked : Result Request Fault) → Ending → World → World → Type 0
-IsAnswered watched known (Ok request) ending old new = IsRead watched known request ending old new
-IsAnswered watched known (Err fault) ending old new = IsToldAlone fault ending old new
+abbrev pub IsAnswered : (watched is_terminal : Bool) → (known : List ℕ → Known) → (asked : Result Request Fault) → Ending → World → World → Type 0
+IsAnswered watched is_terminal known (Ok request) ending old new = IsRead watched is_terminal known request ending old new
+IsAnswered watched is_terminal known (Err fault) ending old new = IsToldAlone fault ending old new
 
 -- a run of the program on words and files of which this is known; `watched` says whether it is known what the
--- files that it writes hold
-pub record IsRunOf (watched : Bool) (words : KnownWords) (known : List ℕ → Known) (status : ℕ) (old new : World) : Type 0 where
+-- files that it writes hold, `is_terminal` whether standard error is a terminal
+pub record IsRunOf (watched is_terminal : Bool) (words : KnownWords) (known : List ℕ → Known) (status : ℕ) (old new : World) : Type 0 where
   pub asked : Result Request Fault
   pub by_words : IsAskedOf words asked
   pub ending : Ending
-  pub answered : IsAnswered watched known asked ending old new
+  pub answered : IsAnswered watched is_terminal known asked ending old new
   pub ended : status ≡ ending.status

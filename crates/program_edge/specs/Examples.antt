@@ -1,6 +1,6 @@
--- Worked examples, computed by the checker: names of standard input, the lines that tell a fault, and what is no
--- result for a file.
-use Rattle.std.specs.Prelude.{◌≡◌, ℕ, true, false, [], ◌∷◌, ◌++◌, codes}
+-- Worked examples, computed by the checker: names of standard input, the lines that tell a fault, what is no
+-- result for a file, and what a terminal is told beside a result.
+use Rattle.std.specs.Prelude.{◌≡◌, ℕ, List, Bool, Option, true, false, [], ◌∷◌, ◌++◌, codes}
 use Rattle.std.specs.String.{string_bytes}
 use Rattle.std.specs.declared.io.ErrorKind.TheVariants as kind
 use Rattle.std.proofs.Common.{refl}
@@ -8,12 +8,16 @@ use Rattle.program_edge.specs.declared.fault.Fault.TheVariants.{InputTwice, Expl
 use Rattle.program_edge.specs.declared.unread.Reason.TheVariants.{NoSuchFile, Other}
 use Rattle.program_edge.specs.declared.unread.Unread.{Unread}
 use Rattle.jobs.specs.declared.job.CertificateSource.TheVariants.{Least}
-use Rattle.jobs.specs.declared.job.Job.TheVariants.{Check, Print, Seq}
+use Rattle.jobs.specs.declared.job.Format.{Format}
+use Rattle.jobs.specs.declared.job.Job.{Job}
+use Rattle.jobs.specs.declared.job.Job.TheVariants.{Check, Explain, Print, Seq}
+use Rattle.report_texts.specs.OutputTexts.{Report}
 use Rattle.std.specs.declared.string.String.{String}
 use Rattle.std.specs.declared.alloc.Global.{Global}
 use Rattle.whole_file.specs.declared.unwritten.Unwritten.TheVariants.{NoSuchFolder}
 use Rattle.program_edge.specs.Asking.{input_of}
 use Rattle.program_edge.specs.FileTexts.{but_there, opening_reason}
+use Rattle.program_edge.specs.Hints.{hint_for, hint_of}
 use Rattle.program_edge.specs.Refusals.{is_refusal}
 use Rattle.program_edge.specs.Telling.{said_of}
 
@@ -56,3 +60,38 @@ findings = refl
 -- a run that trapped is a result
 pub trapped : (budget : ℕ) → is_refusal (Seq budget) 1 (codes "10" ++ (10 ∷ (codes "trapped 3 BadPc after 17 instructions" ++ 10 ∷ []))) ≡ false
 trapped budget = refl
+
+-- on a terminal `print a.s` of a refused program names the file, the line, and the command that says more
+pub refused_hint : hint_of Print (codes "a.s") 1 (codes "program refused: 4 Mnemonic line 1" ++ 10 ∷ [])
+    ≡ codes "multiscalar: a.s: program refused: 4 Mnemonic line 1; multiscalar explain a.s says more" ++ 10 ∷ []
+refused_hint = refl
+
+-- of findings it has their number
+pub findings_hint : (workers : ℕ) → hint_of (Check Least workers) (codes "a.s") 1 (codes "A 0 rule 5 $8" ++ (10 ∷ (codes "refused 1" ++ 10 ∷ [])))
+    ≡ codes "multiscalar: a.s: refused 1; multiscalar explain a.s says more" ++ 10 ∷ []
+findings_hint workers = refl
+
+-- `explain` says no more of proposed marks
+pub marks_hint : hint_of Print (codes "a.s") 1 (codes "marks refused: 1 TooLong" ++ 10 ∷ [])
+    ≡ codes "multiscalar: a.s: marks refused: 1 TooLong" ++ 10 ∷ []
+marks_hint = refl
+
+-- how a run ended that trapped, or went where no task begins
+pub trapped_hint : (budget : ℕ) → hint_of (Seq budget) (codes "a.s") 1 (codes "10" ++ (10 ∷ (codes "trapped 3 BadPc after 17 instructions" ++ 10 ∷ [])))
+    ≡ codes "multiscalar: a.s: trapped 3 BadPc after 17 instructions" ++ 10 ∷ []
+trapped_hint budget = refl
+
+pub unlisted_hint : hint_of Print (codes "a.s") 1 (codes "unlisted 00400010" ++ 10 ∷ [])
+    ≡ codes "multiscalar: a.s: unlisted 00400010" ++ 10 ∷ []
+unlisted_hint = refl
+
+-- a program that halts, and `explain`, get none; and only a terminal gets one
+pub no_hint : (budget : ℕ) → hint_of (Seq budget) (codes "a.s") 0 (codes "halted after 17 instructions" ++ 10 ∷ []) ≡ []
+no_hint budget = refl
+
+pub explained : (name : String Global) (certificate : Option (String Global)) (warnings : Bool) (format : Format) (text : List ℕ)
+    → hint_of (Explain name certificate warnings format) (codes "a.s") 1 text ≡ []
+explained name certificate warnings format text = refl
+
+pub no_terminal : (job : Job) (report : Report) → hint_for false job (codes "a.s") report ≡ []
+no_terminal job report = refl

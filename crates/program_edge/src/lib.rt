@@ -8,6 +8,7 @@
 pub mod answer;
 pub mod asked;
 pub mod fault;
+pub mod hint;
 pub mod named_files;
 pub mod program;
 pub mod refusal;

@@ -31,7 +31,7 @@ fn refuses(line: &[u8]) -> bool
 }
 
 // The last line of a text, with the LF that ends it.
-fn last_line(text: &[u8]) -> &[u8]
+pub(crate) fn last_line(text: &[u8]) -> &[u8]
     ensures { result.now ≡ last_line text.now }
 {
     let mut line = text;

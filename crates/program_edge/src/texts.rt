@@ -1,5 +1,5 @@
 //! The texts of a job, from its files.
-ghost use Rattle.std.specs.Prelude.{◌≡◌, ◌≤◌, List, ℕ, Result, Ok, Err, MatchResult};
+ghost use Rattle.std.specs.Prelude.{◌≡◌, ◌≤◌, List, ℕ, Result, Ok, Err, IfOk, MatchResult};
 ghost use Rattle.std.specs.Result.{result_map_both};
 ghost use Rattle.std.specs.String.{string_bytes};
 ghost use Rattle.jobs.specs.Files.{has_certificate};
@@ -23,6 +23,15 @@ pub const MOST_PROGRAM: u64 = MOST_TEXT as u64;
 /// The most bytes of any other file.
 pub const MOST_FILE: u64 = 134_217_728;
 
+/// The texts of a job, and the name of its program's file.
+#[derive(Drop)]
+pub struct NamedTexts {
+    /// The name, as the words have it.
+    pub name: String,
+    /// The texts.
+    pub texts: Texts,
+}
+
 /// The texts of a job, from the files that its paths name, or the first file, in the order program,
 /// certificate, script, that can't be read or is too long, and why. A program text that is too long is cut
 /// behind the first byte too many, and is for the assembler to refuse. (own choice)
@@ -32,29 +41,36 @@ pub fn read_texts<F: NamedFiles, R: Threads + Sync>(
     files: &F,
     job: &Job,
     paths: Paths,
-) -> Result<Texts, Unread>
-    ensures { AreTextsOf (F.known files.now) job.now paths result }
+) -> Result<NamedTexts, Unread>
+    ensures texts { AreTextsOf (F.known files.now) job.now paths (result_map_both (λ read. read.texts) (λ unread. unread) result) }
+    ensures name { IfOk result (λ read. read.name ≡ paths.program) }
 {
     let Paths {
         program,
         certificate,
         script,
     } = paths;
-    Ok(Texts {
-        program: read_program(alloc, files, program)?,
+    let (text, name) = read_program(alloc, files, program)?;
+    let texts = Texts {
+        program: text,
         certificate: read_certificate(rt, alloc, files, certificate, job)?,
         script: read_other(alloc, files, script, job.has_script())?,
-    })
+    };
+    Ok(NamedTexts { name, texts })
 }
 
-// The program text, or why there is none.
-fn read_program<F: NamedFiles>(alloc: Global, files: &F, path: String) -> Result<Vec<u8>, Unread>
+// The program text and the name of its file, or why there is no text.
+fn read_program<F: NamedFiles>(
+    alloc: Global,
+    files: &F,
+    path: String,
+) -> Result<(Vec<u8>, String), Unread>
     ensures { (found : Result (List ℕ) Reason) × IsFound (F.known files.now (string_bytes path)) most_program found
-        × MatchResult result (λ text. found ≡ Ok text.items)
+        × MatchResult result (λ read. (found ≡ Ok read.0.items) × (read.1 ≡ path))
         (λ unread. (found ≡ Err unread.reason) × (unread.path ≡ path)) }
 {
     match read_file(alloc, files, path.as_str(), MOST_PROGRAM) {
-        Ok(text) => Ok(text),
+        Ok(text) => Ok((text, path)),
         Err(reason) => Err(Unread { path, reason }),
     }
 }

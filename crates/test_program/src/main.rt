@@ -3,11 +3,12 @@
 //! bytes, where each of 48 tasks may write $8 and does not say so; the three files of `replay`; a program
 //! text on standard input; a missing file; wrong words; every help; what is said of a wrong value, and of a
 //! file that the words lack; files that cannot take a result, a refused
-//! text that changes none, and what cannot be done in place. Last, the program does what its own words ask for, on the two streams of the
+//! text that changes none, and what cannot be done in place; and what standard error gets if it is a terminal, beside
+//! refused texts, findings and a run that trapped. Last, the program does what its own words ask for, on the two streams of the
 //! process and with its status: a file is missing, so it writes nothing to standard output.
 #![tactic(auto)]
 
-use program_edge::answer::answer;
+use program_edge::answer::answer_reader;
 use program_edge::asked::asked_by;
 use program_edge::named_files::SystemFiles;
 use program_edge::program::run;
@@ -60,17 +61,33 @@ const LINES: [&str; 36] = [
     "annotate --in-place --emit keep count.s",
 ];
 
+// Where standard error is a terminal.
+const ON_TERMINAL: [&str; 7] = [
+    "print count.cert2",
+    "annotate -o count.out count.cert2",
+    "check --least five-findings.s",
+    "seq trapped.s",
+    "replay count.s trapped.s count.events",
+    "check count.s count.cert2",
+    "explain missing.s",
+];
+
 // The number of the process, by which new files are named.
 const NUMBER: u32 = 1;
 
 fn main(rt: HostRuntime) -> ExitCode {
     for &line in &LINES {
-        if show(&rt, line, &mut rt.stdout()).is_err() {
+        if show(&rt, line, false, &mut rt.stdout()).is_err() {
+            return ExitCode::FAILURE;
+        }
+    }
+    for &line in &ON_TERMINAL {
+        if show(&rt, line, true, &mut rt.stdout()).is_err() {
             return ExitCode::FAILURE;
         }
     }
     let mut folder = SystemFolder::new(&rt, NUMBER);
-    let status = run(&rt, &mut folder, &mut rt.stdout(), &mut rt.stderr());
+    let status = run(&rt, &mut folder, &mut rt.stdout(), &mut rt.stderr(), false);
     ExitCode::from(status)
 }
 
@@ -78,6 +95,7 @@ fn main(rt: HostRuntime) -> ExitCode {
 fn show<R: Files + Input + AllocGlobal + Threads + Wait + Sync, O: Write>(
     rt: &R,
     line: &str,
+    is_terminal: bool,
     output: &mut O,
 ) -> io::Result<()>
 where
@@ -91,7 +109,16 @@ where
     let mut errors = Vec::new(alloc);
     let asked = asked_by(alloc, words.as_slice());
     let mut folder = SystemFolder::new(rt, NUMBER);
-    let ending = answer(rt, alloc, asked, &files, &mut folder, output, &mut errors);
+    let ending = answer_reader(
+        rt,
+        alloc,
+        asked,
+        &files,
+        &mut folder,
+        output,
+        &mut errors,
+        is_terminal,
+    );
     if !errors.is_empty() {
         writeln!(output, "standard error:")?;
         output.write_all(errors.as_slice())?;

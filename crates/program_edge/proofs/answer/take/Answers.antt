@@ -1,6 +1,5 @@
--- A refusal that is not written whole; and a report that is no refusal, and a file that does not take it.
-use Rattle.std.proofs.Common.{◌≡◌, ◌∙◌, false, true, inr, refl, subst, sym}
-use Rattle.verdict_report.specs.Writing.{Begins}
+-- A report that is no refusal, and a file that does not take it.
+use Rattle.std.proofs.Common.{◌≡◌, ◌∙◌, false, subst, sym}
 use Rattle.program_edge.specs.Refusals.{is_refusal}
 use Rattle.program_edge.proofs.ReportLemmas.{not_kept}
 use Rattle.program_edge.proofs.answer.take.Goals as goal
@@ -10,18 +9,5 @@ returns-in-Err g c =
     let refused : is_refusal c.args.job.now c.args.report.now.status c.args.report.now.bytes.items ≡ false =
     subst (λ b. is_refusal c.args.job.now c.args.report.now.status b ≡ false) c.as_slice-bytes.ensures.value
     (sym c.is_refusal.ensures ∙ c.if-is_refusal.false) in
-    rw refused (not_kept _ c.args.path c.as_str.result.now c.in-Err.reason _ _ _ _ c.as_str.ensures.value
-    c.in-Err.ensures.err c.replace.ensures.others c.tell-in-Err.ensures)
-
-pub returns-then-is_err : goal.returns-then-is_err
-returns-then-is_err g c =
-    let refused : is_refusal c.args.job.now c.args.report.now.status c.args.report.now.bytes.items ≡ true =
-    subst (λ b. is_refusal c.args.job.now c.args.report.now.status b ≡ true) c.as_slice-bytes.ensures.value
-    (sym c.is_refusal.ensures ∙ c.if-is_refusal.true) in
-    let begun = subst (Begins _ _) c.as_slice-bytes.ensures.value c.write_whole.ensures.part in
-    rw refused (inr (record {
-      output = g.O.Write.contents c.write_whole.new.writer;
-      begun = begun;
-      told = c.tell.ensures;
-      files = λ _. refl;
-    }))
+    rw refused (not_kept _ _ c.args.path c.as_str.result.now c.in-Err.reason _ _ _ _ c.as_str.ensures.value
+    c.in-Err.ensures.err c.replace.ensures.others c.tell.ensures)

@@ -4,9 +4,9 @@ use Rattle.program_edge.proofs.program.run.Goals as goal
 
 pub returns : goal.returns
 returns g c = record {
-  asked = c.asked.result;
-  by_words = c.asked.ensures;
-  ending = c.answer.result;
-  answered = c.answer.ensures;
+  asked = c.asked-asked.result;
+  by_words = c.asked-asked.ensures;
+  ending = c.answer_reader.result;
+  answered = c.answer_reader.ensures;
   ended = refl;
 }

@@ -5,8 +5,8 @@ use Rattle.program_edge.specs.FileTexts.{most_file}
 use Rattle.program_edge.proofs.FoundLemmas.{some_found}
 use Rattle.program_edge.proofs.texts.read_texts.Goals as goal
 
-pub returns-in_err-read_certificate : goal.returns-in_err-read_certificate
-returns-in_err-read_certificate g c =
+pub returns-in_err-read_certificate-clause-texts : goal.returns-in_err-read_certificate-clause-texts
+returns-in_err-read_certificate-clause-texts g c =
     let script = some_found (g.F.NamedFiles.known c.args.files.now (string_bytes c.args.paths.script)) most_file in
     record {
       program = c.read_program.ensures.0;
@@ -18,8 +18,8 @@ returns-in_err-read_certificate g c =
       gives = search rules;
     }
 
-pub returns-in_err-read_program : goal.returns-in_err-read_program
-returns-in_err-read_program g c =
+pub returns-in_err-text-clause-texts : goal.returns-in_err-text-clause-texts
+returns-in_err-text-clause-texts g c =
     let certificate = some_found (g.F.NamedFiles.known c.args.files.now (string_bytes c.args.paths.certificate)) most_file in
     let script = some_found (g.F.NamedFiles.known c.args.files.now (string_bytes c.args.paths.script)) most_file in
     record {
@@ -32,8 +32,8 @@ returns-in_err-read_program g c =
       gives = search rules;
     }
 
-pub returns-in_err-read_other : goal.returns-in_err-read_other
-returns-in_err-read_other g c = record {
+pub returns-in_err-read_other-clause-texts : goal.returns-in_err-read_other-clause-texts
+returns-in_err-read_other-clause-texts g c = record {
   program = c.read_program.ensures.0;
   certificate = c.read_certificate.ensures.0;
   script = c.read_other.ensures.0;

@@ -1,0 +1,11 @@
+-- One text after the other.
+use Rattle.std.proofs.Common.{◌≡◌, ◌∙◌, ap, append_assoc, codes, [], ◌++◌, ℕ, List}
+use Rattle.std.proofs.lemmas.Result.{on_ok_weaker}
+use Rattle.program_edge.proofs.hint.add_name.Goals as goal
+
+pub returns : goal.returns
+returns c =
+    let named = c.in_ok-add-2.ensures ∙ ap (λ (l : List ℕ). l ++ c.args.name.now) c.in_ok-add.ensures in
+    on_ok_weaker c.add-3.result (λ h. h ∙ ap (λ (l : List ℕ). l ++ codes ": ") named
+    ∙ append_assoc (c.args.hint.now.items ++ codes "multiscalar: ") c.args.name.now (codes ": ")
+    ∙ append_assoc c.args.hint.now.items (codes "multiscalar: ") (c.args.name.now ++ codes ": ")) c.add-3.ensures
