@@ -278,10 +278,8 @@ fn hinted_report<R: Threads + Wait + Sync>(
     let report = report_of(rt, alloc, job, texts)?;
     let name = reader.name.as_str();
     let bytes = report.bytes.as_slice();
-    match hint_for(alloc, reader.is_terminal, job, name, report.status, bytes) {
-        Ok(hint) => Ok(Hinted { report, hint }),
-        Err(_) => Err(ServeFault::OutOfMemory),
-    }
+    let hint = hint_for(alloc, reader.is_terminal, job, name, report.status, bytes)?;
+    Ok(Hinted { report, hint })
 }
 
 // What a job with its texts writes.
