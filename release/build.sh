@@ -35,7 +35,7 @@ mkdir "$root"
 # What is committed, and no other file.
 committed() { git archive --format=tar HEAD -- "$@" | tar -xf - -C "$root"; }
 
-committed README.md CHANGELOG.md LICENSE-APACHE LICENSE-MIT docs examples man completions syntax
+committed README.md CHANGELOG.md LICENSE-APACHE LICENSE-MIT docs examples man completions syntax compiler
 rm -f "$root"/examples/*.py
 cp release/install.sh "$root/install.sh"
 install -m 755 "$program" "$root/multiscalar"
@@ -87,6 +87,7 @@ Architecture: amd64
 Maintainer: The authors of multiscalar <multiscalar@localhost.localdomain>
 Installed-Size: $(du -k --apparent-size -s "$deb/usr" | cut -f1)
 Depends: libc6 (>= 2.34)
+Suggests: python3, gcc-mipsel-linux-gnu
 Section: devel
 Priority: optional
 Description: proved checker and runner for annotated Multiscalar programs
