@@ -23,9 +23,9 @@ found=$(rt version)
 git clone -q "$top" "$work/clone"
 git -C "$work/clone" checkout -q "$commit" || fail "this repository has no commit $commit"
 cd "$work/clone"
+# It also builds the program.
 rt ci > "$work/proof.log" 2>&1 || { tail -n 20 "$work/proof.log" >&2; fail "rt ci fails at $commit"; }
 tail -n 1 "$work/proof.log"
-./multiscalar --help > /dev/null
 release/build.sh "$work/again" > /dev/null
 cmp "$tarball" "$work/again/$(basename "$tarball")" || fail "the release differs from what $commit gives"
 echo "the release is what $commit gives, byte for byte"
