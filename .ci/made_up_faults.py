@@ -21,7 +21,7 @@ ALLOWED = {
     # What a refused push gives, without the value that it hands back.
     "parallel_check/src/checking.rt": 1,
     # A write to memory failed, which it does for want of it alone.
-    "program_edge/src/answer.rt": 1,
+    "program_edge/src/reports.rt": 1,
     # Noted when a call or a thread was refused.
     "threaded_runner/src/desk.rt": 1,
     # A test that says what is told of this fault.

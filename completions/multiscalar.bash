@@ -5,7 +5,7 @@ _multiscalar_options() {
         seq) echo "--budget --output --help" ;;
         print) echo "--output --help" ;;
         annotate) echo "--emit --in-place --output --help" ;;
-        explain) echo "--format --no-warnings --output --help" ;;
+        explain) echo "--certificate --format --no-warnings --output --help" ;;
         check) echo "--workers --least --output --help" ;;
         replay) echo "--units --emit --least --output --help" ;;
         run) echo "--units --budget --predict --workers --schedule --emit --least --output --help" ;;

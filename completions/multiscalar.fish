@@ -28,5 +28,6 @@ complete -c multiscalar -n '__fish_seen_subcommand_from annotate' -l emit -x -a 
 complete -c multiscalar -n '__fish_seen_subcommand_from replay' -l emit -x -a 'answers summary svg trace json' -d 'what is written'
 complete -c multiscalar -n '__fish_seen_subcommand_from run' -l emit -x -a 'report script summary svg trace json' -d 'what is written'
 complete -c multiscalar -n '__fish_seen_subcommand_from curve' -l emit -x -a 'table svg' -d 'what is written'
+complete -c multiscalar -n '__fish_seen_subcommand_from explain' -l certificate -r -d 'explain this certificate, too'
 complete -c multiscalar -n '__fish_seen_subcommand_from explain' -l format -x -a 'text sarif' -d 'how it is laid out'
 complete -c multiscalar -n '__fish_seen_subcommand_from explain' -l no-warnings -d 'say nothing of what costs speed'

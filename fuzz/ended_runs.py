@@ -53,7 +53,7 @@ def large(folder):
     yield ["annotate", *of("maximal.s"), "--emit", "marks"]
     yield ["explain", *of("late_fault.s"), "--format", "sarif"]
     yield from (["replay", *of("steady.s", "steady.cert2", "steady4.events"), "--emit", emit] for emit in ("svg", "json"))
-    yield ["explain", *of("maximal.s", "maximal.cert2")]
+    yield ["explain", *of("maximal.s"), "--certificate", *of("maximal.cert2")]
     yield ["check", "--least", *of("maximal.s")]
 
 

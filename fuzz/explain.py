@@ -508,7 +508,7 @@ class Bench:
         if certificate is not None:
             with open(os.path.join(self.folder, "c"), "wb") as file:
                 file.write(certificate)
-        words = ["explain", *options, "p.s"] + (["c"] if certificate is not None else [])
+        words = ["explain", *options, "p.s"] + (["--certificate", "c"] if certificate is not None else [])
         run = subprocess.run([self.program, *words], cwd=self.folder, capture_output=True)
         return run.stdout.decode("latin-1"), run.returncode, run.stderr.decode("latin-1")
 

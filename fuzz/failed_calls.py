@@ -118,15 +118,15 @@ SOME = ("count", "diamond", "five-findings")
 
 def ways_of(folder, program, certificate):
     """Runs in steps, pictures, tables, traces, the least certificate, marks in the text, logs, and certificates that are explained."""
-    yield ["explain", program, certificate]
+    yield ["explain", program, "--certificate", certificate]
     yield ["explain", "--no-warnings", program]
-    yield ["explain", "--format", "sarif", program, certificate]
+    yield ["explain", "--format", "sarif", program, "--certificate", certificate]
     yield ["annotate", "--emit", "marks", program]
     yield ["curve", "--units", "3", program, certificate]
     yield ["curve", "--units", "2", "--least", program]
     yield ["curve", "--units", "3", "--emit", "svg", program, certificate]
-    yield ["explain", program, str(TOP / "examples" / "pair" / "certificate.cert2")]
-    yield ["explain", program, str(TOP / "examples" / "README.md")]
+    yield ["explain", program, "--certificate", str(TOP / "examples" / "pair" / "certificate.cert2")]
+    yield ["explain", program, "--certificate", str(TOP / "examples" / "README.md")]
     yield ["check", "--least", program]
     yield ["run", "--least", program]
     yield ["run", "--units", "1", "--emit", "svg", program, certificate]

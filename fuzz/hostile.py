@@ -46,11 +46,13 @@ UNITS, BUDGETS = (1, 2, 3, 4, 16), (1, 7, 60, 400, 3000)
 EMITS, PREDICTS = ("text", "cert", "keep"), ("first", "last", "1,0", "3,1,2,0,15")
 RUN_EMITS = ("report", "script", "summary", "svg")
 # The least and the greatest number of files; `--least` stands in the place of one of `check`, `run`, `replay` and `curve`.
-FILES = {"seq": (1, 1), "print": (1, 1), "annotate": (1, 1), "explain": (1, 2), "check": (1, 2), "run": (1, 2), "replay": (2, 3), "curve": (1, 2)}
+FILES = {"seq": (1, 1), "print": (1, 1), "annotate": (1, 1), "explain": (1, 1), "check": (1, 2), "run": (1, 2), "replay": (2, 3), "curve": (1, 2)}
+# `explain` and `check --least` take more programs.
+MOST_FILES = 4096
 NUMBERS = {"budget": 1000000, "units": 16, "workers": 16}
 # Options that have no value.
 FLAGS = ("least", "no-warnings")
-OPTIONS = {"seq": ("budget",), "print": (), "annotate": ("emit",), "explain": ("no-warnings", "format"), "check": ("least", "workers"),
+OPTIONS = {"seq": ("budget",), "print": (), "annotate": ("emit",), "explain": ("certificate", "no-warnings", "format"), "check": ("least", "workers"),
            "replay": ("least", "units", "emit"), "run": ("least", "schedule", "units", "workers", "budget", "predict", "emit"),
            "curve": ("least", "units", "budget", "predict")}
 CHOICES = {"annotate": (*EMITS, "marks"), "replay": ("answers", "summary", "svg", "trace"), "run": (*RUN_EMITS, "trace")}
@@ -112,7 +114,7 @@ def calls_of(job, options):
     return [{0: ["seq", *budget, "p"], 1: ["print", "p"], 2: ["annotate", "--emit", EMITS[options % 3], "p"],
              3: ["check", "--workers", str(options % 16 + 1), "p", "c"], 4: ["replay", *units, "p", "c", "s"],
              5: [*run, "--emit", "script" if options & 16 else "report", "p", "c"],
-             8: ["explain", "p", "c"], 9: [*steps, "--emit", RUN_EMITS[options // 25 % 4], "p", "c"],
+             8: ["explain", "--certificate", "c", "p"], 9: [*steps, "--emit", RUN_EMITS[options // 25 % 4], "p", "c"],
              10: ["replay", *units, "--emit", "svg" if options & 16 else "summary", "p", "c", "s"],
              11: [*run, "--emit", "svg" if options & 16 else "summary", "p", "c"], 12: least[options // 16 % 3], 13: ["explain", "p"]}[job]]
 
@@ -125,12 +127,12 @@ def newer_calls(job, options, units, budget, guess):
     by_steps = ["run", "--schedule", "steps", "--least", *units, "--budget", "600", "--predict", PREDICTS[options // 5 % 4]]
     drawn = ["--emit", "svg"] if options & 64 and "svg" in CHOICES.get("curve", ()) else []
     return {16: [["curve", *units, *budget, *guess, *drawn, *(["--least", "p"] if options & 128 else ["p", "c"])]],
-            17: [["explain", "--format", "sarif", *(["--no-warnings"] if options & 32 else []), *(["p", "c"] if options & 16 else ["p"])]],
+            17: [["explain", "--format", "sarif", *(["--no-warnings"] if options & 32 else []), *(["--certificate", "c"] if options & 16 else []), "p"]],
             18: [["annotate", "--emit", "marks", "p"]],
             19: [[*traced, *(["--schedule", "steps"] if options & 16 else ["--workers", "1"]), "p", "c"]],
             20: [["replay", *units, *emit, "p", "c", "s"]],
             21: [[*by_steps, *emit, "p"], ["curve", "--least", *by_steps[4:], "p"]],
-            22: [["explain", *words, *(["p", "c"] if options & 16 else ["p"])] for words in ([], ["--no-warnings"])],
+            22: [["explain", *words, *(["--certificate", "c"] if options & 16 else []), "p"] for words in ([], ["--no-warnings"])],
             23: [["replay", *units, "--emit", "trace", "p", "c", "s"], ["replay", *units, "p", "c", "s"]]}[job]
 
 
@@ -175,10 +177,15 @@ def asked(words):
             options[key] = value
         elif not plain and word.startswith("-") and word != "-":
             return "help" if word[1] == "h" else None
-        elif len(files) == FILES[name][1]:
+        elif len(files) == (MOST_FILES if name in ("explain", "check") else FILES[name][1]):
             return None
         else:
             files.append(word)
+    if len(files) > 1 and (name == "explain" or name == "check" and "least" in options):
+        certified = "certificate" in options or options.get("format") == "sarif"
+        return None if certified or files.count("-") > 1 or None in options.values() else (name, options, files)
+    if "certificate" in options:
+        return None if len(files) != 1 or [*files, options["certificate"]].count("-") > 1 or None in options.values() else (name, options, [*files, options["certificate"]])
     least, most = FILES[name]
     wants = most - ("least" in options) if "least" in OPTIONS[name] else max(least, len(files))
     if len(files) != wants or files.count("-") > 1 or None in options.values():
@@ -195,6 +202,8 @@ def is_value(name, key, value):
         return value in ("threads", "steps")
     if key == "format":
         return value in ("text", "sarif")
+    if key == "certificate":
+        return True
     return key in FLAGS or value in ("first", "last") or bool(re.fullmatch(r"[0-9]{1,2}(,[0-9]{1,2}){0,63}", value)) and all(int(it) <= 15 for it in value.split(","))
 
 
@@ -210,6 +219,8 @@ def wanted(words, texts):
     name, options, files = what
     # standard input is the program's text
     held = {**dict(zip("pcs", texts)), "-": texts[0]}
+    if len(files) > 1 and (name == "check" and "least" in options or name == "explain" and "certificate" not in options):
+        return wanted_of_several(name, options, files, held)
     if any(it not in held for it in files):
         return lambda out, status: status == 2 and not out
     given = [held[it] for it in files]
@@ -231,6 +242,22 @@ def wanted(words, texts):
     if name == "replay":
         return wanted_replay(options, given)
     return wanted_run(options, given)
+
+
+def wanted_of_several(name, options, files, held):
+    """What is said of each program in turn, and then of how many; the greatest status, 2 where one could not be read."""
+    said, statuses = "", []
+    for place, file in enumerate(files):
+        if file not in held or name == "explain" and place and held[file].startswith(b"cert "):
+            statuses.append(2)
+        elif name == "check":
+            report, status = check_text(held[file], least_cert(held[file]))
+            said, statuses = said + "".join(f"{file}: {line}\n" for line in report.splitlines()), [*statuses, status]
+        else:
+            report, status = wanted_explanation([file], [held[file]], "no-warnings" in options)
+            said, statuses = said + report, [*statuses, status]
+    right, wrong, unread = (statuses.count(it) for it in range(3))
+    return f"{said}{len(files)} programs: {right} right, {wrong} wrong, {unread} not judged\n", max(statuses)
 
 
 def wanted_marks(text):

@@ -141,7 +141,7 @@ def certificates(folder):
     program, path = COUNT / "program.s", folder / "limit.cert2"
     kinds = [["check", program, path, "--workers", "1"], ["check", program, path, "--workers", "4"],
              ["run", program, path], ["run", program, path, "--schedule", "steps", "--emit", "svg"],
-             ["curve", program, path], ["replay", program, path, COUNT / "script.events"], ["explain", "--no-warnings", program, path]]
+             ["curve", program, path], ["replay", program, path, COUNT / "script.events"], ["explain", "--no-warnings", program, "--certificate", path]]
 
     def bound(words):
         return BOUNDS["check" if words[0] == "explain" else words[0]]

@@ -178,7 +178,7 @@ def of_example(folder, calls, units=2, workers=1):
 def served(folder, script="script.events"):
     """Cases of `request_of` and `serve`."""
     lines = ["seq P", "print P", "annotate P", "annotate P --emit cert", "annotate P --emit keep", "annotate P --emit marks",
-             "explain P", "explain P C", "explain P --no-warnings", "explain P C --format sarif",
+             "explain P", "explain P --certificate C", "explain P --no-warnings", "explain P --certificate C --format sarif",
              "check P C", "check P C --workers 4", "check P --least"]
     if folder.name != "five-findings":
         lines += ["run P C --units 1", "run P C --units 4", "run P --least --units 1 --emit summary", "run P C --units 1 --emit svg"]

@@ -134,7 +134,7 @@ def example_cases():
             yield ["annotate", program, "--emit", emit]
         if not (folder / "certificate.cert2").exists():
             continue
-        yield ["explain", program, certificate]
+        yield ["explain", program, "--certificate", certificate]
         for workers in ("1", "4"):
             yield ["check", program, certificate, "--workers", workers]
             yield ["check", program, "--least", "--workers", workers]
@@ -188,10 +188,10 @@ def refused_cases(folder):
     yield ["explain", str(folder / "program.s")]
     yield ["explain", str(folder / "no-task.s")]
     yield ["explain", str(folder / "program.s"), "--format", "sarif"]
-    yield ["explain", program, str(folder / "no.cert2"), "--format", "sarif"]
-    yield ["explain", program, str(folder / "no.cert2")]
-    yield ["explain", program, str(EXAMPLES / "pair" / "certificate.cert2")]
-    yield ["explain", str(EXAMPLES / "five-findings" / "program.s"), str(folder / "no.cert2")]
+    yield ["explain", program, "--certificate", str(folder / "no.cert2"), "--format", "sarif"]
+    yield ["explain", program, "--certificate", str(folder / "no.cert2")]
+    yield ["explain", program, "--certificate", str(EXAMPLES / "pair" / "certificate.cert2")]
+    yield ["explain", str(EXAMPLES / "five-findings" / "program.s"), "--certificate", str(folder / "no.cert2")]
     yield ["check", program, str(folder / "no.cert2")]
     yield ["check", program]
     yield ["check", program, certificate, "--least"]
@@ -228,7 +228,7 @@ def limit_cases(folder):
     yield ["explain", *of("late_fault.s"), "--format", "sarif"]
     for emit in ("summary", "svg", *TRACES):
         yield ["replay", *of("steady.s", "steady.cert2", "steady4.events"), "--emit", emit]
-    yield ["explain", *of("maximal.s", "maximal.cert2")]
+    yield ["explain", *of("maximal.s"), "--certificate", *of("maximal.cert2")]
     yield ["check", "--least", *of("maximal.s"), "--workers", "4"]
     yield ["run", *of("long300000.s", "long.cert2"), "--units", "1"]
 

@@ -66,9 +66,9 @@ def main():
         differs(f"fish, {subcommand}", wanted, fish(subcommand))
         if f".It Cm {subcommand}\n" not in page:
             differences.append(f"man page: lacks {subcommand}")
-        # its synopsis, up to the next one
-        synopsis = re.search(rf"^\.Cm {subcommand}\n(.*?)^\.(?:Nm|Sh)", page, re.M | re.S).group(1)
-        named = {f"--{it}" for it in re.findall(r"Fl -([a-z-]+)", synopsis)}
+        # each synopsis of it, up to the next one
+        synopses = re.findall(rf"^\.Cm {subcommand}\n(.*?)^\.Nm", page.split(".Sh DESCRIPTION")[0], re.M | re.S)
+        named = {f"--{it}" for synopsis in synopses for it in re.findall(r"Fl -([a-z-]+)", synopsis)}
         differs(f"man page, {subcommand}", wanted - {"--help"}, named)
     print(*differences, sep="\n") if differences else print("the man page and the completions say what --help says")
     return 1 if differences else 0

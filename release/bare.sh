@@ -14,7 +14,7 @@ trap 'rm -rf "$work"' EXIT
 
 mirror=$(sed -n 's/^URIs: *//p; s/^deb \(\[[^]]*\] \)\?\([^ ]*\).*/\2/p' /etc/apt/sources.list /etc/apt/sources.list.d/* 2>/dev/null | head -n 1)
 codename=$(. /etc/os-release && echo "$VERSION_CODENAME")
-debootstrap --variant=minbase --include=mandoc,bash-completion,python3 "$codename" "$system" "${mirror:-http://deb.debian.org/debian}" > "$work/bootstrap.log" 2>&1 \
+debootstrap --variant=minbase --include=mandoc,bash-completion,python3,gcc,libc6-dev "$codename" "$system" "${mirror:-http://deb.debian.org/debian}" > "$work/bootstrap.log" 2>&1 \
     || { tail -n 5 "$work/bootstrap.log" >&2; exit 2; }
 
 inside() { chroot "$system" /bin/bash -c "$1"; }
@@ -28,6 +28,10 @@ echo "== what the examples print"
 inside 'cd /srv/multiscalar-*/ && cp ../compare.py ../pages.py examples/ && python3 examples/compare.py ./multiscalar && python3 examples/pages.py ./multiscalar && rm examples/*.py'
 echo "== install.sh"
 inside 'cd /srv/multiscalar-*/ && sh install.sh /srv/installed && /srv/installed/bin/multiscalar --version'
+echo "== the library"
+inside 'cd /srv && gcc -I installed/include multiscalar-*/examples/example.c installed/lib/libmultiscalar.a -o static && ./static multiscalar-*/examples/count/program.s'
+inside 'cd /srv && gcc -I installed/include multiscalar-*/examples/example.c -L installed/lib -lmultiscalar -o shared && LD_LIBRARY_PATH=installed/lib ./shared multiscalar-*/examples/count/program.s'
+inside 'cd /srv/installed/share/multiscalar/python && MULTISCALAR_LIBRARY=/srv/installed/lib/libmultiscalar.so.0 python3 -m unittest -q test_multiscalar'
 echo "== the package"
 inside 'dpkg -i /srv/multiscalar_*.deb > /dev/null && multiscalar check --least /usr/share/doc/multiscalar/examples/count/program.s'
 echo "== man page and completions"

@@ -11,6 +11,7 @@ top=$(cd "$(dirname "${BASH_SOURCE[0]}")/.." && pwd)
 cd "$top"
 out=$(mkdir -p "${1:-release/out}" && cd "${1:-release/out}" && pwd)
 program=crates/multiscalar/out/multiscalar
+core=crates/multiscalar_c/out/libmultiscalar_c.a
 
 refuse() { printf 'release/build.sh: %s\n' "$*" >&2; exit 2; }
 
@@ -18,6 +19,7 @@ command -v rt >/dev/null || refuse "rt, which names the toolchain, is not on PAT
 command -v dpkg-deb >/dev/null || refuse "dpkg-deb is missing (Debian's package dpkg)"
 [ -z "$(git status --porcelain --untracked-files=no)" ] || refuse "there are changes that are not committed"
 [ -x "$program" ] || refuse "there is no $program: run ./multiscalar --help first, which proves and builds it"
+[ -f "$core" ] || refuse "there is no $core: run rt ci first, or rt lib in crates/multiscalar_c, which proves and builds it"
 
 version=$(sed -n 's/^pub const VERSION: &str = "\([0-9.]*\).*/\1/p' crates/command_line/src/help.rt)
 commit=$(git rev-parse HEAD)
@@ -41,6 +43,14 @@ cp release/install.sh "$root/install.sh"
 install -m 755 "$program" "$root/multiscalar"
 strip --strip-all "$root/multiscalar"
 
+# The library.
+committed library/multiscalar.h library/example.c python
+mkdir "$root/include"
+mv "$root/library/multiscalar.h" "$root/include/multiscalar.h"
+mv "$root/library/example.c" "$root/examples/example.c"
+rmdir "$root/library"
+library/build.sh "$root/lib"
+
 sum_of() { sha256sum "$1" | cut -d' ' -f1; }
 
 {
@@ -49,6 +59,8 @@ sum_of() { sha256sum "$1" | cut -d' ' -f1; }
     printf 'proved and built with %s\n' "$toolchain"
     printf 'program sha256 %s\n' "$(sum_of "$root/multiscalar")"
     printf 'program as built, with its symbols, sha256 %s\n' "$(sum_of "$program")"
+    printf 'library sha256 %s\n' "$(sum_of "$root/lib/libmultiscalar.so.0")"
+    printf 'its proved core as built, sha256 %s\n' "$(sum_of "$core")"
 } > "$root/MANIFEST"
 
 # The tarball.

@@ -5,15 +5,21 @@
 
 Libraries are built from the lowest up, as many side by side as cores and memory allow. It says each as it is
 done, and how long the rest may take. What was built before, and has not changed, is not built again.
+
+One `rt` at a time works in a folder and in those of the libraries below it. So each that works beside others has
+a copy of the sources, and the libraries that are done lie in all copies.
 """
 
 import os
 import re
+import shutil
 import subprocess
 import sys
+import tempfile
 import time
 from concurrent.futures import FIRST_COMPLETED, ThreadPoolExecutor, wait
 from pathlib import Path
+from queue import SimpleQueue
 
 TOP = Path(__file__).resolve().parent.parent
 PROGRAM = "multiscalar"
@@ -25,14 +31,16 @@ def say(text):
     print(f"multiscalar: {text}", file=sys.stderr, flush=True)
 
 
+def lines_of_crates():
+    """The line of each crate."""
+    lines = (line.partition("#")[0] for line in (TOP / "crates.txt").read_text().splitlines())
+    return {line.split(":")[0].split()[0]: line for line in lines if ":" in line}
+
+
 def dependencies():
     """Each crate with the crates of this repository that it stands on."""
-    rows = {}
-    for line in (TOP / "crates.txt").read_text().splitlines():
-        name, colon, rest = line.partition("#")[0].partition(":")
-        if colon:
-            rows[name.split()[0]] = rest.split()
-    return {name: [it for it in rest if it in rows] for name, rest in rows.items()}
+    lines = lines_of_crates()
+    return {name: [it for it in line.partition(":")[2].split() if it in lines] for name, line in lines.items()}
 
 
 def needed(crates, name, found=None):
@@ -67,12 +75,51 @@ def side_by_side():
         return min(cores, 2)
 
 
-def build(name, log):
-    words = ["rt", "run", "--", "--help"] if name == PROGRAM else ["rt", "lib", "--jobs", "1"]
-    done = subprocess.run(words, cwd=TOP / "crates" / name, capture_output=True, text=True)
-    log.write(f"== {name}\n{done.stdout}{done.stderr}")
-    log.flush()
-    return name, done.returncode == 0, [it for it in (done.stdout + done.stderr).splitlines() if ": error" in it or ": no proof: " in it]
+def link_or_copy(source, target):
+    try:
+        os.link(source, target)
+    except OSError:
+        shutil.copy2(source, target)
+
+
+def hand_over(name, source, target):
+    """Lays the library of a crate from one copy of the sources into another, if it is not there."""
+    library, place = (it / "crates" / name / "out" / "rlib" for it in (source, target))
+    if source != target and library.is_dir() and not place.is_dir():
+        shutil.copytree(library, place, copy_function=link_or_copy)
+
+
+class Copies:
+    """Copies of the sources, each for one `rt` at a time."""
+
+    def __init__(self, folder, crates, most):
+        self.crates = crates
+        self.free = SimpleQueue()
+        for number in range(most):
+            copy = Path(folder) / str(number)
+            copy.mkdir()
+            (copy / ".git").mkdir()
+            shutil.copy2(TOP / "HANDLES", copy)
+            (copy / "crates.txt").write_text("".join(f"{line}\n" for name, line in lines_of_crates().items() if name in crates))
+            for it in crates:
+                shutil.copytree(TOP / "crates" / it, copy / "crates" / it, ignore=shutil.ignore_patterns("out"))
+            self.free.put(copy)
+
+    def build(self, name, log):
+        """Builds a crate whose libraries are done. Its own library then lies in the sources themselves."""
+        copy = TOP if name == PROGRAM else self.free.get()
+        for it in needed(self.crates, name):
+            hand_over(it, TOP, copy)
+        words = ["rt", "run", "--", "--help"] if name == PROGRAM else ["rt", "lib", "--jobs", "1"]
+        done = subprocess.run(words, cwd=copy / "crates" / name, capture_output=True, text=True)
+        log.write(f"== {name}\n{done.stdout}{done.stderr}")
+        log.flush()
+        if copy != TOP:
+            if done.returncode == 0:
+                shutil.rmtree(TOP / "crates" / name / "out" / "rlib", ignore_errors=True)
+                hand_over(name, copy, TOP)
+            self.free.put(copy)
+        return name, done.returncode == 0, [it for it in (done.stdout + done.stderr).splitlines() if ": error" in it or ": no proof: " in it]
 
 
 def minutes(seconds):
@@ -80,18 +127,24 @@ def minutes(seconds):
 
 
 def run(log):
+    with tempfile.TemporaryDirectory(prefix="multiscalar-build-") as folder:
+        return run_in(folder, log)
+
+
+def run_in(folder, log):
     crates = needed(dependencies(), PROGRAM)
     weights = {it: weight(it) for it in crates}
     chains = {}
     order = sorted(crates, key=lambda it: -chain(crates, weights, it, chains))
     done, running, begun = set(), {}, time.monotonic()
     most = side_by_side()
-    say(f"proving the {len(crates)} crates of the program, {most} at a time; the first time takes some 25 minutes on four cores.")
+    say(f"proving the {len(crates)} crates of the program, {most} at a time; the first time takes half an hour or more on four cores.")
+    copies = Copies(folder, crates, most)
     with ThreadPoolExecutor(most) as pool:
         while len(done) < len(crates):
             for it in order:
                 if len(running) < most and it not in done and it not in running.values() and done.issuperset(crates[it]):
-                    running[pool.submit(build, it, log)] = it
+                    running[pool.submit(copies.build, it, log)] = it
             for future in wait(running, return_when=FIRST_COMPLETED).done:
                 name, is_proved, faults = future.result()
                 del running[future]

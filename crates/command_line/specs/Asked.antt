@@ -1,6 +1,6 @@
 -- Which job the words of a command line ask for, over which files, or why none (own choice). Which
 -- subcommand the words name, and with which values, is what `clap` makes of them.
-use Rattle.std.specs.Prelude.{◌≡◌, ◌≢◌, ◌⊎◌, ◌≤◌, ℕ, Bool, true, false, not, List, [], Option, is_none, Some, None, Result, Ok, Err, ◌&&◌, IsSome, IfSome, IsSomeAnd, ⊤, if◌then◌else◌, codes, option_and_then, MatchResult, unwrap_or}
+use Rattle.std.specs.Prelude.{◌≡◌, ◌≢◌, ◌⊎◌, ◌≤◌, ◌==◌, ℕ, Bool, true, false, not, List, [], length, map, Option, is_none, Some, None, Result, Ok, Err, ◌&&◌, ◌||◌, IsSome, IfSome, IsSomeAnd, ⊤, if◌then◌else◌, codes, option_and_then, MatchResult, unwrap_or}
 use Rattle.std.specs.String.{string_bytes}
 use Rattle.std.specs.declared.string.String.{String}
 use Rattle.std.specs.declared.alloc.Global.{Global}
@@ -8,7 +8,7 @@ use Rattle.std.specs.List.{list_any}
 use Rattle.std.specs.Option.{option_map, option_map_or}
 use Rattle.std.specs.Str.{bytes_eq}
 use Rattle.std.specs.Str.Parse.{digits_value, without_leading_plus}
-use Rattle.clap.specs.Words.{Row, Text, first_of, found_of, kind_of, one_of, rows_of, subcommand_of}
+use Rattle.clap.specs.Words.{Row, Text, all_of, first_of, found_of, kind_of, one_of, rows_of, subcommand_of}
 use Rattle.clap.specs.Faults.{fault_of}
 use Rattle.clap.specs.Kinds.{IsAmong}
 use Rattle.clap.specs.ValueTests.{is_unsigned_in}
@@ -22,6 +22,7 @@ use Rattle.jobs.specs.declared.job.CertificateSource.TheVariants.{File, Least}
 use Rattle.jobs.specs.declared.job.Emit.{Emit}
 use Rattle.jobs.specs.declared.job.Emit.TheVariants as emit
 use Rattle.jobs.specs.declared.job.Format.{Format}
+use Rattle.jobs.specs.declared.job.Format.TheVariants as form
 use Rattle.jobs.specs.declared.job.ReplayEmit.{ReplayEmit}
 use Rattle.jobs.specs.declared.job.RunEmit.{RunEmit}
 use Rattle.jobs.specs.declared.job.CurveEmit.{CurveEmit}
@@ -39,6 +40,10 @@ use Rattle.command_line.specs.declared.words.UsageFault.TheVariants.{Words, Pred
 -- the values of a subcommand's files and options
 abbrev pub values_in : ArgMatches → List Row
 values_in matches = rows_of (found_of matches)
+
+-- each value of a file or an option, in the order of the words
+abbrev pub values_at : Text → List Row → List Text
+values_at id values = unwrap_or (all_of id values) []
 
 -- a number of 32 bits in decimal digits, where a plus may stand first
 abbrev pub number_of : Text → Option ℕ
@@ -90,6 +95,12 @@ abbrev pub IsSource : Text → List Row → CertificateSource → Type 0
 IsSource last values File = (is_least values ≡ false) × IsSome (first_of last values)
 IsSource last values Least = (is_least values ≡ true) × (first_of last values ≡ None)
 
+-- where `check` takes the certificate from: it is the only file behind the program; with `--least` the files there
+-- are further programs
+abbrev pub IsCheckSource : List Row → CertificateSource → Type 0
+IsCheckSource values File = IsSource (codes "certificate") values File × (length (values_at (codes "certificate") values) ≤ 1)
+IsCheckSource values Least = is_least values ≡ true
+
 -- a fault of this kind of `clap`'s, or memory ran out
 abbrev pub IsOfKind : ErrorKind → UsageFault → Type 0
 IsOfKind wanted (Words error) = kind_of error ≡ wanted
@@ -100,6 +111,12 @@ abbrev pub IsMisfit : Text → List Row → UsageFault → Type 0
 IsMisfit last values fault =
     (IsOfKind kind.MissingRequiredArgument fault × (is_least values ≡ false) × (first_of last values ≡ None))
     ⊎ (IsOfKind kind.ArgumentConflict fault × (is_least values ≡ true) × IsSome (first_of last values))
+
+-- without `--least` `check` has no certificate, or several
+abbrev pub IsCheckMisfit : List Row → UsageFault → Type 0
+IsCheckMisfit values fault =
+    (IsOfKind kind.MissingRequiredArgument fault × (is_least values ≡ false) × (first_of (codes "certificate") values ≡ None))
+    ⊎ (IsOfKind kind.UnknownArgument fault × (is_least values ≡ false) × (2 ≤ length (values_at (codes "certificate") values)))
 
 -- the value of an option stands for nothing
 abbrev pub IsNoValue : {V : Type 0} → Option V → UsageFault → Type 0
@@ -116,7 +133,7 @@ Gives name values (Explain file certificate warnings format) = (name ≡ codes "
     × (first_of (codes "certificate") values ≡ option_map string_bytes certificate)
     × (warnings ≡ not (is_given (codes "no-warnings") values)) × (format_in values ≡ Some format)
 Gives name values (Check source workers) = (name ≡ codes "check")
-    × IsSource (codes "certificate") values source × (number_at (codes "workers") values ≡ Some workers)
+    × IsCheckSource values source × (number_at (codes "workers") values ≡ Some workers)
 Gives name values (Replay source units emit) = (name ≡ codes "replay") × IsSource (codes "script") values source
     × (number_at (codes "units") values ≡ Some units) × (replay_emit_in values ≡ Some emit)
 Gives name values (Run source schedule units workers budget predict emit) = (name ≡ codes "run")
@@ -165,10 +182,29 @@ destination_in values job =
     if is_in_place values then (if fits_in_place values job then Some (first_of (codes "program") values) else None)
     else Some (option_and_then but_standard (first_of (codes "output") values))
 
+-- the programs behind the first
+abbrev pub further_in : Job → List Row → List Text
+further_in (Explain file certificate warnings format) values = values_at (codes "further") values
+further_in (Check Least workers) values = values_at (codes "certificate") values
+further_in _ values = []
+
+-- the job can be done for one program after another: it has no certificate, and what it writes are lines and not
+-- one log
+abbrev pub repeats : Job → Bool
+repeats (Explain file (Some certificate) warnings format) = false
+repeats (Explain file None warnings form.Sarif) = false
+repeats _ = true
+
+-- where there are further programs, the job can be repeated and no file takes its result
+abbrev pub goes_together : {F N : Type 0} → Job → (output : Option F) → (further : List N) → Bool
+goes_together job output further = (length further == 0) || (is_none output && repeats job)
+
 -- the request of a subcommand with these values
 abbrev pub IsRequested : Text → List Row → Request → Type 0
 IsRequested name values request = IsAsked name values request.job request.paths
     × (destination_in values request.job ≡ Some (option_map string_bytes request.output))
+    × (map string_bytes request.further.items ≡ further_in request.job values)
+    × (goes_together request.job request.output request.further.items ≡ true)
 
 -- the words ask for this: `clap` has no fault for them, and it is the request of the subcommand that `clap` makes
 -- of them
@@ -220,7 +256,7 @@ Refuses name values Predict = (name ≡ codes "run") × Fits (codes "certificate
 Refuses name values EmitFault = (name ≡ codes "annotate") × (emit_in values ≡ None)
 Refuses name values fault = IsLack (Lacks name values) fault
     ⊎ ((name ≡ codes "explain") × IsNoValue (format_in values) fault)
-    ⊎ ((name ≡ codes "check") × IsMisfit (codes "certificate") values fault)
+    ⊎ ((name ≡ codes "check") × IsCheckMisfit values fault)
     ⊎ ((name ≡ codes "replay") × IsMisfit (codes "script") values fault)
     ⊎ ((name ≡ codes "replay") × Fits (codes "script") values × IsNoValue (replay_emit_in values) fault)
     ⊎ ((name ≡ codes "run") × IsMisfit (codes "certificate") values fault)
@@ -244,9 +280,15 @@ abbrev pub IsMisplaced : Text → List Row → UsageFault → Type 0
 IsMisplaced name values fault = IsOfKind kind.ArgumentConflict fault
     × (job : Job) × (paths : Paths) × IsAsked name values job paths × (destination_in values job ≡ None)
 
+-- the job is given, and there are further programs that cannot have it, too
+abbrev pub IsOfOne : Text → List Row → UsageFault → Type 0
+IsOfOne name values fault = IsOfKind kind.ArgumentConflict fault
+    × (job : Job) × (paths : Paths) × (output : Option Text) × IsAsked name values job paths
+    × (destination_in values job ≡ Some output) × (goes_together job output (further_in job values) ≡ false)
+
 -- why a subcommand with these values asks for nothing
 abbrev pub RefusesRequest : Text → List Row → UsageFault → Type 0
-RefusesRequest name values fault = Refuses name values fault ⊎ IsMisplaced name values fault
+RefusesRequest name values fault = Refuses name values fault ⊎ IsMisplaced name values fault ⊎ IsOfOne name values fault
 
 -- what a subcommand with these values asks for
 abbrev pub ReadsRequest : Text → List Row → Result Request UsageFault → Type 0

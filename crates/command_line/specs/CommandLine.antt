@@ -4,7 +4,7 @@ use Rattle.std.specs.Str.{bytes_eq}
 use Rattle.clap.specs.Words.{App, Rule, Shape, Text, app_of, new_rule}
 use Rattle.clap.specs.declared.builder.command.Command.TheViews.{out-Command as fields_of}
 use Rattle.clap.specs.Simple.{new_shape}
-use Rattle.clap.specs.declared.builder.ArgAction.TheVariants.{Set, SetTrue}
+use Rattle.clap.specs.declared.builder.ArgAction.TheVariants.{Append, Set, SetTrue}
 use Rattle.clap.specs.declared.builder.Command.{Command}
 use Rattle.clap.specs.declared.builder.ValueParser.TheVariants.{Signed}
 
@@ -15,6 +15,10 @@ file id = record (new_rule id) { action = Some Set; value_names = 1; required = 
 -- a file that need not be named
 abbrev pub free_file : Text → Rule
 free_file id = record (new_rule id) { action = Some Set; value_names = 1 }
+
+-- files that need not be named, as many as there are
+abbrev pub free_files : Text → Rule
+free_files id = record (new_rule id) { action = Some Append; value_names = 1 }
 
 -- an option `--id` without a value
 abbrev pub flag : Text → Rule
@@ -54,6 +58,18 @@ certificate = file (codes "certificate")
 -- a certificate, and a script behind one, that need not be named
 abbrev pub free_certificate : Rule
 free_certificate = free_file (codes "certificate")
+
+-- of `check` the certificate, or with `--least` further programs
+abbrev pub certificate_or_programs : Rule
+certificate_or_programs = free_files (codes "certificate")
+
+-- further programs
+abbrev pub further : Rule
+further = free_files (codes "further")
+
+-- the certificate that is explained beside its program
+abbrev pub explained_certificate : Rule
+explained_certificate = free_word (codes "certificate")
 
 abbrev pub free_script : Rule
 free_script = free_file (codes "script")
@@ -112,10 +128,10 @@ abbrev pub annotate : Shape
 annotate = subcommand (codes "annotate") (program ∷ free_word (codes "emit") ∷ output ∷ in_place ∷ [])
 
 abbrev pub explain : Shape
-explain = subcommand (codes "explain") (program ∷ free_certificate ∷ no_warnings ∷ layout ∷ output ∷ [])
+explain = subcommand (codes "explain") (program ∷ further ∷ explained_certificate ∷ no_warnings ∷ layout ∷ output ∷ [])
 
 abbrev pub check : Shape
-check = subcommand (codes "check") (program ∷ free_certificate ∷ least ∷ checkers ∷ output ∷ [])
+check = subcommand (codes "check") (program ∷ certificate_or_programs ∷ least ∷ checkers ∷ output ∷ [])
 
 abbrev pub replay : Shape
 replay = subcommand (codes "replay") (program ∷ certificate ∷ free_script ∷ least ∷ units

@@ -17,7 +17,8 @@ the registers that it may create and the tasks that may follow it.
 
 PROGRAM is a program text. CERT is its certificate: for each task, the registers that may still be
 written from each of its instructions on. SCRIPT is a list of events, one on a line. Files are read
-whole before any text is judged. One of them may be -, standard input.";
+whole before any text is judged. One of them may be -, standard input. `check --least` and `explain` take
+several programs.";
 
 /// What stands below every help of the program.
 pub const STATUS: &str = "Exit status:
@@ -25,6 +26,7 @@ pub const STATUS: &str = "Exit status:
   1  a text or an annotation refused or found wrong; trapped; ended at an address that is not listed
   2  wrong usage, a file that cannot be read, out of memory, or output that cannot be written
   3  out of budget
+Of several programs it is the greatest.
 
 Results and refusals of texts go to standard output; with -o FILE, results go to FILE. A fault of
 status 2 is one line on standard error; wrong usage is explained there.";
@@ -70,6 +72,8 @@ targets stay as they are. The proposal is not trusted: `check` judges it like an
 With `--emit marks` it writes your own text with the proposed create masks and forward bits; comments,
 labels and layout stay as they are. With `--in-place` that text takes the place of PROGRAM.
 
+Stops, releases and targets are yours to mend: `explain` of the proposed text says which.
+
 For example, a certificate of the program as it stands:
   ./multiscalar annotate --emit keep examples/count/program.s
 and a text with new marks in place of the old:
@@ -79,7 +83,7 @@ and a text with new marks in place of the old:
 pub const EXPLAIN: &str = "Says which of a program's annotations are wrong, and why";
 
 /// The usage of `explain`.
-pub const EXPLAIN_USAGE: &str = "multiscalar explain [OPTIONS] <PROGRAM> [CERT]";
+pub const EXPLAIN_USAGE: &str = "multiscalar explain [OPTIONS] <PROGRAM>...";
 
 /// `explain`.
 pub const EXPLAIN_LONG: &str =
@@ -98,15 +102,23 @@ Where the annotations are right, it warns of those that cost speed, and of code 
   FILE:LINE:COLUMN: warning: ..
   FILE:LINE:COLUMN: help: ..
 With `--format sarif` it writes the same as a log in SARIF 2.1.0, which editors and code hosts read.
-With CERT it says, too, why that text is no certificate, or that it is none of the program as it stands,
-and how to make it anew.
+With `--certificate FILE` it says, too, why that text is no certificate, or that it is none of the program as
+it stands, and how to make it anew.
+
+Of several programs it says so one after another, and then how many there are:
+  4 programs: 2 right, 1 wrong, 1 not judged
+One that cannot be read is not judged; the others are. `--certificate`, `--format sarif` and `--output` are
+of one program, and are not allowed beside several.
 
 The exit status is 0 where nothing is wrong, with warnings too, and 1 where something is or a text is
-refused. Where a file cannot be read, it says why: multiscalar: file FILE: no such file
+refused. Where a file cannot be read, it is 2, and standard error is told why:
+  multiscalar: file FILE: no such file
 
 For example:
   ./multiscalar explain examples/five-findings/program.s
   ./multiscalar explain examples/warnings/program.s
+  ./multiscalar explain examples/count/program.s examples/five-findings/program.s
+  ./multiscalar explain --certificate examples/count/certificate.cert2 examples/count/program.s
   ./multiscalar explain --format sarif examples/five-findings/program.s > findings.sarif";
 
 /// `check`, in one line.
@@ -114,7 +126,7 @@ pub const CHECK: &str = "Checks a program with its certificate";
 
 /// The usage of `check`.
 pub const CHECK_USAGE: &str = "multiscalar check [OPTIONS] PROGRAM CERT
-       multiscalar check [OPTIONS] --least PROGRAM";
+       multiscalar check [OPTIONS] --least PROGRAM...";
 
 /// `check`.
 pub const CHECK_LONG: &str =
@@ -127,11 +139,17 @@ A finding that is of no register has `-`. Of a text that is no certificate it wr
 and for the faults 2 and 3 the line:
   certificate refused: K Name LINE
 
-With `--least` it makes the certificate itself, that of `annotate --emit keep`.
+With `--least` it makes the certificate itself, that of `annotate --emit keep`, and there may be several
+programs. Then each line begins with its program's name, and a last line says how many there are:
+  PROGRAM: accepted T tasks N instructions
+  4 programs: 2 right, 1 wrong, 1 not judged
+One that cannot be read is not judged, and standard error is told why; the others are checked. `--output` is
+of one program, and is not allowed beside several.
 
 For example:
   ./multiscalar check examples/count/program.s examples/count/certificate.cert2
-  ./multiscalar check --least examples/count/program.s";
+  ./multiscalar check --least examples/count/program.s
+  ./multiscalar check --least examples/count/program.s examples/five-findings/program.s";
 
 /// `replay`, in one line.
 pub const REPLAY: &str = "Applies a script of events to a machine of some units";
@@ -297,8 +315,15 @@ pub const LEAST: &str = "Makes the least certificate of the program as it stands
 /// CERT, where `--least` may stand in its place.
 pub const CERTIFICATE: &str = "The certificate of the program; none with --least";
 
-/// CERT of `explain`.
-pub const EXPLAIN_CERTIFICATE: &str = "A certificate of the program, which is explained, too";
+/// The files behind the program of `check`.
+pub const CERTIFICATE_OR_PROGRAMS: &str =
+    "The certificate of the program; with --least further programs";
+
+/// The programs behind the first of `explain`.
+pub const FURTHER: &str = "Further programs, each explained in turn";
+
+/// `--certificate` of `explain`.
+pub const EXPLAINED_CERTIFICATE: &str = "A certificate of the program, which is explained, too";
 
 /// `--no-warnings`.
 pub const NO_WARNINGS: &str = "Says nothing of annotations that are right but cost speed";
@@ -308,6 +333,22 @@ pub const FILE_MISSING: &str = "a file is missing: give CERT, or --least in its 
 
 /// Why words with both give none.
 pub const FILE_TOO_MANY: &str = "there is a file too many: with --least there is no CERT";
+
+/// Why words with two certificates or more, and no `--least`, give no job of `check`.
+pub const CERTIFICATE_TOO_MANY: &str =
+    "there is a file too many: there is one CERT; with --least there are several programs";
+
+/// Why words with several programs and a file for the result give no job.
+pub const RESULT_OF_ONE: &str =
+    "--output takes the result of one program: give each program a command of its own";
+
+/// Why words with several programs and a certificate give no job.
+pub const CERTIFICATE_OF_ONE: &str =
+    "--certificate is that of one program: give each program a command of its own";
+
+/// Why words with several programs and `--format sarif` give no job.
+pub const LOG_OF_ONE: &str =
+    "--format sarif writes the log of one program: give each program a command of its own";
 
 /// `--schedule`.
 pub const SCHEDULE: &str =

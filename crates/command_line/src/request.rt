@@ -11,4 +11,8 @@ pub struct Request {
     pub paths: Paths,
     /// The file that takes the result; `None` for standard output.
     pub output: Option<String>,
+    /// The names of further programs, in the order of the words, each of which gets the job, too: of
+    /// `check --least` and of `explain`; of every other job none. Where there is one, the job has no certificate
+    /// in a file and no log in SARIF, and `output` is `None`.
+    pub further: Vec<String>,
 }

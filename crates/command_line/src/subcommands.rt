@@ -2,9 +2,9 @@
 ghost use Rattle.std.specs.Prelude.{◌≡◌, ◌≤◌, IfOk, IsOkAnd, false};
 ghost use Rattle.clap.specs.Words.{AddsSubcommand, app_of, new_app, rule_of};
 ghost use Rattle.clap.specs.declared.builder.command.Command.TheViews.{out-Command as fields_of};
-ghost use Rattle.command_line.specs.CommandLine.{IsSubcommand, app_named, command_line, program_name as program_name_shape, file as file_rule, file_option as file_option_rule, free_word as free_word_rule, flag as flag_rule, free_file as free_file_rule, word as word_rule};
+ghost use Rattle.command_line.specs.CommandLine.{IsSubcommand, app_named, command_line, program_name as program_name_shape, file as file_rule, file_option as file_option_rule, free_word as free_word_rule, flag as flag_rule, free_file as free_file_rule, free_files as free_files_rule, word as word_rule};
 ghost use Rattle.command_line.specs.CommandLine.{free_number as free_number_rule, number as number_rule};
-ghost use Rattle.command_line.specs.CommandLine.{program as program_rule, certificate as certificate_rule, free_certificate as free_certificate_rule, free_script as free_script_rule, least as least_rule, output as output_rule, in_place as in_place_rule, no_warnings as no_warnings_rule, layout as layout_rule, schedule as schedule_rule};
+ghost use Rattle.command_line.specs.CommandLine.{program as program_rule, certificate as certificate_rule, free_certificate as free_certificate_rule, certificate_or_programs as certificate_or_programs_rule, explained_certificate as explained_certificate_rule, further as further_rule, free_script as free_script_rule, least as least_rule, output as output_rule, in_place as in_place_rule, no_warnings as no_warnings_rule, layout as layout_rule, schedule as schedule_rule};
 ghost use Rattle.command_line.specs.CommandLine.{budget as budget_rule, units as units_rule, most_units as most_units_rule, checkers as checkers_rule, workers as workers_rule};
 ghost use Rattle.command_line.specs.CommandLine.{seq as seq_shape, print as print_shape, annotate as annotate_shape, explain as explain_shape, check as check_shape, replay as replay_shape, run as run_shape, curve as curve_shape};
 
@@ -74,6 +74,17 @@ fn free_file<'a>(alloc: Global, id: &'a str, name: &'a str, text: &'a str) -> Ar
         .value_name(name)
         .help(text)
         .action(ArgAction::Set)
+}
+
+// Files that the command line need not name, as many as it names.
+fn free_files<'a>(alloc: Global, id: &'a str, name: &'a str, text: &'a str) -> Arg<'a>
+    ensures rule { rule_of result ≡ free_files_rule id.entry.now }
+    ensures local { result.global ≡ false }
+{
+    Arg::new(alloc, id)
+        .value_name(name)
+        .help(text)
+        .action(ArgAction::Append)
 }
 
 // An option with a file for its value, which has a letter, too; it need not be given.
@@ -171,6 +182,28 @@ fn free_certificate<'a>(alloc: Global, text: &'a str) -> Arg<'a>
     ensures local { result.global ≡ false }
 {
     free_file(alloc, "certificate", "CERT", text)
+}
+
+// The certificate of `check`, or with `--least` further programs.
+fn certificate_or_programs<'a>(alloc: Global) -> Arg<'a>
+    ensures rule { rule_of result ≡ certificate_or_programs_rule }
+    ensures local { result.global ≡ false }
+{
+    free_files(alloc, "certificate", "FILE", help::CERTIFICATE_OR_PROGRAMS)
+}
+
+fn further<'a>(alloc: Global) -> Arg<'a>
+    ensures rule { rule_of result ≡ further_rule }
+    ensures local { result.global ≡ false }
+{
+    free_files(alloc, "further", "PROGRAM", help::FURTHER)
+}
+
+fn explained_certificate<'a>(alloc: Global) -> Arg<'a>
+    ensures rule { rule_of result ≡ explained_certificate_rule }
+    ensures local { result.global ≡ false }
+{
+    free_word(alloc, "certificate", "FILE", help::EXPLAINED_CERTIFICATE)
 }
 
 fn free_script<'a>(alloc: Global) -> Arg<'a>
@@ -313,7 +346,8 @@ fn explain<'a>(alloc: Global) -> Result<Command<'a>, AllocError>
 {
     let arguments = vec![in alloc;
         program(alloc),
-        free_certificate(alloc, help::EXPLAIN_CERTIFICATE),
+        further(alloc),
+        explained_certificate(alloc),
         no_warnings(alloc),
         layout(alloc),
         output(alloc),
@@ -327,7 +361,7 @@ fn check<'a>(alloc: Global) -> Result<Command<'a>, AllocError>
 {
     let arguments = vec![in alloc;
         program(alloc),
-        free_certificate(alloc, help::CERTIFICATE),
+        certificate_or_programs(alloc),
         least(alloc),
         checkers(alloc),
         output(alloc),

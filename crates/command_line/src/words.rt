@@ -1,10 +1,10 @@
 //! From the words of a command line to a job.
-ghost use Rattle.std.specs.Prelude.{◌≡◌, ◌≤◌, ◌==◌, ◌⊎◌, IfErr, IfOk, IfSome, MatchOption, MatchResult, All, Some, None, true, false, if◌then◌else◌, map, length, option_map, option_and_then, unwrap_or, vec_len, [], codes};
+ghost use Rattle.std.specs.Prelude.{◌≡◌, ◌≤◌, ◌==◌, ◌&&◌, ◌⊎◌, IfErr, IfOk, IfSome, MatchOption, MatchResult, All, Some, None, true, false, if◌then◌else◌, map, length, option_map, option_and_then, is_none, unwrap_or, vec_len, [], codes};
 ghost use Rattle.std.specs.String.{string_bytes};
 ghost use Rattle.std.specs.List.{slice_split};
 ghost use Rattle.clap.specs.Words.{first_of};
-ghost use Rattle.clap.specs.declared.error.kind.ErrorKind.TheVariants.{InvalidValue, MissingSubcommand};
-ghost use Rattle.command_line.specs.Asked.{AskFor, IsFaultOf, IsFrom, IsLack, IsMisfit, IsNoNumber, IsNoValue, IsOutside, IsOfKind, IsSource, Reads, ReadsRequest, IsDestination, destination_in, is_in_place, is_given, curve_emit_in, fits_in_place, emit_in, format_in, number_at, predict_in, replay_emit_in, run_emit_in, schedule_in, values_in};
+ghost use Rattle.clap.specs.declared.error.kind.ErrorKind.TheVariants.{ArgumentConflict, InvalidValue, MissingSubcommand};
+ghost use Rattle.command_line.specs.Asked.{AskFor, IsCheckMisfit, IsCheckSource, IsFaultOf, IsFrom, IsLack, IsMisfit, IsNoNumber, IsNoValue, IsOutside, IsOfKind, IsSource, Reads, ReadsRequest, IsDestination, destination_in, is_in_place, is_given, curve_emit_in, fits_in_place, further_in, goes_together, emit_in, format_in, number_at, predict_in, repeats, replay_emit_in, run_emit_in, schedule_in, values_at, values_in};
 ghost use Rattle.command_line.specs.Words.{listed_number, listed_numbers, all_there, curve_emit_of, emit_of, format_of, prediction_of, replay_emit_of, run_emit_of, schedule_of};
 ghost use Rattle.jobs.specs.Files.{HasFilesOf, is_in_file};
 ghost use Rattle.command_line.specs.declared.words.UsageFault.TheVariants.{OutOfMemory, Predict, Emit as EmitFault};
@@ -26,12 +26,13 @@ use thiserror::Error;
 #[derive(Debug, Drop, Error)]
 pub enum UsageFault {
     /// 1: the words are none of the program's, or ask for help or for the version; or there is neither a
-    /// certificate nor `--least`, or both; or the value of an option is none: of `--schedule` neither `threads`
-    /// nor `steps`; of `--format` neither `text` nor `sarif`; of `--emit` for `replay` none of `answers`,
-    /// `summary`, `svg`, `trace` and `json`, for `run` none of `report`, `script`, `summary`, `svg`, `trace` and
-    /// `json`, for `curve` neither `table` nor `svg`; of `--predict` for `curve` as below; or `--in-place` stands
-    /// beside `--output` or a certificate that is to be written, or the program is standard input. The fault is
-    /// `clap`'s, with its text.
+    /// certificate nor `--least`, or both but for `check`, or `check` has two certificates; or the value of an
+    /// option is none: of `--schedule` neither `threads` nor `steps`; of `--format` neither `text` nor `sarif`; of
+    /// `--emit` for `replay` none of `answers`, `summary`, `svg`, `trace` and `json`, for `run` none of `report`,
+    /// `script`, `summary`, `svg`, `trace` and `json`, for `curve` neither `table` nor `svg`; of `--predict` for
+    /// `curve` as below; or `--in-place` stands beside `--output` or a certificate that is to be written, or the
+    /// program is standard input; or there are several programs beside a file for the result, `--certificate` or
+    /// a log in SARIF. The fault is `clap`'s, with its text.
     #[error("1 Words")]
     Words(clap::Error),
     /// 2: for `run`, the value of `--predict` is neither `first`, `last` nor 1 to 64 numbers 0..=15.
@@ -66,8 +67,8 @@ impl From<clap::Error> for UsageFault {
 
 /// What a command line asks for. The first word is the program's own name. What `clap` decides comes first,
 /// then whether there are as many files as `--least` asks for, then the values of `--format`, of `--schedule`, of
-/// `--predict` for `curve`, of `--emit`, of `--predict` for `run`, and at last whether `--in-place` can be meant.
-/// (own choice)
+/// `--predict` for `curve`, of `--emit`, of `--predict` for `run`, and at last whether `--in-place` can be meant and
+/// whether further programs can have the job, too. (own choice)
 pub fn request_of(alloc: Global, words: &[String]) -> Result<Request, UsageFault>
     ensures files { IfOk result (λ r. HasFilesOf r.job r.paths) }
     ensures request { IfOk result (λ r. AskFor (map string_bytes words.now) r) }
@@ -86,7 +87,92 @@ fn read_request(alloc: Global, name: &str, values: &ArgMatches<'_>) -> Result<Re
 {
     let (job, paths) = read_job(alloc, name, values)?;
     let output = read_output(alloc, values, &job)?;
-    Ok(Request { job, paths, output })
+    let further = read_further(alloc, values, &job)?;
+    expect_together(alloc, name, &job, &output, further.as_slice())?;
+    Ok(Request {
+        job,
+        paths,
+        output,
+        further,
+    })
+}
+
+// The names of the programs behind the first.
+fn read_further(
+    alloc: Global,
+    values: &ArgMatches<'_>,
+    job: &Job,
+) -> Result<Vec<String>, AllocError>
+    ensures { IfOk result (λ names. map string_bytes names.items ≡ further_in job.now (values_in values.now)) }
+{
+    match job {
+        Job::Explain { .. } => names_at(alloc, values, "further"),
+        Job::Check {
+            certificate: CertificateSource::Least,
+            ..
+        } => names_at(alloc, values, "certificate"),
+        _ => Ok(Vec::new(alloc)),
+    }
+}
+
+// Each value of a file, in the order of the words.
+fn names_at(alloc: Global, values: &ArgMatches<'_>, id: &str) -> Result<Vec<String>, AllocError>
+    ensures { IfOk result (λ names. map string_bytes names.items ≡ values_at id.now (values_in values.now)) }
+{
+    match values.get_strs(id) {
+        Some(texts) => names_of(alloc, texts),
+        None => Ok(Vec::new(alloc)),
+    }
+}
+
+fn names_of(alloc: Global, texts: &[&str]) -> Result<Vec<String>, AllocError>
+    ensures { IfOk result (λ names. map string_bytes names.items ≡ map (λ t. t.now) texts.now) }
+{
+    let mut names = Vec::new(alloc);
+    for text in texts {
+        names.push(String::from_str(alloc, text)?)?;
+    }
+    Ok(names)
+}
+
+// Whether further programs can have the job, too, of the subcommand of this name.
+fn expect_together(
+    alloc: Global,
+    name: &str,
+    job: &Job,
+    output: &Option<String>,
+    further: &[String],
+) -> Result<(), UsageFault>
+    ensures { MatchResult result (λ _. goes_together job.now output.now further.now ≡ true)
+        (λ fault. IsOfKind ArgumentConflict fault × (goes_together job.now output.now further.now ≡ false)) }
+{
+    if further.is_empty() {
+        return Ok(());
+    }
+    match why_of_one(job, output) {
+        Some(message) => Err(fault_of_kind(alloc, name, ErrorKind::ArgumentConflict, message)),
+        None => Ok(()),
+    }
+}
+
+// Why the job can be that of one program only, if it is so.
+fn why_of_one(job: &Job, output: &Option<String>) -> Option<&'static str>
+    ensures { is_none result ≡ (is_none output.now && repeats job.now) }
+{
+    if output.is_some() {
+        return Some(help::RESULT_OF_ONE);
+    }
+    match job {
+        Job::Explain {
+            certificate: Some(_),
+            ..
+        } => Some(help::CERTIFICATE_OF_ONE),
+        Job::Explain {
+            format: Format::Sarif,
+            ..
+        } => Some(help::LOG_OF_ONE),
+        _ => None,
+    }
 }
 
 // The file that takes the result of a job, if it is not standard output.
@@ -303,6 +389,32 @@ fn read_source(
     }
 }
 
+// Where `check` takes the certificate from.
+fn check_source(alloc: Global, values: &ArgMatches<'_>) -> Result<CertificateSource, UsageFault>
+    ensures { MatchResult result (IsCheckSource (values_in values.now)) (IsCheckMisfit (values_in values.now)) }
+{
+    if is_given(values, "least") {
+        return Ok(CertificateSource::Least);
+    }
+    if text(values, "certificate").is_none() {
+        return Err(fault_of_kind(
+            alloc,
+            "check",
+            ErrorKind::MissingRequiredArgument,
+            help::FILE_MISSING,
+        ));
+    }
+    if count_at(values, "certificate") > 1 {
+        return Err(fault_of_kind(
+            alloc,
+            "check",
+            ErrorKind::UnknownArgument,
+            help::CERTIFICATE_TOO_MANY,
+        ));
+    }
+    Ok(CertificateSource::File)
+}
+
 fn path(alloc: Global, values: &ArgMatches<'_>, id: &str) -> Result<String, UsageFault>
     ensures { MatchResult result (λ p. first_of id.now (values_in values.now) ≡ Some (string_bytes p))
         (IsLack (first_of id.now (values_in values.now) ≡ None)) }
@@ -329,6 +441,16 @@ fn text<'a>(values: &ArgMatches<'a>, id: &str) -> Option<&'a str>
     ensures { option_map (λ t. t.now) result ≡ first_of id.now (values_in values.now) }
 {
     values.get_str(id)
+}
+
+// How many values a file has.
+fn count_at(values: &ArgMatches<'_>, id: &str) -> usize
+    ensures { result ≡ length (values_at id.now (values_in values.now)) }
+{
+    match values.get_strs(id) {
+        Some(texts) => texts.len(),
+        None => 0,
+    }
 }
 
 // The value of an option with a number.
@@ -424,7 +546,7 @@ fn read_explain(alloc: Global, values: &ArgMatches<'_>) -> Result<(Job, Paths), 
 fn read_check(alloc: Global, values: &ArgMatches<'_>) -> Result<(Job, Paths), UsageFault>
     ensures { Reads (codes "check") (values_in values.now) result }
 {
-    let certificate = read_source(alloc, "check", values, "certificate")?;
+    let certificate = check_source(alloc, values)?;
     let workers = read_checkers(alloc, values)?;
     let job = Job::Check {
         certificate,

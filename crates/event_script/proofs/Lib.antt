@@ -5,3 +5,4 @@ pub mod EventsLoop
 pub mod WrittenLines
 pub mod WrittenRuns
 pub mod NamesApart
+pub mod BadLines

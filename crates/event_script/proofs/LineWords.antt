@@ -4,8 +4,8 @@ use Rattle.std.specs.List.{slice_split, position, position_or_len}
 use Rattle.std.specs.Str.{bytes_eq}
 use Rattle.std.proofs.lemmas.List.{length-map}
 use Rattle.task_descriptor.specs.declared.descriptor.Descriptor.{Descriptor}
-use Rattle.event_script.specs.declared.fault.LineFault.TheVariants.{NoForm}
-use Rattle.event_script.specs.EventScript.{is_space, event_of, event_in, names_in}
+use Rattle.event_script.specs.declared.fault.LineFault.TheVariants.{NoEvent}
+use Rattle.event_script.specs.EventScript.{is_space, misfit, operand_count, event_of, event_in, names_in}
 use Rattle.text_pieces.proofs.Splits.{split_cons}
 
 place_named : (name : List ℕ) (tasks : List Descriptor) → position_or_len (λ other. bytes_eq other name) (names_in tasks) ≡ position_or_len (λ task. bytes_eq task.name name) tasks
@@ -22,7 +22,7 @@ pub four_words : (names : List (List ℕ)) (line verb operands first second thir
     → slice_split is_space line ≡ verb ∷ slice_split is_space operands
     → slice_split is_space operands ≡ first ∷ slice_split is_space second
     → slice_split is_space second ≡ third ∷ slice_split is_space rest
-    → Err NoForm ≡ event_in names line
+    → Err (misfit (operand_count verb) 3 NoEvent) ≡ event_in names line
 four_words names line verb operands first second third rest one two three =
     let more = split_cons is_space rest in
     let from_third : slice_split is_space second ≡ third ∷ (more.0 ∷ more.1) = three ∙ ap (λ (ws : List (List ℕ)). third ∷ ws) more.2 in

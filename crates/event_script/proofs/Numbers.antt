@@ -17,7 +17,7 @@ tested : (first more : Bool) (read number : Option ℕ) → read ≡ cond more n
 tested true more read number e = e
 tested false more read number e = refl
 
-number_after_is : (n : ℕ) (ds : List ℕ) → number_after n ds ≡ cond (list_all is_ascii_digit ds) (Some (digits_value_after 10 n ds)) None
+pub number_after_is : (n : ℕ) (ds : List ℕ) → number_after n ds ≡ cond (list_all is_ascii_digit ds) (Some (digits_value_after 10 n ds)) None
 number_after_is n [] = refl
 number_after_is n (c ∷ cs) = tested (is_ascii_digit c) (list_all is_ascii_digit cs) _ _ (number_after_is (n * 10 + digit_value c) cs)
 

@@ -20,7 +20,7 @@ use Rattle.task_descriptor.specs.declared.program.BuildFault.{BuildFault}
 use Rattle.machine_events.specs.declared.event.Event.{Event}
 use Rattle.machine_events.specs.declared.event.Event.TheVariants.{Assign, Exec, Transfer, Drain, Squash, Retire, Fault, Drop}
 use Rattle.event_script.specs.declared.fault.LineFault.{LineFault}
-use Rattle.event_script.specs.declared.fault.LineFault.TheVariants.{NoForm}
+use Rattle.event_script.specs.declared.fault.LineFault.TheVariants.{NoName}
 use Rattle.event_script.specs.declared.fault.ScriptFault.{ScriptFault}
 use Rattle.event_script.specs.EventScript.{is_newline, is_space, is_number, number_in, register_in, if_register, if_task, assigned, at_position, with_two, event_of, event_in, at_line, ◌>>=◌, events_from, lines, names_in, script_of}
 use Rattle.event_script.specs.ScriptText.{name_at, event_text, script_text, IsTold, NamesRegister}
@@ -162,7 +162,7 @@ named_task p well task less =
     let right : IsNamed p task name = record {
       is_there = ap name_at found.1;
       word = name_word name named;
-      spells = cond-true (is_name name) _ (Err NoForm) named ∙ ap if_task (position_named name p.tasks ∙ position_is);
+      spells = cond-true (is_name name) _ (Err NoName) named ∙ ap if_task (position_named name p.tasks ∙ position_is);
     } in
     subst (λ (n : List ℕ). IsNamed p task n) (sym (ap name_at found.1)) right
 

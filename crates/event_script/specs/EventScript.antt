@@ -1,7 +1,7 @@
 -- Reading the text of an event script (own choice): the events that its lines spell, or the first line
 -- that spells none. The lines are `assign NAME`, `exec K`, `transfer K $R`, `drain K $R`, `squash K`,
 -- `retire`, `fault` and `drop K`, where K is a position in the queue of units and R a register.
-use Rattle.std.specs.Prelude.{ℕ, ◌+◌, Bool, false, ◌&&◌, not, List, [], ◌∷◌, length, map, position, Option, None, Some, Result, Ok, Err, nat_lt, nat_le, ◌==◌, if◌then◌else◌, codes}
+use Rattle.std.specs.Prelude.{ℕ, zero, suc, ◌+◌, ◌-◌, Bool, false, ◌&&◌, ◌||◌, not, List, [], ◌∷◌, ◌++◌, length, map, take, drop, position, Option, None, Some, Result, Ok, Err, nat_lt, nat_le, ◌==◌, if◌then◌else◌, codes}
 use Rattle.std.specs.Char.{is_ascii_digit}
 use Rattle.std.specs.List.{list_all, slice_split}
 use Rattle.std.specs.Str.{bytes_eq}
@@ -13,8 +13,9 @@ use Rattle.machine_events.specs.declared.event.Event.{Event}
 use Rattle.machine_events.specs.declared.event.Event.TheVariants.{Assign, Exec, Transfer, Drain, Squash, Retire, Fault, Drop}
 use Rattle.event_script.specs.declared.fault.ScriptFault.{ScriptFault}
 use Rattle.event_script.specs.declared.fault.ScriptFault.TheVariants.{Line, TaskName}
+use Rattle.event_script.specs.declared.bad_line.BadLine.{BadLine}
 use Rattle.event_script.specs.declared.fault.LineFault.{LineFault}
-use Rattle.event_script.specs.declared.fault.LineFault.TheVariants.{NoForm, NoTask}
+use Rattle.event_script.specs.declared.fault.LineFault.TheVariants.{NoEvent, TooFew, TooMany, NoPosition, NoRegister, NoName, NoTask}
 
 -- ---- the lines of a text
 
@@ -64,12 +65,29 @@ register_in (first ∷ word) = if first == 36 then if_register (number_in word) 
 
 -- ---- the event that a line spells
 
+-- how many words follow the first word of an event; None: no event begins with this word
+abbrev pub operand_count : (verb : List ℕ) → Option ℕ
+operand_count verb =
+    if bytes_eq verb (codes "retire") || bytes_eq verb (codes "fault") then Some 0
+    else (if bytes_eq verb (codes "transfer") || bytes_eq verb (codes "drain") then Some 2
+    else (if bytes_eq verb (codes "assign") || bytes_eq verb (codes "exec") || bytes_eq verb (codes "squash") || bytes_eq verb (codes "drop") then Some 1
+    else None))
+
+-- What is wrong with so many words behind a first word, if they make no event: that no event begins so, that they are too
+-- few or too many, and else `wrong`.
+abbrev pub misfit : (wanted : Option ℕ) → (count : ℕ) → (wrong : LineFault) → LineFault
+misfit None count wrong = NoEvent
+misfit (Some wanted) count wrong =
+    if nat_lt count wanted then TooFew
+    else (if nat_lt wanted count then TooMany (wanted + 1)
+    else wrong)
+
 -- of a word that stands alone
 abbrev pub alone : List ℕ → Result Event LineFault
 alone verb =
     if bytes_eq verb (codes "retire") then Ok Retire
     else (if bytes_eq verb (codes "fault") then Ok Fault
-    else Err NoForm)
+    else Err (misfit (operand_count verb) 0 NoEvent))
 
 abbrev pub if_task : Option ℕ → Result Event LineFault
 if_task None = Err NoTask
@@ -77,16 +95,16 @@ if_task (Some task) = Ok (Assign task)
 
 -- the assignment of the task of a name
 abbrev pub assigned : List (List ℕ) → List ℕ → Result Event LineFault
-assigned names name = if is_name name then if_task (position (λ other. bytes_eq other name) names) else Err NoForm
+assigned names name = if is_name name then if_task (position (λ other. bytes_eq other name) names) else Err NoName
 
 -- of a verb and a position
 abbrev pub at_position : List ℕ → Option ℕ → Result Event LineFault
-at_position verb None = Err NoForm
+at_position verb None = Err (misfit (operand_count verb) 1 NoPosition)
 at_position verb (Some k) =
     if bytes_eq verb (codes "exec") then Ok (Exec k)
     else (if bytes_eq verb (codes "squash") then Ok (Squash k)
     else (if bytes_eq verb (codes "drop") then Ok (Drop k)
-    else Err NoForm))
+    else Err (misfit (operand_count verb) 1 NoEvent)))
 
 -- of a verb and one word behind it
 abbrev pub with_one : List (List ℕ) → (verb word : List ℕ) → Result Event LineFault
@@ -94,29 +112,69 @@ with_one names verb word = if bytes_eq verb (codes "assign") then assigned names
 
 -- of a verb, a position and a register
 abbrev pub with_two : List ℕ → (position register : Option ℕ) → Result Event LineFault
-with_two verb None register = Err NoForm
-with_two verb (Some k) None = Err NoForm
+with_two verb None register = Err (misfit (operand_count verb) 2 NoPosition)
+with_two verb (Some k) None = Err (misfit (operand_count verb) 2 NoRegister)
 with_two verb (Some k) (Some r) =
     if bytes_eq verb (codes "transfer") then Ok (Transfer k r)
     else (if bytes_eq verb (codes "drain") then Ok (Drain k r)
-    else Err NoForm)
+    else Err (misfit (operand_count verb) 2 NoEvent))
 
 -- of the words of a line, with the names of the tasks
 abbrev pub event_of : List (List ℕ) → (words : List (List ℕ)) → Result Event LineFault
-event_of names [] = Err NoForm
+event_of names [] = Err NoEvent
 event_of names (verb ∷ []) = alone verb
 event_of names (verb ∷ word ∷ []) = with_one names verb word
 event_of names (verb ∷ first ∷ second ∷ []) = with_two verb (number_in first) (register_in second)
-event_of names (verb ∷ first ∷ second ∷ third ∷ more) = Err NoForm
+event_of names (verb ∷ first ∷ second ∷ third ∷ more) = Err (misfit (operand_count verb) 3 NoEvent)
 
 abbrev pub event_in : List (List ℕ) → (line : List ℕ) → Result Event LineFault
 event_in names line = event_of names (words line)
 
+-- ---- where a line goes wrong
+
+-- what stands in front of the first space of a text, and behind it; nothing where there is none
+abbrev pub in_front_of : (space : Option ℕ) → (text : List ℕ) → List ℕ
+in_front_of None text = text
+in_front_of (Some k) text = take k text
+
+abbrev pub behind : (space : Option ℕ) → (text : List ℕ) → List ℕ
+behind None text = []
+behind (Some k) text = drop (k + 1) text
+
+abbrev pub first_word : List ℕ → List ℕ
+first_word text = in_front_of (position is_space text) text
+
+-- a line from the word of this number on, counted from 0
+abbrev pub from_word : ℕ → (line : List ℕ) → List ℕ
+from_word zero line = line
+from_word (suc k) line = behind (position is_space (from_word k line)) (from_word k line)
+
+-- a part of a line: how many bytes stand in front of it, and its bytes
+pub record LinePart : Type 0 where
+  pub before : ℕ
+  pub bytes : List ℕ
+
+abbrev pub part_from : (line rest bytes : List ℕ) → LinePart
+part_from line rest bytes = record { before = length line - length rest; bytes = bytes }
+
+abbrev pub word_at : ℕ → (line : List ℕ) → LinePart
+word_at k line = part_from line (from_word k line) (first_word (from_word k line))
+
+-- the word that is wrong; of too few words the line's end, of too many all that are too many
+abbrev pub wrong_part : LineFault → (line : List ℕ) → LinePart
+wrong_part NoEvent line = word_at 0 line
+wrong_part TooFew line = record { before = length line; bytes = [] }
+wrong_part (TooMany words) line = part_from line (from_word words line) (from_word words line)
+wrong_part NoPosition line = word_at 1 line
+wrong_part NoRegister line = word_at 2 line
+wrong_part NoName line = word_at 1 line
+wrong_part NoTask line = word_at 1 line
+
 -- ---- the events of the lines, or the first line with a fault
 
 abbrev pub fault_at : ℕ → LineFault → ScriptFault
-fault_at n NoForm = Line n
 fault_at n NoTask = TaskName n
+fault_at n _ = Line n
 
 abbrev pub at_line : ℕ → Result Event LineFault → Result Event ScriptFault
 at_line n (Ok event) = Ok event
@@ -146,3 +204,24 @@ names_in tasks = map (λ task. task.name) tasks
 -- what a text is as a script for a program
 abbrev pub script_of : Listing → List ℕ → Result (List Event) ScriptFault
 script_of program text = script_parse text (names_in program.tasks)
+
+-- ---- all lines with a fault
+
+-- line n spells no event, and why
+abbrev pub bad_line : (n : ℕ) → Result Event LineFault → List BadLine
+bad_line n (Ok event) = []
+bad_line n (Err fault) = record { line = n; fault = fault } ∷ []
+
+-- those of the lines from line n on
+abbrev pub bad_from : (n : ℕ) → List (List ℕ) → (lines : List (List ℕ)) → List BadLine
+bad_from n names [] = []
+bad_from n names (line ∷ lines) = bad_line n (event_in names line) ++ bad_from (n + 1) names lines
+
+-- all lines of a text that spell no event for a program, in their order
+abbrev pub bad_lines : Listing → List ℕ → List BadLine
+bad_lines program text = bad_from 1 (names_in program.tasks) (lines text)
+
+-- what a script with such lines is refused for: the first of them
+abbrev pub first_bad : List BadLine → Option ScriptFault
+first_bad [] = None
+first_bad (bad ∷ more) = Some (fault_at bad.line bad.fault)

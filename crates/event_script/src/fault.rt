@@ -15,12 +15,27 @@ pub enum ScriptFault {
     OutOfMemory,
 }
 
-/// Why a line spells no event.
+/// Why a line spells no event: the first of these that holds.
 #[derive(Clone, Copy, Debug, PartialEq, Eq, Error)]
 pub enum LineFault {
-    /// It has no form that a line may have.
-    #[error("the line has no form that a line may have")]
-    NoForm,
+    /// No event begins with its first word.
+    #[error("no event begins with the first word")]
+    NoEvent,
+    /// It ends before the event does.
+    #[error("a word is missing at the line's end")]
+    TooFew,
+    /// It goes on after the event, which has so many words.
+    #[error("the event has only {0} words")]
+    TooMany(usize),
+    /// Its second word is no position.
+    #[error("the second word is no position")]
+    NoPosition,
+    /// Its third word is no register.
+    #[error("the third word is no register")]
+    NoRegister,
+    /// It assigns a task, and the second word can be the name of none.
+    #[error("the second word is no name")]
+    NoName,
     /// It assigns a task, and no task has that name.
     #[error("no task has the name that the line assigns")]
     NoTask,
@@ -35,8 +50,8 @@ impl LineFault {
         ensures { result ≡ fault_at line self }
     {
         match self {
-            LineFault::NoForm => ScriptFault::Line(line),
             LineFault::NoTask => ScriptFault::TaskName(line),
+            _ => ScriptFault::Line(line),
         }
     }
 }

@@ -1,9 +1,11 @@
 //! Laws: each function does nothing, and its contract is a theorem about the definitions alone.
 
-ghost use Rattle.std.specs.Prelude.{◌≡◌, List, Ok};
+ghost use Rattle.std.specs.Prelude.{◌≡◌, ℕ, List, Ok};
 ghost use Rattle.std.specs.List.{All};
+ghost use Rattle.std.specs.Result.{result_err};
+ghost use Rattle.task_descriptor.specs.Listing.{Listing};
 ghost use Rattle.machine_events.specs.declared.event.Event.{Event};
-ghost use Rattle.event_script.specs.EventScript.{script_of};
+ghost use Rattle.event_script.specs.EventScript.{script_of, bad_lines, first_bad};
 ghost use Rattle.event_script.specs.ScriptText.{IsTold, NamesRegister, script_text};
 
 use task_descriptor::program::Program;
@@ -16,3 +18,8 @@ pub fn written_is_read(program: &Program)
 {
     let _ = program.tasks();
 }
+
+/// A script with lines that spell no event is refused for the first of them; one without such a line is read.
+pub fn refused_for_the_first()
+    ensures { (p : Listing) (text : List ℕ) → first_bad (bad_lines p text) ≡ result_err (script_of p text) }
+{}

@@ -1,6 +1,7 @@
 //! Event scripts: the events that are given to the machine, one on each line of a text (own choice).
 #![tactic(auto)]
 
+pub mod bad_line;
 pub mod fault;
 mod fault_text;
 pub mod laws;

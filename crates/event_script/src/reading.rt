@@ -2,7 +2,7 @@
 
 ghost use Rattle.std.specs.Prelude.{◌≡◌, ◌+◌, ◌^◌, ◌<◌, ◌≤◌, ◌==◌, ◌⊎◌, [], ◌∷◌, length, position, Ok, Err, MatchOption, MatchResult, OnSome, IfSome};
 ghost use Rattle.std.specs.List.{slice_split};
-ghost use Rattle.event_script.specs.EventScript.{lines as lines_of, number_in, register_in, alone as alone_of, assigned as assigned_of, at_position as at_position_of, with_one as with_one_of, with_two as with_two_of, event_in, script_parse, script_of};
+ghost use Rattle.event_script.specs.EventScript.{lines as lines_of, number_in, register_in, operand_count, misfit, alone as alone_of, assigned as assigned_of, at_position as at_position_of, with_one as with_one_of, with_two as with_two_of, event_in, script_parse, script_of};
 
 use crate::fault::{LineFault, ScriptFault};
 use crate::task_names::TaskNames;
@@ -14,7 +14,7 @@ use task_descriptor::program::Program;
 use text_pieces::cutting::cut;
 
 /// The first line of a text that is not empty, without its LF, and the text of the other lines.
-fn next_line(text: &[u8]) -> (&[u8], &[u8])
+pub fn next_line(text: &[u8]) -> (&[u8], &[u8])
     requires { 0 < length text.now }
     ensures lines { lines_of text.now ≡ result.0.now ∷ lines_of result.1.now }
     ensures shorter { length result.1.now < length text.now }
@@ -51,6 +51,39 @@ fn register_of(word: &[u8]) -> Option<Reg>
     Reg::new(u8::try_from(number).ok()?)
 }
 
+/// How many words follow the first word of an event; `None`: no event begins with this word.
+fn operand_count(verb: &[u8]) -> Option<usize>
+    ensures { result ≡ operand_count verb.now }
+{
+    if verb == b"retire".as_slice() || verb == b"fault".as_slice() {
+        Some(0)
+    } else if verb == b"transfer".as_slice() || verb == b"drain".as_slice() {
+        Some(2)
+    } else if verb == b"assign".as_slice()
+        || verb == b"exec".as_slice()
+        || verb == b"squash".as_slice()
+        || verb == b"drop".as_slice()
+    {
+        Some(1)
+    } else {
+        None
+    }
+}
+
+/// What is wrong with so many words behind a first word that make no event: that no event begins so, that they
+/// are too few or too many, and else `wrong`.
+#[cold]
+fn misfit(verb: &[u8], count: usize, wrong: LineFault) -> LineFault
+    ensures { result ≡ misfit (operand_count verb.now) count wrong }
+{
+    match operand_count(verb) {
+        None => LineFault::NoEvent,
+        Some(wanted) if count < wanted => LineFault::TooFew,
+        Some(wanted) if wanted < count => LineFault::TooMany(wanted + 1),
+        Some(_) => wrong,
+    }
+}
+
 /// The event of a word that stands alone.
 fn alone(verb: &[u8]) -> Result<Event, LineFault>
     ensures { result ≡ alone_of verb.now }
@@ -60,7 +93,7 @@ fn alone(verb: &[u8]) -> Result<Event, LineFault>
     } else if verb == b"fault".as_slice() {
         Ok(Event::Fault)
     } else {
-        Err(LineFault::NoForm)
+        Err(misfit(verb, 0, LineFault::NoEvent))
     }
 }
 
@@ -70,7 +103,7 @@ fn assigned(names: &TaskNames, name: &[u8]) -> Result<Event, LineFault>
     ensures { result ≡ assigned_of names.now name.now }
 {
     let Some(name) = Name::new(name) else {
-        return Err(LineFault::NoForm);
+        return Err(LineFault::NoName);
     };
     match names.number_of(&name) {
         Some(task) => Ok(Event::Assign(task as u32)),
@@ -89,7 +122,7 @@ fn at_position(verb: &[u8], k: u32) -> Result<Event, LineFault>
     } else if verb == b"drop".as_slice() {
         Ok(Event::Drop(k))
     } else {
-        Err(LineFault::NoForm)
+        Err(misfit(verb, 1, LineFault::NoEvent))
     }
 }
 
@@ -103,12 +136,12 @@ fn with_one(names: &TaskNames, verb: &[u8], word: &[u8]) -> Result<Event, LineFa
     }
     match number_of(word) {
         Some(k) => at_position(verb, k),
-        None => Err(LineFault::NoForm),
+        None => Err(misfit(verb, 1, LineFault::NoPosition)),
     }
 }
 
 /// The event of a verb, a position and a register.
-fn with_two(verb: &[u8], k: u32, register: Reg) -> Result<Event, LineFault>
+fn with_both(verb: &[u8], k: u32, register: Reg) -> Result<Event, LineFault>
     ensures { result ≡ with_two_of verb.now (Some k) (Some register) }
 {
     if verb == b"transfer".as_slice() {
@@ -116,12 +149,25 @@ fn with_two(verb: &[u8], k: u32, register: Reg) -> Result<Event, LineFault>
     } else if verb == b"drain".as_slice() {
         Ok(Event::Drain(k, register))
     } else {
-        Err(LineFault::NoForm)
+        Err(misfit(verb, 2, LineFault::NoEvent))
+    }
+}
+
+/// The event of a verb and two words behind it.
+fn with_two(verb: &[u8], first: &[u8], second: &[u8]) -> Result<Event, LineFault>
+    ensures { result ≡ with_two_of verb.now (number_in first.now) (register_in second.now) }
+{
+    let Some(k) = number_of(first) else {
+        return Err(misfit(verb, 2, LineFault::NoPosition));
+    };
+    match register_of(second) {
+        Some(register) => with_both(verb, k, register),
+        None => Err(misfit(verb, 2, LineFault::NoRegister)),
     }
 }
 
 /// The event that a line spells, which is given without its LF.
-fn event_of(names: &TaskNames, line: &[u8]) -> Result<Event, LineFault>
+pub(crate) fn event_of(names: &TaskNames, line: &[u8]) -> Result<Event, LineFault>
     requires { length names.now ≤ 1024 }
     ensures { result ≡ event_in names.now line.now }
 {
@@ -132,12 +178,9 @@ fn event_of(names: &TaskNames, line: &[u8]) -> Result<Event, LineFault>
         return with_one(names, verb, operands);
     };
     if let Some(_) = cut(b' ', second) {
-        return Err(LineFault::NoForm);
+        return Err(misfit(verb, 3, LineFault::NoEvent));
     }
-    match (number_of(first), register_of(second)) {
-        (Some(k), Some(register)) => with_two(verb, k, register),
-        _ => Err(LineFault::NoForm),
-    }
+    with_two(verb, first, second)
 }
 
 /// The events that a text spells for tasks of these names, in order, or its first line that spells none.

@@ -6,7 +6,7 @@ ghost use Rattle.annotator.specs.Least.{IsLeast};
 
 use mark_checker::check::check_surveyed;
 use mark_checker::finding::Finding;
-use mark_checker::survey::Survey;
+use mark_checker::survey::Surveyed;
 use mask_certificate::certificate::Cert;
 use std::alloc::{AllocError, Global};
 use task_descriptor::program::Program;
@@ -34,7 +34,8 @@ pub(crate) fn first_findings(
     ensures list { IfOk result (λ first. first.list.items ≡ take most (all_rules program.now cert.now)) }
     ensures count { IfOk result (λ first. first.count ≡ length (all_rules program.now cert.now)) }
 {
-    let survey = Survey::new(program);
+    let surveyed = Surveyed::new(alloc, program)?;
+    let survey = surveyed.survey();
     let mut list = Vec::new(alloc);
     let mut count = 0;
     for task in 0..program.tasks().len() {

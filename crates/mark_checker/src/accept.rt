@@ -7,9 +7,10 @@ ghost use Rattle.mask_certificate.specs.Lists.{list_of};
 ghost use Rattle.mark_checker.specs.Rules.{rules_at, places, rules, all_rules};
 ghost use Rattle.mark_checker.specs.Places.{IsRight, AllRight, IsAccepted};
 
+use crate::look::{look_through, nothing};
 use crate::place::{begun_after, faults_at, is_clean};
 use crate::quiet::is_quiet;
-use crate::survey::Survey;
+use crate::survey::{MOST_INDICES, MOST_PLACES, Survey, mark_entries};
 use mask_certificate::certificate::Cert;
 use mask_certificate::masks::Masks;
 use mips_instructions::number::RegSet;
@@ -19,13 +20,26 @@ use task_descriptor::program::Program;
 
 /// Whether the rules find nothing. Then the program's annotations are sound, whoever made the
 /// certificate. Takes no memory.
+// Not inlined: only a call takes the room that the survey needs, some 170 kilobytes of the stack.
+#[inline(never)]
 pub fn accepts(program: &Program, cert: &Cert) -> bool
     ensures exact { (result ≡ true) ↔ (all_rules program.now cert.now ≡ []) }
     ensures accepted { (result ≡ true) → IsAccepted program.now cert.now }
 {
-    let survey = Survey::new(program);
-    for (task, descriptor) in program.tasks().iter().enumerate() {
-        if !is_task_right(&survey, cert, descriptor, task as u32) {
+    let mut looks = [nothing(); MOST_PLACES];
+    look_through(program, &mut looks);
+    let mut begins = [false; MOST_INDICES];
+    mark_entries(program, &mut begins);
+    accepts_surveyed(&Survey::over(program, &looks, &begins), cert)
+}
+
+/// Whether the rules find nothing in a surveyed program.
+fn accepts_surveyed(survey: &Survey<'_>, cert: &Cert) -> bool
+    ensures exact { (result ≡ true) ↔ (all_rules survey.now cert.now ≡ []) }
+    ensures accepted { (result ≡ true) → IsAccepted survey.now cert.now }
+{
+    for (task, descriptor) in survey.program().tasks().iter().enumerate() {
+        if !is_task_right(survey, cert, descriptor, task as u32) {
             return false;
         }
     }

@@ -9,7 +9,7 @@ use crate::append::append_faults;
 use crate::finding::{Finding, Findings, Verdict};
 use crate::place::{begun_after, faults_at, is_clean};
 use crate::quiet::is_quiet;
-use crate::survey::Survey;
+use crate::survey::{Survey, Surveyed};
 use mask_certificate::certificate::Cert;
 use mask_certificate::masks::Masks;
 use mips_instructions::number::RegSet;
@@ -31,7 +31,8 @@ pub fn check_task(
 ) -> Result<Vec<Finding>, AllocError>
     ensures { IfOk result (λ v. v.items ≡ rules program.now cert.now task) }
 {
-    check_surveyed(alloc, &Survey::new(program), cert, task)
+    let surveyed = Surveyed::new(alloc, program)?;
+    check_surveyed(alloc, &surveyed.survey(), cert, task)
 }
 
 /// The findings of one task of a surveyed program, in order of index, rule and register; none for a task
@@ -61,7 +62,8 @@ pub fn check_surveyed(
 pub fn verdict(alloc: Global, program: &Program, cert: &Cert) -> Result<Verdict, AllocError>
     ensures { IfOk result (λ v. v.findings ≡ all_rules program.now cert.now) }
 {
-    let survey = Survey::new(program);
+    let surveyed = Surveyed::new(alloc, program)?;
+    let survey = surveyed.survey();
     let mut list = Vec::new(alloc);
     for task in 0..program.tasks().len() {
         append_task(&survey, cert, task as u32, &mut list)?;

@@ -20,21 +20,21 @@ pub(crate) struct Look {
     pub(crate) stays: bool,
 }
 
-ghost use Rattle.std.specs.Prelude.{◌≡◌, Some, slice_get};
+ghost use Rattle.std.specs.Prelude.{◌≡◌, Some, length, slice_get};
 ghost use Rattle.mark_checker.specs.Looks.{Tells, AreLooks};
 
-/// What is looked at in each instruction of a program, at its index. Takes no memory.
-pub(crate) fn looks_of(program: &Program) -> [Look; 4096]
-    ensures { AreLooks program.now result }
+/// Finds out what is looked at in each instruction of a program, at its index.
+pub(crate) fn look_through(program: &Program, looks: &mut [Look])
+    requires { length looks.old ≡ 4096 }
+    ensures { AreLooks program.now looks.new }
 {
-    let mut looks = [nothing(); 4096];
     for (index, marked) in program.code().iter().enumerate() {
         looks[index] = look_at(program, marked, index as u32);
     }
-    looks
 }
 
-fn nothing() -> Look {
+/// What is looked at where there is no instruction.
+pub(crate) fn nothing() -> Look {
     Look {
         next: Next {
             first: None,

@@ -1,18 +1,25 @@
 //! What the rules look at in a program, found out once for all its tasks.
 
-use crate::look::{Look, looks_of};
+use crate::look::{Look, look_through, nothing};
 use mips_instructions::number::Place;
+use std::alloc::{AllocError, Global};
 use std::marker::Model;
 use task_descriptor::program::Program;
 
+/// How many instructions a program has at most.
+pub(crate) const MOST_PLACES: usize = 4096;
+
+/// How many indices there are, that after the longest code too.
+pub(crate) const MOST_INDICES: usize = 4097;
+
 /// A program with what the rules look at in each of its instructions, and with the indices at which its
 /// tasks begin, so that several tasks can be checked without looking at the program anew. A contract sees
-/// it as the program. It is some 260 kilobytes large, and takes no memory of the heap.
+/// it as the program.
 #[derive(Drop)]
 pub struct Survey<'a> {
     program: &'a Program,
-    looks: [Look; 4096],
-    begins: [bool; 4097],
+    looks: &'a [Look],
+    begins: &'a [bool],
 }
 
 impl<'a> Model for Survey<'a> {
@@ -24,22 +31,24 @@ impl<'a> Model for Survey<'a> {
 
     ghost view = { λ s. s.program.now };
 
-    ghost invariant = { λ s. AreLooks s.program.now s.looks × AreEntries s.program.now s.begins };
+    ghost invariant = { λ s. AreLooks s.program.now s.looks.now × AreEntries s.program.now s.begins.now };
 }
 
 impl<'a> Survey<'a> {
     ghost use Rattle.std.specs.Prelude.{◌≡◌};
     ghost use Rattle.task_graph.specs.Soundness.{is_entry};
-    ghost use Rattle.mark_checker.specs.Looks.{AreLooks};
+    ghost use Rattle.mark_checker.specs.Looks.{AreEntries, AreLooks};
 
-    /// The survey of a program.
-    pub fn new(program: &'a Program) -> Survey<'a>
+    /// The survey of a program, over what was found out of it.
+    pub(crate) fn over(program: &'a Program, looks: &'a [Look], begins: &'a [bool]) -> Survey<'a>
+        requires looks { AreLooks program.now looks.now }
+        requires entries { AreEntries program.now begins.now }
         ensures { result ≡ program.now }
     {
         Survey {
             program,
-            looks: looks_of(program),
-            begins: entries_of(program),
+            looks,
+            begins,
         }
     }
 
@@ -55,7 +64,7 @@ impl<'a> Survey<'a> {
     pub(crate) fn looks(&self) -> &[Look]
         ensures { AreLooks self.now result.now }
     {
-        &self.looks
+        self.looks
     }
 
     /// Whether a task begins at an index.
@@ -67,15 +76,67 @@ impl<'a> Survey<'a> {
     }
 }
 
+/// A program and the room of its survey: some 170 kilobytes of the heap. A contract sees it as the program.
+#[derive(Drop)]
+pub struct Surveyed<'a> {
+    program: &'a Program,
+    looks: Vec<Look>,
+    begins: Vec<bool>,
+}
+
+impl<'a> Model for Surveyed<'a> {
+    ghost use Rattle.task_descriptor.specs.Listing.{Listing};
+
+    ghost Value = { Listing };
+
+    ghost use Rattle.mark_checker.specs.Looks.{AreLooks, AreEntries};
+
+    ghost view = { λ s. s.program.now };
+
+    ghost invariant = { λ s. AreLooks s.program.now s.looks.items × AreEntries s.program.now s.begins.items };
+}
+
+impl<'a> Surveyed<'a> {
+    ghost use Rattle.std.specs.Prelude.{◌≡◌, IfOk};
+
+    /// Surveys a program.
+    ///
+    /// # Errors
+    ///
+    /// `AllocError` where memory was refused.
+    pub fn new(alloc: Global, program: &'a Program) -> Result<Surveyed<'a>, AllocError>
+        ensures { IfOk result (λ surveyed. surveyed ≡ program.now) }
+    {
+        let mut looks = Vec::new(alloc);
+        looks.resize(MOST_PLACES, nothing())?;
+        look_through(program, &mut looks);
+        let mut begins = Vec::new(alloc);
+        begins.resize(MOST_INDICES, false)?;
+        mark_entries(program, &mut begins);
+        Ok(Surveyed {
+            program,
+            looks,
+            begins,
+        })
+    }
+
+    /// The survey.
+    pub fn survey(&self) -> Survey<'_>
+        ensures { result ≡ self.now }
+    {
+        Survey::over(self.program, self.looks.as_slice(), self.begins.as_slice())
+    }
+}
+
+ghost use Rattle.std.specs.Prelude.{◌≡◌, false, replicate};
 ghost use Rattle.mark_checker.specs.Looks.{AreEntries};
 
-/// For each index, that behind the longest code too, whether a task begins there.
-fn entries_of(program: &Program) -> [bool; 4097]
-    ensures { AreEntries program.now result }
+/// Marks each index at which a task begins.
+pub(crate) fn mark_entries(program: &Program, begins: &mut [bool])
+    requires { begins.old ≡ replicate 4097 false }
+    ensures { AreEntries program.now begins.new }
 {
-    let mut begins = [false; 4097];
     for descriptor in program.tasks() {
         begins[descriptor.entry.get() as usize] = true;
     }
-    begins
 }

@@ -1,6 +1,5 @@
-mod Numbers
-mod Lists
-mod Steps
-mod Rooms
 mod Counting
-mod Complaining
+mod Numbers
+mod PathSteps
+mod Ranges
+mod Telling

@@ -1,8 +1,8 @@
 -- A register more is at the end of a list, if it belongs there.
-use Rattle.std.proofs.Common.{◌≡◌, ℕ, ◌+◌, ◌∷◌, [], ◌++◌, List, Bool, Option, filter, ap, ◌∙◌, sym, add-one, if◌then◌else◌}
+use Rattle.std.proofs.Common.{◌≡◌, ℕ, ◌+◌, ◌∷◌, [], ◌++◌, List, Bool, Option, filter, map, ap, ◌∙◌, sym, add-one, if◌then◌else◌}
 use Rattle.std.specs.List.{flat_map}
 use Rattle.std.specs.Option.{option_to_list}
-use Rattle.std.proofs.lemmas.List.{append-nil}
+use Rattle.std.proofs.lemmas.List.{append-nil, map-append}
 use Rattle.std.proofs.lemmas.List.Elements.{filter-append}
 use Rattle.std.proofs.lemmas.Grind.{flat_map-append}
 use Rattle.task_descriptor.specs.Listing.{numbers_below}
@@ -24,3 +24,10 @@ some_added {X} f n now next so_far added =
     ∙ sym (ap (λ m. flat_map (λ r. option_to_list (f r)) (numbers_below m)) (add-one n)
     ∙ flat_map-append (λ r. option_to_list (f r)) (numbers_below n) (n ∷ [])
     ∙ ap (λ (xs : List X). flat_map (λ r. option_to_list (f r)) (numbers_below n) ++ xs) (append-nil (option_to_list (f n))))
+
+-- what is made of a register is added to what is made of those below it
+pub made_added : {X : Type 0} (f : ℕ → X) (n : ℕ) (now next : List X) (x : X) → x ≡ f n → now ≡ map f (numbers_below n)
+    → next ≡ now ++ x ∷ [] → next ≡ map f (numbers_below (n + 1))
+made_added {X} f n now next x is so_far added =
+    added ∙ ap (λ (y : X). now ++ y ∷ []) is ∙ ap (λ (xs : List X). xs ++ f n ∷ []) so_far
+    ∙ sym (ap (λ m. map f (numbers_below m)) (add-one n) ∙ map-append f (numbers_below n) (n ∷ []))

@@ -12,13 +12,15 @@ use Rattle.task_graph.specs.Examples.{bare, forwards}
 use Rattle.source_map.specs.Sources.{no_sources}
 use Rattle.mark_checker.specs.declared.finding.Finding.{Finding}
 use Rattle.mark_checker.specs.declared.finding.Rule.TheVariants.{ExceedsCreate, ForwardedInNext, SentNotCreated}
-use Rattle.mark_diagnostics.specs.declared.later.Later.TheVariants.{Nowhere}
-use Rattle.mark_diagnostics.specs.Complaints.{leaders}
-use Rattle.mark_diagnostics.specs.StopNotes.{entered, goes_on_text}
+use Rattle.mark_diagnostics.specs.declared.later.Later.TheVariants.{Nowhere, Left}
+use Rattle.mark_diagnostics.specs.Subjects.{Judged, all_numbered, which, targets_text}
 use Rattle.mark_diagnostics.specs.MarkPlaces.{mark_from}
-use Rattle.mark_diagnostics.specs.MaskDiagnostics.{with_registers, create_text, mask_message}
-use Rattle.mark_diagnostics.specs.SendingDiagnostics.{later, forward_advice, release_by}
-use Rattle.mark_diagnostics.specs.ExitDiagnostics.{exit_message, wider_names, targets_text, fall_message}
+use Rattle.mark_diagnostics.specs.Told.{told, leaders}
+use Rattle.mark_diagnostics.specs.Steps.{entered}
+use Rattle.mark_diagnostics.specs.Masks.{widened}
+use Rattle.mark_diagnostics.specs.Sending.{later, first_left, advice, release_text}
+use Rattle.mark_diagnostics.specs.Exits.{places_said, both}
+use Rattle.mark_diagnostics.specs.Errors.{message_by}
 
 -- `count` without its stop, and with an empty create mask
 abbrev pub unstopped : Listing
@@ -32,60 +34,67 @@ unstopped = record {
   start = 0;
 }
 
--- The loop forwards $8 and comes back to where it begins: the step that does so is told first.
-
-pub comes_back : entered unstopped (0 ∷ 1 ∷ 2 ∷ 3 ∷ 0 ∷ []) ≡ Some (3, 0)
-comes_back = refl
-
-pub told_first : goes_on_text (codes "A") (codes "A") ≡ codes "task A goes on into task A here, without a stop; was !s meant?"
-told_first = refl
-
--- the instruction that writes $8 again is itself, so `!f` can be put nowhere else
-abbrev pub early : Finding
-early = record { task = 0; index = 0; rule = ForwardedInNext; reg = Some 8 }
-
-pub nowhere_else : later unstopped [] early (0 ∷ 1 ∷ 2 ∷ 3 ∷ 0 ∷ []) ≡ Nowhere
-nowhere_else = refl
-
-pub advice_in_loop : forward_advice no_sources 8 Nowhere
-    ≡ codes "remove !f here: $8 then leaves when the task ends; to send it earlier, put release $8 where it is not written any more, as behind a loop"
-unfolding digits
-advice_in_loop = refl
-
--- The create mask lacks three registers: one message, and one mask that mends all.
-
-pub lacks_three : mask_message unstopped 0 (8 ∷ 9 ∷ 10 ∷ []) ≡ codes "the create mask of task A lacks $8,$9,$10"
-unfolding digits
-lacks_three = refl
-
-pub mends_three : create_text unstopped 0 (8 ∷ 9 ∷ 10 ∷ []) ≡ codes "create=$8,$9,$10"
-unfolding digits with_registers
-mends_three = refl
+abbrev pub judged : Judged
+judged = record { program = unstopped; rows = []; sources = no_sources; names = all_numbered; least = [] }
 
 abbrev pub finding : (index register : ℕ) → Finding
 finding i r = record { task = 0; index = i; rule = ExceedsCreate; reg = Some r }
 
--- the findings of two registers, one of which is also sent, are one complaint
-pub one_for_both : leaders (record { task = 0; index = 0; rule = SentNotCreated; reg = Some 9 } ∷ finding 0 8 ∷ finding 0 9 ∷ []) ≡ finding 0 8 ∷ finding 0 9 ∷ []
-unfolding leaders
+-- The loop forwards $8 and comes back to where it begins: the step that does so is told first.
+
+pub comes_back : entered judged (0 ∷ 1 ∷ 2 ∷ 3 ∷ 0 ∷ []) ≡ Some (3, 0)
+comes_back = refl
+
+-- the instruction that writes $8 again is itself, so `!f` can be put nowhere else
+pub nowhere_else : later judged (record { task = 0; index = 0; rule = ForwardedInNext; reg = Some 8 }) (0 ∷ 1 ∷ 2 ∷ 3 ∷ 0 ∷ []) ≡ Nowhere
+nowhere_else = refl
+
+pub advice_in_loop : advice judged (codes "remove !f") 8 (Left 4)
+    ≡ codes "remove !f here: $8 then leaves when the task ends; to send it earlier, release it before line 1, where it is not written any more"
+unfolding digits all_numbered
+advice_in_loop = refl
+
+-- with masks it is left at index 4
+pub left_behind : first_left (record judged { least = ((0, 256) ∷ (1, 256) ∷ (2, 256) ∷ (3, 256) ∷ (4, 0) ∷ []) ∷ [] }) 0 8 ((2, 256) ∷ (3, 256) ∷ []) ≡ Some 4
+left_behind = refl
+
+-- The create mask lacks three registers: one message, and one mask that mends all.
+
+pub lacks_three : message_by ExceedsCreate judged (finding 0 8) (finding 0 8 ∷ finding 0 9 ∷ finding 0 10 ∷ [])
+    ≡ codes "the create mask of task A lacks $8,$9,$10"
+unfolding digits all_numbered
+lacks_three = refl
+
+pub mends_three : widened (Some (record { name = 65 ∷ []; entry = 0; create = 2; targets = [] })) (9 ∷ 8 ∷ []) ≡ 1 ∷ 8 ∷ 9 ∷ []
+unfolding which
+mends_three = refl
+
+-- the findings of two registers, one of which is also sent, are told once
+abbrev pub sent : Finding
+sent = record { task = 0; index = 0; rule = SentNotCreated; reg = Some 9 }
+
+pub one_for_both : told (sent ∷ finding 0 8 ∷ finding 0 9 ∷ []) ≡ sent ∷ []
 one_for_both = refl
 
--- An exit that is not listed.
+pub two_registers : leaders (sent ∷ finding 0 8 ∷ finding 0 9 ∷ []) ≡ finding 0 8 ∷ sent ∷ []
+unfolding leaders
+two_registers = refl
 
-pub not_listed : exit_message unstopped 0 true (Some 4) None ≡ codes "task A can end here and go on to B if the branch is not taken, which its targets lack"
-not_listed = refl
+-- An exit that is not listed, and one that both edges of a branch take.
 
-pub to_list : targets_text (wider_names unstopped 0 (Some 4) None) ≡ codes "targets=A,B"
-to_list = refl
+pub said_taken : places_said judged true None (Some 4) ≡ codes "B if the branch is taken"
+said_taken = refl
 
-pub past_the_end : fall_message unstopped 1 (Some 77) ≡ codes "task B can go on from here to @77, but the last instruction is @5"
-unfolding digits
-past_the_end = refl
+pub said_once : places_said judged true (Some 4) (Some 4) ≡ codes "B"
+said_once = refl
+
+pub listed_once : targets_text judged (0 ∷ both (Some 4) (Some 4)) ≡ codes "targets=A,B"
+listed_once = refl
 
 -- A forward bit is taken out with the blank before it; a release without registers is none.
 
 pub mark_found : mark_from (byte "f") 0 (codes "addiu $8,$8,1 !f") ≡ Some 14
 mark_found = refl
 
-pub no_release : release_by [] ≡ codes "nop"
+pub no_release : release_text judged [] ≡ codes "nop"
 no_release = refl

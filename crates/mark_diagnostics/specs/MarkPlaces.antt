@@ -1,9 +1,9 @@
--- Where the marks of an instruction stand: behind its operands, each a `!` with letters. No operand has a `!`.
+-- Where the marks of an instruction stand: after its operands, each a `!` with letters. No operand has a `!`.
 use Rattle.std.specs.Prelude.{ℕ, ◌+◌, ◌-◌, Bool, false, ◌==◌, ◌&&◌, List, [], ◌∷◌, take, drop, position, slice_index_or, Option, Some, None, if◌then◌else◌}
 use Rattle.std.specs.Str.{byte}
 use Rattle.program_tokens.specs.Grammar.{is_blank}
 use Rattle.diagnostics.specs.declared.diagnostic.Span.{Span}
-use Rattle.mark_diagnostics.specs.Spans.{column_after}
+use Rattle.mark_diagnostics.specs.Subjects.{column_after}
 
 -- the bytes of a part of a line
 abbrev pub bytes_at : (rows : List (List ℕ)) → Span → List ℕ

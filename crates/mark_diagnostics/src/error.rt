@@ -1,44 +1,253 @@
 //! What is wrong with a program's marks, as diagnostics.
 
-ghost use Rattle.std.specs.Prelude.{◌≡◌, map as each, Ok, IfOk};
+ghost use Rattle.std.specs.Prelude.{◌≡◌, map as each, slice_get, Ok, IfOk};
 ghost use Rattle.std.specs.List.{All, AllZip};
 ghost use Rattle.annotated_asm.specs.ProgramText.{parse};
-ghost use Rattle.source_map.specs.Sources.{sources_in};
 ghost use Rattle.annotator.specs.Least.{IsLeast};
 ghost use Rattle.finding_paths.specs.Shown.{IsFinding, IsShown};
-ghost use Rattle.mark_diagnostics.specs.MarkErrors.{complaint_of, IsTold, diagnostic_by, error_diagnostic, Says, AreMarkErrors};
+ghost use Rattle.mark_diagnostics.specs.Exits.{place_note, exit_places as exit_places_of, beyond as beyond_of, wrong_target as wrong_target_of};
+ghost use Rattle.mark_diagnostics.specs.Subjects.{task_name, place_text};
+ghost use Rattle.mark_diagnostics.specs.Errors.{code_of, span_by, early_text, exit_text, beyond_text, indirect_text, target_text, mask_text, message_by, notes_by, help_by, first_path, error_diagnostic, Says, AreMarkErrors};
 
-use crate::exit::exit_diagnostic;
-use crate::group::{Group, first_groups};
-use crate::leaving::{fall_diagnostic, jump_diagnostic};
-use crate::mask::mask_diagnostic;
-use crate::more::add_more;
-use crate::sending::{forward_diagnostic, release_diagnostic};
-use crate::stop_note::path_in;
-use crate::target::target_diagnostic;
-use crate::text::{lines_of, map_of};
-use crate::told::Told;
+use crate::exit::{
+    add_place_note, beyond, exit_help, exit_notes, exit_places, target_help, wrong_number,
+    wrong_target,
+};
+use crate::mask::{mask_help, mask_notes, missing};
+use crate::parts::{
+    add_more, by_text, first_of, in_words, place_words, registers_words, way_notes,
+};
+use crate::sending::{early_notes, forward_help, later, release_help};
+use crate::step::path_in;
+use crate::subject::{Made, Subject, after};
+use crate::told::{about, first_told, register_in};
 use annotator::laws::least_decides;
-use diagnostics::diagnostic::Diagnostic;
+use diagnostics::code::Code;
+use diagnostics::diagnostic::{Diagnostic, Help, Note, Severity, Source, Span};
+use diagnostics::listed::Listed;
+use diagnostics::words;
+use diagnostics::words::Words;
 use finding_paths::shown::{ShownFinding, path_of};
 use mark_checker::accept::accepts;
 use mark_checker::finding::{Finding, Rule};
 use mask_certificate::certificate::Cert;
 use source_map::laws::map_fits;
-use source_map::position::SourceMap;
 use std::alloc::{AllocError, Global};
 use task_descriptor::program::Program;
 
-/// The most diagnostics that are shown of what is wrong with the marks of a program; of any more it is said how many
-/// they are (own choice).
+/// The most diagnostics that are shown of what is wrong with the marks of a program, or could be better; of any more it
+/// is said how many they are (own choice).
 pub const MOST_SHOWN: usize = 1_000;
 
+/// The code of a rule.
+fn code_of(rule: Rule) -> Code
+    ensures { result ≡ code_of rule }
+{
+    match rule {
+        Rule::EntryWithoutMask => Code::EntryWithoutMask,
+        Rule::NextWithoutMask => Code::NextWithoutMask,
+        Rule::LacksDestination => Code::LacksDestination,
+        Rule::LacksNext => Code::LacksNext,
+        Rule::ExceedsCreate => Code::ExceedsCreate,
+        Rule::ForwardedInNext => Code::ForwardedInNext,
+        Rule::ReleasedInNext => Code::ReleasedInNext,
+        Rule::SentNotCreated => Code::SentNotCreated,
+        Rule::ExitNotListed => Code::ExitNotListed,
+        Rule::FallsOff => Code::FallsOff,
+        Rule::IndirectGoesOn => Code::IndirectGoesOn,
+        Rule::TargetNotEntry => Code::TargetNotEntry,
+    }
+}
+
+/// What is meant: where the remedy is, or the mark.
+fn span_of(subject: &Subject, finding: &Finding) -> Span
+    ensures { result ≡ span_by finding.now.rule subject.now finding.now }
+{
+    let task = finding.task;
+    match finding.rule {
+        Rule::ExceedsCreate | Rule::SentNotCreated => subject.create_span(task),
+        Rule::TargetNotEntry => subject.target_span(task, wrong_number(subject, task)),
+        _ => subject.span(finding.index),
+    }
+}
+
+/// What is said of a mark that sends a register too early.
+fn early_words(subject: &Subject, finding: &Finding, sends: &str) -> Made<Words>
+    ensures { IfOk result (λ words. words ≡ early_text subject.now finding.now sends.now) }
+{
+    let task = subject.task(finding.task);
+    let register = subject.register(register_in(finding.reg));
+    words!(in subject.alloc(); "task {task} {sends} {register} here and may write it again")
+}
+
+/// What is said of a task that can end and go on to places that its targets lack.
+fn exit_words(alloc: Global, task: &str, places: &str) -> Made<Words>
+    ensures { IfOk result (λ words. words ≡ exit_text task.now places.now) }
+{
+    words!(in alloc; "task {task} can end here and go on to {places}, which its targets lack")
+}
+
+/// What is said of an exit to places that are no targets.
+fn exit_message(subject: &Subject, finding: &Finding) -> Made<Words>
+    ensures { IfOk result (λ words. words ≡ exit_text (task_name subject.now finding.now.task) (exit_places_of subject.now finding.now)) }
+{
+    let places = exit_places(subject, finding)?;
+    exit_words(subject.alloc(), subject.task(finding.task), places.as_str())
+}
+
+/// What is said of a task that can go on to a place where no instruction is.
+fn beyond_words(alloc: Global, task: &str, place: &str) -> Made<Words>
+    ensures { IfOk result (λ words. words ≡ beyond_text task.now place.now) }
+{
+    words!(in alloc; "task {task} can go on from here to {place}, where no instruction is")
+}
+
+/// What is said of an edge that leads to no instruction.
+fn beyond_message(subject: &Subject, finding: &Finding) -> Made<Words>
+    ensures { IfOk result (λ words. words ≡ beyond_text (task_name subject.now finding.now.task) (place_text subject.now (beyond_of subject.now finding.now.index))) }
+{
+    let place = place_words(subject, beyond(subject, finding.index))?;
+    beyond_words(subject.alloc(), subject.task(finding.task), place.as_str())
+}
+
+/// What is said of a task that goes on over an indirect jump.
+fn indirect_words(subject: &Subject, task: u32) -> Made<Words>
+    ensures { IfOk result (λ words. words ≡ indirect_text subject.now task) }
+{
+    let name = subject.task(task);
+    words!(in subject.alloc(); "task {name} goes on over a jump to an address in a register")
+}
+
+/// What is said of a target where no task begins.
+fn target_words(alloc: Global, task: &str, to: u32) -> Made<Words>
+    ensures { IfOk result (λ words. words ≡ target_text task.now to) }
+{
+    words!(in alloc; "task {task} lists the target @{to}, where no task begins")
+}
+
+/// What is said of a task's first target where no task begins.
+fn target_message(subject: &Subject, task: u32) -> Made<Words>
+    ensures { IfOk result (λ words. words ≡ target_text (task_name subject.now task) (wrong_target_of subject.now task)) }
+{
+    let to = wrong_target(subject, task);
+    target_words(subject.alloc(), subject.task(task), to)
+}
+
+/// What is said of a create mask that lacks registers.
+fn mask_words(subject: &Subject, task: u32, about: &[Finding]) -> Made<Words>
+    ensures { IfOk result (λ words. words ≡ mask_text subject.now task about.now) }
+{
+    let name = subject.task(task);
+    let missing = missing(subject.alloc(), about)?;
+    let list = registers_words(subject, &missing)?;
+    words!(in subject.alloc(); "the create mask of task {name} lacks {list}")
+}
+
+/// What is wrong.
+fn message(subject: &Subject, finding: &Finding, about: &[Finding]) -> Made<Words>
+    ensures { IfOk result (λ words. words ≡ message_by finding.now.rule subject.now finding.now about.now) }
+{
+    match finding.rule {
+        Rule::ForwardedInNext => early_words(subject, finding, "forwards"),
+        Rule::ReleasedInNext => early_words(subject, finding, "releases"),
+        Rule::ExitNotListed => exit_message(subject, finding),
+        Rule::FallsOff => beyond_message(subject, finding),
+        Rule::IndirectGoesOn => indirect_words(subject, finding.task),
+        Rule::TargetNotEntry => target_message(subject, finding.task),
+        _ => mask_words(subject, finding.task, about),
+    }
+}
+
+/// The note on the target where no task begins.
+fn target_notes(subject: &Subject, task: u32) -> Made<Vec<Note>>
+    ensures { IfOk result (λ notes. notes.items ≡ place_note subject.now (wrong_target_of subject.now task)) }
+{
+    let mut notes = Vec::new(subject.alloc());
+    add_place_note(subject, &mut notes, wrong_target(subject, task))?;
+    Ok(notes)
+}
+
+/// What shows it.
+fn notes(
+    subject: &Subject,
+    finding: &Finding,
+    path: &[u32],
+    about: &[Finding],
+    shown: &[ShownFinding],
+) -> Made<Vec<Note>>
+    ensures { IfOk result (λ notes. notes.items ≡ notes_by finding.now.rule subject.now finding.now path.now about.now shown.now) }
+{
+    match finding.rule {
+        Rule::ForwardedInNext | Rule::ReleasedInNext => early_notes(subject, finding, path),
+        Rule::ExitNotListed => exit_notes(subject, finding, path),
+        Rule::FallsOff | Rule::IndirectGoesOn => way_notes(subject, finding.index, path),
+        Rule::TargetNotEntry => target_notes(subject, finding.task),
+        _ => mask_notes(subject, finding.task, about, shown),
+    }
+}
+
+/// What to do about it.
+fn help(subject: &Subject, finding: &Finding, path: &[u32], about: &[Finding]) -> Made<Help>
+    ensures { IfOk result (λ help. help ≡ help_by finding.now.rule subject.now finding.now path.now about.now) }
+{
+    let alloc = subject.alloc();
+    match finding.rule {
+        Rule::ForwardedInNext => { forward_help(subject, finding, later(subject, finding, path)?) }
+        Rule::ReleasedInNext => { release_help(subject, finding, later(subject, finding, path)?) }
+        Rule::ExitNotListed => exit_help(subject, finding),
+        Rule::FallsOff => {
+            let advice = Words::of(
+                alloc,
+                "let it go on to an instruction of the program, as a jump or a halt, or end the task here",
+            )?;
+            Ok(in_words(alloc, advice))
+        }
+        Rule::IndirectGoesOn => {
+            let advice = Words::of(alloc, "end the task here: add !s")?;
+            let place = after(subject.span(finding.index));
+            by_text(alloc, advice, place, Words::of(alloc, " !s")?)
+        }
+        Rule::TargetNotEntry => target_help(subject, finding.task),
+        _ => mask_help(subject, finding.task, about),
+    }
+}
+
+/// The path that shows the first of some findings; empty where there is none.
+fn first_path(shown: &[ShownFinding]) -> &[u32]
+    ensures { result.now ≡ first_path (slice_get shown.now 0) }
+{
+    match shown.get(0) {
+        Some(first) => path_in(first),
+        None => &[],
+    }
+}
+
+/// What is said of a finding, with what is told with it.
+fn error_diagnostic(
+    subject: &Subject,
+    finding: &Finding,
+    about: &[Finding],
+    shown: &[ShownFinding],
+) -> Made<Diagnostic>
+    ensures { IfOk result (λ said. said ≡ error_diagnostic subject.now finding.now about.now shown.now) }
+{
+    let path = first_path(shown);
+    let message = message(subject, finding, about)?;
+    let notes = notes(subject, finding, path, about, shown)?;
+    let help = help(subject, finding, path, about)?;
+    Ok(Diagnostic {
+        severity: Severity::Error,
+        code: code_of(finding.rule),
+        source: Source::Program,
+        span: Some(span_of(subject, finding)),
+        message,
+        notes: Listed::new(notes),
+        help: Some(help),
+    })
+}
+
 /// Findings with the paths that show them.
-fn shown_of(
-    alloc: Global,
-    program: &Program,
-    findings: &[Finding],
-) -> Result<Vec<ShownFinding>, AllocError>
+fn shown_of(alloc: Global, program: &Program, findings: &[Finding]) -> Made<Vec<ShownFinding>>
     requires { All (IsFinding program.now) findings.now }
     ensures findings { IfOk result (λ list. each (λ shown. shown.finding) list.items ≡ findings.now) }
     ensures shown { IfOk result (λ list. All (λ shown. IsShown program.now shown.finding shown.path) list.items) }
@@ -54,109 +263,36 @@ fn shown_of(
     Ok(list)
 }
 
-/// A group with what shows the first five of its findings.
-fn told_of(alloc: Global, program: &Program, group: &Group) -> Result<Told, AllocError>
-    requires { All (IsFinding program.now) group.now.findings }
-    ensures complaint { IfOk result (λ told. complaint_of told ≡ group.now) }
-    ensures shown { IfOk result (λ told. IsTold program.now told) }
+/// What is said of a finding that is told.
+fn told_diagnostic(subject: &Subject, finding: &Finding) -> Made<Diagnostic>
+    requires least { IsLeast subject.now.program subject.now.least }
+    requires found { IsFinding subject.now.program finding.now }
+    ensures { IfOk result (λ said. Says subject.now finding.now said) }
 {
-    let count = group.findings.len().min(5);
-    let shown = shown_of(alloc, program, &group.findings[..count])?;
-    let mut others = Vec::new(alloc);
-    others.extend_from_slice(&group.findings[count..])?;
-    Ok(Told {
-        task: group.task,
-        shown,
-        others,
-    })
-}
-
-/// What is said of findings that are told together, the first of which is this one.
-fn diagnostic_by(
-    alloc: Global,
-    program: &Program,
-    rows: &[&[u8]],
-    map: &SourceMap,
-    cert: &Cert,
-    told: &Told,
-    shown: &ShownFinding,
-) -> Result<Diagnostic, AllocError>
-    ensures { IfOk result (λ said. said
-        ≡ diagnostic_by shown.now.finding.rule program.now (each (λ line. line.now) rows.now) (sources_in map.now) cert.now told.now shown.now) }
-{
-    let finding = &shown.finding;
-    let path = path_in(shown);
-    match finding.rule {
-        Rule::ForwardedInNext => forward_diagnostic(alloc, program, rows, map, cert, shown),
-        Rule::ReleasedInNext => release_diagnostic(alloc, program, rows, map, cert, shown),
-        Rule::ExitNotListed => exit_diagnostic(alloc, program, map, finding, path),
-        Rule::FallsOff => fall_diagnostic(alloc, program, map, finding, path),
-        Rule::IndirectGoesOn => jump_diagnostic(alloc, program, map, finding, path),
-        Rule::TargetNotEntry => {
-            target_diagnostic(alloc, program, map, cert.list(finding.task), finding)
-        }
-        _ => mask_diagnostic(alloc, program, map, told),
-    }
-}
-
-/// What is said of findings that are told together.
-fn error_diagnostic(
-    alloc: Global,
-    program: &Program,
-    rows: &[&[u8]],
-    map: &SourceMap,
-    cert: &Cert,
-    told: &Told,
-) -> Result<Diagnostic, AllocError>
-    ensures { IfOk result (λ said. said
-        ≡ error_diagnostic program.now (each (λ line. line.now) rows.now) (sources_in map.now) cert.now told.now) }
-{
-    match told.shown.get(0) {
-        Some(shown) => diagnostic_by(alloc, program, rows, map, cert, told, shown),
-        None => mask_diagnostic(alloc, program, map, told),
-    }
-}
-
-/// What is said of a group.
-fn group_diagnostic(
-    alloc: Global,
-    program: &Program,
-    rows: &[&[u8]],
-    map: &SourceMap,
-    cert: &Cert,
-    group: &Group,
-) -> Result<Diagnostic, AllocError>
-    requires { All (IsFinding program.now) group.now.findings }
-    ensures { IfOk result (λ said. Says program.now (each (λ line. line.now) rows.now) (sources_in map.now) cert.now group.now said) }
-{
-    let told = told_of(alloc, program, group)?;
-    let said = error_diagnostic(alloc, program, rows, map, cert, &told)?;
+    let about = about(subject, finding)?;
+    let first = first_of(&about, 5);
+    let shown = shown_of(subject.alloc(), subject.program(), first)?;
+    let said = error_diagnostic(subject, finding, &about, &shown)?;
     Ok(said)
 }
 
-/// What is said of some groups.
-fn group_diagnostics(
-    alloc: Global,
-    program: &Program,
-    rows: &[&[u8]],
-    map: &SourceMap,
-    cert: &Cert,
-    groups: &[Group],
-) -> Result<Vec<Diagnostic>, AllocError>
-    requires { All (λ group. All (IsFinding program.now) group.findings) groups.now }
-    ensures { IfOk result (λ list. AllZip (Says program.now (each (λ line. line.now) rows.now) (sources_in map.now) cert.now) groups.now list.items) }
+/// What is said of some findings that are told.
+fn told_diagnostics(subject: &Subject, findings: &[Finding]) -> Made<Vec<Diagnostic>>
+    requires least { IsLeast subject.now.program subject.now.least }
+    requires found { All (IsFinding subject.now.program) findings.now }
+    ensures { IfOk result (λ list. AllZip (Says subject.now) findings.now list.items) }
 {
-    let mut list = Vec::new(alloc);
-    for group in groups {
-        let said = group_diagnostic(alloc, program, rows, map, cert, group)?;
+    let mut list = Vec::new(subject.alloc());
+    for finding in findings {
+        let said = told_diagnostic(subject, finding)?;
         list.push(said)?;
     }
     Ok(list)
 }
 
-/// What is wrong with the marks of the program that a text spells: an error for each complaint, at most `MOST_SHOWN`
-/// of them, and how many more there are; nothing exactly where the marks are sound. `least` is the program's least
-/// certificate.
+/// What is wrong with the marks of the program that a text spells: an error for each finding that is told, at most
+/// `MOST_SHOWN` of them, and how many more there are; nothing exactly where the marks are sound. `least` is the
+/// program's least certificate.
 ///
 /// # Errors
 ///
@@ -179,11 +315,10 @@ pub fn mark_errors(
     if accepts(program, least) {
         return Ok(Vec::new(alloc));
     }
-    let groups = first_groups(alloc, program, least, MOST_SHOWN)?;
-    let map = map_of(alloc, text, program)?;
-    let rows = lines_of(alloc, text)?;
-    let mut list = group_diagnostics(alloc, program, &rows, &map, least, &groups.list)?;
-    let more = groups.count.saturating_sub(MOST_SHOWN);
+    let first = first_told(alloc, program, least, MOST_SHOWN)?;
+    let subject = Subject::read(alloc, text, program, least)?;
+    let mut list = told_diagnostics(&subject, &first.0)?;
+    let more = first.1.saturating_sub(MOST_SHOWN);
     add_more(alloc, &mut list, more, "error", "errors")?;
     Ok(list)
 }

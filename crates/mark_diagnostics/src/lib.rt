@@ -1,21 +1,17 @@
-//! Diagnostics about a program's marks: what is wrong with them, with a path that shows it and a remedy.
+//! Diagnostics about a program's marks: what is wrong with them, with a path that shows it and a remedy, and what could
+//! be better.
 #![tactic(auto)]
 
-pub mod costly;
 pub mod error;
 mod exit;
-mod group;
 mod later;
-mod leaving;
 mod mark_place;
 mod mask;
-mod more;
-mod naming;
-mod remedy;
+mod parts;
+mod remark;
 mod sending;
-mod spans;
-mod stop_note;
-pub mod stop_warning;
-mod target;
-mod text;
-pub mod told;
+mod step;
+mod stop;
+mod subject;
+mod told;
+pub mod warning;

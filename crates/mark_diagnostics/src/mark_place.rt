@@ -3,7 +3,8 @@
 ghost use Rattle.std.specs.Prelude.{◌≡◌, ◌-◌, [], map as each, take, drop, slice_index_or};
 ghost use Rattle.mark_diagnostics.specs.MarkPlaces.{bytes_at, begins_mark, mark_from, forward_at, forward_span, first_mark, operands_span};
 
-use crate::spans::column_after;
+use crate::parts::{first_of, rest_after};
+use crate::subject::column_after;
 use diagnostics::diagnostic::Span;
 
 /// A line; empty where there is none.
@@ -16,34 +17,12 @@ fn line_in<'a>(rows: &[&'a [u8]], number: u32) -> &'a [u8]
     }
 }
 
-/// What stands behind so many bytes.
-fn after(line: &[u8], count: usize) -> &[u8]
-    ensures { result.now ≡ drop count line.now }
-{
-    if count < line.len() {
-        &line[count..]
-    } else {
-        &[]
-    }
-}
-
-/// The first bytes.
-fn first_of(line: &[u8], count: usize) -> &[u8]
-    ensures { result.now ≡ take count line.now }
-{
-    if count < line.len() {
-        &line[..count]
-    } else {
-        line
-    }
-}
-
 /// The bytes of a part of a line.
 fn bytes_at<'a>(rows: &[&'a [u8]], span: Span) -> &'a [u8]
     ensures { result.now ≡ bytes_at (each (λ line. line.now) rows.now) span }
 {
     let line = line_in(rows, span.line);
-    first_of(after(line, span.column.saturating_sub(1)), span.width)
+    first_of(rest_after(line, span.column.saturating_sub(1)), span.width)
 }
 
 /// Whether a mark with this letter stands first.

@@ -1,15 +1,153 @@
-//! What an error is about, with what shows it.
+//! The findings of a program that are told, and those that are told with each.
 
-use finding_paths::shown::ShownFinding;
-use mark_checker::finding::Finding;
+ghost use Rattle.std.specs.Prelude.{◌≡◌, ◌<◌, ◌-◌, ◌++◌, ◌&&◌, filter, not, take, length, IfOk, OnOk};
+ghost use Rattle.std.specs.List.{find};
+ghost use Rattle.std.specs.Option.{option_copied, option_to_list};
+ghost use Rattle.annotator.specs.Least.{IsLeast};
+ghost use Rattle.mark_diagnostics.specs.Told.{is_of_mask, told, all_told, is_register, leader, leaders, about, register_in};
 
-/// Findings of one task that are told together.
-#[derive(Debug, Drop)]
-pub struct Told {
-    /// The number of the task.
-    pub task: u32,
-    /// The first of the findings, each with a shortest path that shows it.
-    pub shown: Vec<ShownFinding>,
-    /// The others.
-    pub others: Vec<Finding>,
+use crate::parts::first_of;
+use crate::subject::{Made, Subject};
+use mark_checker::check::check_task;
+use mark_checker::finding::{Finding, Rule};
+use mask_certificate::certificate::Cert;
+use mips_instructions::number::Reg;
+use std::alloc::Global;
+use task_descriptor::program::Program;
+
+/// Whether a rule says that a create mask lacks a register.
+fn is_of_mask(rule: Rule) -> bool
+    ensures { result ≡ is_of_mask rule }
+{
+    matches!(rule, Rule::ExceedsCreate | Rule::SentNotCreated)
+}
+
+/// Whether a finding is about the register of this number.
+fn is_register(register: Option<Reg>, number: u8) -> bool
+    ensures { result ≡ is_register register number }
+{
+    match register {
+        Some(register) => register.get() == number,
+        None => false,
+    }
+}
+
+/// Whether a finding says that a create mask lacks the register of this number.
+fn lacks(finding: &Finding, number: u8) -> bool
+    ensures { result ≡ (is_of_mask finding.now.rule && is_register finding.now.reg number) }
+{
+    is_of_mask(finding.rule) && is_register(finding.reg, number)
+}
+
+/// The first finding that says that a register is missing.
+fn leader(findings: &[Finding], number: u8) -> Option<&Finding>
+    ensures { option_copied result ≡ leader findings.now number }
+{
+    findings.iter().find(|finding| lacks(finding, number))
+}
+
+/// Adds a finding, if there is one.
+fn add(list: &mut Vec<Finding>, finding: Option<&Finding>) -> Made<()>
+    ensures { OnOk result (list.new.items ≡ list.old.items ++ option_to_list (option_copied finding.entry)) }
+{
+    if let Some(finding) = finding {
+        list.push(*finding)?;
+    }
+    Ok(())
+}
+
+/// For each missing register, rising, the first finding that says so.
+fn leaders(alloc: Global, findings: &[Finding]) -> Made<Vec<Finding>>
+    ensures { IfOk result (λ list. list.items ≡ leaders findings.now) }
+{
+    let mut list = Vec::new(alloc);
+    for number in 0..34u8 {
+        add(&mut list, leader(findings, number))?;
+    }
+    Ok(list)
+}
+
+/// The first finding of the create mask.
+fn first_of_mask(findings: &[Finding]) -> Option<&Finding>
+    ensures { option_copied result ≡ find (λ f. is_of_mask f.rule) findings.now }
+{
+    findings.iter().find(|finding| is_of_mask(finding.rule))
+}
+
+/// The findings of other rules.
+fn others(alloc: Global, findings: &[Finding]) -> Made<Vec<Finding>>
+    ensures { IfOk result (λ list. list.items ≡ filter (λ f. not (is_of_mask f.rule)) findings.now) }
+{
+    findings
+        .iter()
+        .copied()
+        .filter(|finding| !is_of_mask(finding.rule))
+        .collect(alloc)
+}
+
+/// What is told of a task with these findings.
+fn told(alloc: Global, findings: &[Finding]) -> Made<Vec<Finding>>
+    ensures { IfOk result (λ list. list.items ≡ told findings.now) }
+{
+    let mut list = Vec::new(alloc);
+    add(&mut list, first_of_mask(findings))?;
+    let others = others(alloc, findings)?;
+    list.extend_from_slice(&others)?;
+    Ok(list)
+}
+
+/// Adds the first of some findings, as many as there is room for in a list of at most so many.
+fn add_first(list: &mut Vec<Finding>, found: &[Finding], most: usize) -> Made<()>
+    ensures { OnOk result (list.new.items ≡ list.old.items ++ take (most - length list.old.items) found.now) }
+{
+    let room = most.saturating_sub(list.len());
+    list.extend_from_slice(first_of(found, room))
+}
+
+/// The first findings that are told of a program with its least certificate, at most so many, and how many are told in
+/// all. It holds the findings of one task at a time.
+pub(crate) fn first_told(
+    alloc: Global,
+    program: &Program,
+    cert: &Cert,
+    most: usize,
+) -> Made<(Vec<Finding>, usize)>
+    requires { IsLeast program.now cert.now }
+    ensures list { IfOk result (λ first. first.0.items ≡ take most (all_told program.now cert.now)) }
+    ensures count { IfOk result (λ first. first.1 ≡ length (all_told program.now cert.now)) }
+{
+    let mut list = Vec::new(alloc);
+    let mut count = 0;
+    for task in 0..program.tasks().len() {
+        let found = check_task(alloc, program, cert, task as u32)?;
+        let told = told(alloc, &found)?;
+        add_first(&mut list, &told, most)?;
+        count += told.len();
+    }
+    Ok((list, count))
+}
+
+/// The findings that are told with this one.
+pub(crate) fn about(subject: &Subject, finding: &Finding) -> Made<Vec<Finding>>
+    ensures { IfOk result (λ list. list.items ≡ about subject.now finding.now) }
+{
+    let alloc = subject.alloc();
+    if is_of_mask(finding.rule) {
+        let found = check_task(alloc, subject.program(), subject.least(), finding.task)?;
+        return leaders(alloc, &found);
+    }
+    let mut list = Vec::new(alloc);
+    list.push(*finding)?;
+    Ok(list)
+}
+
+/// The number of a finding's register; 0 where its rule has none.
+pub(crate) fn register_in(register: Option<Reg>) -> u8
+    ensures value { result ≡ register_in register }
+    ensures range { result < 34 }
+{
+    match register {
+        Some(register) => register.get(),
+        None => 0,
+    }
 }

@@ -10,7 +10,7 @@ use crate::found::{Found, Share, by_task, fill, in_order};
 use crate::gate::CheckGate;
 use crate::numbers::{End, Numbers};
 use mark_checker::finding::{Finding, Findings, Verdict};
-use mark_checker::survey::Survey;
+use mark_checker::survey::{Survey, Surveyed};
 use mask_certificate::certificate::Cert;
 use std::alloc::{AllocError, Global};
 use std::thread;
@@ -40,7 +40,8 @@ pub fn verdict_shared<G: CheckGate, R: Threads + Sync>(
     if workers == 0 || workers > MOST_WORKERS {
         return Err(ShareFault::Workers);
     }
-    let found = found_by(rt, alloc, &Survey::new(program), cert, workers, gate)?;
+    let surveyed = Surveyed::new(alloc, program)?;
+    let found = found_by(rt, alloc, &surveyed.survey(), cert, workers, gate)?;
     Ok(Verdict {
         findings: Findings::new(found),
     })

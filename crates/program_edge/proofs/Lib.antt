@@ -1,3 +1,5 @@
 pub mod FoundLemmas
 mod AskedLemmas
 mod ReportLemmas
+mod SeveralLemmas
+mod PartLemmas

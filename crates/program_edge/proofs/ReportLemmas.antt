@@ -1,5 +1,5 @@
 -- What was written to memory that held nothing is the report; what becomes of it.
-use Rattle.std.proofs.Common.{◌≡◌, ◌∙◌, ap, ap₂, subst, sym, inl, inr, refl, ℕ, Bool, false, true, List, [], ◌∷◌, ◌++◌, ◌⊎◌}
+use Rattle.std.proofs.Common.{◌≡◌, ◌∙◌, ap, ap₂, subst, sym, inl, inr, refl, ℕ, Bool, false, true, List, [], ◌∷◌, ◌++◌, ◌⊎◌, ◌==◌, length}
 use Rattle.std.specs.Prelude.{Some}
 use Rattle.jobs.specs.declared.job.Job.{Job}
 use Rattle.jobs.specs.declared.job.Texts.{Texts}
@@ -8,15 +8,23 @@ use Rattle.verdict_report.specs.JobTexts.{IsDone, IsReportOf}
 use Rattle.std.specs.String.{string_bytes}
 use Rattle.std.specs.declared.alloc.Global.{Global}
 use Rattle.std.specs.declared.string.String.{String}
-use Rattle.whole_file.specs.Files.{ChangesAt}
+use Rattle.whole_file.specs.Files.{ChangesAt, Same}
 use Rattle.whole_file.specs.declared.unwritten.Unwritten.{Unwritten}
-use Rattle.program_edge.specs.declared.fault.Fault.TheVariants.{NotWritten}
+use Rattle.program_edge.specs.declared.fault.Fault.TheVariants.{NotWritten, Serve}
 use Rattle.program_edge.specs.declared.told.Ending.{Ending}
 use Rattle.program_edge.specs.Telling.{IsTold}
-use Rattle.program_edge.specs.Answering.{IsBroken, IsJobDone, IsNotDone, IsPut, IsShown, IsTaken, World}
-use Rattle.program_edge.specs.Hints.{IsSaid}
+use Rattle.program_edge.specs.Answering.{IsAnsweredFor, IsJobDone, IsNotDone, IsPut, IsRead, IsShown, IsTaken}
+use Rattle.program_edge.specs.FileTexts.{Known}
+use Rattle.program_edge.specs.Several.{IsEach}
+use Rattle.command_line.specs.declared.request.Request.{Request}
+use Rattle.std.proofs.lemmas.Bool.{eqb-true, false≢true}
+use Rattle.std.proofs.lemmas.List.{nil_from_length}
+use Rattle.program_edge.specs.Streams.{IsBroken, World}
+use Rattle.program_edge.specs.Hints.{IsSaid, hint_for}
 use Rattle.program_edge.specs.Refusals.{is_refusal}
+use Rattle.verdict_report.specs.declared.fault.ServeFault.{ServeFault}
 use Rattle.verdict_report.specs.declared.fault.ServeFault.TheVariants as serve
+use Rattle.std.proofs.KnownBytes.{Keeps-refl}
 
 abbrev report_of : List ℕ → ℕ → Report
 report_of bytes status = record { bytes = bytes; status = status }
@@ -65,3 +73,39 @@ put watched hint job path texts report said ending old new is right taken = reco
   right = right;
   taken = subst (λ l. IsTaken watched (is_refusal job report.status report.bytes) l path report ending old new) is taken;
 }
+
+memory_is_no_write : serve.OutOfMemory ≡ serve.Write → ⊥
+memory_is_no_write e = cc
+
+-- a job that was not done for another fault than `Write`
+pub not_done : (job : Job) (texts : Texts) (fault : ServeFault) (ending : Ending) (old new : World)
+    → fault ≡ serve.OutOfMemory → IsTold (Serve fault) ending.status ending.is_told old.output new.output old.errors new.errors
+    → Same old.files new.files → IsNotDone job texts ending old new
+not_done job texts fault ending old new is told same = record {
+  fault = fault;
+  output = old.output;
+  nothing = λ _. Keeps-refl old.output;
+  begun = λ e. absurd (memory_is_no_write (sym is ∙ e));
+  told = told;
+  files = same;
+}
+
+-- the hint for a name that is the file's
+pub hint_named : (is_terminal : Bool) (job : Job) (name file : List ℕ) (report : Report) (said : List ℕ) → name ≡ file
+    → said ≡ hint_for is_terminal job name report → said ≡ hint_for is_terminal job file report
+hint_named is_terminal job name file report said same is = is ∙ ap (λ (n : List ℕ). hint_for is_terminal job n report) same
+
+-- a request with no further program, and one with further ones
+pub alone : (watched t : Bool) (known : List ℕ → Known) (request : Request) (items names : List (String Global)) (b : Bool) (ending : Ending) (old new : World)
+    → names ≡ items → b ≡ (length names == 0) → b ≡ true → IsRead watched t known request ending old new
+    → IsAnsweredFor watched t known request items ending old new
+alone watched t known request items names b ending old new same is holds h =
+    let none : items ≡ [] = sym same ∙ nil_from_length names (eqb-true (length names) 0 (sym is ∙ holds)) in
+    subst (λ (l : List (String Global)). IsAnsweredFor watched t known request l ending old new) (sym none) h
+
+pub several : (watched t : Bool) (known : List ℕ → Known) (request : Request) (items names : List (String Global)) (b : Bool) (ending : Ending) (old new : World)
+    → names ≡ items → b ≡ (length names == 0) → b ≡ false → IsEach t known request.job (request.paths.program ∷ items) ending old new
+    → IsAnsweredFor watched t known request items ending old new
+several watched t known request [] names b ending old new same is holds h =
+    absurd (false≢true (sym holds ∙ is ∙ ap (λ (l : List (String Global)). length l == 0) same))
+several watched t known request (name ∷ items) names b ending old new same is holds h = h

@@ -1,5 +1,5 @@
 -- How the program ends, for what it was asked and what its files hold (own choice).
-use Rattle.std.specs.Prelude.{◌≡◌, ◌≢◌, ◌⊎◌, ℕ, Bool, true, false, List, Option, Some, None, Result, Ok, Err}
+use Rattle.std.specs.Prelude.{◌≡◌, ◌≢◌, ◌⊎◌, ℕ, Bool, true, false, List, [], ◌∷◌, Option, Some, None, Result, Ok, Err}
 use Rattle.std.specs.Io.KnownBytes.{Appends, Keeps}
 use Rattle.std.specs.String.{string_bytes}
 use Rattle.std.specs.declared.string.String.{String}
@@ -11,9 +11,8 @@ use Rattle.report_texts.specs.OutputTexts.{Report}
 use Rattle.verdict_report.specs.declared.fault.ServeFault.{ServeFault}
 use Rattle.verdict_report.specs.declared.fault.ServeFault.TheVariants as serve
 use Rattle.verdict_report.specs.JobTexts.{IsCutOff, IsDone, IsReportOf}
-use Rattle.whole_file.specs.Files.{ChangesAt, Files, Same}
+use Rattle.whole_file.specs.Files.{ChangesAt, Same}
 use Rattle.whole_file.specs.declared.unwritten.Unwritten.{Unwritten}
-use Rattle.verdict_report.specs.Writing.{Begins}
 use Rattle.program_edge.specs.declared.fault.Fault.{Fault}
 use Rattle.program_edge.specs.declared.fault.Fault.TheVariants.{NotWritten, Serve}
 use Rattle.program_edge.specs.declared.unread.Unread.{Unread}
@@ -22,18 +21,9 @@ use Rattle.program_edge.specs.FileTexts.{Known, AreTextsOf}
 use Rattle.program_edge.specs.Asking.{KnownWords, IsAskedOf}
 use Rattle.program_edge.specs.Hints.{IsSaid, hint_for}
 use Rattle.program_edge.specs.Refusals.{is_refusal}
+use Rattle.program_edge.specs.Several.{IsEach}
+use Rattle.program_edge.specs.Streams.{IsBroken, IsToldAlone, World}
 use Rattle.program_edge.specs.Telling.{IsTold, unread_fault}
-
--- what the two streams and the files hold, where that is known
-pub record World : Type 0 where
-  pub output : Option (List ℕ)
-  pub errors : Option (List ℕ)
-  pub files : Files
-
--- a fault was told, and no file changed
-abbrev pub IsToldAlone : Fault → Ending → World → World → Type 0
-IsToldAlone fault ending old new =
-    IsTold fault ending.status ending.is_told old.output new.output old.errors new.errors × Same old.files new.files
 
 -- the job was not done: before the fault is told, after Write a beginning of its report was written, after
 -- another fault nothing
@@ -56,13 +46,6 @@ pub record IsShown (hint : List ℕ) (report : Report) (ending : Ending) (old ne
   pub answered : ending.status ≡ report.status
   pub written : Appends old.output new.output report.bytes
   pub said : IsSaid hint ending.is_told old.errors new.errors
-  pub files : Same old.files new.files
-
--- standard output took a beginning of a report, and then failed, which is told
-pub record IsBroken (report : Report) (ending : Ending) (old new : World) : Type 0 where
-  pub output : Option (List ℕ)
-  pub begun : Begins old.output output report.bytes
-  pub told : IsTold (Serve serve.Write) ending.status ending.is_told output new.output old.errors new.errors
   pub files : Same old.files new.files
 
 -- the file took the report, and holds nothing else; standard error took its hint
@@ -109,9 +92,16 @@ pub record IsRead (watched is_terminal : Bool) (known : List ℕ → Known) (req
   pub texts : AreTextsOf known request.job request.paths read
   pub served : IsServed watched is_terminal request read ending old new
 
+-- how the program ends on a request of one program, or of several: then the reports go to standard output
+abbrev pub IsAnsweredFor : (watched is_terminal : Bool) → (known : List ℕ → Known) → Request → (further : List (String Global)) → Ending → World → World → Type 0
+IsAnsweredFor watched is_terminal known request [] ending old new = IsRead watched is_terminal known request ending old new
+IsAnsweredFor watched is_terminal known request (name ∷ names) ending old new =
+    IsEach is_terminal known request.job (request.paths.program ∷ (name ∷ names)) ending old new
+
 -- how the program ends on a request, or on a fault of its words
 abbrev pub IsAnswered : (watched is_terminal : Bool) → (known : List ℕ → Known) → (asked : Result Request Fault) → Ending → World → World → Type 0
-IsAnswered watched is_terminal known (Ok request) ending old new = IsRead watched is_terminal known request ending old new
+IsAnswered watched is_terminal known (Ok request) ending old new =
+    IsAnsweredFor watched is_terminal known request request.further.items ending old new
 IsAnswered watched is_terminal known (Err fault) ending old new = IsToldAlone fault ending old new
 
 -- a run of the program on words and files of which this is known; `watched` says whether it is known what the

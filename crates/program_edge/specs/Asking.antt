@@ -1,5 +1,6 @@
 -- What the program is asked for by its words (own choice).
 use Rattle.std.specs.Prelude.{◌≡◌, ◌⊎◌, ℕ, ◌+◌, ◌<◌, ◌≤◌, ⊤, map, List, if◌then◌else◌, codes, Result, Ok, Err}
+use Rattle.std.specs.List.{sum_by}
 use Rattle.std.specs.String.{string_bytes}
 use Rattle.std.specs.Str.{bytes_eq}
 use Rattle.std.specs.declared.alloc.Global.{Global}
@@ -7,7 +8,6 @@ use Rattle.std.specs.declared.string.String.{String}
 use Rattle.std.specs.declared.vec.Vec.{Vec}
 use Rattle.clap.specs.Words.{Text}
 use Rattle.jobs.specs.Files.{HasFilesOf}
-use Rattle.jobs.specs.declared.job.Paths.{Paths}
 use Rattle.command_line.specs.Asked.{AskFor, IsFaultOf as IsFaultOfWords}
 use Rattle.command_line.specs.declared.request.Request.{Request}
 use Rattle.command_line.specs.declared.words.UsageFault.{UsageFault}
@@ -19,10 +19,10 @@ use Rattle.program_edge.specs.Telling.{IsFaultOf}
 abbrev pub input_of : List ℕ → ℕ
 input_of name = if bytes_eq name (codes "-") then 1 else 0
 
--- how many files of a job are standard input
-abbrev pub input_count : Paths → ℕ
-input_count paths =
-    input_of (string_bytes paths.program) + input_of (string_bytes paths.certificate) + input_of (string_bytes paths.script)
+-- how many files of a request are standard input, those of further programs, too
+abbrev pub input_count : Request → ℕ
+input_count request = input_of (string_bytes request.paths.program) + input_of (string_bytes request.paths.certificate)
+    + input_of (string_bytes request.paths.script) + sum_by (λ name. input_of (string_bytes name)) request.further.items
 
 -- the words ask for this
 abbrev pub Ask : List Text → Request → Type 0
@@ -32,7 +32,7 @@ Ask words request = AskFor words request × HasFilesOf request.job request.paths
 pub record AskForInputTwice (words : List Text) : Type 0 where
   pub request : Request
   pub asked : Ask words request
-  pub twice : 1 < input_count request.paths
+  pub twice : 1 < input_count request
 
 -- the words ask for no job: what is told is told of a fault that they have
 pub record IsTheirFault (words : List Text) (told : Fault) : Type 0 where
@@ -42,7 +42,7 @@ pub record IsTheirFault (words : List Text) (told : Fault) : Type 0 where
 
 -- what the words come to: a job of which at most one file is standard input, or why there is none
 abbrev pub IsAskedBy : List Text → Result Request Fault → Type 0
-IsAskedBy words (Ok asked) = Ask words asked × (input_count asked.paths ≤ 1)
+IsAskedBy words (Ok asked) = Ask words asked × (input_count asked ≤ 1)
 IsAskedBy words (Err InputTwice) = AskForInputTwice words
 IsAskedBy words (Err told) = IsTheirFault words told
 

@@ -4,5 +4,8 @@ pub mod Refusals
 pub mod Hints
 pub mod Telling
 pub mod Asking
+pub mod Streams
+pub mod Summaries
+pub mod Several
 pub mod Answering
 pub mod Examples

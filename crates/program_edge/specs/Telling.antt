@@ -1,9 +1,10 @@
 -- What the program says of a fault, where, and its status (own choice).
 use Rattle.std.specs.Prelude.{◌≡◌, ℕ, Bool, true, false, List, [], ◌∷◌, ◌++◌, ◌&&◌, if◌then◌else◌, codes, Option}
 use Rattle.std.specs.Io.KnownBytes.{Appends, Keeps}
+use Rattle.std.specs.Str.{bytes_eq}
 use Rattle.std.specs.String.{string_bytes}
 use Rattle.program_edge.specs.declared.fault.Fault.{Fault}
-use Rattle.program_edge.specs.declared.fault.Fault.TheVariants.{Help, Words, NoText, Predict, Emit, OutOfMemory, InputTwice, File, Explained, Serve, NotWritten}
+use Rattle.program_edge.specs.declared.fault.Fault.TheVariants.{Help, Words, NoText, Predict, Emit, OutOfMemory, InputTwice, File, Explained, NoProgram, Serve, NotWritten}
 use Rattle.program_edge.specs.declared.unread.Reason.{Reason}
 use Rattle.program_edge.specs.declared.unread.Reason.TheVariants as reason
 use Rattle.program_edge.specs.declared.unread.Unread.{Unread}
@@ -34,6 +35,23 @@ file_words path reason = (codes "file " ++ path) ++ (codes ": " ++ reason)
 abbrev pub unread_words : Unread → List ℕ
 unread_words unread = file_words (string_bytes unread.path) (reason_words unread.reason)
 
+-- of a folder it is said how its files are named
+abbrev pub folder_reason : (name : List ℕ) → List ℕ
+folder_reason name = codes "is a directory; name its files, as in " ++ (name ++ codes "/*.s")
+
+-- why a file of this name gives no program
+abbrev pub program_reason : (name : List ℕ) → Reason → List ℕ
+program_reason name reason.IsDirectory = folder_reason name
+program_reason name reason = reason_words reason
+
+-- the program's file that gives no text, and why
+abbrev pub unread_program_words : Unread → List ℕ
+unread_program_words unread = file_words (string_bytes unread.path) (program_reason (string_bytes unread.path) unread.reason)
+
+-- a line that says this of a file
+abbrev pub file_line : (name said : List ℕ) → List ℕ
+file_line name said = codes "multiscalar: file " ++ (name ++ (codes ": " ++ (said ++ 10 ∷ [])))
+
 -- what a fault is called: the text that `clap` wrote, or what stands behind `multiscalar: `
 abbrev pub name_of : Fault → List ℕ
 name_of (Help usage) = string_bytes usage.text
@@ -45,6 +63,7 @@ name_of OutOfMemory = codes "4 OutOfMemory"
 name_of InputTwice = codes "5 InputTwice: only one file can be - (standard input)"
 name_of (File path) = codes "file " ++ string_bytes path
 name_of (Explained unread) = unread_words unread
+name_of (NoProgram unread) = unread_program_words unread
 name_of (Serve fault) = serve_fault_text fault
 name_of (NotWritten path reason) = file_words (string_bytes path) (unwritten_words reason)
 
@@ -71,7 +90,8 @@ IsTold fault status is_told output output' errors errors' =
 
 -- what is told of a file that gives no text: only `explain` says why
 abbrev pub unread_fault : Job → Unread → Fault
-unread_fault (Explain name certificate warnings format) unread = Explained unread
+unread_fault (Explain name certificate warnings format) unread =
+    if bytes_eq (string_bytes unread.path) (string_bytes name) then NoProgram unread else Explained unread
 unread_fault _ unread = File unread.path
 
 -- what is told of a fault of the words: of `clap`'s own faults the text that is made of it

@@ -1,32 +1,31 @@
 //! From what was asked and its files to what is written and the status.
-ghost use Rattle.std.specs.Prelude.{◌≡◌, ◌≢◌, ◌⊎◌, Err, IfOk, OnOk, false};
-ghost use Rattle.std.specs.Io.KnownBytes.{Appends};
+ghost use Rattle.std.specs.Prelude.{◌≡◌, ◌⊎◌, ◌∷◌, IfOk, false};
 ghost use Rattle.std.specs.String.{string_bytes};
-ghost use Rattle.verdict_report.specs.JobTexts.{IsReportOf};
-ghost use Rattle.verdict_report.specs.Writing.{Begins};
 ghost use Rattle.whole_file.specs.Files.{Files};
-ghost use Rattle.program_edge.specs.Answering.{IsAnswered, IsBroken, IsDelivered, IsJobDone, IsNotDone, IsPut, IsRead, IsShown, IsTaken};
-ghost use Rattle.program_edge.specs.Hints.{IsSaid, hint_for};
+ghost use Rattle.program_edge.specs.Answering.{IsAnswered, IsAnsweredFor, IsDelivered, IsJobDone, IsNotDone, IsPut, IsRead, IsShown, IsTaken};
+ghost use Rattle.program_edge.specs.Hints.{hint_for};
 ghost use Rattle.program_edge.specs.Refusals.{is_refusal};
+ghost use Rattle.program_edge.specs.Several.{IsEach};
+ghost use Rattle.program_edge.specs.Streams.{IsBroken};
 ghost use Rattle.program_edge.specs.Telling.{unread_fault};
 
+use crate::each::answer_each;
 use crate::fault::Fault;
-use crate::hint::hint_for;
 use crate::named_files::NamedFiles;
 use crate::refusal::is_refusal;
+use crate::reports::{Written, hinted_report};
+use crate::streams::{say, write_whole};
 use crate::texts::{NamedTexts, read_texts};
 use crate::told::{Ending, tell};
 use crate::unread::Unread;
 use command_line::request::Request;
 use jobs::job::{Job, Texts};
-use std::alloc::Global;
-use std::io;
+use std::alloc::{AllocError, Global};
 use std::io::Write;
 use std::sync::Wait;
 use std::thread::Threads;
 use verdict_report::fault::ServeFault;
 use verdict_report::serve::serve;
-use verdict_report::writing::write_bytes;
 use whole_file::folder::Folder;
 use whole_file::replacing::replace;
 
@@ -68,7 +67,7 @@ pub fn answer_reader<F: NamedFiles, D: Folder, O: Write, E: Write, R: Threads + 
         record { output = O.contents output.new; errors = E.contents errors.new; files = D.known folder.new } }
 {
     match asked {
-        Ok(request) => answer_request(
+        Ok(request) => answer_programs(
             rt,
             alloc,
             request,
@@ -80,6 +79,37 @@ pub fn answer_reader<F: NamedFiles, D: Folder, O: Write, E: Write, R: Threads + 
         ),
         Err(fault) => tell(&fault, output, errors),
     }
+}
+
+// Does the job of a request: for its program, or for each of several.
+fn answer_programs<F: NamedFiles, D: Folder, O: Write, E: Write, R: Threads + Wait + Sync>(
+    rt: &R,
+    alloc: Global,
+    request: Request,
+    files: &F,
+    folder: &mut D,
+    output: &mut O,
+    errors: &mut E,
+    is_terminal: bool,
+) -> Ending
+    ensures { IsAnsweredFor D.is_watched is_terminal (F.known files.now) request request.further.items result
+        record { output = O.contents output.old; errors = E.contents errors.old; files = D.known folder.old }
+        record { output = O.contents output.new; errors = E.contents errors.new; files = D.known folder.new } }
+{
+    let is_alone = request.further.as_slice().is_empty();
+    if is_alone {
+        return answer_request(
+            rt,
+            alloc,
+            request,
+            files,
+            folder,
+            output,
+            errors,
+            is_terminal,
+        );
+    }
+    answer_several(rt, alloc, request, files, output, errors, is_terminal)
 }
 
 // Does a job with its files.
@@ -101,6 +131,7 @@ fn answer_request<F: NamedFiles, D: Folder, O: Write, E: Write, R: Threads + Wai
         job,
         paths,
         output: place,
+        further: _,
     } = request;
     match read_texts(rt, alloc, files, &job, paths) {
         Ok(NamedTexts { name, texts }) => {
@@ -113,11 +144,58 @@ fn answer_request<F: NamedFiles, D: Folder, O: Write, E: Write, R: Threads + Wai
     }
 }
 
+// Does the job of a request for each of its programs, if it has several.
+fn answer_several<F: NamedFiles, O: Write, E: Write, R: Threads + Wait + Sync>(
+    rt: &R,
+    alloc: Global,
+    request: Request,
+    files: &F,
+    output: &mut O,
+    errors: &mut E,
+    is_terminal: bool,
+) -> Ending
+    ensures { (known : Files) → IsEach is_terminal (F.known files.now) request.job (request.paths.program ∷ request.further.items) result
+        record { output = O.contents output.old; errors = E.contents errors.old; files = known }
+        record { output = O.contents output.new; errors = E.contents errors.new; files = known } }
+{
+    let Request {
+        job,
+        paths,
+        output: _,
+        further,
+    } = request;
+    match names_of(further, paths.program) {
+        Ok(names) => answer_each(
+            rt,
+            alloc,
+            &job,
+            names.as_slice(),
+            files,
+            output,
+            errors,
+            is_terminal,
+        ),
+        Err(AllocError) => tell(&Fault::Serve(ServeFault::OutOfMemory), output, errors),
+    }
+}
+
+// The names of all programs, the first one first.
+fn names_of(further: Vec<String>, program: String) -> Result<Vec<String>, AllocError>
+    ensures { IfOk result (λ names. names.items ≡ program ∷ further.items) }
+{
+    let mut names = further;
+    names.insert(0, program)?;
+    Ok(names)
+}
+
 // The fault that is told of a file that gives no text: only `explain` says why.
 fn fault_of_file(job: &Job, unread: Unread) -> Fault
     ensures { result ≡ unread_fault job.now unread }
 {
     match job {
+        Job::Explain { name, .. } if unread.path.as_str() == name.as_str() => {
+            Fault::NoProgram(unread)
+        }
         Job::Explain { .. } => Fault::Explained(unread),
         _ => Fault::File(unread.path),
     }
@@ -176,7 +254,14 @@ fn put<D: Folder, O: Write, E: Write, R: Threads + Wait + Sync>(
         record { output = O.contents output.old; errors = E.contents errors.old; files = D.known folder.old }
         record { output = O.contents output.new; errors = E.contents errors.new; files = D.known folder.new } }
 {
-    match hinted_report(rt, alloc, job, texts, reader) {
+    match hinted_report(
+        rt,
+        alloc,
+        job,
+        texts,
+        reader.is_terminal,
+        reader.name.as_str(),
+    ) {
         Ok(hinted) => {
             let hint = hinted.hint.as_slice();
             take(
@@ -242,62 +327,16 @@ fn show_hinted<O: Write, E: Write, R: Threads + Wait + Sync>(
         record { output = O.contents output.old; errors = E.contents errors.old; files = files }
         record { output = O.contents output.new; errors = E.contents errors.new; files = files } }
 {
-    match hinted_report(rt, alloc, job, texts, reader) {
+    match hinted_report(
+        rt,
+        alloc,
+        job,
+        texts,
+        reader.is_terminal,
+        reader.name.as_str(),
+    ) {
         Ok(hinted) => show(&hinted.report, hinted.hint.as_slice(), output, errors),
         Err(lack) => tell(&Fault::Serve(lack), output, errors),
-    }
-}
-
-// What a job writes, and the status.
-#[derive(Drop)]
-struct Written {
-    bytes: Vec<u8>,
-    status: u8,
-}
-
-// What a job writes, and the hint to it.
-#[derive(Drop)]
-struct Hinted {
-    report: Written,
-    hint: Vec<u8>,
-}
-
-// What a job with its texts writes, and the hint to it.
-fn hinted_report<R: Threads + Wait + Sync>(
-    rt: &R,
-    alloc: Global,
-    job: &Job,
-    texts: &Texts,
-    reader: &Reader,
-) -> Result<Hinted, ServeFault>
-    ensures report { IfOk result (λ h. IsReportOf job.now texts.now record { bytes = h.report.bytes.items; status = h.report.status }) }
-    ensures hint { IfOk result (λ h. h.hint.items ≡ hint_for reader.now.is_terminal job.now (string_bytes reader.now.name)
-        record { bytes = h.report.bytes.items; status = h.report.status }) }
-    ensures fault { result ≢ Err ServeFault.Write }
-{
-    let report = report_of(rt, alloc, job, texts)?;
-    let name = reader.name.as_str();
-    let bytes = report.bytes.as_slice();
-    let hint = hint_for(alloc, reader.is_terminal, job, name, report.status, bytes)?;
-    Ok(Hinted { report, hint })
-}
-
-// What a job with its texts writes.
-fn report_of<R: Threads + Wait + Sync>(
-    rt: &R,
-    alloc: Global,
-    job: &Job,
-    texts: &Texts,
-) -> Result<Written, ServeFault>
-    ensures report { IfOk result (λ w. IsReportOf job.now texts.now record { bytes = w.bytes.items; status = w.status }) }
-    ensures fault { result ≢ Err ServeFault.Write }
-{
-    let mut bytes = Vec::new(alloc);
-    match serve(rt, alloc, job, texts, &mut bytes) {
-        Ok(status) => Ok(Written { bytes, status }),
-        // What is written to memory fails only where there is no more of it.
-        Err(ServeFault::Write) => Err(ServeFault::OutOfMemory),
-        Err(fault) => Err(fault),
     }
 }
 
@@ -346,20 +385,4 @@ fn show<O: Write, E: Write>(report: &Written, hint: &[u8], output: &mut O, error
         is_told: say(hint, errors),
         status: report.status,
     }
-}
-
-// Says a hint, so that it has arrived; whether it was said whole.
-fn say<E: Write>(hint: &[u8], errors: &mut E) -> bool
-    ensures { IsSaid hint.now result (E.contents errors.old) (E.contents errors.new) }
-{
-    hint.is_empty() || write_whole(hint, errors).is_ok()
-}
-
-// Writes bytes, so that they have arrived.
-fn write_whole<W: Write>(bytes: &[u8], writer: &mut W) -> io::Result<()>
-    ensures whole { OnOk result (Appends (W.contents writer.old) (W.contents writer.new) bytes.now) }
-    ensures part { Begins (W.contents writer.old) (W.contents writer.new) bytes.now }
-{
-    write_bytes(bytes, writer)?;
-    writer.flush()
 }

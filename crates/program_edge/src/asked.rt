@@ -1,5 +1,6 @@
 //! What the words of the command line ask for.
-ghost use Rattle.std.specs.Prelude.{◌≡◌, ◌≤◌, map};
+ghost use Rattle.std.specs.Prelude.{◌≡◌, ◌≤◌, length, map};
+ghost use Rattle.std.specs.List.{sum_by};
 ghost use Rattle.std.specs.String.{string_bytes};
 ghost use Rattle.program_edge.specs.Asking.{IsAskedBy, IsAskedOf, input_count, input_of};
 ghost use Rattle.program_edge.specs.Telling.{IsFaultOf};
@@ -9,7 +10,6 @@ use crate::usage::UsageText;
 use crate::words::ProcessWords;
 use command_line::request::Request;
 use command_line::words::{UsageFault, request_of};
-use jobs::job::Paths;
 use std::alloc::{AllocError, Global};
 
 /// The name of standard input. A file of this name is `./-`. (own choice)
@@ -38,17 +38,33 @@ pub fn asked_by(alloc: Global, words: &[String]) -> Result<Request, Fault>
         Ok(asked) => asked,
         Err(fault) => return Err(fault_of(alloc, fault)),
     };
-    if inputs(&asked.paths) > 1 {
+    if inputs(&asked) > 1 {
         return Err(Fault::InputTwice);
     }
     Ok(asked)
 }
 
-// How many of a job's files are standard input.
-fn inputs(paths: &Paths) -> u32
-    ensures { result ≡ input_count paths.now }
+// How many of the files of a request are standard input.
+fn inputs(request: &Request) -> u128
+    ensures { result ≡ input_count request.now }
 {
-    input(paths.program.as_str()) + input(paths.certificate.as_str()) + input(paths.script.as_str())
+    let paths = &request.paths;
+    let own = input(paths.program.as_str())
+        + input(paths.certificate.as_str())
+        + input(paths.script.as_str());
+    u128::from(own) + further_inputs(request.further.as_slice())
+}
+
+// How many of these files are standard input.
+fn further_inputs(names: &[String]) -> u128
+    ensures value { result ≡ sum_by (λ name. input_of (string_bytes name)) names.now }
+    ensures most { result ≤ length names.now }
+{
+    let mut count = 0;
+    for name in names {
+        count += u128::from(input(name.as_str()));
+    }
+    count
 }
 
 // 1 for the name of standard input, else 0.

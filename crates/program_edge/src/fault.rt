@@ -24,8 +24,10 @@ pub enum Fault {
     InputTwice,
     /// The file of this path can't be read, or is too long.
     File(String),
-    /// The same of a file of `explain`, which says why.
+    /// The same of the certificate of `explain`, which says why.
     Explained(Unread),
+    /// The same of its program: of a folder it says how to name the files in it, too.
+    NoProgram(Unread),
     /// The job was not done.
     Serve(ServeFault),
     /// The file of this path does not take the result.

@@ -45,7 +45,7 @@ fn hint_of(
 }
 
 // Whether the job is `explain`, which says all itself.
-fn explains(job: &Job) -> bool
+pub(crate) fn explains(job: &Job) -> bool
     ensures { result ≡ explains job.now }
 {
     matches!(job, Job::Explain { .. })
@@ -93,7 +93,7 @@ fn add_command(name: &str, hint: &mut Vec<u8>) -> Result<(), AllocError>
 }
 
 // Adds a text.
-fn add(text: &str, hint: &mut Vec<u8>) -> Result<(), AllocError>
+pub(crate) fn add(text: &str, hint: &mut Vec<u8>) -> Result<(), AllocError>
     ensures { OnOk result (hint.new.items ≡ hint.old.items ++ text.now) }
 {
     hint.extend_from_slice(text.as_bytes())

@@ -1,17 +1,22 @@
 //! The program but for its two streams: from its words and files to its status.
 //!
 //! `program::run` is what `main` calls. It is proved over any words, any files and any streams; `words` and
-//! `named_files` have those of the system. What it does is in `answer`: `texts` reads the files that a job
-//! has, `told` says what went wrong.
+//! `named_files` have those of the system. What it does is in `answer`, for several programs in `each`: `texts` reads the
+//! files that a job has, `told` says what went wrong.
 #![tactic(auto)]
 
 pub mod answer;
 pub mod asked;
+mod each;
 pub mod fault;
 pub mod hint;
 pub mod named_files;
+mod part;
 pub mod program;
 pub mod refusal;
+mod reports;
+mod streams;
+pub mod summary;
 pub mod texts;
 pub mod told;
 pub mod unread;

@@ -155,7 +155,7 @@ fn read_pieces<F: NamedFiles, R: Threads + Sync>(
 }
 
 // The file of this name, or its first `most + 1` bytes; or why it can't be read.
-fn read_file<F: NamedFiles>(
+pub(crate) fn read_file<F: NamedFiles>(
     alloc: Global,
     files: &F,
     name: &str,

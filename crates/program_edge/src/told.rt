@@ -4,10 +4,10 @@ ghost use Rattle.std.specs.Io.KnownBytes.{Appends};
 ghost use Rattle.std.specs.String.{string_bytes};
 ghost use Rattle.verdict_report.specs.FaultText.{serve_fault_text};
 ghost use Rattle.verdict_report.specs.Writing.{Begins};
-ghost use Rattle.program_edge.specs.Telling.{IsTold, file_words, name_of, said_of, unread_words};
+ghost use Rattle.program_edge.specs.Telling.{IsTold, file_words, folder_reason, name_of, said_of, unread_program_words, unread_words};
 
 use crate::fault::Fault;
-use crate::unread::Unread;
+use crate::unread::{Reason, Unread};
 use std::io;
 use std::io::Write;
 use verdict_report::fault::ServeFault;
@@ -93,6 +93,7 @@ fn write_name<W: Write>(fault: &Fault, writer: &mut W) -> io::Result<()>
         }
         Fault::File(path) => write_path(path.as_str(), writer),
         Fault::Explained(unread) => write_unread(unread, writer),
+        Fault::NoProgram(unread) => write_unread_program(unread, writer),
         Fault::Serve(fault) => write_text(serve_words(*fault), writer),
         Fault::NotWritten(path, reason) => write_reason(path.as_str(), reason.words(), writer),
     }
@@ -113,6 +114,28 @@ fn write_unread<W: Write>(unread: &Unread, writer: &mut W) -> io::Result<()>
     ensures part { Begins (W.contents writer.old) (W.contents writer.new) (unread_words unread.now) }
 {
     write_reason(unread.path.as_str(), unread.reason.words(), writer)
+}
+
+// Writes the name of the program's file that gives no text, and why: of a folder, how its files are named.
+fn write_unread_program<W: Write>(unread: &Unread, writer: &mut W) -> io::Result<()>
+    ensures whole { OnOk result (Appends (W.contents writer.old) (W.contents writer.new) (unread_program_words unread.now)) }
+    ensures part { Begins (W.contents writer.old) (W.contents writer.new) (unread_program_words unread.now) }
+{
+    match unread.reason {
+        Reason::IsDirectory => write_folder(unread.path.as_str(), writer),
+        _ => write_unread(unread, writer),
+    }
+}
+
+// Writes that the file of this name is a directory, and how its files are named.
+fn write_folder<W: Write>(path: &str, writer: &mut W) -> io::Result<()>
+    ensures whole { OnOk result (Appends (W.contents writer.old) (W.contents writer.new) (file_words path.now (folder_reason path.now))) }
+    ensures part { Begins (W.contents writer.old) (W.contents writer.new) (file_words path.now (folder_reason path.now)) }
+{
+    write_path(path, writer)?;
+    write_text(": is a directory; name its files, as in ", writer)?;
+    write_text(path, writer)?;
+    write_text("/*.s", writer)
 }
 
 // Writes the name of a file, and a reason.

@@ -4,3 +4,5 @@
 
 #[cfg(test)]
 mod diagnostic_texts;
+#[cfg(test)]
+mod input_texts;

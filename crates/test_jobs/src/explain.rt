@@ -446,7 +446,7 @@ a.cert: help: make it anew: multiscalar annotate --emit keep a.s > a.cert
 #[test]
 fn explains_certificates(rt: HostRuntime) {
     for &(certificate, expected, status) in &CERTIFICATES {
-        let words = "explain a.s a.cert";
+        let words = "explain --certificate a.cert a.s";
         expect_with(&rt, rt.alloc(), words, SPIN, certificate, expected, status);
     }
 }
@@ -502,7 +502,7 @@ fn said_of_names(
 fn names_files_that_a_shell_takes(rt: HostRuntime) {
     for &(program, certificate, named) in &NAMES {
         let mut words = String::new(rt.alloc());
-        assert!(rt; write!(words, "explain {program} {certificate}").is_ok());
+        assert!(rt; write!(words, "explain --certificate {certificate} {program}").is_ok());
         let said = said_of_names(&rt, rt.alloc(), program, certificate, named);
         let certificate = "cert 2\ntask A\n";
         expect_with(

@@ -62,7 +62,7 @@ fn logs_what_is_wrong(rt: HostRuntime) {
         let words = if certificate.is_empty() {
             "explain --format sarif a.s"
         } else {
-            "explain --format sarif a.s a.cert"
+            "explain --format sarif --certificate a.cert a.s"
         };
         expect_log(&rt, rt.alloc(), words, program, certificate, expected);
     }

@@ -1,6 +1,8 @@
 //! `run`: what threads come to is the same whatever their order.
 
-use crate::answers::{Bench, EMPTY, Row, answer, expect, expect_with, run_all, texts_of};
+use crate::answers::{
+    Bench, EMPTY, Row, answer, expect, expect_of, expect_with, run_all, texts_of,
+};
 use std::alloc::Global;
 use std::process::Abort;
 use test_programs::certificates::{
@@ -225,6 +227,78 @@ const SUMMARY: &str = "assigned  retired  squashed  dropped  unfinished  useful 
        1        0         0        0           1       0       0  B
        5        4         0        0           1      16       0  (all)
 ";
+
+// A loops 196,608 times, so long that another unit takes a task meanwhile, and goes on at C.
+const ON_TO_C: &str = ".task A create=$8 targets=B,C
+.task B create=- targets=D
+.task C create=- targets=D
+.task D create=- targets=-
+A: lui $8,3
+L: addiu $8,$8,-1
+bne $8,$0,L
+release $8
+beq $0,$0,C !s
+B: j D !s
+C: nop !s
+D: halt
+";
+
+// A goes on at B.
+const ON_TO_B: &str = ".task A create=$8 targets=B,C
+.task B create=- targets=D
+.task C create=- targets=D
+.task D create=- targets=-
+A: lui $8,3
+L: addiu $8,$8,-1
+bne $8,$0,L
+release $8
+bne $0,$0,C !s
+B: j D !s
+C: nop !s
+D: halt
+";
+
+const NEVER_B: &str = "assigned  retired  squashed  dropped  unfinished  useful  wasted  task
+       1        1         0        0           0  393219       0  A
+       0        0         0        0           0       0       0  B
+       1        1         0        0           0       1       0  C
+       1        0         0        0           1       0       0  D
+       3        2         0        0           1  393220       0  (all)
+";
+
+const NEVER_C: &str = "assigned  retired  squashed  dropped  unfinished  useful  wasted  task
+       1        1         0        0           0  393219       0  A
+       1        1         0        0           0       1       0  B
+       0        0         0        0           0       0       0  C
+       1        0         0        0           1       0       0  D
+       3        2         0        0           1  393220       0  (all)
+";
+
+// Who predicts the right target assigns no other, and neither does one worker, who guesses nothing.
+const PREDICTED: [(&str, &str, &str); 3] = [
+    (
+        "run --least --units 2 --predict last --emit summary a.s",
+        ON_TO_C,
+        NEVER_B,
+    ),
+    (
+        "run --least --units 2 --predict first --emit summary a.s",
+        ON_TO_B,
+        NEVER_C,
+    ),
+    (
+        "run --least --units 4 --workers 1 --predict first --emit summary a.s",
+        ON_TO_C,
+        NEVER_B,
+    ),
+];
+
+#[test]
+fn assigns_what_is_predicted(rt: HostRuntime) {
+    for &(words, program, expected) in &PREDICTED {
+        expect_of(&rt, rt.alloc(), words, program, expected, 0);
+    }
+}
 
 // The same run in steps: each unit does one event a step, and there is one unit.
 #[test]

@@ -55,7 +55,7 @@ fn tells_of_words(rt: HostRuntime) {
     let line = "error: a file is missing: give CERT, or --least in its place
 
 Usage: multiscalar check [OPTIONS] PROGRAM CERT
-       multiscalar check [OPTIONS] --least PROGRAM
+       multiscalar check [OPTIONS] --least PROGRAM...
 
 For more information, try '--help'.
 ";
@@ -78,6 +78,22 @@ fn tells_of_files(rt: HostRuntime) {
     };
     let line = "multiscalar: file a.cert: longer than 134217728 bytes\n";
     expect_line(&rt, rt.alloc(), &Fault::Explained(unread), line);
+}
+
+#[test]
+fn tells_of_programs(rt: HostRuntime) {
+    let missing = Unread {
+        path: text(&rt, rt.alloc(), "a.s"),
+        reason: Reason::NoSuchFile,
+    };
+    let line = "multiscalar: file a.s: no such file\n";
+    expect_line(&rt, rt.alloc(), &Fault::NoProgram(missing), line);
+    let folder = Unread {
+        path: text(&rt, rt.alloc(), "src"),
+        reason: Reason::IsDirectory,
+    };
+    let line = "multiscalar: file src: is a directory; name its files, as in src/*.s\n";
+    expect_line(&rt, rt.alloc(), &Fault::NoProgram(folder), line);
 }
 
 #[test]

@@ -172,7 +172,7 @@ const JOBS: [(&str, Wanted); 27] = [
     ("print a.s", Wanted::Print),
     ("explain a.s", Wanted::Explain(PLAIN_EXPLAIN)),
     (
-        "explain a.s a.cert",
+        "explain --certificate a.cert a.s",
         Wanted::Explain(WantedExplain {
             names_certificate: true,
             ..PLAIN_EXPLAIN
@@ -366,7 +366,7 @@ fn expect_path(rt: &impl Abort, line: &str, path: &String, expected: &str) {
     assert!(rt; path.as_str() == expected, "{line}");
 }
 
-const NO_JOBS: [&str; 50] = [
+const NO_JOBS: [&str; 53] = [
     "seq",
     "seq a.s b.s",
     "seq a.s --budget 0",
@@ -374,7 +374,6 @@ const NO_JOBS: [&str; 50] = [
     "annotate",
     "annotate a.s a.cert",
     "check a.s",
-    "check a.s a.cert b.cert",
     "check a.s a.cert --workers 0",
     "check a.s a.cert --workers 17",
     "check a.s a.cert --units 2",
@@ -382,7 +381,11 @@ const NO_JOBS: [&str; 50] = [
     "check --least=yes a.s",
     "check --least --least a.s",
     "explain --least a.s",
-    "explain a.s a.cert b.cert",
+    "explain --certificate a.cert --certificate b.cert a.s",
+    "explain --certificate a.cert a.s b.s",
+    "explain a.s b.s --format sarif",
+    "explain -o b.txt a.s b.s",
+    "check -o b.txt --least a.s b.s",
     "replay a.s a.cert",
     "replay a.s a.cert a.events b.events",
     "replay a.s a.cert a.events --units 0",
@@ -449,6 +452,35 @@ fn expect_place(rt: &impl Abort, alloc: Global, line: &str, place: Option<&str>)
     }
 }
 
+// The programs after `a.s`.
+const REQUESTS: [(&str, &[&str]); 8] = [
+    ("check a.s b.s", &[]),
+    ("check --least a.s", &[]),
+    ("check --least a.s b.s", &["b.s"]),
+    ("check a.s b.s c.s --least a.s", &["b.s", "c.s", "a.s"]),
+    ("check --least -o - a.s b.s", &["b.s"]),
+    ("explain a.s", &[]),
+    ("explain --certificate b.s a.s", &[]),
+    ("explain a.s c.s --no-warnings b.s -", &["c.s", "b.s", "-"]),
+];
+
+#[test]
+fn reads_further_programs(rt: HostRuntime) {
+    for &(line, further) in &REQUESTS {
+        expect_further(&rt, rt.alloc(), line, further);
+    }
+}
+
+// Asserts the further programs of what the words ask for.
+fn expect_further(rt: &impl Abort, alloc: Global, line: &str, further: &[&str]) {
+    let request = read(rt, alloc, line).ok().expect(rt, "a job");
+    expect_path(rt, line, &request.paths.program, "a.s");
+    assert!(rt; request.further.len() == further.len(), "{line}");
+    for (name, wanted) in request.further.iter().zip(further) {
+        expect_path(rt, line, name, wanted);
+    }
+}
+
 #[test]
 fn refuses_words(rt: HostRuntime) {
     for &line in &NO_JOBS {
@@ -465,7 +497,7 @@ fn expect_refused(rt: &impl Abort, alloc: Global, line: &str) {
 // Files that do not fit `--least`, or its absence.
 const MISFITS: [&str; 8] = [
     "check a.s",
-    "check --least a.s a.cert",
+    "check a.s a.cert b.cert",
     "replay a.s a.events",
     "replay --least a.s a.cert a.events",
     "run a.s --predict 16 --emit xml",

@@ -1,11 +1,12 @@
 //! The program on several command lines in turn. After each command line stand what it writes to both
 //! streams, and its status: findings; a check by three workers, who fetch and read a certificate of 317,709
 //! bytes, where each of 48 tasks may write $8 and does not say so; the three files of `replay`; a program
-//! text on standard input; a missing file; wrong words; every help; what is said of a wrong value, and of a
-//! file that the words lack; files that cannot take a result, a refused
-//! text that changes none, and what cannot be done in place; and what standard error gets if it is a terminal, beside
-//! refused texts, findings and a run that trapped. Last, the program does what its own words ask for, on the two streams of the
-//! process and with its status: a file is missing, so it writes nothing to standard output.
+//! text on standard input; a missing file; wrong words; every help; what is said of a wrong value, of a file
+//! that the words lack or have too many, and of options of one program beside several; files that cannot take a
+//! result, a refused text that changes none, and what cannot be done in place; and what standard error gets if
+//! it is a terminal, beside refused texts, findings and a run that trapped. Last, the program does what its own
+//! words ask for, on the two streams of the process and with its status: a file is missing, so it writes nothing
+//! to standard output.
 #![tactic(auto)]
 
 use program_edge::answer::answer_reader;
@@ -22,7 +23,7 @@ use std::sync::Wait;
 use std::thread::Threads;
 use whole_file::system::SystemFolder;
 
-const LINES: [&str; 36] = [
+const LINES: [&str; 45] = [
     "check five-findings.s five-findings.cert2",
     "check --workers 3 large.s large.cert2",
     "replay --units 2 count.s count.cert2 count.events",
@@ -43,7 +44,11 @@ const LINES: [&str; 36] = [
     "replay --help",
     "run --help",
     "curve --help",
-    "check --least count.s count.cert2",
+    "run --least count.s count.cert2",
+    "check count.s count.cert2 count.cert2",
+    "check --least -o count.out count.s count.s",
+    "explain --certificate count.cert2 count.s count.s",
+    "explain --format sarif count.s count.s",
     "explain --format all count.s",
     "replay --least --emit all count.s count.events",
     "run --least --schedule all count.s",
@@ -59,10 +64,15 @@ const LINES: [&str; 36] = [
     "annotate --in-place -",
     "annotate --in-place -o count.s count.s",
     "annotate --in-place --emit keep count.s",
+    "check --least count.s five-findings.s missing.s count.cert2",
+    "check --least count.s count.s",
+    "explain --no-warnings count.s count.cert2 .",
+    "explain .",
+    "check --least - count.s -",
 ];
 
 // Where standard error is a terminal.
-const ON_TERMINAL: [&str; 7] = [
+const ON_TERMINAL: [&str; 8] = [
     "print count.cert2",
     "annotate -o count.out count.cert2",
     "check --least five-findings.s",
@@ -70,6 +80,7 @@ const ON_TERMINAL: [&str; 7] = [
     "replay count.s trapped.s count.events",
     "check count.s count.cert2",
     "explain missing.s",
+    "check --least five-findings.s count.s",
 ];
 
 // The number of the process, by which new files are named.

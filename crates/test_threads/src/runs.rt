@@ -139,6 +139,8 @@ fn runs_programs(rt: HostRuntime) {
     }
 }
 
+// The only task of `SPIN` stays at the head, so nobody applies an event during its bursts: with these it comes to
+// its budget exactly.
 #[test]
 fn runs_out_of_budget(rt: HostRuntime) {
     let accepted = accepted(rt.alloc(), SPIN, SPIN_CERTIFICATE).expect(&rt, "accepted");
@@ -152,7 +154,7 @@ fn expect_spun(rt: &impl Bench, alloc: Global, accepted: &Accepted, units: u32) 
     let report = report.ok().expect(rt, "a report");
     assert!(rt; report.how == How::OutOfBudget);
     assert!(rt; report.machine.outcome() == Standing::Running);
-    assert!(rt; report.machine.length() >= 100);
+    assert!(rt; report.machine.length() == 100);
     expect_counts(rt, &report, units);
 }
 

@@ -61,6 +61,7 @@ of_ring s n units workers same h = record {
   of_units = h.of_units ∙ sym same;
   of_workers = refl;
   is_worker = subst (λ (x : ℕ). s.worker < x) (sym h.of_workers) h.is_worker;
+  few = subst (λ (x : ℕ). x ≤ 16) (sym h.of_workers) h.few;
 }
 
 -- a worker for each unit

@@ -5,11 +5,12 @@ use Rattle.unit_turns.specs.Turns.{turn_of, position_of_unit}
 use Rattle.unit_turns.specs.declared.turn.Turn.TheVariants.{Wait}
 use Rattle.threaded_runner.specs.declared.share.Share.{Share}
 
--- a share of a ring of so many units among so many workers
+-- a share of a ring of so many units among so many workers, of whom there are at most 16
 pub record IsShareOf (units workers : ℕ) (s : Share) : Type 0 where
   pub of_units : s.units ≡ units
   pub of_workers : s.workers ≡ workers
   pub is_worker : s.worker < workers
+  pub few : workers ≤ 16
 
 -- a worker serves the units of the ring whose number, modulo the number of workers, is its own
 pub record IsServed (s : Share) (unit : ℕ) : Type 0 where

@@ -64,7 +64,7 @@ pub record DoesEvent (w : WorkerView) (unit : ℕ) (e : Event) (old : DeskView) 
 abbrev pub IsThenOf : Share → (unit : ℕ) → Pace → (room : ℕ) → Then → Type 0
 IsThenOf s unit pace room (BurstInPlace next) = (s.workers ≡ 1) × (pace.most ≡ 64) × (next.unit ≡ unit) × (next.most ≡ min 1024 room)
 IsThenOf s unit pace room (Burst next) = ((s.workers ≡ 1) × (pace.most ≡ 64) → ⊥) × (next.unit ≡ unit) × (next.most ≡ min pace.most room)
-IsThenOf s unit pace room Wait = ⊥
+IsThenOf s unit pace room (Wait idle) = ⊥
 IsThenOf s unit pace room GoOn = ⊥
 IsThenOf s unit pace room End = ⊥
 
@@ -74,12 +74,16 @@ pub record IsBurst (w : WorkerView) (m : MachineView) (next : NextBurst) : Type 
   pub is_turn : turn_of m next.unit ≡ turns.Burst
   pub fits : next.most + length m.history ≤ w.budget
 
--- what a worker does next is what it found under the lock; it waits only where all its units wait, or the first of
--- them that does not is held back; it ends only where the run is over
+-- a worker has nothing to do: all its units wait, or the first of them that does not is held back
+abbrev pub HasNothing : WorkerView → MachineView → Type 0
+HasNothing w m = AllWait m w.share ⊎ ((unit : ℕ) × IsFirst m w.share unit × (is_held w.paces m unit ≡ true))
+
+-- what a worker does next is what it found under the lock; it waits only where it has nothing to do, and ends only
+-- where the run is over
 abbrev pub IsNext : WorkerView → DeskView → Then → Type 0
 IsNext w d (Burst next) = IsBurst w d.machine next
 IsNext w d (BurstInPlace next) = IsBurst w d.machine next × (w.share.workers ≡ 1)
-IsNext w d Wait = AllWait d.machine w.share ⊎ ((unit : ℕ) × IsFirst d.machine w.share unit × (is_held w.paces d.machine unit ≡ true))
+IsNext w d (Wait idle) = (idle.worker ≡ w.share.worker) × HasNothing w d.machine
 IsNext w d GoOn = Unit {0}
 IsNext w d End = IsDone w.budget d
 

@@ -320,7 +320,8 @@ impl<'a, P: Predict, J: Naming> Desk<'a, P, J> {
 
     /// Notes that a worker waits.
     pub(crate) fn fall_asleep(&mut self, worker: u32)
-        ensures { self.new ≡ record self.old { asleep = slice_set self.old.asleep worker true } }
+        ensures notes { self.new ≡ record self.old { asleep = slice_set self.old.asleep worker true } }
+        ensures marked { worker < 16 → IsAsleep self.new.asleep worker }
     {
         put(&mut self.asleep, worker, true);
     }

@@ -2,9 +2,12 @@
 
 ghost use Rattle.std.specs.Prelude.{◌≡◌, Some, true, slice_get};
 ghost use Rattle.std.specs.Sync.Mutex.{mutex_guard_value};
-ghost use Rattle.threaded_runner.specs.Calls.{AreCalled};
+ghost use Rattle.threaded_runner.specs.Calls.{AreCalled, IsAsleep};
+ghost use Rattle.threaded_runner.specs.Desks.{IsDone};
+ghost use Rattle.threaded_runner.specs.Workers.{HasNothing};
 
 use crate::desk::Desk;
+use crate::hold::{Idle, Worker};
 use crate::naming::Naming;
 use crate::share::Share;
 use sequencer::predict::Predict;
@@ -19,8 +22,8 @@ const TRIES: u32 = 5;
 /// How often it does so before it waits asleep.
 const ROUNDS: u32 = 100;
 
-/// The lock, while a worker holds it. It has no `Drop`: so a worker lets go of it by `let_go` alone, which
-/// rings for those that have something to do, or sleeps.
+/// The lock, while a worker holds it. It has no `Drop`: so a worker lets go of it by `let_go` alone, or by what calls
+/// it, which rings for those that have something to do, or sleeps.
 pub(crate) struct Held<'l, 'a, P: Predict, J: Naming> {
     pub(crate) desk: MutexGuard<'l, Desk<'a, P, J>>,
 }
@@ -60,13 +63,53 @@ pub(crate) fn let_go<P: Predict, J: Naming>(
     called: Called,
     bells: &[Bell],
     share: Share,
-    budget: u32,
 )
-    requires { AreCalled budget share (mutex_guard_value held.desk) }
+    requires { AreCalled J.budget share (mutex_guard_value held.desk) }
 {
     let Held { desk } = held;
     drop(desk);
     called.ring(bells);
+}
+
+/// Lets go of the lock as `let_go` does, for a worker that has nothing to do: it is marked as waiting, so that it is
+/// rung for once it has.
+pub(crate) fn let_go_to_wait<P: Predict, J: Naming>(
+    held: Held<'_, '_, P, J>,
+    idle: Idle,
+    called: Called,
+    bells: &[Bell],
+    worker: &Worker<J>,
+)
+    requires called { AreCalled J.budget worker.now.share (mutex_guard_value held.desk) }
+    requires nothing { HasNothing worker.now (mutex_guard_value held.desk).machine }
+    requires own { idle.worker ≡ worker.now.share.worker }
+    requires marked { IsAsleep (mutex_guard_value held.desk).asleep idle.worker }
+{
+    let Idle { worker: _ } = idle;
+    let_go(held, called, bells, worker.share());
+}
+
+/// That a worker ended where the run was over: `let_go_at_end` alone makes it.
+#[derive(Drop)]
+pub(crate) struct Ended {
+    worker: u32,
+}
+
+/// Lets go of the lock as `let_go` does, for a worker that ends: the run is over.
+pub(crate) fn let_go_at_end<P: Predict, J: Naming>(
+    held: Held<'_, '_, P, J>,
+    called: Called,
+    bells: &[Bell],
+    worker: &Worker<J>,
+) -> Ended
+    requires called { AreCalled J.budget worker.now.share (mutex_guard_value held.desk) }
+    requires over { IsDone worker.now.budget (mutex_guard_value held.desk) }
+{
+    let share = worker.share();
+    let_go(held, called, bells, share);
+    Ended {
+        worker: share.worker,
+    }
 }
 
 /// Sleeps until the worker's bell rings, or for no reason not so long; the lock is free meanwhile. A worker

@@ -3,7 +3,7 @@
 use crate::desk::Desk;
 use crate::machine_laws::law_drop;
 use crate::naming::Naming;
-pub(crate) use crate::next::{NextBurst, Then};
+pub(crate) use crate::next::{Idle, NextBurst, Then};
 use crate::pace::Pace;
 use crate::share::Share;
 use crate::slots::put;
@@ -32,6 +32,7 @@ pub(crate) struct Worker<J: Naming> {
 }
 
 impl<J: Naming> Model for Worker<J> {
+    ghost use Rattle.std.specs.Prelude.{◌≡◌};
     ghost use Rattle.threaded_runner.specs.Shares.{IsShareOf};
     ghost use Rattle.threaded_runner.specs.Workers.{WorkerView};
 
@@ -39,7 +40,7 @@ impl<J: Naming> Model for Worker<J> {
 
     ghost view = { λ w. record { share = w.share; budget = w.budget; paces = w.paces } };
 
-    ghost invariant = { λ w. IsShareOf J.units J.workers w.share };
+    ghost invariant = { λ w. IsShareOf J.units J.workers w.share × (w.budget ≡ J.budget) };
 }
 
 impl<J: Naming> Worker<J> {
@@ -60,7 +61,8 @@ impl<J: Naming> Worker<J> {
 
     /// A worker that has done nothing.
     pub(crate) fn new(share: Share, budget: u32) -> Worker<J>
-        requires { IsShareOf J.units J.workers share }
+        requires share { IsShareOf J.units J.workers share }
+        requires budget { budget ≡ J.budget }
         ensures { result ≡ record { share = share; budget = budget; paces = replicate 16 fresh_pace } }
     {
         Worker {
@@ -81,7 +83,8 @@ impl<J: Naming> Worker<J> {
 
     /// How many events the history may have, but for those of a burst that is handed in late.
     pub(crate) fn budget(&self) -> u32
-        ensures { result ≡ self.now.budget }
+        ensures value { result ≡ self.now.budget }
+        ensures of_run { result ≡ J.budget }
     {
         self.budget
     }
@@ -98,10 +101,11 @@ impl<J: Naming> Worker<J> {
                 return Then::End;
             }
             let Some((unit, turn)) = self.share.first_turn(desk.machine()) else {
-                return Then::Wait;
+                return self.wait();
             };
-            if let Some(then) = self.take_turn(desk, unit, turn) {
-                return then;
+            match self.take_turn(desk, unit, turn) {
+                Some(then) => return then,
+                None => {}
             }
         }
         Then::GoOn
@@ -143,7 +147,7 @@ impl<J: Naming> Worker<J> {
         ensures stays { IsSameWorker self.old self.new }
     {
         if assigns(&event) && self.is_held(desk.machine(), unit) {
-            return Some(Then::Wait);
+            return Some(self.wait());
         }
         self.apply_event(desk, unit, event);
         None
@@ -185,11 +189,20 @@ impl<J: Naming> Worker<J> {
         ensures stays { IsSameWorker self.old self.new }
     {
         if self.is_held(desk.machine(), unit) {
-            return Some(Then::Wait);
+            return Some(self.wait());
         }
         desk.choose(unit);
         self.begin(unit);
         None
+    }
+
+    /// The worker has nothing to do.
+    fn wait(&self) -> Then
+        ensures { result ≡ Then.Wait (record { worker = self.now.share.worker }) }
+    {
+        Then::Wait(Idle {
+            worker: self.share.worker,
+        })
     }
 
     /// Whether a unit that was dropped for want of memory takes no task yet: no task has retired since, and

@@ -5,8 +5,8 @@ ghost use Rattle.mark_checker.specs.Places.{Checked};
 
 use std::marker::Brand;
 
-/// The program and certificate of a run, its number of units and its number of workers. They exist in the
-/// proofs alone, and each run picks its own. What lies under the lock says by this type that its machine is
+/// The program and certificate of a run, its number of units, its number of workers and its budget. They exist
+/// in the proofs alone, and each run picks its own. What lies under the lock says by this type that its machine is
 /// that of this run, so neither a burst nor the machine that comes out has to be compared with anything.
 pub(crate) trait Naming {
     ghost accepted: { Checked };
@@ -14,6 +14,8 @@ pub(crate) trait Naming {
     ghost units: { ℕ };
 
     ghost workers: { ℕ };
+
+    ghost budget: { ℕ };
 }
 
 impl Naming for Brand {
@@ -22,4 +24,6 @@ impl Naming for Brand {
     ghost units = { 1 };
 
     ghost workers = { 1 };
+
+    ghost budget = { 1 };
 }

@@ -2,6 +2,13 @@
 
 ghost use Rattle.std.specs.Prelude.{◌≤◌};
 
+/// That a worker has nothing to do. It has no `Drop`, so the worker cannot just ask again: `let_go_to_wait` alone
+/// takes it.
+pub(crate) struct Idle {
+    /// The number of the worker.
+    pub(crate) worker: u32,
+}
+
 /// The burst that is made next of a unit.
 #[derive(Drop)]
 pub(crate) struct NextBurst {
@@ -13,14 +20,13 @@ pub(crate) struct NextBurst {
 }
 
 /// What a worker does once it lets go of the lock.
-#[derive(Drop)]
 pub(crate) enum Then {
     /// Makes a burst on the unit, which is to be lent.
     Burst(NextBurst),
     /// Goes on with the head where it is, by as many events as the burst may have instructions.
     BurstInPlace(NextBurst),
     /// Waits until the machine has changed.
-    Wait,
+    Wait(Idle),
     /// Takes the lock again, since there may be more to do.
     GoOn,
     /// Ends.

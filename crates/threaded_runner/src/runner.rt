@@ -102,7 +102,8 @@ fn run_named<'a, P: Predict, J: Naming + Send + Sync, G: RunGate, R: Threads + W
 ) -> Result<Report<'a>, RunFault>
     requires named { accepted.now ≡ J.accepted }
     requires units { (0 < units) × (units ≤ 16) × (units ≡ J.units) }
-    requires workers { (0 < workers) × (workers ≡ J.workers) }
+    requires workers { (0 < workers) × (workers ≤ units) × (workers ≡ J.workers) }
+    requires budget { budget ≡ J.budget }
     ensures fault { IfErr result (λ fault. fault ≡ RunFault.OutOfMemory) }
     ensures over { IfOk result (λ report. (report.machine.accepted ≡ accepted.now) × (units_of report.machine ≡ units)) }
     ensures replay { IfOk result (λ report. Replays report.machine.accepted.program (units_of report.machine) report.machine.history (state report.machine)) }
@@ -145,7 +146,9 @@ fn new_desk<'a, P: Predict, J: Naming>(
 }
 
 /// A bell for each worker.
-fn new_bells(alloc: Global, workers: u32) -> Result<Vec<Bell>, AllocError> {
+fn new_bells(alloc: Global, workers: u32) -> Result<Vec<Bell>, AllocError>
+    ensures { IfOk result (λ bells. length bells.items ≡ workers) }
+{
     let mut bells = Vec::with_capacity(alloc, workers as usize)?;
     for _ in 0..workers {
         bells.push(Bell::new())?;
@@ -164,13 +167,15 @@ fn work<'a, 't, P: Predict, J: Naming + Send + Sync, G: RunGate, R: Threads + Wa
     budget: u32,
 )
     requires units { units ≡ J.units }
-    requires workers { workers ≡ J.workers }
+    requires workers { (workers ≤ 16) × (workers ≡ J.workers) }
+    requires budget { budget ≡ J.budget }
+    requires bells { workers ≤ length bells.now }
 {
     thread::scope(
         thread::scope_env(),
         rt,
         |scope|
-            requires { (units ≡ J.units) × (workers ≡ J.workers) }
+            requires { (units ≡ J.units) × (workers ≤ 16) × (workers ≡ J.workers) × (budget ≡ J.budget) × (workers ≤ length bells.now) }
         {
             for number in 0..workers {
                 let share = Share {
@@ -179,8 +184,9 @@ fn work<'a, 't, P: Predict, J: Naming + Send + Sync, G: RunGate, R: Threads + Wa
                     worker: number,
                 };
                 let worker = Worker::new(share, budget);
+                let bell = &bells[number as usize];
                 if scope
-                    .spawn(move || serve(rt, shared, bells, gate, worker))
+                    .spawn(move || serve(rt, shared, bells, bell, gate, worker))
                     .is_err()
                 {
                     give_up(rt, shared, bells, share, budget);
@@ -198,7 +204,8 @@ fn give_up<P: Predict, J: Naming, R: Wait>(
     share: Share,
     budget: u32,
 )
-    requires { IsShareOf J.units J.workers share }
+    requires share { IsShareOf J.units J.workers share }
+    requires budget { budget ≡ J.budget }
 {
     let mut held = take(rt, shared);
     held.desk.stop();

@@ -1,12 +1,15 @@
 //! A worker's thread: events under the lock, bursts away from it.
 
 ghost use Rattle.std.specs.Prelude.{◌≡◌, IfSome, IsTrue};
+ghost use Rattle.std.specs.Sync.Mutex.{mutex_guard_value};
+ghost use Rattle.threaded_runner.specs.Desks.{IsDone};
 ghost use Rattle.threaded_runner.specs.Shares.{IsShareOf};
+ghost use Rattle.threaded_runner.specs.Workers.{HasNothing};
 
 use crate::desk::Desk;
 use crate::gate::RunGate;
-use crate::held::{Held, let_go, sleep, take};
-use crate::hold::{NextBurst, Then, Worker};
+use crate::held::{Ended, Held, let_go, let_go_at_end, let_go_to_wait, sleep, take};
+use crate::hold::{Idle, NextBurst, Then, Worker};
 use crate::naming::Naming;
 use crate::share::Share;
 use sequencer::machine::Machine;
@@ -15,20 +18,18 @@ use std::sync::{Mutex, Wait};
 use unit_core::burst::Burst;
 use worker_bells::bell::Bell;
 
-/// Serves a worker's units until the run is over. Whenever it lets go of the lock it rings for the workers
-/// that wait and now have something to do.
+/// Serves a worker's units until the run is over, by the worker's own bell. Whenever it lets go of the lock it rings
+/// for the workers that wait and now have something to do.
 pub(crate) fn serve<'a, P: Predict, J: Naming, G: RunGate, R: Wait>(
     rt: &R,
     shared: &Mutex<Desk<'a, P, J>>,
     bells: &[Bell],
+    bell: &Bell,
     gate: &G,
     mut worker: Worker<J>,
-) {
+) -> Ended {
     let share = worker.share();
     let budget = worker.budget();
-    let Some(bell) = bells.get(share.worker as usize) else {
-        return;
-    };
     let mut slot = None;
     let mut held = take(rt, shared);
     for _ in rt.forever() {
@@ -46,18 +47,28 @@ pub(crate) fn serve<'a, P: Predict, J: Naming, G: RunGate, R: Wait>(
                 ring_and_let_go(held, bells, share, budget);
                 held = burst_in_place(rt, shared, bells, gate, &mut worker, &next);
             }
-            Then::Wait => held = wait_for(held, bells, bell, rt, shared, share, budget),
+            Then::Wait(idle) => held = wait_for(held, idle, bells, bell, rt, shared, &worker),
             Then::GoOn => {
                 ring_and_let_go(held, bells, share, budget);
                 held = take(rt, shared);
             }
-            Then::End => {
-                ring_and_let_go(held, bells, share, budget);
-                return;
-            }
+            Then::End => return end(held, bells, &worker),
         }
     }
     unreachable!()
+}
+
+/// Lets go of the lock where the run is over, and rings for the workers that now have something to do, which is to
+/// end.
+fn end<P: Predict, J: Naming>(
+    mut held: Held<'_, '_, P, J>,
+    bells: &[Bell],
+    worker: &Worker<J>,
+) -> Ended
+    requires { IsDone worker.now.budget (mutex_guard_value held.desk) }
+{
+    let called = held.desk.call(worker.share(), worker.budget());
+    let_go_at_end(held, called, bells, worker)
 }
 
 /// Lets go of the lock, and rings for the workers that now have something to do.
@@ -67,10 +78,11 @@ pub(crate) fn ring_and_let_go<P: Predict, J: Naming>(
     share: Share,
     budget: u32,
 )
-    requires { IsShareOf J.units J.workers share }
+    requires share { IsShareOf J.units J.workers share }
+    requires budget { budget ≡ J.budget }
 {
     let called = held.desk.call(share, budget);
-    let_go(held, called, bells, share, budget);
+    let_go(held, called, bells, share);
 }
 
 /// Lends a unit into the slot, which keeps the room of the burst before; says whether it did.
@@ -144,19 +156,21 @@ fn burst_in_place<'l, 'a, P: Predict, J: Naming, G: RunGate, R: Wait>(
 /// Lets go of the lock, waits until the worker's bell has rung since, and takes the lock again.
 fn wait_for<'l, 'a, P: Predict, J: Naming, R: Wait>(
     mut held: Held<'l, 'a, P, J>,
+    idle: Idle,
     bells: &[Bell],
     bell: &Bell,
     rt: &R,
     shared: &'l Mutex<Desk<'a, P, J>>,
-    share: Share,
-    budget: u32,
+    worker: &Worker<J>,
 ) -> Held<'l, 'a, P, J>
-    requires { IsShareOf J.units J.workers share }
+    requires own { idle.worker ≡ worker.now.share.worker }
+    requires nothing { HasNothing worker.now (mutex_guard_value held.desk).machine }
 {
-    let called = held.desk.call(share, budget);
+    let share = worker.share();
+    let called = held.desk.call(share, worker.budget());
     held.desk.fall_asleep(share.worker);
     let heard = bell.rings();
-    let_go(held, called, bells, share, budget);
+    let_go_to_wait(held, idle, called, bells, worker);
     bell.listen(heard);
     let mut held = take(rt, shared);
     if held.desk.is_asleep(share.worker) {

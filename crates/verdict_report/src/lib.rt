@@ -5,6 +5,7 @@
 //! it, and by its arm in `serve`.
 #![tactic(auto)]
 
+pub mod alone;
 pub mod curving;
 pub mod event_text;
 pub mod fault;

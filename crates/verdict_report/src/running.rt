@@ -75,8 +75,8 @@ fn run_accepted<R: Threads + Wait + Sync>(
     Ok(report_of_run(alloc, emit, extent.units, &ran, text, accepted)?)
 }
 
-// What is written of a run, and the status.
-fn report_of_run(
+/// What is written of a run, and the status.
+pub(crate) fn report_of_run(
     alloc: Global,
     emit: RunEmit,
     units: Units,

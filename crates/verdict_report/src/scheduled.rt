@@ -7,6 +7,7 @@ ghost use Rattle.verdict_report.specs.Runs.{run_of, run_by_threads as run_by_thr
 use crate::fault::ServeFault;
 use crate::ran::{Extent, Ran};
 use jobs::job::{Prediction, Schedule};
+use jobs::ranges::{Budget, Units};
 use mark_checker::accept::Accepted;
 use sequencer::predict::Script;
 use std::alloc::{AllocError, Global};
@@ -39,7 +40,7 @@ pub fn run_scheduled<'a, R: Threads + Wait + Sync>(
 {
     match extent.schedule {
         Schedule::Threads => run_by_threads(rt, alloc, extent, predict, accepted),
-        Schedule::Steps => run_in_steps(alloc, extent, predict, accepted),
+        Schedule::Steps => Ok(run_in_steps(alloc, extent.units, extent.budget, predict, accepted)?),
     }
 }
 
@@ -122,23 +123,24 @@ fn numbers_of(extent: Extent) -> Numbers
     }
 }
 
-// Runs an accepted program in steps, with the predictor that is asked for.
-fn run_in_steps<'a>(
+/// Runs an accepted program in steps, with the predictor that is asked for.
+///
+/// # Errors
+///
+/// `AllocError` where memory was refused.
+pub(crate) fn run_in_steps<'a>(
     alloc: Global,
-    extent: Extent,
+    units: Units,
+    budget: Budget,
     predict: &Prediction,
     accepted: &'a Accepted,
-) -> Result<Ran<'a>, ServeFault>
-    ensures over { IfOk result (λ ran. (ran.machine.accepted ≡ accepted.now) × (units_of ran.machine ≤ 16) × (units_of ran.machine ≡ extent.units)) }
-    ensures run { IfOk result (λ ran. IsRunOf accepted.now.program extent.units extent.budget (run_of ran)) }
-    ensures scheduled { IfOk result (λ ran. IsScheduled Schedule.Steps accepted.now.program extent.units extent.budget predict.now (run_of ran)) }
-    ensures fault { result ≢ Err ServeFault.Write }
-    ensures own { result ≢ Err ServeFault.Foreign }
+) -> Result<Ran<'a>, AllocError>
+    ensures over { IfOk result (λ ran. (ran.machine.accepted ≡ accepted.now) × (units_of ran.machine ≤ 16) × (units_of ran.machine ≡ units)) }
+    ensures run { IfOk result (λ ran. IsRunOf accepted.now.program units budget (run_of ran)) }
+    ensures scheduled { IfOk result (λ ran. IsScheduled Schedule.Steps accepted.now.program units budget predict.now (run_of ran)) }
 {
-    let units = extent.units.get();
-    let most = extent.budget.get();
     let predictor = predictor_of(alloc, predict)?;
-    match run_steps(alloc, accepted, units, most, predictor) {
+    match run_steps(alloc, accepted, units.get(), budget.get(), predictor) {
         Ok(
             StepsReport {
                 machine,
@@ -150,7 +152,7 @@ fn run_in_steps<'a>(
             how: ended_as(how),
             steps: Some(steps),
         }),
-        Err(StepsFault::OutOfMemory) => Err(ServeFault::OutOfMemory),
+        Err(StepsFault::OutOfMemory) => Err(AllocError),
         Err(StepsFault::Units | StepsFault::Budget) => unreachable!(),
     }
 }

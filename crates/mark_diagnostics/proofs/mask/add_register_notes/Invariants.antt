@@ -1,8 +1,7 @@
 -- The notes so far are added.
 use Rattle.std.proofs.Common.{◌≡◌, ◌++◌, map, take}
-use Rattle.source_map.specs.Sources.{sources_in}
-use Rattle.mark_diagnostics.specs.MaskDiagnostics.{register_note}
+use Rattle.mark_diagnostics.specs.Masks.{register_note}
 use Rattle.mark_diagnostics.proofs.mask.add_register_notes.Given as goal
 
 abbrev pub invariant-loop-shown : goal.invariant-loop-shown
-invariant-loop-shown l = l.notes.items ≡ l.initial.notes.items ++ map (register_note (sources_in l.map)) (take l.shown-index l.list)
+invariant-loop-shown l = l.notes.items ≡ l.initial.notes.items ++ map (register_note l.subject) (take l.shown-index l.list)

@@ -9,9 +9,9 @@ pub loop-preserved : goal.loop-preserved
 loop-preserved g c =
     let s = c.args.self.now.share in
     let before = c.loop.invariant.stays in
-    let after = c.in_default-take_turn.ensures.stays in
+    let after = c.in-None.ensures.stays in
     let one : TakesTurns s 1 c.loop.desk c.take_turn.new.desk =
-    subst (λ (x : Share). TakesTurns x 1 c.loop.desk c.take_turn.new.desk) before.share c.in_default-take_turn.ensures.turn in
+    subst (λ (x : Share). TakesTurns x 1 c.loop.desk c.take_turn.new.desk) before.share c.in-None.ensures.turn in
     let goes : c.loop.desk.is_stopped ≡ true → ⊥ = λ stop. true≢false (sym (c.is_done.ensures.1 (inl stop)) ∙ c.if-is_done.false) in
     record {
       turns = more_turns s c.loop.counter 1 c.args.desk.now c.loop.desk c.take_turn.new.desk goes c.loop.invariant.turns one;

@@ -1,0 +1,18 @@
+-- The values of an id are those of its row.
+use Rattle.std.proofs.Common.{◌≡◌, ◌∙◌, ap, arith, List, [], length, map}
+use Rattle.std.specs.Prelude.{Option, unwrap_or}
+use Rattle.std.proofs.lemmas.List.{length-map}
+use Rattle.clap.specs.Words.{Text, found_of}
+use Rattle.clap.proofs.WalkLemmas.{raw_values-rows}
+use Rattle.command_line.specs.Asked.{values_at, values_in}
+use Rattle.command_line.proofs.words.count_at.Goals as goal
+
+pub returns-in-Some : goal.returns-in-Some
+returns-in-Some c =
+    let are : map (λ t. t.now) c.in-Some.texts.now ≡ values_at c.args.id.now (values_in c.args.values.now) =
+    ap (λ (o : Option (List Text)). unwrap_or o []) (c.in-Some.ensures ∙ raw_values-rows (found_of c.args.values.now) c.args.id.now) in
+    omega (arith, ap (λ (l : List Text). length l) are, length-map c.in-Some.texts.now (λ t. t.now))
+
+pub returns-in-None : goal.returns-in-None
+returns-in-None c =
+    ap (λ (o : Option (List Text)). length (unwrap_or o [])) (c.in-None.ensures ∙ raw_values-rows (found_of c.args.values.now) c.args.id.now)

@@ -1,0 +1,3 @@
+pub mod Silence
+pub mod Indices
+pub mod Steps

@@ -1,0 +1,99 @@
+-- Worked examples, computed by the checker.
+use Rattle.std.specs.Prelude.{◌≡◌, ℕ, List, [], ◌∷◌, map, codes, Option, Some}
+use Rattle.std.specs.Fmt.{digits}
+use Rattle.std.specs.Option.{option_map}
+use Rattle.std.specs.Str.{is_utf8, chars}
+use lib.Utf8.{encode}
+use Rattle.std.proofs.Common.{refl}
+use Rattle.task_descriptor.specs.Listing.{Listing}
+use Rattle.task_descriptor.specs.declared.descriptor.Descriptor.{Descriptor}
+use Rattle.mask_certificate.specs.declared.fault.CertFault.TheVariants as fault
+use Rattle.mark_checker.specs.declared.finding.Rule.TheVariants as rule
+use Rattle.canonical_text.specs.CanonicalText.{members}
+use Rattle.diagnostics.specs.declared.diagnostic.Diagnostic.{Diagnostic}
+use Rattle.diagnostics.specs.declared.diagnostic.Span.{Span}
+use Rattle.diagnostics.specs.Excerpt.{is_readable}
+use Rattle.diagnostics.specs.Quotations.{quoted}
+use Rattle.input_diagnostics.specs.ScriptErrors.{script_errors}
+use Rattle.input_diagnostics.specs.RefusedCertificates.{refused_error}
+use Rattle.input_diagnostics.specs.Misfits.{misfit_error}
+
+abbrev named : List ℕ → Descriptor
+named name = record { name = name; entry = 0; create = 0; targets = [] }
+
+-- a program with the tasks MAIN and LOOP
+abbrev program : Listing
+program = record { code = []; bytes = []; fixed = []; tasks = named (codes "MAIN") ∷ named (codes "LOOP") ∷ []; start = 0 }
+
+abbrev at : (line column width : ℕ) → Option Span
+at line column width = Some (record { line = line; column = column; width = width })
+
+-- where, what, and what to do
+abbrev told : Diagnostic → Option Span × List ℕ × Option (List ℕ)
+told d = (d.span, d.message, option_map (λ h. h.message) d.help)
+
+-- ---- scripts
+
+pub right : script_errors program (codes "assign LOOP\nexec 0\n") ≡ []
+right = refl
+
+pub nearest_task : map told (script_errors program (codes "retire\nassign LOPO\n"))
+    ≡ (at 2 8 4, codes "the program has no task `LOPO`", Some (codes "did you mean LOOP?")) ∷ []
+unfolding digits is_readable is_utf8 chars encode quoted
+nearest_task = refl
+
+-- each line
+pub two_lines : map told (script_errors program (codes "exce 0\ntransfer 0 8"))
+    ≡ (at 1 1 4, codes "`exce` begins no event", Some (codes "an event begins with assign, exec, transfer, drain, squash, retire, fault or drop"))
+    ∷ (at 2 12 1, codes "`8` is no register", Some (codes "write $ and the register's number, from $0 to $33, without leading zeros"))
+    ∷ []
+unfolding digits is_readable is_utf8 chars encode quoted
+two_lines = refl
+
+pub missing_word : map told (script_errors program (codes "exec"))
+    ≡ (at 1 5 0, codes "a word is missing here", Some (codes "write exec and a position, as in exec 0")) ∷ []
+missing_word = refl
+
+pub more_words : map told (script_errors program (codes "retire # done"))
+    ≡ (at 1 8 6, codes "this is more than the event takes", Some (codes "write retire alone")) ∷ []
+more_words = refl
+
+pub two_spaces : map told (script_errors program (codes "exec  0"))
+    ≡ (at 1 6 1, codes "this space separates no two words", Some (codes "take it out: one space stands between two words, and none before or after them")) ∷ []
+two_spaces = refl
+
+-- once for all lines
+pub carriage_returns : map told (script_errors program (codes "retire\r\nfault\r\n"))
+    ≡ (at 1 7 1, codes "the line ends with CR LF, and not with LF alone", Some (codes "take the CR out of every line: tr -d '\\r' < OLD > NEW")) ∷ []
+carriage_returns = refl
+
+-- ---- certificates
+
+pub short_mask : map told (refused_error program (codes "cert 2\ntask MAIN\n1 600\n") (fault.Line 3))
+    ≡ (at 3 3 3, codes "this is no mask of 16 digits", Some (codes "write 16 digits, 0 to 9 and a to f in lower case, with zeros in front and no bit above 33")) ∷ []
+unfolding digits
+short_mask = refl
+
+pub no_last_newline : map told (refused_error program (codes "cert 2\ntask MAIN") (fault.Line 2))
+    ≡ (at 2 10 0, codes "the last line does not end with LF", Some (codes "end it with LF")) ∷ []
+no_last_newline = refl
+
+pub other_task : map told (refused_error program (codes "cert 2\ntask MANE\n") (fault.TaskName 2))
+    ≡ (at 2 6 4, codes "the program's next task is MAIN", Some (codes "write MAIN")) ∷ []
+other_task = refl
+
+pub missing_task : map told (refused_error program (codes "cert 2\ntask MAIN\n") fault.MissingTask)
+    ≡ (at 2 10 0, codes "the certificate ends before task LOOP", Some (codes "make it anew: multiscalar annotate --emit keep PROGRAM > CERT")) ∷ []
+missing_task = refl
+
+pub index_twice : map told (refused_error program (codes "cert 1\ntask MAIN\n1 00000600\n1 00000600\n") fault.Shape)
+    ≡ (at 4 1 1, codes "this index is not above that of the line before", Some (codes "make it anew: multiscalar annotate --emit keep PROGRAM > CERT")) ∷ []
+index_twice = refl
+
+-- the mask of LOOP at 2 lacks $8 and $10
+pub lacking : told (misfit_error program (((0, 0) ∷ []) ∷ ((1, 0x700) ∷ (2, 0x200) ∷ []) ∷ []) 16 (record { rows = []; code = [] })
+    (record { task = 1; index = 2; rule = rule.LacksDestination; reg = Some 8 })
+    (record { task = 1; index = 2; rule = rule.LacksDestination; reg = Some 8 } ∷ record { task = 1; index = 2; rule = rule.LacksNext; reg = Some 10 } ∷ []))
+    ≡ (at 6 3 16, codes "the mask of task LOOP at index 2 lacks $8,$10", Some (codes "write 0000000000000700"))
+unfolding digits members
+lacking = refl

@@ -1,0 +1,6 @@
+pub mod Saying
+pub mod ScriptErrors
+pub mod RefusedCertificates
+pub mod Misfits
+pub mod CertificateErrors
+pub mod Examples

@@ -1,0 +1,163 @@
+-- What is said of a certificate that does not fit its program: of the findings of the rules 1 to 4, which judge it alone
+-- (own choice).
+use Rattle.std.specs.Prelude.{ℕ, zero, suc, ◌+◌, ◌-◌, ◌^◌, min, Bool, true, false, ◌&&◌, ◌||◌, ◌==◌, nat_lt, nat_le, if◌then◌else◌, List, [], ◌∷◌, ◌++◌, length, map, take, drop, filter, slice_get, position, bit_or, codes, unwrap_or, Option, Some, None}
+use Rattle.std.specs.Fmt.{decimal}
+use Rattle.std.specs.List.{take_while}
+use Rattle.task_descriptor.specs.Listing.{Listing}
+use Rattle.canonical_text.specs.CanonicalText.{listed, members, register_text}
+use Rattle.event_script.specs.ScriptText.{name_at}
+use Rattle.mask_certificate.specs.Lists.{list_of, mask_at}
+use Rattle.mask_certificate.specs.CertificateText.{hexadecimal}
+use Rattle.mark_checker.specs.Numbers.{number_of}
+use Rattle.mark_checker.specs.Rules.{all_rules}
+use Rattle.mark_checker.specs.declared.finding.Finding.{Finding}
+use Rattle.mark_checker.specs.declared.finding.Rule.{Rule}
+use Rattle.mark_checker.specs.declared.finding.Rule.TheVariants as rule
+use Rattle.diagnostics.specs.declared.code.Code.{Code}
+use Rattle.diagnostics.specs.declared.code.Code.TheVariants.{EntryWithoutMask, NextWithoutMask, LacksDestination, LacksNext}
+use Rattle.diagnostics.specs.declared.diagnostic.Diagnostic.{Diagnostic}
+use Rattle.diagnostics.specs.declared.diagnostic.Help.{Help}
+use Rattle.diagnostics.specs.declared.diagnostic.Note.{Note}
+use Rattle.diagnostics.specs.declared.diagnostic.Source.TheVariants.{Certificate}
+use Rattle.diagnostics.specs.declared.diagnostic.Span.{Span}
+use Rattle.diagnostics.specs.Quotations.{quoted}
+use Rattle.input_diagnostics.specs.Saying.{by_text, error, row_at, span, more_note, most_shown}
+use Rattle.input_diagnostics.specs.RefusedCertificates.{anew}
+
+-- the findings of the rules that judge the certificate alone
+abbrev pub is_own : Finding → Bool
+is_own f = nat_le (number_of f.rule) 4
+
+abbrev pub own_findings : Listing → (cert : List (List (ℕ × ℕ))) → List Finding
+own_findings p cert = filter is_own (all_rules p cert)
+
+-- ---- where it is
+
+-- so many lines or columns further on (no number of one is greater than the greatest `usize`)
+abbrev pub further : (line count : ℕ) → ℕ
+further line count = min (line + count) 18446744073709551615
+
+-- the line that begins a task: behind the first line stand the lines of the tasks before it, and their entries
+abbrev pub task_line : (cert : List (List (ℕ × ℕ))) → (task : ℕ) → ℕ
+task_line cert zero = 2
+task_line cert (suc task) = further (further (task_line cert task) 1) (length (list_of cert task))
+
+-- the line of a task's entry at an index
+abbrev pub entry_line : (cert : List (List (ℕ × ℕ))) → (task index : ℕ) → ℕ
+entry_line cert task index =
+    further (further (task_line cert task) 1) (unwrap_or (position (λ e. e.0 == index) (list_of cert task)) 0)
+
+abbrev pub index_width : (index : ℕ) → ℕ
+index_width index = length (decimal index)
+
+abbrev pub task_name : Listing → (task : ℕ) → List ℕ
+task_name p task = name_at (slice_get p.tasks task)
+
+-- the line of a task; the index of an entry; the mask of an entry, which has so many digits
+abbrev pub span_by : Rule → Listing → (cert : List (List (ℕ × ℕ))) → (digits : ℕ) → Finding → Span
+span_by rule.EntryWithoutMask p cert digits f = span (task_line cert f.task) 0 (5 + length (task_name p f.task))
+span_by rule.NextWithoutMask p cert digits f = span (entry_line cert f.task f.index) 0 (index_width f.index)
+span_by _ p cert digits f = span (entry_line cert f.task f.index) (further (index_width f.index) 1) digits
+
+-- the lines of the program text, and where each instruction stands in them
+pub record ProgramView : Type 0 where
+  pub rows : List (List ℕ)
+  pub code : List Span
+
+abbrev pub instruction_in : (rows : List (List ℕ)) → Span → List ℕ
+instruction_in rows s = take s.width (drop (s.column - 1) (row_at rows s.line))
+
+abbrev pub note_by : (rows : List (List ℕ)) → (index : ℕ) → Option Span → List Note
+note_by rows index None = []
+note_by rows index (Some s) = record {
+  span = None;
+  message = codes "index " ++ (decimal index ++ (codes " is line " ++ (decimal s.line ++ (codes " of the program: " ++ quoted (instruction_in rows s)))));
+  path = [];
+} ∷ []
+
+-- the instruction at an index
+abbrev pub instruction_note : ProgramView → (index : ℕ) → List Note
+instruction_note lines index = note_by lines.rows index (slice_get lines.code index)
+
+-- ---- findings of one mask, which are told together
+
+-- a finding that says which register a mask lacks
+abbrev pub lacks : Rule → Bool
+lacks rule.LacksDestination = true
+lacks rule.LacksNext = true
+lacks _ = false
+
+abbrev pub is_same_mask : Finding → Finding → Bool
+is_same_mask f g = lacks f.rule && (lacks g.rule && (f.task == g.task && f.index == g.index))
+
+abbrev pub register_in : Option ℕ → ℕ
+register_in None = 0
+register_in (Some r) = r
+
+-- a mask with the registers of some findings
+abbrev pub with_missing : (mask : ℕ) → List Finding → ℕ
+with_missing mask [] = mask
+with_missing mask (f ∷ fs) = with_missing (bit_or mask (2 ^ register_in f.reg)) fs
+
+-- the registers of some findings
+abbrev pub missing_text : List Finding → List ℕ
+missing_text group = listed (map register_text (members (with_missing 0 group)))
+
+-- ---- what is said
+
+abbrev pub code_by : Rule → Code
+code_by rule.EntryWithoutMask = EntryWithoutMask
+code_by rule.NextWithoutMask = NextWithoutMask
+code_by rule.LacksDestination = LacksDestination
+code_by _ = LacksNext
+
+abbrev pub lacking_message : (name : List ℕ) → (index : ℕ) → (group : List Finding) → List ℕ
+lacking_message name index group =
+    codes "the mask of task " ++ (name ++ (codes " at index " ++ (decimal index ++ (codes " lacks " ++ missing_text group))))
+
+abbrev pub message_by : Rule → (name : List ℕ) → (index : ℕ) → (group : List Finding) → List ℕ
+message_by rule.EntryWithoutMask name index group =
+    codes "task " ++ (name ++ (codes " has no mask at its entry, index " ++ decimal index))
+message_by rule.NextWithoutMask name index group =
+    codes "task " ++ (name ++ (codes " goes on from index " ++ (decimal index ++ codes " to an instruction without a mask")))
+message_by _ name index group = lacking_message name index group
+
+-- the mask that is right in place of one that lacks the registers of a group
+abbrev pub whole_mask : (cert : List (List (ℕ × ℕ))) → Finding → (group : List Finding) → ℕ
+whole_mask cert f group = with_missing (unwrap_or (mask_at (list_of cert f.task) f.index) 0) group
+
+-- to write a mask; of 8 digits it can be one of registers 0 to 31 alone
+abbrev pub mask_help : (digits mask : ℕ) → Span → Help
+mask_help digits mask at =
+    if digits == 16 || nat_lt mask (2 ^ 32)
+    then by_text (codes "write " ++ hexadecimal digits mask) at (hexadecimal digits mask)
+    else anew
+
+abbrev pub help_by : Rule → (cert : List (List (ℕ × ℕ))) → (digits : ℕ) → Span → Finding → (group : List Finding) → Help
+help_by rule.EntryWithoutMask cert digits at f group = anew
+help_by rule.NextWithoutMask cert digits at f group = anew
+help_by _ cert digits at f group = mask_help digits (whole_mask cert f group) at
+
+abbrev pub misfit_error : Listing → (cert : List (List (ℕ × ℕ))) → (digits : ℕ) → ProgramView → Finding → (group : List Finding) → Diagnostic
+misfit_error p cert digits lines f group =
+    let at = span_by f.rule p cert digits f in
+    error Certificate (code_by f.rule) at (message_by f.rule (task_name p f.task) f.index group)
+    (instruction_note lines f.index) (help_by f.rule cert digits at f group)
+
+-- a finding that is told with the one before it
+abbrev pub goes_on : (before : Option Finding) → Finding → Bool
+goes_on None f = false
+goes_on (Some g) f = is_same_mask g f
+
+-- what is said of some findings
+abbrev pub told_from : Listing → (cert : List (List (ℕ × ℕ))) → (digits : ℕ) → ProgramView → (before : Option Finding) → List Finding → List Diagnostic
+told_from p cert digits lines before [] = []
+told_from p cert digits lines before (f ∷ fs) =
+    (if goes_on before f then [] else misfit_error p cert digits lines f (take_while (is_same_mask f) (f ∷ fs)) ∷ [])
+    ++ told_from p cert digits lines (Some f) fs
+
+-- what is said of a certificate of masks with so many digits
+abbrev pub misfit_errors : Listing → (cert : List (List (ℕ × ℕ))) → (digits : ℕ) → ProgramView → List Diagnostic
+misfit_errors p cert digits lines =
+    let told = told_from p cert digits lines None (own_findings p cert) in
+    take most_shown told ++ more_note Certificate (length told - most_shown) (codes "error") (codes "errors")

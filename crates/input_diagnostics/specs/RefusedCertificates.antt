@@ -1,0 +1,174 @@
+-- What is said of the text of a certificate that is refused (own choice).
+use Rattle.std.specs.Prelude.{ℕ, ◌+◌, ◌-◌, Bool, not, ◌||◌, ◌==◌, nat_eq, nat_lt, nat_le, if◌then◌else◌, List, [], ◌∷◌, ◌++◌, length, take, drop, slice_get, slice_index, position, codes, unwrap_or, is_some, Option, Some, None}
+use Rattle.std.specs.Fmt.{decimal}
+use Rattle.std.specs.List.{list_any, count_by, starts_with}
+use Rattle.std.specs.Str.{bytes_eq}
+use Rattle.task_descriptor.specs.Listing.{Listing}
+use Rattle.task_descriptor.specs.declared.descriptor.Descriptor.{Descriptor}
+use Rattle.event_script.specs.EventScript.{lines, first_word}
+use Rattle.mask_certificate.specs.declared.fault.CertFault.{CertFault}
+use Rattle.mask_certificate.specs.declared.fault.CertFault.TheVariants as fault
+use Rattle.mask_certificate.specs.CertificateReading.{is_space, index_in}
+use Rattle.diagnostics.specs.declared.code.Code.TheVariants.{Header, Line, TaskName, MissingTask, Shape}
+use Rattle.diagnostics.specs.declared.diagnostic.Diagnostic.{Diagnostic}
+use Rattle.diagnostics.specs.declared.diagnostic.Help.{Help}
+use Rattle.diagnostics.specs.declared.diagnostic.Source.TheVariants.{Certificate}
+use Rattle.diagnostics.specs.declared.diagnostic.Span.{Span}
+use Rattle.diagnostics.specs.Quotations.{quoted}
+use Rattle.input_diagnostics.specs.declared.refused.LineSlip.{LineSlip}
+use Rattle.input_diagnostics.specs.declared.refused.LineSlip.TheVariants.{Unended, Name, First, Form, Index, Mask}
+use Rattle.input_diagnostics.specs.Saying.{in_words, by_text, error, row_at, span, return_error}
+use Rattle.input_diagnostics.specs.ScriptErrors.{ends_with_return}
+
+-- the command that makes a certificate
+abbrev pub anew : Help
+anew = in_words (codes "make it anew: multiscalar annotate --emit keep PROGRAM > CERT")
+
+-- ---- which task is next
+
+abbrev pub is_task_row : (row : List ℕ) → Bool
+is_task_row row = starts_with nat_eq row (codes "task ")
+
+-- the name of the task that line n has to begin, if one is left: by the `task` lines before it
+abbrev pub name_in : Option Descriptor → Option (List ℕ)
+name_in None = None
+name_in (Some d) = Some d.name
+
+abbrev pub next_name : Listing → (rows : List (List ℕ)) → (n : ℕ) → Option (List ℕ)
+next_name p rows n = name_in (slice_get p.tasks (count_by is_task_row (take (n - 1) rows)))
+
+-- ---- a line that has no form
+
+abbrev pub slip_by : (space : Option ℕ) → (row : List ℕ) → LineSlip
+slip_by None row = Form
+slip_by (Some k) row = if is_some (index_in (take k row)) then Mask k else Index k
+
+-- a line without LF; a `task` line, whose name is none; a line that has to be the first `task` line; else what an entry lacks
+abbrev pub line_slip : (ended : Bool) → (n : ℕ) → (row : List ℕ) → LineSlip
+line_slip ended n row =
+    if not ended then Unended
+    else (if is_task_row row then Name
+    else (if n == 2 then First
+    else slip_by (position is_space row) row))
+
+abbrev pub slip_span : (n : ℕ) → (row : List ℕ) → LineSlip → Span
+slip_span n row Unended = span n (length row) 0
+slip_span n row Name = span n 5 (length row - 5)
+slip_span n row First = span n 0 (length row)
+slip_span n row Form = span n 0 (length row)
+slip_span n row (Index k) = span n 0 k
+slip_span n row (Mask k) = span n (k + 1) (length row - (k + 1))
+
+-- `digits` is how many digits a mask has
+abbrev pub slip_message : (digits : ℕ) → (row : List ℕ) → LineSlip → List ℕ
+slip_message digits row Unended = codes "the last line does not end with LF"
+slip_message digits row Name = quoted (drop 5 row) ++ codes " is no name of a task"
+slip_message digits row First = codes "the line of the first task comes first"
+slip_message digits row Form = codes "this is no line of a certificate"
+slip_message digits row (Index k) = quoted (take k row) ++ codes " is no index of an instruction"
+slip_message digits row (Mask k) = codes "this is no mask of " ++ (decimal digits ++ codes " digits")
+
+abbrev pub slip_words : (digits : ℕ) → LineSlip → List ℕ
+slip_words digits Unended = codes "end it with LF"
+slip_words digits (Index k) = codes "write an index in decimal, without leading zeros, at most 4095"
+slip_words digits (Mask k) =
+    codes "write " ++ (decimal digits ++ codes " digits, 0 to 9 and a to f in lower case, with zeros in front and no bit above 33")
+slip_words digits _ = codes "a line is task NAME, or an index, one space and a mask"
+
+-- to write the name of the next task, or, where none is left, nothing more
+abbrev pub name_help : Span → (next : Option (List ℕ)) → Help
+name_help at None = in_words (codes "take out this line and those after it")
+name_help at (Some name) = by_text (codes "write " ++ name) at name
+
+abbrev pub first_help : (next : Option (List ℕ)) → Help
+first_help None = anew
+first_help (Some name) = in_words (codes "write task " ++ (name ++ codes " on a line before it"))
+
+abbrev pub slip_help : (digits : ℕ) → Span → (next : Option (List ℕ)) → LineSlip → Help
+slip_help digits at next Name = name_help at next
+slip_help digits at next First = first_help next
+slip_help digits at next slip = in_words (slip_words digits slip)
+
+-- ---- what is said of each fault
+
+-- how many digits a mask has: the first line says which
+abbrev pub digits_in : (text : List ℕ) → ℕ
+digits_in text = if starts_with nat_eq text (codes "cert 1\n") then 8 else 16
+
+-- line n ends with LF: it is not the last, or the text ends so
+abbrev pub is_ended : (text : List ℕ) → (n : ℕ) → Bool
+is_ended text n = nat_lt n (length (lines text)) || slice_index text (length text - 1) == 10
+
+abbrev pub line_error : Listing → (text : List ℕ) → (n : ℕ) → Diagnostic
+line_error p text n =
+    let row = row_at (lines text) n in
+    let slip = line_slip (is_ended text n) n row in
+    let at = slip_span n row slip in
+    if ends_with_return row then return_error Certificate Line n row
+    else error Certificate Line at (slip_message (digits_in text) row slip) []
+    (slip_help (digits_in text) at (next_name p (lines text) n) slip)
+
+-- the first line of a text
+abbrev pub header_message : (row : List ℕ) → List ℕ
+header_message row =
+    if bytes_eq row (codes "cert 1") || bytes_eq row (codes "cert 2") then codes "the first line does not end with LF"
+    else codes "the first line is neither cert 2 nor cert 1"
+
+abbrev pub header_error : (row : List ℕ) → Diagnostic
+header_error row =
+    if ends_with_return row then return_error Certificate Header 1 row
+    else error Certificate Header (span 1 0 (length row)) (header_message row) []
+    (in_words (codes "begin with the line cert 2, or cert 1 if masks have 8 digits, and end it with LF"))
+
+-- another task than the next one: its name may be written wrong, or lines are missing or too many
+abbrev pub is_task : Listing → (name : List ℕ) → Bool
+is_task p name = list_any (λ d. bytes_eq d.name name) p.tasks
+
+abbrev pub task_message : (next : Option (List ℕ)) → List ℕ
+task_message None = codes "the program has no further task"
+task_message (Some name) = codes "the program's next task is " ++ name
+
+abbrev pub task_error : Listing → (rows : List (List ℕ)) → (n : ℕ) → Diagnostic
+task_error p rows n =
+    let row = row_at rows n in
+    let at = span n 5 (length row - 5) in
+    let next = next_name p rows n in
+    error Certificate TaskName at (task_message next) [] (if is_task p (drop 5 row) then anew else name_help at next)
+
+-- the certificate ends before a task
+abbrev pub missing_error : Listing → (rows : List (List ℕ)) → Diagnostic
+missing_error p rows =
+    let n = length rows in
+    error Certificate MissingTask (span n (length (row_at rows n)) 0)
+    (codes "the certificate ends before task " ++ unwrap_or (next_name p rows (n + 1)) []) [] anew
+
+-- the index of an entry's line; 0 where it has none, as the first line
+abbrev pub index_of : (row : List ℕ) → ℕ
+index_of row = unwrap_or (index_in (first_word row)) 0
+
+-- the first line whose index is below the least that it may be, or none of an instruction; line n is the first of these
+abbrev pub shape_line : (n least : ℕ) → (rows : List (List ℕ)) → Option ℕ
+shape_line n least [] = None
+shape_line n least (row ∷ rows) =
+    if is_task_row row then shape_line (n + 1) 0 rows
+    else (if nat_lt (index_of row) least || nat_le 4096 (index_of row) then Some n
+    else shape_line (n + 1) (index_of row + 1) rows)
+
+abbrev pub shape_message : (index : ℕ) → List ℕ
+shape_message index =
+    if nat_le 4096 index then codes "an index is at most 4095" else codes "this index is not above that of the line before"
+
+abbrev pub shape_error : (rows : List (List ℕ)) → Diagnostic
+shape_error rows =
+    let n = unwrap_or (shape_line 1 0 rows) 1 in
+    let row = row_at rows n in
+    error Certificate Shape (span n 0 (length (first_word row))) (shape_message (index_of row)) [] anew
+
+-- what is said of a text that is refused
+abbrev pub refused_error : Listing → (text : List ℕ) → CertFault → List Diagnostic
+refused_error p text fault.Header = header_error (row_at (lines text) 1) ∷ []
+refused_error p text (fault.Line n) = line_error p text n ∷ []
+refused_error p text (fault.TaskName n) = task_error p (lines text) n ∷ []
+refused_error p text fault.MissingTask = missing_error p (lines text) ∷ []
+refused_error p text fault.Shape = shape_error (lines text) ∷ []
+refused_error p text fault.OutOfMemory = []

@@ -1,0 +1,132 @@
+-- What is wrong with the text of an event script (own choice).
+use Rattle.std.specs.Prelude.{ℕ, ◌+◌, ◌-◌, Bool, true, false, not, ◌&&◌, ◌||◌, ◌==◌, nat_lt, if◌then◌else◌, List, [], ◌∷◌, ◌++◌, length, take, slice_index, codes, Option, Some, None, Result, Ok, Err}
+use Rattle.std.specs.Str.{bytes_eq}
+use Rattle.task_descriptor.specs.Listing.{Listing}
+use Rattle.event_script.specs.EventScript.{is_space, first_word, wrong_part, lines, names_in, bad_lines}
+use Rattle.event_script.specs.declared.bad_line.BadLine.{BadLine}
+use Rattle.event_script.specs.declared.fault.LineFault.{LineFault}
+use Rattle.event_script.specs.declared.fault.LineFault.TheVariants.{NoEvent, TooFew, TooMany, NoPosition, NoRegister, NoName, NoTask}
+use Rattle.line_faults.specs.Near.{nearest}
+use Rattle.diagnostics.specs.declared.code.Code.{Code}
+use Rattle.diagnostics.specs.declared.code.Code.TheVariants.{ScriptLine, ScriptTaskName}
+use Rattle.diagnostics.specs.declared.diagnostic.Diagnostic.{Diagnostic}
+use Rattle.diagnostics.specs.declared.diagnostic.Help.{Help}
+use Rattle.diagnostics.specs.declared.diagnostic.Source.TheVariants.{Script}
+use Rattle.diagnostics.specs.declared.diagnostic.Span.{Span}
+use Rattle.diagnostics.specs.Quotations.{quoted}
+use Rattle.input_diagnostics.specs.declared.slip.Slip.{Slip}
+use Rattle.input_diagnostics.specs.declared.slip.Slip.TheVariants.{Empty, Space, Word}
+use Rattle.input_diagnostics.specs.Saying.{in_words, by_text, error, row_at, span, return_error, more_note, most_shown}
+
+-- What an event is that begins with this word: how it is written.
+abbrev pub form_help : (verb : List ℕ) → List ℕ
+form_help verb =
+    if bytes_eq verb (codes "retire") then codes "write retire alone"
+    else (if bytes_eq verb (codes "fault") then codes "write fault alone"
+    else (if bytes_eq verb (codes "assign") then codes "write assign and the name of a task"
+    else (if bytes_eq verb (codes "exec") then codes "write exec and a position, as in exec 0"
+    else (if bytes_eq verb (codes "squash") then codes "write squash and a position, as in squash 1"
+    else (if bytes_eq verb (codes "drop") then codes "write drop and a position, as in drop 0"
+    else (if bytes_eq verb (codes "transfer") then codes "write transfer, a position and a register, as in transfer 0 $8"
+    else (if bytes_eq verb (codes "drain") then codes "write drain, a position and a register, as in drain 0 $8"
+    else codes "an event begins with assign, exec, transfer, drain, squash, retire, fault or drop")))))))
+
+-- ---- what is wrong with a line
+
+-- How many bytes stand in front of the first space that separates no two words: one at the line's end, at its beginning, or
+-- behind another; the first byte here has `index` in front of it, and `word` says that a word ends there.
+abbrev pub stray_space : (word : Bool) → (index : ℕ) → (line : List ℕ) → Option ℕ
+stray_space word index [] = None
+stray_space word index (b ∷ bs) =
+    if is_space b && (not word || length bs == 0) then Some index else stray_space (not (is_space b)) (index + 1) bs
+
+abbrev pub slip_by : (space : Option ℕ) → LineFault → Slip
+slip_by None fault = Word fault
+slip_by (Some before) fault = Space before
+
+-- an empty line, else a space that is too much, else a word
+abbrev pub slip_of : (line : List ℕ) → LineFault → Slip
+slip_of line fault = if length line == 0 then Empty else slip_by (stray_space false 0 line) fault
+
+abbrev pub slip_span : (n : ℕ) → (line : List ℕ) → Slip → Span
+slip_span n line Empty = span n 0 0
+slip_span n line (Space before) = span n before 1
+slip_span n line (Word fault) = span n (wrong_part fault line).before (length (wrong_part fault line).bytes)
+
+-- what is wrong with a word; of too few and too many words no word is named
+abbrev pub word_message : LineFault → (word : List ℕ) → List ℕ
+word_message NoEvent word = quoted word ++ codes " begins no event"
+word_message TooFew word = codes "a word is missing here"
+word_message (TooMany words) word = codes "this is more than the event takes"
+word_message NoPosition word = quoted word ++ codes " is no position"
+word_message NoRegister word = quoted word ++ codes " is no register"
+word_message NoName word = quoted word ++ codes " is no name of a task"
+word_message NoTask word = codes "the program has no task " ++ quoted word
+
+abbrev pub slip_message : (line : List ℕ) → Slip → List ℕ
+slip_message line Empty = codes "the line is empty"
+slip_message line (Space before) = codes "this space separates no two words"
+slip_message line (Word fault) = word_message fault (wrong_part fault line).bytes
+
+-- ---- what to do
+
+-- the first task of the program whose name is near to a word; to a word of one letter none is
+abbrev pub near_task : Listing → (word : List ℕ) → Option (List ℕ)
+near_task p word = if nat_lt (length word) 2 then None else nearest word (names_in p.tasks)
+
+abbrev pub name_help : List ℕ
+name_help = codes "write the name of a task of the program"
+
+abbrev pub task_help : Span → (near : Option (List ℕ)) → Help
+task_help at None = in_words name_help
+task_help at (Some name) = by_text (codes "did you mean " ++ (name ++ codes "?")) at name
+
+abbrev pub word_help : LineFault → (line : List ℕ) → List ℕ
+word_help NoPosition line = codes "write a number from 0 to 999 without leading zeros"
+word_help NoRegister line = codes "write $ and the register's number, from $0 to $33, without leading zeros"
+word_help NoName line = name_help
+word_help _ line = form_help (first_word line)
+
+abbrev pub word_remedy : Listing → Span → (line : List ℕ) → LineFault → Help
+word_remedy p at line NoTask = task_help at (near_task p (wrong_part NoTask line).bytes)
+word_remedy p at line fault = in_words (word_help fault line)
+
+abbrev pub slip_help : Listing → Span → (line : List ℕ) → Slip → Help
+slip_help p at line Empty = in_words (codes "take the line out")
+slip_help p at line (Space before) = in_words (codes "take it out: one space stands between two words, and none before or after them")
+slip_help p at line (Word fault) = word_remedy p at line fault
+
+abbrev pub code_of : LineFault → Code
+code_of NoTask = ScriptTaskName
+code_of _ = ScriptLine
+
+abbrev pub line_error : Listing → (line : List ℕ) → BadLine → Diagnostic
+line_error p line bad =
+    let slip = slip_of line bad.fault in
+    let at = slip_span bad.line line slip in
+    error Script (code_of bad.fault) at (slip_message line slip) [] (slip_help p at line slip)
+
+-- ---- the whole text
+
+abbrev pub ends_with_return : (line : List ℕ) → Bool
+ends_with_return line = slice_index line (length line - 1) == 13
+
+-- What is said of some lines that spell no event: an error for each, but only one for all that end with CR.
+abbrev pub said_of : Listing → (rows : List (List ℕ)) → (told : Bool) → List BadLine → List Diagnostic
+said_of p rows told [] = []
+said_of p rows told (bad ∷ more) =
+    let line = row_at rows bad.line in
+    if ends_with_return line
+    then (if told then [] else return_error Script ScriptLine bad.line line ∷ []) ++ said_of p rows true more
+    else line_error p line bad ∷ said_of p rows told more
+
+-- what is wrong with the text of a script for a program, and how many more lines there are
+abbrev pub script_errors : Listing → (text : List ℕ) → List Diagnostic
+script_errors p text =
+    said_of p (lines text) false (take most_shown (bad_lines p text))
+    ++ more_note Script (length (bad_lines p text) - most_shown) (codes "line that spells no event") (codes "lines that spell no event")
+
+-- the text can be read
+abbrev pub IsRead : {E X : Type 0} → Result X E → Type 0
+IsRead (Ok x) = Unit {0}
+IsRead (Err fault) = ⊥

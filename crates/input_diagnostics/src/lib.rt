@@ -1,0 +1,12 @@
+//! Diagnostics about the texts that stand beside a program: a certificate and an event script.
+#![tactic(auto)]
+
+pub mod certificate;
+mod lines;
+mod misfit;
+mod more;
+pub mod program_lines;
+pub mod refused;
+mod saying;
+pub mod script;
+pub mod slip;

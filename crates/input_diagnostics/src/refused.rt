@@ -1,0 +1,465 @@
+//! What is said of the text of a certificate that is refused.
+
+ghost use Rattle.std.specs.Prelude.{◌≡◌, map as each, position, take, drop, IfOk};
+ghost use Rattle.std.specs.List.{count_by};
+ghost use Rattle.std.specs.Option.{option_map};
+ghost use Rattle.mask_certificate.specs.CertificateReading.{is_space, index_in};
+ghost use Rattle.event_script.specs.EventScript.{lines};
+ghost use Rattle.input_diagnostics.specs.RefusedCertificates.{anew, is_task_row, next_name, slip_by, line_slip, slip_span, slip_message, slip_words, name_help, first_help, slip_help, digits_in, is_ended, line_error, header_message, header_error, is_task, task_message, task_error, missing_error, index_of, shape_line, shape_message, shape_error, refused_error};
+
+use crate::lines::{lines_of, row_at};
+use crate::saying::{by_text, in_words, plain_error, return_error, span};
+use crate::script::ends_with_return;
+use diagnostics::code::Code;
+use diagnostics::diagnostic::{Diagnostic, Help, Source, Span};
+use diagnostics::quotation::quoted;
+use diagnostics::words;
+use diagnostics::words::Words;
+use event_script::bad_line::first_word;
+use mask_certificate::fault::CertFault;
+use std::alloc::{AllocError, Global};
+use task_descriptor::program::Program;
+
+/// Why a line of a certificate has no form that a line may have.
+#[derive(Clone, Copy, Debug, PartialEq, Eq)]
+pub enum LineSlip {
+    /// It does not end with LF.
+    Unended,
+    /// It is a `task` line, and its name is none.
+    Name,
+    /// It stands where the first `task` line has to.
+    First,
+    /// It is neither a `task` line, nor has it a space.
+    Form,
+    /// In front of its first space, which has so many bytes in front of it, stands no index.
+    Index(usize),
+    /// Behind its first space stands no mask.
+    Mask(usize),
+}
+
+/// The command that makes a certificate.
+pub(crate) fn anew(alloc: Global) -> Result<Help, AllocError>
+    ensures { IfOk result (λ help. help ≡ anew) }
+{
+    let words = "make it anew: multiscalar annotate --emit keep PROGRAM > CERT";
+    Ok(in_words(alloc, Words::of(alloc, words)?))
+}
+
+/// Whether a line is the line of a task.
+fn is_task_row(row: &[u8]) -> bool
+    ensures { result ≡ is_task_row row.now }
+{
+    row.starts_with(b"task ")
+}
+
+/// How many of some lines are lines of tasks.
+fn task_rows(rows: &[&[u8]]) -> usize
+    ensures { result ≡ count_by is_task_row (each (λ row. row.now) rows.now) }
+{
+    let mut count = 0;
+    for row in rows {
+        if is_task_row(row) {
+            count += 1;
+        }
+    }
+    count
+}
+
+/// The first of some lines.
+fn first_rows<'a, 'b>(rows: &'b [&'a [u8]], count: usize) -> &'b [&'a [u8]]
+    ensures { result.now ≡ take count rows.now }
+{
+    if count < rows.len() {
+        &rows[..count]
+    } else {
+        rows
+    }
+}
+
+/// The first of some lines, by what they have.
+fn front_rows<'a, 'b>(rows: &'b [&'a [u8]], count: usize) -> &'b [&'a [u8]]
+    ensures { each (λ row. row.now) result.now ≡ take count (each (λ row. row.now) rows.now) }
+{
+    first_rows(rows, count)
+}
+
+/// The name of the task that line `number` has to begin, if one is left.
+fn next_name<'a>(program: &'a Program, rows: &[&[u8]], number: usize) -> Option<&'a str>
+    ensures { option_map (λ name. name.now) result ≡ next_name program.now (each (λ row. row.now) rows.now) number }
+{
+    let before = front_rows(rows, number.saturating_sub(1));
+    match program.tasks().get(task_rows(before)) {
+        Some(task) => Some(task.name.as_str()),
+        None => None,
+    }
+}
+
+/// The index that a word writes, if it writes one.
+fn index_in(word: &[u8]) -> Option<u32>
+    ensures { result ≡ index_in word.now }
+{
+    if word.is_empty() || word.len() > 5 || (word[0] == b'0' && word.len() > 1) {
+        return None;
+    }
+    let mut number: u32 = 0;
+    for digit in word {
+        if !digit.is_ascii_digit() {
+            return None;
+        }
+        number = number * 10 + u32::from(*digit - b'0');
+    }
+    Some(number)
+}
+
+/// How many bytes stand in front of the first space of a line.
+fn space_in(row: &[u8]) -> Option<usize>
+    ensures { result ≡ position is_space row.now }
+{
+    row.iter().position(|byte| *byte == b' ')
+}
+
+/// Why a line that begins no task is no entry.
+fn slip_by(row: &[u8]) -> LineSlip
+    ensures { result ≡ slip_by (position is_space row.now) row.now }
+{
+    match space_in(row) {
+        None => LineSlip::Form,
+        Some(space) if index_in(&row[..space]).is_some() => LineSlip::Mask(space),
+        Some(space) => LineSlip::Index(space),
+    }
+}
+
+/// Why a line has no form that a line may have.
+fn line_slip(ended: bool, number: usize, row: &[u8]) -> LineSlip
+    ensures { result ≡ line_slip ended number row.now }
+{
+    if !ended {
+        LineSlip::Unended
+    } else if is_task_row(row) {
+        LineSlip::Name
+    } else if number == 2 {
+        LineSlip::First
+    } else {
+        slip_by(row)
+    }
+}
+
+/// What is meant.
+fn slip_span(number: usize, row: &[u8], slip: LineSlip) -> Span
+    ensures { result ≡ slip_span number row.now slip }
+{
+    match slip {
+        LineSlip::Unended => span(number, row.len(), 0),
+        LineSlip::Name => span(number, 5, row.len().saturating_sub(5)),
+        LineSlip::First | LineSlip::Form => span(number, 0, row.len()),
+        LineSlip::Index(space) => span(number, 0, space),
+        LineSlip::Mask(space) => span(
+            number,
+            space.saturating_add(1),
+            row.len().saturating_sub(space).saturating_sub(1),
+        ),
+    }
+}
+
+/// The first bytes of a line.
+fn front(row: &[u8], count: usize) -> &[u8]
+    ensures { result.now ≡ take count row.now }
+{
+    &row[..count.min(row.len())]
+}
+
+/// What stands behind `task ` in a line.
+fn name_of(row: &[u8]) -> &[u8]
+    ensures { result.now ≡ drop 5 row.now }
+{
+    &row[5.min(row.len())..]
+}
+
+/// What is wrong with a line, where masks have so many digits.
+fn slip_message(
+    alloc: Global,
+    digits: usize,
+    row: &[u8],
+    slip: LineSlip,
+) -> Result<Words, AllocError>
+    ensures { IfOk result (λ words. words ≡ slip_message digits row.now slip) }
+{
+    match slip {
+        LineSlip::Unended => Words::of(alloc, "the last line does not end with LF"),
+        LineSlip::Name => {
+            let name = quoted(alloc, name_of(row))?;
+            words!(in alloc; "{name} is no name of a task")
+        }
+        LineSlip::First => Words::of(alloc, "the line of the first task comes first"),
+        LineSlip::Form => Words::of(alloc, "this is no line of a certificate"),
+        LineSlip::Index(space) => {
+            let word = quoted(alloc, front(row, space))?;
+            words!(in alloc; "{word} is no index of an instruction")
+        }
+        LineSlip::Mask(_) => words!(in alloc; "this is no mask of {digits} digits"),
+    }
+}
+
+/// What to do about a line, where that is words alone.
+fn slip_words(alloc: Global, digits: usize, slip: LineSlip) -> Result<Words, AllocError>
+    ensures { IfOk result (λ words. words ≡ slip_words digits slip) }
+{
+    match slip {
+        LineSlip::Unended => Words::of(alloc, "end it with LF"),
+        LineSlip::Index(_) => Words::of(
+            alloc,
+            "write an index in decimal, without leading zeros, at most 4095",
+        ),
+        LineSlip::Mask(_) => words!(
+            in alloc;
+            "write {digits} digits, 0 to 9 and a to f in lower case, with zeros in front and no bit above 33"
+        ),
+        _ => Words::of(
+            alloc,
+            "a line is task NAME, or an index, one space and a mask",
+        ),
+    }
+}
+
+/// What to do about the name of a task: to write that of the next one.
+fn name_help(alloc: Global, at: Span, next: Option<&str>) -> Result<Help, AllocError>
+    ensures { IfOk result (λ help. help ≡ name_help at (option_map (λ name. name.now) next.entry)) }
+{
+    match next {
+        Some(name) => {
+            let message = words!(in alloc; "write {name}")?;
+            by_text(alloc, message, at, Words::of(alloc, name)?)
+        }
+        None => {
+            let message = Words::of(alloc, "take out this line and those after it")?;
+            Ok(in_words(alloc, message))
+        }
+    }
+}
+
+/// What to do where the first `task` line is missing.
+fn first_help(alloc: Global, next: Option<&str>) -> Result<Help, AllocError>
+    ensures { IfOk result (λ help. help ≡ first_help (option_map (λ name. name.now) next.entry)) }
+{
+    match next {
+        Some(name) => {
+            let message = words!(in alloc; "write task {name} on a line before it")?;
+            Ok(in_words(alloc, message))
+        }
+        None => anew(alloc),
+    }
+}
+
+/// What to do about a line.
+fn slip_help(
+    alloc: Global,
+    digits: usize,
+    at: Span,
+    next: Option<&str>,
+    slip: LineSlip,
+) -> Result<Help, AllocError>
+    ensures { IfOk result (λ help. help ≡ slip_help digits at (option_map (λ name. name.now) next.entry) slip) }
+{
+    match slip {
+        LineSlip::Name => name_help(alloc, at, next),
+        LineSlip::First => first_help(alloc, next),
+        _ => Ok(in_words(alloc, slip_words(alloc, digits, slip)?)),
+    }
+}
+
+/// How many digits a mask has.
+pub(crate) fn digits_in(text: &[u8]) -> usize
+    ensures { result ≡ digits_in text.now }
+{
+    if text.starts_with(b"cert 1\n") { 8 } else { 16 }
+}
+
+/// Whether a line ends with LF.
+fn is_ended(text: &[u8], rows: &[&[u8]], number: usize) -> bool
+    requires { each (λ row. row.now) rows.now ≡ lines text.now }
+    ensures { result ≡ is_ended text.now number }
+{
+    number < rows.len() || matches!(text, [.., b'\n'])
+}
+
+/// What is said of a line that has no form that a line may have.
+fn line_error(
+    alloc: Global,
+    program: &Program,
+    text: &[u8],
+    rows: &[&[u8]],
+    number: usize,
+) -> Result<Diagnostic, AllocError>
+    requires { each (λ row. row.now) rows.now ≡ lines text.now }
+    ensures { IfOk result (λ said. said ≡ line_error program.now text.now number) }
+{
+    let row = row_at(rows, number);
+    if ends_with_return(row) {
+        return return_error(alloc, Source::Certificate, Code::Line, number, row);
+    }
+    let digits = digits_in(text);
+    let slip = line_slip(is_ended(text, rows, number), number, row);
+    let at = slip_span(number, row, slip);
+    let message = slip_message(alloc, digits, row, slip)?;
+    let help = slip_help(alloc, digits, at, next_name(program, rows, number), slip)?;
+    Ok(plain_error(alloc, Source::Certificate, Code::Line, at, message, help))
+}
+
+/// What is wrong with the first line.
+fn header_message(row: &[u8]) -> &'static str
+    ensures { result.now ≡ header_message row.now }
+{
+    if row == b"cert 1".as_slice() || row == b"cert 2".as_slice() {
+        "the first line does not end with LF"
+    } else {
+        "the first line is neither cert 2 nor cert 1"
+    }
+}
+
+/// What is said of a first line that begins no certificate.
+fn header_error(alloc: Global, row: &[u8]) -> Result<Diagnostic, AllocError>
+    ensures { IfOk result (λ said. said ≡ header_error row.now) }
+{
+    if ends_with_return(row) {
+        return return_error(alloc, Source::Certificate, Code::Header, 1, row);
+    }
+    let message = Words::of(alloc, header_message(row))?;
+    let words = "begin with the line cert 2, or cert 1 if masks have 8 digits, and end it with LF";
+    let help = in_words(alloc, Words::of(alloc, words)?);
+    let at = span(1, 0, row.len());
+    Ok(plain_error(alloc, Source::Certificate, Code::Header, at, message, help))
+}
+
+/// Whether the program has a task of this name.
+fn is_task(program: &Program, name: &[u8]) -> bool
+    ensures { result ≡ is_task program.now name.now }
+{
+    program.tasks().iter().any(|task| task.name.bytes() == name)
+}
+
+/// What is wrong with a `task` line.
+fn task_message(alloc: Global, next: Option<&str>) -> Result<Words, AllocError>
+    ensures { IfOk result (λ words. words ≡ task_message (option_map (λ name. name.now) next.entry)) }
+{
+    match next {
+        Some(name) => words!(in alloc; "the program's next task is {name}"),
+        None => Words::of(alloc, "the program has no further task"),
+    }
+}
+
+/// What is said of a line of another task than the next one.
+fn task_error(
+    alloc: Global,
+    program: &Program,
+    rows: &[&[u8]],
+    number: usize,
+) -> Result<Diagnostic, AllocError>
+    ensures { IfOk result (λ said. said ≡ task_error program.now (each (λ row. row.now) rows.now) number) }
+{
+    let row = row_at(rows, number);
+    let at = span(number, 5, row.len().saturating_sub(5));
+    let message = task_message(alloc, next_name(program, rows, number))?;
+    let help = if is_task(program, name_of(row)) {
+        anew(alloc)?
+    } else {
+        name_help(alloc, at, next_name(program, rows, number))?
+    };
+    Ok(plain_error(
+        alloc,
+        Source::Certificate,
+        Code::TaskName,
+        at,
+        message,
+        help,
+    ))
+}
+
+/// What is said of a certificate that ends before a task.
+fn missing_error(alloc: Global, program: &Program, rows: &[&[u8]]) -> Result<Diagnostic, AllocError>
+    ensures { IfOk result (λ said. said ≡ missing_error program.now (each (λ row. row.now) rows.now)) }
+{
+    let number = rows.len();
+    let name = next_name(program, rows, number + 1).unwrap_or("");
+    let message = words!(in alloc; "the certificate ends before task {name}")?;
+    let at = span(number, row_at(rows, number).len(), 0);
+    let help = anew(alloc)?;
+    Ok(plain_error(
+        alloc,
+        Source::Certificate,
+        Code::MissingTask,
+        at,
+        message,
+        help,
+    ))
+}
+
+/// The index of an entry's line; 0 where it has none.
+fn index_of(row: &[u8]) -> u32
+    ensures { result ≡ index_of row.now }
+{
+    index_in(first_word(row)).unwrap_or(0)
+}
+
+/// The first line whose index is not above that of the entry before, or none of an instruction.
+fn shape_line(rows: &[&[u8]]) -> Option<usize>
+    ensures { result ≡ shape_line 1 0 (each (λ row. row.now) rows.now) }
+{
+    let mut least = 0;
+    for (before, row) in rows.iter().enumerate() {
+        let index = index_of(row);
+        if is_task_row(row) {
+            least = 0;
+        } else if index < least || index >= 4096 {
+            return Some(before + 1);
+        } else {
+            least = index + 1;
+        }
+    }
+    None
+}
+
+/// What is wrong with an index.
+fn shape_message(index: u32) -> &'static str
+    ensures { result.now ≡ shape_message index }
+{
+    if index >= 4096 {
+        "an index is at most 4095"
+    } else {
+        "this index is not above that of the line before"
+    }
+}
+
+/// What is said of lists that do not rise.
+fn shape_error(alloc: Global, rows: &[&[u8]]) -> Result<Diagnostic, AllocError>
+    ensures { IfOk result (λ said. said ≡ shape_error (each (λ row. row.now) rows.now)) }
+{
+    let number = shape_line(rows).unwrap_or(1);
+    let row = row_at(rows, number);
+    let at = span(number, 0, first_word(row).len());
+    let message = Words::of(alloc, shape_message(index_of(row)))?;
+    let help = anew(alloc)?;
+    Ok(plain_error(alloc, Source::Certificate, Code::Shape, at, message, help))
+}
+
+/// What is said of the text of a certificate that is refused with this fault.
+pub(crate) fn refused_error(
+    alloc: Global,
+    program: &Program,
+    text: &[u8],
+    fault: CertFault,
+) -> Result<Vec<Diagnostic>, AllocError>
+    ensures { IfOk result (λ list. list.items ≡ refused_error program.now text.now fault) }
+{
+    let rows = lines_of(alloc, text)?;
+    let said = match fault {
+        CertFault::Header => header_error(alloc, row_at(&rows, 1))?,
+        CertFault::Line(number) => line_error(alloc, program, text, &rows, number)?,
+        CertFault::TaskName(number) => task_error(alloc, program, &rows, number)?,
+        CertFault::MissingTask => missing_error(alloc, program, &rows)?,
+        CertFault::Shape => shape_error(alloc, &rows)?,
+        CertFault::OutOfMemory => return Err(AllocError),
+    };
+    let mut list = Vec::new(alloc);
+    list.push(said)?;
+    Ok(list)
+}

@@ -1,0 +1,32 @@
+-- What `explain` writes is what is said of the marks, since nothing is said of warnings or of a certificate.
+use Rattle.std.proofs.Common.{◌≡◌, ◌++◌, ℕ, List, [], None, Ok, false, refl, sym, ap, append-nil}
+use Rattle.task_descriptor.specs.Listing.{Listing}
+use Rattle.annotated_asm.specs.ProgramText.{parse}
+use Rattle.report_texts.specs.OutputTexts.{Report}
+use Rattle.explain_report.specs.ExplainText.{IsExplainReport, IsProgramExplained, said_status}
+use Rattle.left_over.specs.LeftOvers.{IsLeftIn, closing_line}
+use Rattle.left_over.specs.declared.left.LeftOver.{LeftOver}
+
+program_explained : (name text certificate : List ℕ) (p : Listing) (left : LeftOver) (h : IsLeftIn name text p left)
+    → IsProgramExplained name None false text certificate p (record { bytes = h.marks; status = said_status h.marks })
+program_explained name text certificate p left h = record {
+  marks = h.marks;
+  explained = h.explained;
+  costly = [];
+  warned = refl;
+  beside = [];
+  certified = refl;
+  bytes = sym (append-nil h.marks);
+  status = ap said_status (sym (append-nil h.marks));
+}
+
+-- without a certificate and without warnings
+pub said_explained : (name text certificate : List ℕ) (p : Listing) (left : LeftOver) → parse text ≡ Ok p
+    → IsLeftIn name text p left
+    → (report : Report) × IsExplainReport name None false text certificate report
+    × (left.said.items ≡ report.bytes ++ closing_line name left.count)
+said_explained name text certificate p left spelled h = (
+  record { bytes = h.marks; status = said_status h.marks },
+  rw spelled (program_explained name text certificate p left h),
+  h.written,
+)

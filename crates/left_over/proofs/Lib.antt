@@ -1,0 +1,2 @@
+mod Explaining
+mod Counting

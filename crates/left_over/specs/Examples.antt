@@ -1,0 +1,11 @@
+-- Worked examples.
+use Rattle.std.specs.Prelude.{◌≡◌, ◌∷◌, [], ◌++◌, codes, refl}
+use Rattle.std.specs.Fmt.{digits}
+use Rattle.left_over.specs.LeftOvers.{closing_line}
+
+pub nothing_left : closing_line (codes "sum.s") 0 ≡ codes "multiscalar: sum.s: all marks are right" ++ 10 ∷ []
+nothing_left = refl
+
+pub two_left : closing_line (codes "sum.s") 2 ≡ codes "multiscalar: sum.s: 2 left to mend by hand" ++ 10 ∷ []
+unfolding digits
+two_left = refl

@@ -1,0 +1,124 @@
+//! What is left to mend by hand in what `annotate` proposes.
+ghost use Rattle.std.specs.Prelude.{◌≡◌, ◌≢◌, ◌++◌, Ok, Some, None, IfOk, OnOk};
+ghost use Rattle.std.specs.String.{string_bytes};
+ghost use Rattle.annotated_asm.specs.ProgramText.{parse};
+ghost use Rattle.annotator.specs.Least.{IsLeast};
+ghost use Rattle.left_over.specs.LeftOvers.{IsFindingCount, IsLeftEmitted, IsLeftIn, IsLeftOf, IsLeftOver, closing_line};
+
+use crate::left::LeftOver;
+use annotated_asm::assembler::assemble;
+use annotated_asm::fault::AsmFault;
+use annotator::certify::certify;
+use diagnostic_text::diagnostics::explain;
+use finding_paths::shown::shown_findings;
+use jobs::job::{Emit, Job};
+use mask_certificate::certificate::Cert;
+use report_texts::annotating::annotate;
+use std::alloc::{AllocError, Global};
+use task_descriptor::program::Program;
+
+/// What is left to mend by hand in the text that `annotate` proposes for a program text, which stands in a file of
+/// this name. `written` is what the job wrote, with its status; where that is a certificate, the text is the one that
+/// `annotate --emit marks` writes. `None` exactly where the job is no `annotate`, or what it proposes is a refusal or
+/// no program. (own choice)
+///
+/// # Errors
+///
+/// `AllocError` where memory was refused.
+pub fn left_over(
+    alloc: Global,
+    job: &Job,
+    program: &[u8],
+    name: &str,
+    status: u8,
+    written: &[u8],
+) -> Result<Option<LeftOver>, AllocError>
+    ensures { IfOk result (λ left. IsLeftOver job.now program.now name.now
+        record { bytes = written.now; status = status } left) }
+{
+    match job {
+        Job::Annotate { emit } => left_emitted(alloc, *emit, program, name, status, written),
+        _ => Ok(None),
+    }
+}
+
+// What is left in what `annotate` proposes.
+fn left_emitted(
+    alloc: Global,
+    emit: Emit,
+    program: &[u8],
+    name: &str,
+    status: u8,
+    written: &[u8],
+) -> Result<Option<LeftOver>, AllocError>
+    ensures { IfOk result (λ left. IsLeftEmitted emit program.now name.now
+        record { bytes = written.now; status = status } left) }
+{
+    match emit {
+        Emit::Text | Emit::Marks => left_of(alloc, name, status, written),
+        Emit::Cert | Emit::Keep => {
+            let marked = annotate(alloc, Emit::Marks, program)?;
+            left_of(alloc, name, marked.status(), marked.bytes())
+        }
+    }
+}
+
+// What is left in a text with a status; nothing is in a refusal.
+fn left_of(
+    alloc: Global,
+    name: &str,
+    status: u8,
+    text: &[u8],
+) -> Result<Option<LeftOver>, AllocError>
+    ensures { IfOk result (λ left. IsLeftOf name.now record { bytes = text.now; status = status } left) }
+{
+    if status != 0 {
+        return Ok(None);
+    }
+    match assemble(alloc, text) {
+        Ok(program) => Ok(Some(left_in(alloc, name, text, &program)?)),
+        Err(AsmFault::OutOfMemory) => Err(AllocError),
+        Err(_) => Ok(None),
+    }
+}
+
+// What is left in a text that spells a program.
+fn left_in(
+    alloc: Global,
+    name: &str,
+    text: &[u8],
+    program: &Program,
+) -> Result<LeftOver, AllocError>
+    requires { parse text.now ≡ Ok program.now }
+    ensures { IfOk result (λ left. IsLeftIn name.now text.now program.now left) }
+{
+    let least = certify(alloc, program)?;
+    let mut said = explain(alloc, name, text, program, &least)?;
+    let count = finding_count(alloc, program, &least)?;
+    write_closing(&mut said, name, count)?;
+    Ok(LeftOver {
+        said: said.into_bytes(),
+        count,
+    })
+}
+
+// How many findings a program has.
+#[tactic(auto, using(crate::proofs::Counting::all_counted))]
+fn finding_count(alloc: Global, program: &Program, least: &Cert) -> Result<usize, AllocError>
+    requires { IsLeast program.now least.now }
+    ensures { IfOk result (λ count. IsFindingCount program.now count) }
+{
+    let findings = shown_findings(alloc, program, least, 0)?;
+    Ok(findings.more)
+}
+
+// Adds the line that says how much is left.
+fn write_closing(text: &mut String, name: &str, count: usize) -> Result<(), AllocError>
+    ensures { OnOk result (string_bytes text.new ≡ string_bytes text.old ++ closing_line name.now count) }
+{
+    if count == 0 {
+        writeln!(text, "multiscalar: {name}: all marks are right")
+    } else {
+        writeln!(text, "multiscalar: {name}: {count} left to mend by hand")
+    }
+}

@@ -1,0 +1,131 @@
+-- What is wrong with the marks of a program: what is said of each finding that is told, by its rule. (The rules 1 to 4
+-- find nothing with a least certificate.)
+use Rattle.std.specs.Prelude.{◌≡◌, ◌↔◌, ℕ, ◌-◌, List, [], ◌∷◌, ◌++◌, codes, map, take, length, slice_get, Option, Some, None}
+use Rattle.std.specs.List.{All, AllZip}
+use Rattle.std.specs.Fmt.{decimal}
+use Rattle.task_graph.specs.Soundness.{Sound}
+use Rattle.mark_checker.specs.declared.finding.Rule.{Rule}
+use Rattle.mark_checker.specs.declared.finding.Rule.TheVariants as rule
+use Rattle.mark_checker.specs.declared.finding.Finding.{Finding}
+use Rattle.annotator.specs.Least.{IsLeast}
+use Rattle.finding_paths.specs.declared.shown.ShownFinding.{ShownFinding}
+use Rattle.finding_paths.specs.Shown.{IsShown}
+use Rattle.diagnostics.specs.declared.code.Code.{Code}
+use Rattle.diagnostics.specs.declared.code.Code.TheVariants as code
+use Rattle.diagnostics.specs.declared.diagnostic.Span.{Span}
+use Rattle.diagnostics.specs.declared.diagnostic.Severity.TheVariants.{Error}
+use Rattle.diagnostics.specs.declared.diagnostic.Source.TheVariants.{Program}
+use Rattle.diagnostics.specs.declared.diagnostic.Note.{Note}
+use Rattle.diagnostics.specs.declared.diagnostic.Help.{Help}
+use Rattle.diagnostics.specs.declared.diagnostic.Diagnostic.{Diagnostic}
+use Rattle.mark_diagnostics.specs.Subjects.{Judged, IsJudged, register_text, registers_text, task_name, place_text, instruction_span, create_span, target_span, after}
+use Rattle.mark_diagnostics.specs.Parts.{in_words, by_text, way_note}
+use Rattle.mark_diagnostics.specs.Told.{all_told, most_shown, about, register_in}
+use Rattle.mark_diagnostics.specs.Steps.{path_in}
+use Rattle.mark_diagnostics.specs.Masks.{missing, mask_notes, mask_help}
+use Rattle.mark_diagnostics.specs.Sending.{later, forward_help, release_help, early_notes}
+use Rattle.mark_diagnostics.specs.Exits.{exit_places, exit_notes, exit_help, beyond, wrong_number, wrong_target, place_note, target_help}
+use Rattle.mark_diagnostics.specs.More.{more_note}
+
+abbrev pub code_of : Rule → Code
+code_of rule.EntryWithoutMask = code.EntryWithoutMask
+code_of rule.NextWithoutMask = code.NextWithoutMask
+code_of rule.LacksDestination = code.LacksDestination
+code_of rule.LacksNext = code.LacksNext
+code_of rule.ExceedsCreate = code.ExceedsCreate
+code_of rule.ForwardedInNext = code.ForwardedInNext
+code_of rule.ReleasedInNext = code.ReleasedInNext
+code_of rule.SentNotCreated = code.SentNotCreated
+code_of rule.ExitNotListed = code.ExitNotListed
+code_of rule.FallsOff = code.FallsOff
+code_of rule.IndirectGoesOn = code.IndirectGoesOn
+code_of rule.TargetNotEntry = code.TargetNotEntry
+
+-- where the remedy is, or the mark
+abbrev pub span_by : Rule → Judged → Finding → Span
+span_by rule.ExceedsCreate s f = create_span s f.task
+span_by rule.SentNotCreated s f = create_span s f.task
+span_by rule.TargetNotEntry s f = target_span s f.task (wrong_number s f.task)
+span_by _ s f = instruction_span s f.index
+
+abbrev pub early_text : Judged → Finding → (sends : List ℕ) → List ℕ
+early_text s f sends =
+    codes "task " ++ (task_name s f.task ++ (codes " " ++ (sends ++ (codes " " ++ (register_text s (register_in f.reg) ++ codes " here and may write it again")))))
+
+abbrev pub exit_text : (task places : List ℕ) → List ℕ
+exit_text task places = codes "task " ++ (task ++ (codes " can end here and go on to " ++ (places ++ codes ", which its targets lack")))
+
+abbrev pub beyond_text : (task place : List ℕ) → List ℕ
+beyond_text task place = codes "task " ++ (task ++ (codes " can go on from here to " ++ (place ++ codes ", where no instruction is")))
+
+abbrev pub indirect_text : Judged → (task : ℕ) → List ℕ
+indirect_text s task = codes "task " ++ (task_name s task ++ codes " goes on over a jump to an address in a register")
+
+abbrev pub target_text : (task : List ℕ) → (to : ℕ) → List ℕ
+target_text task to = codes "task " ++ (task ++ (codes " lists the target @" ++ (decimal to ++ codes ", where no task begins")))
+
+abbrev pub mask_text : Judged → (task : ℕ) → (about : List Finding) → List ℕ
+mask_text s task about = codes "the create mask of task " ++ (task_name s task ++ (codes " lacks " ++ registers_text s (missing about)))
+
+abbrev pub message_by : Rule → Judged → Finding → (about : List Finding) → List ℕ
+message_by rule.ForwardedInNext s f about = early_text s f (codes "forwards")
+message_by rule.ReleasedInNext s f about = early_text s f (codes "releases")
+message_by rule.ExitNotListed s f about = exit_text (task_name s f.task) (exit_places s f)
+message_by rule.FallsOff s f about = beyond_text (task_name s f.task) (place_text s (beyond s f.index))
+message_by rule.IndirectGoesOn s f about = indirect_text s f.task
+message_by rule.TargetNotEntry s f about = target_text (task_name s f.task) (wrong_target s f.task)
+message_by _ s f about = mask_text s f.task about
+
+abbrev pub notes_by : Rule → Judged → Finding → (path : List ℕ) → (about : List Finding) → (shown : List ShownFinding) → List Note
+notes_by rule.ForwardedInNext s f path about shown = early_notes s f path
+notes_by rule.ReleasedInNext s f path about shown = early_notes s f path
+notes_by rule.ExitNotListed s f path about shown = exit_notes s f path
+notes_by rule.FallsOff s f path about shown = way_note s f.index path ∷ []
+notes_by rule.IndirectGoesOn s f path about shown = way_note s f.index path ∷ []
+notes_by rule.TargetNotEntry s f path about shown = place_note s (wrong_target s f.task)
+notes_by _ s f path about shown = mask_notes s f.task about shown
+
+abbrev pub help_by : Rule → Judged → Finding → (path : List ℕ) → (about : List Finding) → Help
+help_by rule.ForwardedInNext s f path about = forward_help s f (later s f path)
+help_by rule.ReleasedInNext s f path about = release_help s f (later s f path)
+help_by rule.ExitNotListed s f path about = exit_help s f
+help_by rule.FallsOff s f path about = in_words (codes "let it go on to an instruction of the program, as a jump or a halt, or end the task here")
+help_by rule.IndirectGoesOn s f path about =
+    by_text (codes "end the task here: add !s") (after (instruction_span s f.index)) (codes " !s")
+help_by rule.TargetNotEntry s f path about = target_help s f.task
+help_by _ s f path about = mask_help s f.task about
+
+-- the path that shows the first of some findings
+abbrev pub first_path : Option ShownFinding → List ℕ
+first_path None = []
+first_path (Some shown) = path_in shown.path
+
+abbrev pub error_diagnostic : Judged → Finding → (about : List Finding) → (shown : List ShownFinding) → Diagnostic
+error_diagnostic s f about shown = record {
+  severity = Error;
+  code = code_of f.rule;
+  source = Program;
+  span = Some (span_by f.rule s f);
+  message = message_by f.rule s f about;
+  notes = notes_by f.rule s f (first_path (slice_get shown 0)) about shown;
+  help = Some (help_by f.rule s f (first_path (slice_get shown 0)) about);
+}
+
+-- The diagnostic says what the finding is: the first five of those that are told with it are shown, each by a shortest
+-- path.
+pub record Says (s : Judged) (f : Finding) (said : Diagnostic) : Type 0 where
+  pub shown : List ShownFinding
+  pub first_five : map (λ one. one.finding) shown ≡ take 5 (about s f)
+  pub each : All (λ one. IsShown s.program one.finding one.path) shown
+  pub is : said ≡ error_diagnostic s f (about s f) shown
+
+-- The diagnostics say what is wrong with the marks of the program that the text spells.
+pub record AreMarkErrors (text : List ℕ) (list : List Diagnostic) : Type 0 where
+  pub judged : Judged
+  pub of_text : IsJudged text judged
+  pub least : IsLeast judged.program judged.least
+  pub first : List Diagnostic
+  pub said : AllZip (Says judged) (take most_shown (all_told judged.program judged.least)) first
+  pub is : list ≡ first ++ more_note (length (all_told judged.program judged.least) - most_shown) (codes "error") (codes "errors")
+  -- there is none exactly where the marks are sound
+  pub silent : (list ≡ []) ↔ Sound judged.program

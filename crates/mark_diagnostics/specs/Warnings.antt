@@ -1,0 +1,136 @@
+-- What could be better about the marks of a program: what is said of each remark, by its kind.
+use Rattle.std.specs.Prelude.{◌≡◌, ℕ, ◌-◌, Bool, false, not, ◌&&◌, ◌==◌, List, [], ◌∷◌, ◌++◌, codes, map, take, length, slice_get, Option, Some, None}
+use Rattle.std.specs.List.{list_any}
+use Rattle.mips_instructions.specs.Words.{has}
+use Rattle.task_descriptor.specs.Listing.{Listing}
+use Rattle.task_descriptor.specs.declared.descriptor.Descriptor.{Descriptor}
+use Rattle.costly_marks.specs.declared.mark.CostlyMark.{CostlyMark}
+use Rattle.costly_marks.specs.declared.mark.CostlyMark.TheVariants.{NeverProduced, NotForwarded, SentBefore, Unreached}
+use Rattle.costly_marks.specs.Costly.{IsCostly}
+use Rattle.costly_marks.specs.Candidates.{candidates, Picked}
+use Rattle.diagnostics.specs.declared.code.Code.{Code}
+use Rattle.diagnostics.specs.declared.code.Code.TheVariants as code
+use Rattle.diagnostics.specs.declared.diagnostic.Span.{Span}
+use Rattle.diagnostics.specs.declared.diagnostic.Severity.TheVariants.{Warning}
+use Rattle.diagnostics.specs.declared.diagnostic.Source.TheVariants.{Program}
+use Rattle.diagnostics.specs.declared.diagnostic.Help.{Help}
+use Rattle.diagnostics.specs.declared.diagnostic.Diagnostic.{Diagnostic}
+use Rattle.mark_diagnostics.specs.declared.remark.Remark.{Remark}
+use Rattle.mark_diagnostics.specs.declared.remark.Remark.TheVariants.{Stop, Costly}
+use Rattle.mark_diagnostics.specs.declared.remark.StopRemark.{StopRemark}
+use Rattle.mark_diagnostics.specs.declared.remark.StopRemark.TheVariants.{NoExit, NotTaken, GoesInto}
+use Rattle.mark_diagnostics.specs.Subjects.{Judged, IsJudged, register_text, which, task_name, places_text, releases, instruction_span, create_span, targets_span, target_span, after}
+use Rattle.mark_diagnostics.specs.Parts.{in_words, by_text}
+use Rattle.mark_diagnostics.specs.Told.{most_shown}
+use Rattle.mark_diagnostics.specs.Masks.{create_help}
+use Rattle.mark_diagnostics.specs.Sending.{release_text, release_written}
+use Rattle.mark_diagnostics.specs.Remarks.{untaken, first_untaken, not_taken_help, into_help, stop_remarks}
+use Rattle.mark_diagnostics.specs.More.{more_note}
+
+abbrev pub code_of : Remark → Code
+code_of (Costly (NeverProduced task register)) = code.NeverProduced
+code_of (Costly (NotForwarded index)) = code.NotForwarded
+code_of (Costly (SentBefore index register)) = code.SentBefore
+code_of (Costly (Unreached index)) = code.Unreached
+code_of (Stop (NoExit task)) = code.NoExit
+code_of (Stop (NotTaken task)) = code.TargetNotTaken
+code_of (Stop (GoesInto task index into)) = code.GoesIntoTask
+
+abbrev pub span_of : Judged → Remark → Span
+span_of s (Costly (NeverProduced task register)) = create_span s task
+span_of s (Costly (NotForwarded index)) = instruction_span s index
+span_of s (Costly (SentBefore index register)) = instruction_span s index
+span_of s (Costly (Unreached index)) = instruction_span s index
+span_of s (Stop (NoExit task)) = targets_span s task
+span_of s (Stop (NotTaken task)) = target_span s task (first_untaken s task)
+span_of s (Stop (GoesInto task index into)) = instruction_span s index
+
+abbrev pub never_text : (task register : List ℕ) → List ℕ
+never_text task register =
+    codes "no instruction of task " ++ (task ++ (codes " writes or releases " ++ (register ++ codes ", which its create mask has")))
+
+abbrev pub before_text : Judged → (register : ℕ) → List ℕ
+before_text s r = register_text s r ++ codes " was sent before on each path to this release"
+
+abbrev pub costly_text : Judged → CostlyMark → List ℕ
+costly_text s (NeverProduced task register) = never_text (task_name s task) (register_text s register)
+costly_text s (NotForwarded index) = codes "this is a last update without !f: later tasks wait for what it writes"
+costly_text s (SentBefore index register) = before_text s register
+costly_text s (Unreached index) = codes "no task reaches the code from here on"
+
+abbrev pub no_exit_text : Judged → (task : ℕ) → List ℕ
+no_exit_text s task = codes "task " ++ (task_name s task ++ codes " has targets, but comes to no stop")
+
+abbrev pub not_taken_text : Judged → (task : ℕ) → List ℕ
+not_taken_text s task = codes "no exit of task " ++ (task_name s task ++ (codes " leads to " ++ places_text s (untaken s task)))
+
+abbrev pub goes_into_text : (task into : List ℕ) → List ℕ
+goes_into_text task into =
+    codes "task " ++ (task ++ (codes " goes on into task " ++ (into ++ codes " without a stop; was !s meant here?")))
+
+abbrev pub stop_text : Judged → StopRemark → List ℕ
+stop_text s (NoExit task) = no_exit_text s task
+stop_text s (NotTaken task) = not_taken_text s task
+stop_text s (GoesInto task index into) = goes_into_text (task_name s task) (task_name s into)
+
+abbrev pub message_of : Judged → Remark → List ℕ
+message_of s (Stop remark) = stop_text s remark
+message_of s (Costly mark) = costly_text s mark
+
+-- Of registers of one create mask, and of one release, each help mends all.
+
+abbrev pub is_never : (task register : ℕ) → CostlyMark → Bool
+is_never task r (NeverProduced t q) = t == task && q == r
+is_never task r _ = false
+
+abbrev pub created_in : Option Descriptor → (register : ℕ) → Bool
+created_in None r = false
+created_in (Some d) r = has d.create r
+
+abbrev pub produced : Judged → List CostlyMark → (task : ℕ) → List ℕ
+produced s list task = which (λ r. created_in (slice_get s.program.tasks task) r && not (list_any (is_never task r) list))
+
+abbrev pub is_before : (index register : ℕ) → CostlyMark → Bool
+is_before index r (SentBefore i q) = i == index && q == r
+is_before index r _ = false
+
+abbrev pub still_released : Judged → List CostlyMark → (index : ℕ) → List ℕ
+still_released s list i = which (λ r. releases s i r && not (list_any (is_before i r) list))
+
+abbrev pub before_help : Judged → (index : ℕ) → (text : List ℕ) → Help
+before_help s i text = record { message = codes "write " ++ text; replacements = release_written s i text ∷ [] }
+
+abbrev pub help_of : Judged → List CostlyMark → Remark → Help
+help_of s list (Costly (NeverProduced task register)) = create_help s task (produced s list task)
+help_of s list (Costly (NotForwarded index)) = by_text (codes "add !f here") (after (instruction_span s index)) (codes " !f")
+help_of s list (Costly (SentBefore index register)) = before_help s index (release_text s (still_released s list index))
+help_of s list (Costly (Unreached index)) =
+    in_words (codes "let a task go on to it; or remove it up to the next instruction that a task reaches, where no name refers to it")
+help_of s list (Stop (NoExit task)) = in_words (codes "put !s, !st or !sn where it is to end")
+help_of s list (Stop (NotTaken task)) = not_taken_help s task
+help_of s list (Stop (GoesInto task index into)) = into_help s index
+
+abbrev pub warning : Judged → List CostlyMark → Remark → Diagnostic
+warning s list remark = record {
+  severity = Warning;
+  code = code_of remark;
+  source = Program;
+  span = Some (span_of s remark);
+  message = message_of s remark;
+  notes = [];
+  help = Some (help_of s list remark);
+}
+
+abbrev pub warnings : Judged → List CostlyMark → (remarks : List Remark) → List Diagnostic
+warnings s list remarks =
+    map (warning s list) (take most_shown remarks) ++ more_note (length remarks - most_shown) (codes "warning") (codes "warnings")
+
+-- The diagnostics say where a stop may be forgotten, and then which marks cost speed.
+pub record AreMarkWarnings (text : List ℕ) (p : Listing) (least : List (List (ℕ × ℕ))) (all : Bool) (said : List Diagnostic) : Type 0 where
+  pub judged : Judged
+  pub of_text : IsJudged text judged
+  pub of_program : judged.program ≡ p
+  pub of_least : judged.least ≡ least
+  pub list : List CostlyMark
+  pub costly : Picked (IsCostly p) (candidates p) list
+  pub is : said ≡ warnings judged list (map Stop (stop_remarks judged all) ++ map Costly list)

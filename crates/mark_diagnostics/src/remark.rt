@@ -1,0 +1,24 @@
+//! What could be better about a program's marks.
+
+use costly_marks::mark::CostlyMark;
+
+/// Where a stop may be forgotten (own choice).
+#[derive(Clone, Copy, Debug, PartialEq, Eq)]
+pub enum StopRemark {
+    /// This task has targets, and comes to no exit.
+    NoExit(u32),
+    /// This task has targets, some of which no exit takes.
+    NotTaken(u32),
+    /// The instruction at this index, the first of the task that does so, goes on without a stop into the first
+    /// instruction of a task.
+    GoesInto { task: u32, index: u32, into: u32 },
+}
+
+/// What could be better about the marks of a program (own choice).
+#[derive(Clone, Copy, Debug, PartialEq, Eq)]
+pub enum Remark {
+    /// A stop may be forgotten.
+    Stop(StopRemark),
+    /// A mark that costs speed, or code that no task reaches.
+    Costly(CostlyMark),
+}

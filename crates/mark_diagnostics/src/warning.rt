@@ -1,0 +1,434 @@
+//! What could be better about a program's marks, as diagnostics.
+
+ghost use Rattle.std.specs.Prelude.{◌≡◌, ◌<◌, ◌&&◌, ◌++◌, map as each, not, slice_get, Ok, IfOk, OnOk};
+ghost use Rattle.std.specs.List.{list_any};
+ghost use Rattle.annotated_asm.specs.ProgramText.{parse};
+ghost use Rattle.annotator.specs.Least.{IsLeast};
+ghost use Rattle.mark_diagnostics.specs.Subjects.{targets_of, releases};
+ghost use Rattle.mark_diagnostics.specs.Remarks.{of_targets, of_step, of_task, stop_remarks};
+ghost use Rattle.mark_diagnostics.specs.Warnings.{code_of, span_of, never_text, before_text, costly_text, no_exit_text, not_taken_text, goes_into_text, stop_text, message_of, is_never, created_in, produced, is_before, still_released, before_help, help_of, warning, warnings, AreMarkWarnings};
+
+use crate::error::MOST_SHOWN;
+use crate::mask::create_help;
+use crate::parts::{add_more, by_text, first_of, in_words, places_words, registers_where};
+use crate::remark::{Remark, StopRemark};
+use crate::sending::{release_words, release_written};
+use crate::stop::{
+    entered_task, first_step, first_untaken, has_exit, has_indirect_exit, has_untaken, into_help,
+    is_asked, not_taken_help, untaken,
+};
+use crate::subject::{Made, Subject, after, has_number};
+use costly_marks::mark::CostlyMark;
+use costly_marks::search::costly_marks;
+use diagnostics::code::Code;
+use diagnostics::diagnostic::{Diagnostic, Help, Severity, Source, Span};
+use diagnostics::listed::Listed;
+use diagnostics::words;
+use diagnostics::words::Words;
+use mask_certificate::certificate::Cert;
+use std::alloc::{AllocError, Global};
+use task_descriptor::program::Program;
+
+/// The code of a remark.
+fn code_of(remark: &Remark) -> Code
+    ensures { result ≡ code_of remark.now }
+{
+    match remark {
+        Remark::Costly(CostlyMark::NeverProduced { .. }) => Code::NeverProduced,
+        Remark::Costly(CostlyMark::NotForwarded { .. }) => Code::NotForwarded,
+        Remark::Costly(CostlyMark::SentBefore { .. }) => Code::SentBefore,
+        Remark::Costly(CostlyMark::Unreached { .. }) => Code::Unreached,
+        Remark::Stop(StopRemark::NoExit(_)) => Code::NoExit,
+        Remark::Stop(StopRemark::NotTaken(_)) => Code::TargetNotTaken,
+        Remark::Stop(StopRemark::GoesInto { .. }) => Code::GoesIntoTask,
+    }
+}
+
+/// What is meant.
+fn span_of(subject: &Subject, remark: &Remark) -> Span
+    ensures { result ≡ span_of subject.now remark.now }
+{
+    match remark {
+        Remark::Costly(CostlyMark::NeverProduced { task, .. }) => subject.create_span(*task),
+        Remark::Costly(
+            CostlyMark::NotForwarded { index }
+            | CostlyMark::SentBefore { index, .. }
+            | CostlyMark::Unreached { index },
+        )
+        | Remark::Stop(StopRemark::GoesInto { index, .. }) => subject.span(*index),
+        Remark::Stop(StopRemark::NoExit(task)) => subject.targets_span(*task),
+        Remark::Stop(StopRemark::NotTaken(task)) => {
+            subject.target_span(*task, first_untaken(subject, *task))
+        },
+    }
+}
+
+/// What is said of a register that a task never produces.
+fn never_words(alloc: Global, task: &str, register: &str) -> Made<Words>
+    ensures { IfOk result (λ words. words ≡ never_text task.now register.now) }
+{
+    words!(in alloc; "no instruction of task {task} writes or releases {register}, which its create mask has")
+}
+
+/// What is said of a register that was sent before.
+fn before_words(subject: &Subject, register: u8) -> Made<Words>
+    ensures { IfOk result (λ words. words ≡ before_text subject.now register) }
+{
+    let register = subject.register(register);
+    words!(in subject.alloc(); "{register} was sent before on each path to this release")
+}
+
+/// What could be better about a mark.
+fn costly_words(subject: &Subject, mark: &CostlyMark) -> Made<Words>
+    ensures { IfOk result (λ words. words ≡ costly_text subject.now mark.now) }
+{
+    match mark {
+        CostlyMark::NeverProduced { task, register } => {
+            never_words(
+                subject.alloc(),
+                subject.task(*task),
+                subject.register(register.get()),
+            )
+        }
+        CostlyMark::NotForwarded { .. } => {
+            Words::of(
+                subject.alloc(),
+                "this is a last update without !f: later tasks wait for what it writes",
+            )
+        }
+        CostlyMark::SentBefore { register, .. } => before_words(subject, register.get()),
+        CostlyMark::Unreached { .. } => {
+            Words::of(subject.alloc(), "no task reaches the code from here on")
+        }
+    }
+}
+
+/// What is said of a task that comes to no exit.
+fn no_exit_words(subject: &Subject, task: u32) -> Made<Words>
+    ensures { IfOk result (λ words. words ≡ no_exit_text subject.now task) }
+{
+    let name = subject.task(task);
+    words!(in subject.alloc(); "task {name} has targets, but comes to no stop")
+}
+
+/// What is said of targets that no exit takes.
+fn not_taken_words(subject: &Subject, task: u32) -> Made<Words>
+    ensures { IfOk result (λ words. words ≡ not_taken_text subject.now task) }
+{
+    let name = subject.task(task);
+    let untaken = untaken(subject, task)?;
+    let list = places_words(subject, &untaken)?;
+    words!(in subject.alloc(); "no exit of task {name} leads to {list}")
+}
+
+/// What is said of a step into a task.
+fn goes_into_words(alloc: Global, task: &str, into: &str) -> Made<Words>
+    ensures { IfOk result (λ words. words ≡ goes_into_text task.now into.now) }
+{
+    words!(in alloc; "task {task} goes on into task {into} without a stop; was !s meant here?")
+}
+
+/// Where a stop may be forgotten.
+fn stop_words(subject: &Subject, remark: &StopRemark) -> Made<Words>
+    ensures { IfOk result (λ words. words ≡ stop_text subject.now remark.now) }
+{
+    match remark {
+        StopRemark::NoExit(task) => no_exit_words(subject, *task),
+        StopRemark::NotTaken(task) => not_taken_words(subject, *task),
+        StopRemark::GoesInto { task, into, .. } => {
+            goes_into_words(subject.alloc(), subject.task(*task), subject.task(*into))
+        }
+    }
+}
+
+/// What could be better.
+fn message_of(subject: &Subject, remark: &Remark) -> Made<Words>
+    ensures { IfOk result (λ words. words ≡ message_of subject.now remark.now) }
+{
+    match remark {
+        Remark::Stop(remark) => stop_words(subject, remark),
+        Remark::Costly(mark) => costly_words(subject, mark),
+    }
+}
+
+/// Whether a mark says that a task never produces a register.
+fn is_never(task: u32, number: u8, mark: &CostlyMark) -> bool
+    ensures { result ≡ is_never task number mark.now }
+{
+    match mark {
+        CostlyMark::NeverProduced {
+            task: other,
+            register,
+        } => { *other == task && register.get() == number }
+        _ => false,
+    }
+}
+
+/// Whether a list says that a task never produces a register.
+fn is_listed_never(list: &[CostlyMark], task: u32, number: u8) -> bool
+    ensures { result ≡ list_any (is_never task number) list.now }
+{
+    list.iter().any(|mark| is_never(task, number, mark))
+}
+
+/// Whether the create mask of a task has a register.
+fn is_created(subject: &Subject, task: u32, number: u8) -> bool
+    requires { number < 34 }
+    ensures { result ≡ created_in (slice_get subject.now.program.tasks task) number }
+{
+    match subject.tasks().get(task as usize) {
+        Some(descriptor) => has_number(descriptor.create, number),
+        None => false,
+    }
+}
+
+/// Whether the create mask of a task has a register, and no mark of a list says that it is never produced.
+fn is_produced(subject: &Subject, list: &[CostlyMark], task: u32, number: u8) -> bool
+    requires { number < 34 }
+    ensures { result ≡ (created_in (slice_get subject.now.program.tasks task) number && not (list_any (is_never task number) list.now)) }
+{
+    is_created(subject, task, number) && !is_listed_never(list, task, number)
+}
+
+/// The create mask of a task without all registers that a list says are never produced.
+fn produced(subject: &Subject, list: &[CostlyMark], task: u32) -> Made<Vec<u8>>
+    ensures { IfOk result (λ registers. registers.items ≡ produced subject.now list.now task) }
+{
+    registers_where(
+        subject.alloc(),
+        |number| is_produced(subject, list, task, number),
+    )
+}
+
+/// Whether a mark says that a register was sent before a release.
+fn is_before(index: u32, number: u8, mark: &CostlyMark) -> bool
+    ensures { result ≡ is_before index number mark.now }
+{
+    match mark {
+        CostlyMark::SentBefore {
+            index: other,
+            register,
+        } => { *other == index && register.get() == number }
+        _ => false,
+    }
+}
+
+/// Whether a list says that a register was sent before a release.
+fn is_listed_before(list: &[CostlyMark], index: u32, number: u8) -> bool
+    ensures { result ≡ list_any (is_before index number) list.now }
+{
+    list.iter().any(|mark| is_before(index, number, mark))
+}
+
+/// Whether an instruction releases a register, and no mark of a list says that it was sent before.
+fn is_still_released(subject: &Subject, list: &[CostlyMark], index: u32, number: u8) -> bool
+    requires { number < 34 }
+    ensures { result ≡ (releases subject.now index number && not (list_any (is_before index number) list.now)) }
+{
+    subject.releases(index, number) && !is_listed_before(list, index, number)
+}
+
+/// A release without all registers that a list says were sent before.
+fn still_released(subject: &Subject, list: &[CostlyMark], index: u32) -> Made<Vec<u8>>
+    ensures { IfOk result (λ registers. registers.items ≡ still_released subject.now list.now index) }
+{
+    registers_where(
+        subject.alloc(),
+        |number| is_still_released(subject, list, index, number),
+    )
+}
+
+/// What to do about registers that were sent before: this release in place of theirs.
+fn before_help(subject: &Subject, index: u32, text: &Words) -> Made<Help>
+    ensures { IfOk result (λ help. help ≡ before_help subject.now index text.now) }
+{
+    let mut replacements = Vec::new(subject.alloc());
+    replacements.push(release_written(subject, index, text.as_str())?)?;
+    Ok(Help {
+        message: words!(in subject.alloc(); "write {text}")?,
+        replacements: Listed::new(replacements),
+    })
+}
+
+/// What to do about a remark. Of registers of one create mask, and of one release, each help mends all of the list.
+fn help_of(subject: &Subject, list: &[CostlyMark], remark: &Remark) -> Made<Help>
+    ensures { IfOk result (λ help. help ≡ help_of subject.now list.now remark.now) }
+{
+    let alloc = subject.alloc();
+    match remark {
+        Remark::Costly(CostlyMark::NeverProduced { task, .. }) => {
+            let registers = produced(subject, list, *task)?;
+            create_help(subject, *task, &registers)
+        }
+        Remark::Costly(CostlyMark::NotForwarded { index }) => {
+            let advice = Words::of(alloc, "add !f here")?;
+            by_text(
+                alloc,
+                advice,
+                after(subject.span(*index)),
+                Words::of(alloc, " !f")?,
+            )
+        }
+        Remark::Costly(CostlyMark::SentBefore { index, .. }) => {
+            let registers = still_released(subject, list, *index)?;
+            let text = release_words(subject, &registers)?;
+            before_help(subject, *index, &text)
+        }
+        Remark::Costly(CostlyMark::Unreached { .. }) => {
+            let advice = Words::of(
+                alloc,
+                "let a task go on to it; or remove it up to the next instruction that a task reaches, where no name refers to it",
+            )?;
+            Ok(in_words(alloc, advice))
+        }
+        Remark::Stop(StopRemark::NoExit(_)) => {
+            let advice = Words::of(alloc, "put !s, !st or !sn where it is to end")?;
+            Ok(in_words(alloc, advice))
+        }
+        Remark::Stop(StopRemark::NotTaken(task)) => not_taken_help(subject, *task),
+        Remark::Stop(StopRemark::GoesInto { index, .. }) => into_help(subject, *index),
+    }
+}
+
+/// What is said of a remark.
+fn warning(subject: &Subject, list: &[CostlyMark], remark: &Remark) -> Made<Diagnostic>
+    ensures { IfOk result (λ said. said ≡ warning subject.now list.now remark.now) }
+{
+    let message = message_of(subject, remark)?;
+    let help = help_of(subject, list, remark)?;
+    Ok(Diagnostic {
+        severity: Severity::Warning,
+        code: code_of(remark),
+        source: Source::Program,
+        span: Some(span_of(subject, remark)),
+        message,
+        notes: Listed::new(Vec::new(subject.alloc())),
+        help: Some(help),
+    })
+}
+
+/// What is said of some remarks.
+fn all_of(subject: &Subject, list: &[CostlyMark], remarks: &[Remark]) -> Made<Vec<Diagnostic>>
+    ensures { IfOk result (λ said. said.items ≡ each (warning subject.now list.now) remarks.now) }
+{
+    let mut said = Vec::new(subject.alloc());
+    for remark in remarks {
+        said.push(warning(subject, list, remark)?)?;
+    }
+    Ok(said)
+}
+
+/// What is said of some remarks: of the first `MOST_SHOWN`, and how many more there are.
+fn warnings(subject: &Subject, list: &[CostlyMark], remarks: &[Remark]) -> Made<Vec<Diagnostic>>
+    ensures { IfOk result (λ said. said.items ≡ warnings subject.now list.now remarks.now) }
+{
+    let mut said = all_of(subject, list, first_of(remarks, MOST_SHOWN))?;
+    let more = remarks.len().saturating_sub(MOST_SHOWN);
+    add_more(subject.alloc(), &mut said, more, "warning", "warnings")?;
+    Ok(said)
+}
+
+/// Adds what is remarked of the exits of a task.
+fn add_of_exits(subject: &Subject, list: &mut Vec<StopRemark>, task: u32, asked: bool) -> Made<()>
+    ensures { OnOk result (list.new.items ≡ list.old.items ++ of_targets (targets_of subject.now task) subject.now task asked) }
+{
+    let [_, ..] = subject.targets(task) else {
+        return Ok(());
+    };
+    if !has_exit(subject, task) {
+        list.push(StopRemark::NoExit(task))?;
+        return Ok(());
+    }
+    if has_indirect_exit(subject, task) || !(asked && has_untaken(subject, task)) {
+        return Ok(());
+    }
+    list.push(StopRemark::NotTaken(task))?;
+    Ok(())
+}
+
+/// Adds what is remarked of a task's first instruction that goes on into a task.
+fn add_of_step(subject: &Subject, list: &mut Vec<StopRemark>, task: u32) -> Made<()>
+    ensures { OnOk result (list.new.items ≡ list.old.items ++ of_step subject.now task) }
+{
+    let Some(index) = first_step(subject, task) else {
+        return Ok(());
+    };
+    let Some(into) = entered_task(subject, index) else {
+        return Ok(());
+    };
+    list.push(StopRemark::GoesInto { task, index, into })?;
+    Ok(())
+}
+
+/// Adds what is remarked of a task.
+fn add_of_task(subject: &Subject, list: &mut Vec<StopRemark>, all: bool, task: u32) -> Made<()>
+    ensures { OnOk result (list.new.items ≡ list.old.items ++ of_task subject.now all task) }
+{
+    let asked = is_asked(subject, all, task)?;
+    add_of_exits(subject, list, task, asked)?;
+    if !asked {
+        return Ok(());
+    }
+    add_of_step(subject, list, task)
+}
+
+/// What is remarked of a program, one task after another; of each at most two things.
+fn stop_remarks(subject: &Subject, all: bool) -> Made<Vec<StopRemark>>
+    ensures { IfOk result (λ list. list.items ≡ stop_remarks subject.now all) }
+{
+    let mut list = Vec::new(subject.alloc());
+    let program = subject.program();
+    for task in 0..program.tasks().len() {
+        add_of_task(subject, &mut list, all, task as u32)?;
+    }
+    Ok(list)
+}
+
+/// Adds the marks that cost speed to the remarks.
+fn add_costly(remarks: &mut Vec<Remark>, list: &[CostlyMark]) -> Made<()>
+    ensures { OnOk result (remarks.new.items ≡ remarks.old.items ++ each (λ mark. Remark.Costly mark) list.now) }
+{
+    for mark in list {
+        remarks.push(Remark::Costly(*mark))?;
+    }
+    Ok(())
+}
+
+/// All remarks: where a stop may be forgotten, and then the marks that cost speed.
+fn all_remarks(alloc: Global, stops: &[StopRemark], list: &[CostlyMark]) -> Made<Vec<Remark>>
+    ensures { IfOk result (λ remarks. remarks.items ≡ each (λ stop. Remark.Stop stop) stops.now ++ each (λ mark. Remark.Costly mark) list.now) }
+{
+    let mut remarks = Vec::new(alloc);
+    for stop in stops {
+        remarks.push(Remark::Stop(*stop))?;
+    }
+    add_costly(&mut remarks, list)?;
+    Ok(remarks)
+}
+
+/// What could be better about the marks of the program that a text spells: where a stop may be forgotten, and which
+/// marks cost speed; of the first `MOST_SHOWN`, and how many more there are. `least` is the program's least
+/// certificate. Without `all`, a target that no exit takes and a step into a task are told only of a task that has a
+/// finding of rule 5, 6 or 7.
+///
+/// # Errors
+///
+/// `AllocError` where memory was refused.
+pub fn mark_warnings(
+    alloc: Global,
+    text: &[u8],
+    program: &Program,
+    least: &Cert,
+    all: bool,
+) -> Result<Vec<Diagnostic>, AllocError>
+    requires spelled { parse text.now ≡ Ok program.now }
+    requires least { IsLeast program.now least.now }
+    ensures { IfOk result (λ said. AreMarkWarnings text.now program.now least.now all said.items) }
+{
+    let list = costly_marks(alloc, program, least)?;
+    let subject = Subject::read(alloc, text, program, least)?;
+    let stops = stop_remarks(&subject, all)?;
+    let remarks = all_remarks(alloc, &stops, &list)?;
+    let said = warnings(&subject, &list, &remarks)?;
+    Ok(said)
+}

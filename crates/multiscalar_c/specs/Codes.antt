@@ -1,0 +1,60 @@
+-- What the numbers stand for that a caller passes (own choice).
+use Rattle.std.specs.Prelude.{◌≤◌, ◌==◌, ◌&&◌, nat_le, nat_lt, not, ℕ, Bool, true, false, List, [], ◌∷◌, length, Option, Some, None, if◌then◌else◌}
+use Rattle.std.specs.List.{list_any}
+use Rattle.jobs.specs.declared.job.CertificateSource.{CertificateSource}
+use Rattle.jobs.specs.declared.job.CertificateSource.TheVariants.{File, Least}
+use Rattle.jobs.specs.declared.job.Emit.{Emit}
+use Rattle.jobs.specs.declared.job.Emit.TheVariants as emit
+use Rattle.jobs.specs.declared.job.Format.{Format}
+use Rattle.jobs.specs.declared.job.Format.TheVariants as format
+use Rattle.jobs.specs.declared.job.RunEmit.{RunEmit}
+use Rattle.jobs.specs.declared.job.RunEmit.TheVariants as run
+use Rattle.jobs.specs.declared.job.ReplayEmit.{ReplayEmit}
+use Rattle.jobs.specs.declared.job.ReplayEmit.TheVariants as replay
+use Rattle.jobs.specs.declared.job.CurveEmit.{CurveEmit}
+use Rattle.jobs.specs.declared.job.CurveEmit.TheVariants as curve
+use Rattle.jobs.specs.declared.job.Prediction.{Prediction}
+use Rattle.jobs.specs.declared.job.Prediction.TheVariants as predict
+
+-- where the certificate comes from
+abbrev pub source_of : (is_least : Bool) → CertificateSource
+source_of false = File
+source_of true = Least
+
+-- what `annotate` writes, from 0 on
+abbrev pub emits : List Emit
+emits = emit.Text ∷ emit.Cert ∷ emit.Keep ∷ emit.Marks ∷ []
+
+-- how `explain` lays out what it says, from 0 on
+abbrev pub formats : List Format
+formats = format.Text ∷ format.Sarif ∷ []
+
+-- what `run` writes, from 0 on
+abbrev pub run_emits : List RunEmit
+run_emits = run.Report ∷ run.Script ∷ run.Summary ∷ run.Picture ∷ run.Trace ∷ run.Json ∷ []
+
+-- what `replay` writes, from 0 on
+abbrev pub replay_emits : List ReplayEmit
+replay_emits = replay.Answers ∷ replay.Summary ∷ replay.Picture ∷ replay.Trace ∷ replay.Json ∷ []
+
+-- what `curve` writes, from 0 on
+abbrev pub curve_emits : List CurveEmit
+curve_emits = curve.Table ∷ curve.Picture ∷ []
+
+-- a budget, and a number of units
+abbrev pub IsBudget : ℕ → Type 0
+IsBudget budget = (1 ≤ budget) × (budget ≤ 1000000)
+
+abbrev pub IsUnits : ℕ → Type 0
+IsUnits units = (1 ≤ units) × (units ≤ 16)
+
+-- positions of targets that a prediction may have
+abbrev pub is_listed : List ℕ → Bool
+is_listed numbers = nat_le 1 (length numbers) && (nat_le (length numbers) 64 && not (list_any (λ n. nat_lt 15 n) numbers))
+
+-- how the next task is guessed: the first target, the last, or those at these positions, over and over
+abbrev pub prediction_of : (code : ℕ) → (numbers : List ℕ) → Option Prediction
+prediction_of code numbers =
+    if code == 0 then Some predict.First
+    else (if code == 1 then Some predict.Last
+    else (if (code == 2) && is_listed numbers then Some (predict.List numbers) else None))

@@ -1,0 +1,81 @@
+-- What is said of a program is what its report, or its file, says.
+use Rattle.std.proofs.Common.{◌≡◌, ◌∙◌, ap, refl, subst, sym, ℕ, Bool, true, false, List, [], Option, None, Some, Result, Ok, Err, IfOk}
+use Rattle.std.specs.String.{string_bytes}
+use Rattle.std.specs.declared.alloc.Global.{Global}
+use Rattle.std.specs.declared.string.String.{String}
+use Rattle.jobs.specs.declared.job.Format.{Format}
+use Rattle.jobs.specs.declared.job.Job.{Job}
+use Rattle.jobs.specs.declared.job.Job.TheVariants.{Annotate, Check, Curve, Explain, Print, Replay, Run, Seq}
+use Rattle.jobs.specs.declared.job.Texts.{Texts}
+use Rattle.report_texts.specs.OutputTexts.{Report}
+use Rattle.verdict_report.specs.JobTexts.{IsReportOf}
+use Rattle.verdict_report.specs.declared.fault.ServeFault.{ServeFault}
+use Rattle.program_edge.specs.declared.part.Part.{Part as Made}
+use Rattle.program_edge.specs.declared.summary.Judged.{Judged}
+use Rattle.program_edge.specs.Several.{IsJobFor, IsJudged, IsPartOfText, Part, part_with}
+
+abbrev part : List ℕ → List ℕ → Judged → Part
+part output errors judged = record { output = output; errors = errors; judged = judged }
+
+pub same_part : (a a' b b' : List ℕ) (j j' : Judged) → a ≡ a' → b ≡ b' → j ≡ j' → part a b j ≡ part a' b' j'
+same_part a a' b b' j j' p q r = ap (λ (x : List ℕ). part x b j) p ∙ ap (λ (y : List ℕ). part a' y j) q ∙ ap (λ (k : Judged). part a' b' k) r
+
+-- a part, as contracts see it
+abbrev seen : Made → Part
+seen made = record { output = made.output.items; errors = made.errors.items; judged = made.judged }
+
+-- the job for the program's own name says the same of it
+same_said : (t : Bool) (first own : String Global) (certificate other : Option (String Global)) (warnings : Bool) (format : Format) (name : List ℕ) (report : Report)
+    → part_with t (Explain own other warnings format) name report ≡ part_with t (Explain first certificate warnings format) name report
+same_said true first own certificate other warnings format name report = refl
+same_said false first own certificate other warnings format name report = refl
+
+reported : (t : Bool) (asked own : Job) (name : List ℕ) (texts : Texts) (r : Result Made ServeFault) → IsJobFor asked name own
+    → ((report : Report) → part_with t own name report ≡ part_with t asked name report)
+    → IfOk r (λ made. (report : Report) × IsReportOf own texts report × (seen made ≡ part_with t own name report))
+    → IfOk r (λ made. texts.certificate ≡ [] → texts.script.items ≡ [] → IsJudged t asked name texts.program.items (seen made))
+reported t asked own name texts (Ok made) for_it same h = λ certificate script. record {
+  job = own;
+  own = for_it;
+  texts = texts;
+  alone = (refl, certificate, script);
+  report = h.0;
+  right = h.1;
+  said = h.2 ∙ same h.0;
+}
+reported t asked own name texts (Err fault) for_it same h = tt
+
+pub reported_explained : (t : Bool) (asked : Job) (first own : String Global) (certificate : Option (String Global)) (warnings : Bool) (format : Format) (name : List ℕ) (texts : Texts) (r : Result Made ServeFault)
+    → asked ≡ Explain first certificate warnings format → string_bytes own ≡ name
+    → IfOk r (λ made. (report : Report) × IsReportOf (Explain own None warnings format) texts report × (seen made ≡ part_with t (Explain own None warnings format) name report))
+    → IfOk r (λ made. texts.certificate ≡ [] → texts.script.items ≡ [] → IsJudged t asked name texts.program.items (seen made))
+reported_explained t asked first own certificate warnings format name texts r is named h =
+    subst (λ (job : Job). IfOk r (λ made. texts.certificate ≡ [] → texts.script.items ≡ [] → IsJudged t job name texts.program.items (seen made))) (sym is)
+    (reported t (Explain first certificate warnings format) (Explain own None warnings format) name texts r (own, refl, named)
+    (λ report. same_said t first own certificate None warnings format name report) h)
+
+job_itself : (asked : Job) (name : List ℕ) → ((first : String Global) (certificate : Option (String Global)) (warnings : Bool) (format : Format) → asked ≡ Explain first certificate warnings format → ⊥)
+    → IsJobFor asked name asked
+job_itself (Explain first certificate warnings format) name other = absurd (other first certificate warnings format refl)
+job_itself (Seq budget) name other = refl
+job_itself Print name other = refl
+job_itself (Annotate emit) name other = refl
+job_itself (Check source workers) name other = refl
+job_itself (Replay source units emit) name other = refl
+job_itself (Run source schedule units workers budget predict emit) name other = refl
+job_itself (Curve source units budget predict emit) name other = refl
+
+pub reported_itself : (t : Bool) (asked : Job) (name : List ℕ) (texts : Texts) (r : Result Made ServeFault)
+    → ((first : String Global) (certificate : Option (String Global)) (warnings : Bool) (format : Format) → asked ≡ Explain first certificate warnings format → ⊥)
+    → IfOk r (λ made. (report : Report) × IsReportOf asked texts report × (seen made ≡ part_with t asked name report))
+    → IfOk r (λ made. texts.certificate ≡ [] → texts.script.items ≡ [] → IsJudged t asked name texts.program.items (seen made))
+reported_itself t asked name texts r other h = reported t asked asked name texts r (job_itself asked name other) (λ report. refl) h
+
+-- a text that is not taken for a certificate is judged
+pub text_judged : (t : Bool) (asked : Job) (name text : List ℕ) (b : Bool) (certificate script : List ℕ) (r : Result Made ServeFault)
+    → b ≡ false → certificate ≡ [] → script ≡ []
+    → IfOk r (λ made. certificate ≡ [] → script ≡ [] → IsJudged t asked name text (seen made))
+    → IfOk r (λ made. IsPartOfText b t asked name text (seen made))
+text_judged t asked name text b certificate script (Ok made) is none empty h =
+    subst (λ (x : Bool). IsPartOfText x t asked name text (seen made)) (sym is) (h none empty)
+text_judged t asked name text b certificate script (Err fault) is none empty h = tt

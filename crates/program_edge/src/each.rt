@@ -1,0 +1,143 @@
+//! The job for several programs, one after another.
+ghost use Rattle.std.specs.Prelude.{◌≡◌, ◌≤◌, ◌+◌, Err, IfErr, IfOk, OnErr, OnOk};
+ghost use Rattle.std.specs.String.{string_bytes};
+ghost use Rattle.whole_file.specs.Files.{Files};
+ghost use Rattle.program_edge.specs.Several.{EndsAt, IsEach, IsPartOf, Part as PartOf, Sums};
+ghost use Rattle.program_edge.specs.Streams.{IsCut, IsWritten};
+ghost use Rattle.program_edge.specs.Summaries.{all_of, summary_line};
+
+use crate::fault::Fault;
+use crate::named_files::NamedFiles;
+use crate::part::part_of;
+use crate::streams::{say, write_whole};
+use crate::summary::{Judged, Tally, count, empty_tally, summary_line, worst_status};
+use crate::told::{Ending, tell};
+use jobs::job::Job;
+use std::alloc::Global;
+use std::io::Write;
+use std::sync::Wait;
+use std::thread::Threads;
+use verdict_report::fault::ServeFault;
+
+/// Does a job for each of several programs, in the order of their names: standard output gets their reports, and last
+/// a line that sums them up; the status is the worst. A file that gives no program is told on standard error, and the
+/// others have their turn. Want of memory, or a stream that fails, ends it, with status 2. (own choice)
+pub(crate) fn answer_each<F: NamedFiles, O: Write, E: Write, R: Threads + Wait + Sync>(
+    rt: &R,
+    alloc: Global,
+    job: &Job,
+    names: &[String],
+    files: &F,
+    output: &mut O,
+    errors: &mut E,
+    is_terminal: bool,
+) -> Ending
+    ensures { (known : Files) → IsEach is_terminal (F.known files.now) job.now names.now result
+        record { output = O.contents output.old; errors = E.contents errors.old; files = known }
+        record { output = O.contents output.new; errors = E.contents errors.new; files = known } }
+{
+    let mut tally = empty_tally();
+    for name in names {
+        match answer_one(
+            rt,
+            alloc,
+            job,
+            name.as_str(),
+            files,
+            output,
+            errors,
+            is_terminal,
+        ) {
+            Ok(judged) => tally = count(tally, judged),
+            Err(ending) => return ending,
+        }
+    }
+    sum_up(alloc, tally, output, errors)
+}
+
+// Does a job for one of several programs, or ends it all.
+fn answer_one<F: NamedFiles, O: Write, E: Write, R: Threads + Wait + Sync>(
+    rt: &R,
+    alloc: Global,
+    job: &Job,
+    name: &str,
+    files: &F,
+    output: &mut O,
+    errors: &mut E,
+    is_terminal: bool,
+) -> Result<Judged, Ending>
+    ensures one { IfOk result (λ judged. (part : PartOf) × IsPartOf is_terminal (F.known files.now) job.now name.now part × (part.judged ≡ judged)
+        × ((known : Files) → IsWritten part.output part.errors
+        record { output = O.contents output.old; errors = E.contents errors.old; files = known }
+        record { output = O.contents output.new; errors = E.contents errors.new; files = known })) }
+    ensures end { IfErr result (λ ending. (known : Files) → EndsAt is_terminal (F.known files.now) job.now name.now ending
+        record { output = O.contents output.old; errors = E.contents errors.old; files = known }
+        record { output = O.contents output.new; errors = E.contents errors.new; files = known }) }
+{
+    match part_of(rt, alloc, job, name, files, is_terminal) {
+        Ok(part) => {
+            let said = part.output.as_slice();
+            let told = part.errors.as_slice();
+            match write_both(said, told, output, errors) {
+                Ok(()) => Ok(part.judged),
+                Err(ending) => Err(ending),
+            }
+        }
+        Err(lack) => Err(tell(&Fault::Serve(lack), output, errors)),
+    }
+}
+
+// Says what several programs come to.
+fn sum_up<O: Write, E: Write>(alloc: Global, tally: Tally, output: &mut O, errors: &mut E) -> Ending
+    requires { all_of tally ≤ usize.MAX }
+    ensures { (known : Files) → Sums tally result
+        record { output = O.contents output.old; errors = E.contents errors.old; files = known }
+        record { output = O.contents output.new; errors = E.contents errors.new; files = known } }
+{
+    match line_of(alloc, tally) {
+        Ok(line) => match write_both(line.as_bytes(), &[], output, errors) {
+            Ok(()) => Ending {
+                status: worst_status(tally),
+                is_told: true,
+            },
+            Err(ending) => ending,
+        },
+        Err(lack) => tell(&Fault::Serve(lack), output, errors),
+    }
+}
+
+// The line that sums up.
+fn line_of(alloc: Global, tally: Tally) -> Result<String, ServeFault>
+    requires { all_of tally ≤ usize.MAX }
+    ensures line { IfOk result (λ line. string_bytes line ≡ summary_line tally) }
+    ensures memory { OnErr result (result ≡ Err ServeFault.OutOfMemory) }
+{
+    Ok(summary_line(alloc, tally)?)
+}
+
+// Writes to both streams; or how it ends where one of them fails.
+fn write_both<O: Write, E: Write>(
+    said: &[u8],
+    told: &[u8],
+    output: &mut O,
+    errors: &mut E,
+) -> Result<(), Ending>
+    ensures whole { OnOk result ((known : Files) → IsWritten said.now told.now
+        record { output = O.contents output.old; errors = E.contents errors.old; files = known }
+        record { output = O.contents output.new; errors = E.contents errors.new; files = known }) }
+    ensures cut { IfErr result (λ ending. (known : Files) → IsCut said.now told.now ending
+        record { output = O.contents output.old; errors = E.contents errors.old; files = known }
+        record { output = O.contents output.new; errors = E.contents errors.new; files = known }) }
+{
+    if write_whole(said, output).is_err() {
+        return Err(tell(&Fault::Serve(ServeFault::Write), output, errors));
+    }
+    if say(told, errors) {
+        Ok(())
+    } else {
+        Err(Ending {
+            status: 2,
+            is_told: false,
+        })
+    }
+}

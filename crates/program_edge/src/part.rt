@@ -1,0 +1,201 @@
+//! What is said of one of several programs.
+ghost use Rattle.std.specs.Prelude.{◌≡◌, [], Err, IfOk, OnErr};
+ghost use Rattle.report_texts.specs.OutputTexts.{Report};
+ghost use Rattle.verdict_report.specs.JobTexts.{IsReportOf};
+ghost use Rattle.program_edge.specs.Several.{IsJudged, IsPartOf, IsPartOfText, among_others, certificate_reason, is_certificate, named_lines, part_with, unjudged};
+ghost use Rattle.program_edge.specs.Telling.{program_reason};
+
+use crate::hint::{add, explains};
+use crate::named_files::NamedFiles;
+use crate::reports::{Hinted, hinted_report};
+use crate::summary::{Judged, judged_by};
+use crate::texts::{MOST_PROGRAM, read_file};
+use crate::unread::Reason;
+use jobs::job::{Job, Texts};
+use std::alloc::{AllocError, Global};
+use std::marker::Sync;
+use std::sync::Wait;
+use std::thread::Threads;
+use text_pieces::text::Text;
+use verdict_report::fault::ServeFault;
+
+/// What is said of a program on the two streams, and what it counts as.
+#[derive(Drop)]
+pub(crate) struct Part {
+    /// What standard output gets.
+    pub output: Vec<u8>,
+    /// What standard error gets.
+    pub errors: Vec<u8>,
+    /// What it counts as.
+    pub judged: Judged,
+}
+
+/// What is said of the program of this name, or that memory ran out.
+pub(crate) fn part_of<F: NamedFiles, R: Threads + Wait + Sync>(
+    rt: &R,
+    alloc: Global,
+    job: &Job,
+    name: &str,
+    files: &F,
+    is_terminal: bool,
+) -> Result<Part, ServeFault>
+    ensures part { IfOk result (λ part. IsPartOf is_terminal (F.known files.now) job.now name.now
+        record { output = part.output.items; errors = part.errors.items; judged = part.judged }) }
+    ensures memory { OnErr result (result ≡ Err ServeFault.OutOfMemory) }
+{
+    match read_file(alloc, files, name, MOST_PROGRAM) {
+        Ok(text) => part_of_text(rt, alloc, job, name, text, is_terminal),
+        Err(Reason::OutOfMemory) => Err(ServeFault::OutOfMemory),
+        Err(reason) => Ok(unread_part(alloc, name, reason)?),
+    }
+}
+
+// What is said of a program with this text.
+fn part_of_text<R: Threads + Wait + Sync>(
+    rt: &R,
+    alloc: Global,
+    job: &Job,
+    name: &str,
+    text: Vec<u8>,
+    is_terminal: bool,
+) -> Result<Part, ServeFault>
+    ensures part { IfOk result (λ part. IsPartOfText (is_certificate job.now text.items) is_terminal job.now name.now text.items
+        record { output = part.output.items; errors = part.errors.items; judged = part.judged }) }
+    ensures memory { OnErr result (result ≡ Err ServeFault.OutOfMemory) }
+{
+    if is_certificate(job, text.as_slice()) {
+        return Ok(certificate_part(alloc, name)?);
+    }
+    let texts = Texts {
+        program: text,
+        certificate: Text::new(alloc, Vec::new(alloc)),
+        script: Vec::new(alloc),
+    };
+    judged_part(rt, alloc, job, name, &texts, is_terminal)
+}
+
+// Whether the job takes this text for a certificate.
+fn is_certificate(job: &Job, text: &[u8]) -> bool
+    ensures { result ≡ is_certificate job.now text.now }
+{
+    explains(job) && text.starts_with(b"cert ")
+}
+
+// What is said of a program that has its report. The job of `explain` is given the program's own name.
+fn judged_part<R: Threads + Wait + Sync>(
+    rt: &R,
+    alloc: Global,
+    job: &Job,
+    name: &str,
+    texts: &Texts,
+    is_terminal: bool,
+) -> Result<Part, ServeFault>
+    ensures part { IfOk result (λ part. (texts.now.certificate ≡ []) → (texts.now.script.items ≡ []) →
+        IsJudged is_terminal job.now name.now texts.now.program.items
+        record { output = part.output.items; errors = part.errors.items; judged = part.judged }) }
+    ensures memory { OnErr result (result ≡ Err ServeFault.OutOfMemory) }
+{
+    match job {
+        Job::Explain {
+            warnings,
+            format,
+            ..
+        } => {
+            let own = Job::Explain {
+                name: String::from_str(alloc, name)?,
+                certificate: None,
+                warnings: *warnings,
+                format: *format,
+            };
+            reported_part(rt, alloc, &own, name, texts, is_terminal)
+        }
+        _ => reported_part(rt, alloc, job, name, texts, is_terminal),
+    }
+}
+
+// What is said of a program with the report of this job.
+fn reported_part<R: Threads + Wait + Sync>(
+    rt: &R,
+    alloc: Global,
+    job: &Job,
+    name: &str,
+    texts: &Texts,
+    is_terminal: bool,
+) -> Result<Part, ServeFault>
+    ensures part { IfOk result (λ part. (report : Report) × IsReportOf job.now texts.now report
+        × (record { output = part.output.items; errors = part.errors.items; judged = part.judged }
+        ≡ part_with is_terminal job.now name.now report)) }
+    ensures memory { OnErr result (result ≡ Err ServeFault.OutOfMemory) }
+{
+    let Hinted { report, hint } = hinted_report(rt, alloc, job, texts, is_terminal, name)?;
+    Ok(Part {
+        output: among_others(alloc, job, name, report.bytes)?,
+        errors: hint,
+        judged: judged_by(report.status),
+    })
+}
+
+// How a report stands among others: the lines of `check` get their file's name.
+fn among_others(alloc: Global, job: &Job, name: &str, text: Vec<u8>) -> Result<Vec<u8>, AllocError>
+    ensures { IfOk result (λ said. said.items ≡ among_others job.now name.now text.items) }
+{
+    match job {
+        Job::Check { .. } => named_lines(alloc, name, text.as_slice()),
+        _ => Ok(text),
+    }
+}
+
+// The lines of a text, each with the file's name before it.
+fn named_lines(alloc: Global, name: &str, text: &[u8]) -> Result<Vec<u8>, AllocError>
+    ensures { IfOk result (λ said. said.items ≡ named_lines name.now text.now) }
+{
+    let mut said = Vec::new(alloc);
+    let mut starts = true;
+    for byte in text {
+        if starts {
+            add(name, &mut said)?;
+            add(": ", &mut said)?;
+        }
+        said.push(*byte)?;
+        starts = *byte == b'\n';
+    }
+    Ok(said)
+}
+
+// That a file gives no program, and why: of a folder, how its files are named.
+fn unread_part(alloc: Global, name: &str, reason: Reason) -> Result<Part, AllocError>
+    ensures { IfOk result (λ part. record { output = part.output.items; errors = part.errors.items; judged = part.judged }
+        ≡ unjudged name.now (program_reason name.now reason)) }
+{
+    match reason {
+        Reason::IsDirectory => {
+            let why = format!(in alloc; "is a directory; name its files, as in {name}/*.s")?;
+            unjudged_part(alloc, name, why.as_str())
+        }
+        _ => unjudged_part(alloc, name, reason.words()),
+    }
+}
+
+// That a file is a certificate, and how it is explained.
+fn certificate_part(alloc: Global, name: &str) -> Result<Part, AllocError>
+    ensures { IfOk result (λ part. record { output = part.output.items; errors = part.errors.items; judged = part.judged }
+        ≡ unjudged name.now (certificate_reason name.now)) }
+{
+    let why = format!(in alloc;
+        "is a certificate; explain PROGRAM --certificate {name} explains it"
+    )?;
+    unjudged_part(alloc, name, why.as_str())
+}
+
+// That a program is not judged, for this reason.
+fn unjudged_part(alloc: Global, name: &str, why: &str) -> Result<Part, AllocError>
+    ensures { IfOk result (λ part. record { output = part.output.items; errors = part.errors.items; judged = part.judged }
+        ≡ unjudged name.now why.now) }
+{
+    let line = format!(in alloc; "multiscalar: file {name}: {why}\n")?;
+    Ok(Part {
+        output: Vec::new(alloc),
+        errors: line.into_bytes(),
+        judged: Judged::Unjudged,
+    })
+}

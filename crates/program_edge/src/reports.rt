@@ -1,0 +1,67 @@
+//! What a job writes, and the hint to it.
+ghost use Rattle.std.specs.Prelude.{◌≡◌, ◌≢◌, Err, IfOk, OnErr};
+ghost use Rattle.verdict_report.specs.JobTexts.{IsReportOf};
+ghost use Rattle.program_edge.specs.Hints.{hint_for};
+
+use crate::hint::hint_for;
+use jobs::job::{Job, Texts};
+use std::alloc::Global;
+use std::sync::Wait;
+use std::thread::Threads;
+use verdict_report::fault::ServeFault;
+use verdict_report::serve::serve;
+
+// What a job writes, and the status.
+#[derive(Drop)]
+pub(crate) struct Written {
+    pub bytes: Vec<u8>,
+    pub status: u8,
+}
+
+// What a job writes, and the hint to it.
+#[derive(Drop)]
+pub(crate) struct Hinted {
+    pub report: Written,
+    pub hint: Vec<u8>,
+}
+
+// What a job with its texts writes, and the hint to it.
+pub(crate) fn hinted_report<R: Threads + Wait + Sync>(
+    rt: &R,
+    alloc: Global,
+    job: &Job,
+    texts: &Texts,
+    is_terminal: bool,
+    name: &str,
+) -> Result<Hinted, ServeFault>
+    ensures report { IfOk result (λ h. IsReportOf job.now texts.now record { bytes = h.report.bytes.items; status = h.report.status }) }
+    ensures hint { IfOk result (λ h. h.hint.items ≡ hint_for is_terminal job.now name.now
+        record { bytes = h.report.bytes.items; status = h.report.status }) }
+    ensures fault { result ≢ Err ServeFault.Write }
+    ensures memory { OnErr result (result ≡ Err ServeFault.OutOfMemory) }
+{
+    let report = report_of(rt, alloc, job, texts)?;
+    let bytes = report.bytes.as_slice();
+    let hint = hint_for(alloc, is_terminal, job, name, report.status, bytes)?;
+    Ok(Hinted { report, hint })
+}
+
+// What a job with its texts writes.
+fn report_of<R: Threads + Wait + Sync>(
+    rt: &R,
+    alloc: Global,
+    job: &Job,
+    texts: &Texts,
+) -> Result<Written, ServeFault>
+    ensures report { IfOk result (λ w. IsReportOf job.now texts.now record { bytes = w.bytes.items; status = w.status }) }
+    ensures fault { result ≢ Err ServeFault.Write }
+    ensures memory { OnErr result (result ≡ Err ServeFault.OutOfMemory) }
+{
+    let mut bytes = Vec::new(alloc);
+    match serve(rt, alloc, job, texts, &mut bytes) {
+        Ok(status) => Ok(Written { bytes, status }),
+        // What is written to memory fails only where there is no more of it.
+        Err(ServeFault::Write) => Err(ServeFault::OutOfMemory),
+        Err(fault) => Err(fault),
+    }
+}

@@ -1,0 +1,25 @@
+//! Writing to a stream, so that it has arrived.
+ghost use Rattle.std.specs.Prelude.{OnOk};
+ghost use Rattle.std.specs.Io.KnownBytes.{Appends};
+ghost use Rattle.verdict_report.specs.Writing.{Begins};
+ghost use Rattle.program_edge.specs.Hints.{IsSaid};
+
+use std::io;
+use std::io::Write;
+use verdict_report::writing::write_bytes;
+
+// Says a hint, so that it has arrived; whether it was said whole.
+pub(crate) fn say<E: Write>(hint: &[u8], errors: &mut E) -> bool
+    ensures { IsSaid hint.now result (E.contents errors.old) (E.contents errors.new) }
+{
+    hint.is_empty() || write_whole(hint, errors).is_ok()
+}
+
+// Writes bytes, so that they have arrived.
+pub(crate) fn write_whole<W: Write>(bytes: &[u8], writer: &mut W) -> io::Result<()>
+    ensures whole { OnOk result (Appends (W.contents writer.old) (W.contents writer.new) bytes.now) }
+    ensures part { Begins (W.contents writer.old) (W.contents writer.new) bytes.now }
+{
+    write_bytes(bytes, writer)?;
+    writer.flush()
+}

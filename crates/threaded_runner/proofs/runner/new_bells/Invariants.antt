@@ -1,0 +1,6 @@
+-- There are as many bells as workers so far.
+use Rattle.std.proofs.Common.{◌≡◌, length}
+use Rattle.threaded_runner.proofs.runner.new_bells.Given as goal
+
+abbrev pub invariant-loop : goal.invariant-loop
+invariant-loop l = length l.bells.items ≡ l.counter

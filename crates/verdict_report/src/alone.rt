@@ -1,0 +1,83 @@
+//! The jobs that may take threads, done on the caller's: they need no runtime.
+ghost use Rattle.std.specs.Prelude.{◌≡◌, IfOk};
+ghost use Rattle.jobs.specs.declared.job.Schedule.TheVariants.{Steps};
+ghost use Rattle.report_texts.specs.CertificateTexts.{OfCertificate};
+ghost use Rattle.report_texts.specs.CheckText.{check_text};
+ghost use Rattle.verdict_report.specs.RunText.{IsRunReport, IsRunText};
+
+use crate::running::report_of_run;
+use crate::scheduled::run_in_steps;
+use jobs::job::{CertificateSource, Prediction, RunEmit, Texts};
+use jobs::ranges::{Budget, Units};
+use mark_checker::accept::Accepted;
+use report_texts::judging::{Judged, judge};
+use report_texts::report::Report;
+use report_texts::verdict_text::accepted_program;
+use std::alloc::{AllocError, Global};
+
+/// What `check` writes of a program text and the text of its certificate.
+///
+/// # Errors
+///
+/// `AllocError` where memory was refused.
+pub fn check_alone(
+    alloc: Global,
+    source: CertificateSource,
+    texts: &Texts,
+) -> Result<Report, AllocError>
+    ensures { IfOk result (λ report. OfCertificate source texts.now.program.items texts.now.certificate (λ certificate.
+        report ≡ check_text texts.now.program.items certificate)) }
+{
+    match judge(alloc, source, texts)? {
+        Judged::Refused(report) => Ok(report),
+        Judged::Accepted(accepted) => accepted_program(alloc, accepted.program()),
+    }
+}
+
+/// How a run in steps is made, and what is written of it.
+#[derive(Clone, Copy)]
+pub struct StepsRun<'a> {
+    /// How many units the machine has.
+    pub units: Units,
+    /// The most events.
+    pub budget: Budget,
+    /// How the next task is guessed.
+    pub predict: &'a Prediction,
+    /// What is written.
+    pub emit: RunEmit,
+}
+
+/// What `run --schedule steps` writes of a program text and the text of its certificate.
+///
+/// # Errors
+///
+/// `AllocError` where memory was refused.
+pub fn run_alone(
+    alloc: Global,
+    steps: &StepsRun<'_>,
+    source: CertificateSource,
+    texts: &Texts,
+) -> Result<Report, AllocError>
+    ensures { IfOk result (λ report. OfCertificate source texts.now.program.items texts.now.certificate (λ certificate.
+        IsRunText Steps steps.now.units steps.now.budget steps.now.predict.now steps.now.emit texts.now.program.items certificate report)) }
+{
+    match judge(alloc, source, texts)? {
+        Judged::Refused(report) => Ok(report),
+        Judged::Accepted(accepted) => {
+            run_accepted(alloc, steps, texts.program.as_slice(), &accepted)
+        }
+    }
+}
+
+// What `run --schedule steps` writes of an accepted program with its text.
+fn run_accepted(
+    alloc: Global,
+    steps: &StepsRun<'_>,
+    text: &[u8],
+    accepted: &Accepted,
+) -> Result<Report, AllocError>
+    ensures { IfOk result (λ report. IsRunReport Steps steps.now.units steps.now.budget steps.now.predict.now steps.now.emit text.now accepted.now.program report) }
+{
+    let ran = run_in_steps(alloc, steps.units, steps.budget, steps.predict, accepted)?;
+    report_of_run(alloc, steps.emit, steps.units, &ran, text, accepted)
+}
