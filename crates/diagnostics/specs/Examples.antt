@@ -14,7 +14,7 @@ use Rattle.diagnostics.specs.declared.diagnostic.Severity.{Severity}
 use Rattle.diagnostics.specs.declared.diagnostic.Severity.TheVariants.{Error, Warning, Note}
 use Rattle.diagnostics.specs.declared.diagnostic.Source.TheVariants.{Program}
 use Rattle.diagnostics.specs.declared.diagnostic.Span.{Span}
-use Rattle.diagnostics.specs.Excerpt.{is_readable, line_row, caret_row, excerpt_text}
+use Rattle.diagnostics.specs.Excerpt.{is_readable, letter_start, line_row, caret_row, excerpt_text}
 use Rattle.diagnostics.specs.Files.{NamedText, Texts}
 use Rattle.diagnostics.specs.TextForm.{rest_text, path_text, note_text, notes_text, said_text, diagnostic_text, text_form}
 
@@ -162,9 +162,15 @@ pub no_letter : excerpt (codes "# na" ++ (239 ∷ codes "ve")) 5 1 ≡ printed
 unfolding digits is_readable is_utf8 chars encode line_row caret_row
 no_letter = refl
 
+-- a line is cut between letters: of 200 bytes 199 are shown, where the last would be the first half of one
+pub cut_letter : excerpt (codes "here" ++ (replicate 195 97 ++ (195 ∷ 175 ∷ replicate 900 98))) 1 4
+    ≡ codes "    1 | here" ++ (replicate 195 97 ++ codes "...\n      | ^~~~\n")
+unfolding digits is_readable is_utf8 chars encode letter_start line_row caret_row
+cut_letter = refl
+
 -- of a line of 1,200 bytes 200 are shown
 pub long_line : excerpt (replicate 700 97 ++ (codes "here" ++ replicate 496 98)) 701 4
     ≡ codes "    1 | ..." ++ (replicate 60 97 ++ (codes "here" ++ (replicate 136 98 ++ (codes "...\n"
     ++ (codes "      |    " ++ (replicate 60 32 ++ codes "^~~~\n"))))))
-unfolding digits is_readable is_utf8 chars encode line_row caret_row
+unfolding digits is_readable is_utf8 chars encode letter_start line_row caret_row
 long_line = refl

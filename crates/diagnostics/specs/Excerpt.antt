@@ -9,9 +9,12 @@ use Rattle.diagnostics.specs.declared.colour.Colour.{Colour}
 use Rattle.diagnostics.specs.declared.diagnostic.Span.{Span}
 use Rattle.diagnostics.specs.Colours.{on, off, caret_style}
 
--- a character above ASCII that steers a terminal, or turns the direction of a text
+-- A character above ASCII that steers a terminal, ends a line, or turns the direction of a text (Unicode: U+0080 to
+-- U+009F; U+2028, U+2029; and those of the property Bidi_Control).
 abbrev pub steers : ℕ → Bool
-steers c = (nat_le 128 c && nat_lt c 160) || (nat_le 0x202a c && nat_le c 0x202e) || (nat_le 0x2066 c && nat_le c 0x2069)
+steers c =
+    (nat_le 0x80 c && nat_le c 0x9f) || (nat_eq c 0x61c || ((nat_le 0x200e c && nat_le c 0x200f)
+    || ((nat_le 0x2028 c && nat_le c 0x202e) || (nat_le 0x2066 c && nat_le c 0x2069))))
 
 -- bytes of which those above 127 can be shown as the letters that they spell in UTF-8
 unfoldable pub is_readable : List ℕ → Bool
@@ -38,6 +41,22 @@ shown readable bs = flat_map (shown_byte readable) bs
 abbrev pub continues : ℕ → Bool
 continues b = nat_le 128 b && nat_lt b 192
 
+-- A place between two bytes that is inside no letter: this one, or up to three bytes before it (a letter of UTF-8 has at
+-- most four).
+abbrev pub is_inside : Option ℕ → Bool
+is_inside None = false
+is_inside (Some b) = continues b
+
+abbrev pub step_back : List ℕ → ℕ → ℕ
+step_back bs n = if is_inside (slice_get bs n) then n - 1 else n
+
+unfoldable pub letter_start : List ℕ → ℕ → ℕ
+letter_start bs n = step_back bs (step_back bs (step_back bs n))
+
+-- the first bytes, at most as many, without a part of a letter
+abbrev pub front : List ℕ → ℕ → List ℕ
+front bs n = take (letter_start bs n) bs
+
 -- What stands below a byte, so that the caret keeps its column: a tab below a tab, one space below a letter, and as many
 -- as it has characters below any other byte.
 abbrev pub blank_byte : (readable : Bool) → ℕ → List ℕ
@@ -62,10 +81,10 @@ longest_before = 60
 
 -- how many bytes of a line are left out before what is shown, and what is shown
 abbrev pub left_out : (line : List ℕ) → (column : ℕ) → ℕ
-left_out line column = if nat_le (length line) longest_whole then 0 else column - 1 - longest_before
+left_out line column = if nat_le (length line) longest_whole then 0 else letter_start line (column - 1 - longest_before)
 
 abbrev pub part : (line : List ℕ) → (column : ℕ) → List ℕ
-part line column = if nat_le (length line) longest_whole then line else take longest_part (drop (left_out line column) line)
+part line column = if nat_le (length line) longest_whole then line else front (drop (left_out line column) line) longest_part
 
 -- three periods where something is left out
 abbrev pub dots : Bool → List ℕ
@@ -93,9 +112,9 @@ unfoldable pub caret_row : Colour → (number line : List ℕ) → (column width
 caret_row colour number line column width =
     let there = part line column in
     let readable = is_readable there in
-    let front = column - 1 - left_out line column in
+    let place = column - 1 - left_out line column in
     replicate (max 5 (length number)) 32 ++ (codes " | " ++ (replicate (length (dots (is_cut_before line column))) 32
-    ++ (blanks readable (take front there) ++ caret colour (length (blanks readable (take width (drop front there)))))))
+    ++ (blanks readable (take place there) ++ caret colour (length (blanks readable (take width (drop place there)))))))
 
 -- both rows of a line, without the CR that may end it; nothing where the text has no such line
 abbrev pub line_excerpt : Colour → Span → Option (List ℕ) → List ℕ

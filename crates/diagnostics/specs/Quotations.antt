@@ -1,9 +1,11 @@
--- How a message quotes bytes of a text (own choice).
-use Rattle.std.specs.Prelude.{ℕ, List, ◌++◌, codes, take, length, nat_le, if◌then◌else◌}
-use Rattle.diagnostics.specs.Excerpt.{is_readable, shown}
+-- How a message quotes bytes of a text, or writes them (own choice).
+use Rattle.std.specs.Prelude.{ℕ, List, ◌++◌, codes, length, nat_le, if◌then◌else◌}
+use Rattle.diagnostics.specs.Excerpt.{is_readable, shown, front}
 
--- as an excerpt shows them; of more than 40 only the first
+-- as an excerpt shows them
+unfoldable pub as_shown : List ℕ → List ℕ
+as_shown bytes = shown (is_readable bytes) bytes
+
+-- the same, and of more than 40 only the first
 unfoldable pub quoted : List ℕ → List ℕ
-quoted bytes =
-    let front = take 40 bytes in
-    codes "`" ++ (shown (is_readable front) front ++ (if nat_le (length bytes) 40 then codes "`" else codes "..`"))
+quoted bytes = codes "`" ++ (as_shown (front bytes 40) ++ (if nat_le (length bytes) 40 then codes "`" else codes "..`"))

@@ -2,10 +2,11 @@
 
 ghost use Rattle.std.specs.Prelude.{◌≡◌, ◌++◌, ◌+◌, ◌-◌, ◌<◌, ◌≤◌, map, take, drop, length, replicate, false, IfOk, OnOk, slice_get};
 ghost use Rattle.std.specs.List.{flat_map, list_any};
+ghost use Rattle.std.specs.Option.{option_copied};
 ghost use Rattle.std.specs.Str.{chars};
 ghost use Rattle.std.specs.Str.Lines.{strip_carriage_return};
 ghost use Rattle.std.specs.String.{string_bytes};
-ghost use Rattle.diagnostics.specs.Excerpt.{steers, is_readable, is_plain, escaped, shown_byte, shown, continues, blank_byte, blanks, left_out, part, dots, is_cut_before, is_cut_after, line_row, caret, caret_row, line_excerpt, excerpt_text};
+ghost use Rattle.diagnostics.specs.Excerpt.{steers, is_readable, is_plain, escaped, shown_byte, shown, continues, is_inside, step_back, letter_start, front, blank_byte, blanks, left_out, part, dots, is_cut_before, is_cut_after, line_row, caret, caret_row, line_excerpt, excerpt_text};
 
 use crate::colour::{CARET, Colour};
 use crate::diagnostic::Span;
@@ -33,11 +34,18 @@ fn without_carriage_return(line: &[u8]) -> &[u8]
     }
 }
 
-/// Whether a character above ASCII steers a terminal, or turns the direction of a text.
+/// Whether a character above ASCII steers a terminal, ends a line, or turns the direction of a text.
 fn steers(letter: char) -> bool
     ensures { result ≡ steers letter }
 {
-    matches!(letter, '\u{80}'..='\u{9f}' | '\u{202a}'..='\u{202e}' | '\u{2066}'..='\u{2069}')
+    matches!(
+        letter,
+        '\u{80}'..='\u{9f}'
+            | '\u{61c}'
+            | '\u{200e}'..='\u{200f}'
+            | '\u{2028}'..='\u{202e}'
+            | '\u{2066}'..='\u{2069}'
+    )
 }
 
 /// Whether some character does.
@@ -141,7 +149,7 @@ fn blanks(alloc: Global, readable: bool, bytes: &[u8]) -> Result<String, AllocEr
 }
 
 /// The first bytes, as many.
-pub(crate) fn first(bytes: &[u8], count: usize) -> &[u8]
+fn first(bytes: &[u8], count: usize) -> &[u8]
     ensures { result.now ≡ take count bytes.now }
 {
     if count < bytes.len() {
@@ -162,6 +170,39 @@ fn after(bytes: &[u8], count: usize) -> &[u8]
     }
 }
 
+/// Whether a place before the byte of this index is inside a letter.
+fn is_inside(byte: Option<&u8>) -> bool
+    ensures { result ≡ is_inside (option_copied byte.entry) }
+{
+    matches!(byte, Some(128..=191))
+}
+
+/// A place between two bytes, or the one before it, if it is inside a letter.
+fn step_back(bytes: &[u8], place: usize) -> usize
+    ensures { result ≡ step_back bytes.now place }
+{
+    if is_inside(bytes.get(place)) {
+        place.saturating_sub(1)
+    } else {
+        place
+    }
+}
+
+/// A place between two bytes, moved back to where the letter begins that it is inside of.
+#[tactic(auto, unfolding(crate::specs::Excerpt::letter_start))]
+fn letter_start(bytes: &[u8], place: usize) -> usize
+    ensures { result ≡ letter_start bytes.now place }
+{
+    step_back(bytes, step_back(bytes, step_back(bytes, place)))
+}
+
+/// The first bytes, at most as many, without a part of a letter.
+pub(crate) fn front(bytes: &[u8], count: usize) -> &[u8]
+    ensures { result.now ≡ front bytes.now count }
+{
+    first(bytes, letter_start(bytes, count))
+}
+
 /// How many bytes of a line are left out before what is shown.
 fn left_out(line: &[u8], column: usize) -> usize
     ensures { result ≡ left_out line.now column }
@@ -169,7 +210,10 @@ fn left_out(line: &[u8], column: usize) -> usize
     if line.len() <= LONGEST_WHOLE {
         return 0;
     }
-    column.saturating_sub(1).saturating_sub(LONGEST_BEFORE)
+    letter_start(
+        line,
+        column.saturating_sub(1).saturating_sub(LONGEST_BEFORE),
+    )
 }
 
 /// The bytes of a line that are shown.
@@ -179,7 +223,7 @@ fn part(line: &[u8], column: usize) -> &[u8]
     if line.len() <= LONGEST_WHOLE {
         return line;
     }
-    first(after(line, left_out(line, column)), LONGEST_PART)
+    front(after(line, left_out(line, column)), LONGEST_PART)
 }
 
 /// What stands where something is left out.
@@ -248,12 +292,12 @@ fn write_caret_row(
 {
     let there = part(line, span.column);
     let readable = is_readable(there);
-    let front = span
+    let place = span
         .column
         .saturating_sub(1)
         .saturating_sub(left_out(line, span.column));
-    let before = blanks(alloc, readable, first(there, front))?;
-    let meant = blanks(alloc, readable, first(after(there, front), span.width))?;
+    let before = blanks(alloc, readable, first(there, place))?;
+    let meant = blanks(alloc, readable, first(after(there, place), span.width))?;
     write_repeated(text, ' ', 5usize.max(number.len()))?;
     text.push_str(" | ")?;
     write_repeated(text, ' ', dots_before(line, span.column).len())?;

@@ -2,7 +2,7 @@
 
 ghost use Rattle.diagnostics.specs.Laws.{AreHarmless, AreAligned};
 
-/// What is shown of a line has no control byte but tabs.
+/// What is shown of a line has no control byte of ASCII but tabs.
 pub fn excerpts_are_harmless()
     ensures { AreHarmless }
 {}

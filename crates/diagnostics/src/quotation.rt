@@ -1,15 +1,27 @@
-//! Bytes of a text as a message quotes them.
+//! Bytes of a text as a message quotes them, or writes them.
 
 ghost use Rattle.std.specs.Prelude.{◌≡◌, IfOk};
-ghost use Rattle.diagnostics.specs.Quotations.{quoted};
+ghost use Rattle.diagnostics.specs.Quotations.{as_shown, quoted};
 
-use crate::excerpt::{first, shown_text};
+use crate::excerpt::{front, shown_text};
 use crate::words;
 use crate::words::Words;
 use std::alloc::{AllocError, Global};
 
 /// How many bytes a message quotes at most (own choice).
 const MOST_QUOTED: usize = 40;
+
+/// Bytes of a text as an excerpt shows them: without control bytes but tabs, and without letters that steer a terminal.
+///
+/// # Errors
+///
+/// `AllocError` where memory was refused.
+#[tactic(auto, unfolding(crate::specs::Quotations::as_shown))]
+pub fn as_shown(alloc: Global, bytes: &[u8]) -> Result<Words, AllocError>
+    ensures { IfOk result (λ words. words ≡ as_shown bytes.now) }
+{
+    Ok(Words::new(shown_text(alloc, bytes)?))
+}
 
 /// Bytes of a text as a message quotes them: as an excerpt shows them, and of more than 40 only the first.
 ///
@@ -20,7 +32,7 @@ const MOST_QUOTED: usize = 40;
 pub fn quoted(alloc: Global, bytes: &[u8]) -> Result<Words, AllocError>
     ensures { IfOk result (λ words. words ≡ quoted bytes.now) }
 {
-    let shown = shown_text(alloc, first(bytes, MOST_QUOTED))?;
+    let shown = as_shown(alloc, front(bytes, MOST_QUOTED))?;
     if bytes.len() > MOST_QUOTED {
         return words!(in alloc; "`{shown}..`");
     }

@@ -3,7 +3,7 @@
 ghost use Rattle.std.specs.Prelude.{◌≡◌, [], ◌∷◌, ◌++◌, OnOk};
 ghost use Rattle.std.specs.Fmt.{decimal};
 ghost use Rattle.std.specs.String.{string_bytes};
-ghost use Rattle.json.specs.Token.{begin_array, begin_object, end_array, end_object, key, number, string};
+ghost use Rattle.json.specs.Token.{begin_array, begin_object, boolean, end_array, end_object, key, null, number, string};
 ghost use Rattle.json.specs.Print.{print};
 
 use json::Writer;
@@ -108,5 +108,21 @@ impl JsonWriter {
     {
         self.out.key(name)?;
         self.out.u64(value as u64)
+    }
+
+    /// Adds a member that is `true` or `false`.
+    pub fn boolean(&mut self, name: &str, value: bool) -> Result<(), AllocError>
+        ensures { OnOk result (self.new ≡ self.old ++ (key name.now ∷ boolean value ∷ [])) }
+    {
+        self.out.key(name)?;
+        self.out.boolean(value)
+    }
+
+    /// Adds a member that is `null`.
+    pub fn null(&mut self, name: &str) -> Result<(), AllocError>
+        ensures { OnOk result (self.new ≡ self.old ++ (key name.now ∷ null ∷ [])) }
+    {
+        self.out.key(name)?;
+        self.out.null()
     }
 }

@@ -19,7 +19,7 @@ use Rattle.annotated_asm.specs.Items as asm
 use Rattle.annotated_asm.specs.declared.fault.AsmFault.{AsmFault}
 use Rattle.annotated_asm.specs.declared.item.Item.{Item as Unplaced}
 use Rattle.syntax_tree.specs.declared.item.Item.{Item}
-use Rattle.syntax_tree.specs.Trees.{label_items, statement_items, section_behind, tokens_items, items_read, line_items, items_from}
+use Rattle.syntax_tree.specs.Trees.{label_items, statement_items, next_section, tokens_items, items_read, line_items, items_from}
 use Rattle.syntax_tree.specs.Laws.{without_places}
 
 -- an item in front of what is read
@@ -55,7 +55,7 @@ own_is n here places k s rest = refl
 
 said_is : (n : ℕ) (here : Section) (places : List Span) (k : ℕ) (labels : List Unplaced) (others : Section → Result (List Unplaced) AsmFault) (rest : Section → List Item)
     → ((next : Section) → others next ≡ without_places (rest next)) → (said : Result Statement StatementFault)
-    → asm_rest n here labels others (asm.on_line n said) ≡ with_front labels (without_places (statement_items n here places k said ++ rest (section_behind here said)))
+    → asm_rest n here labels others (asm.on_line n said) ≡ with_front labels (without_places (statement_items n here places k said ++ rest (next_section here said)))
 said_is n here places k labels others rest same (Ok s) =
     added labels (asm.statement_items n here s) (others (asm.section_after here s))
     ∙ ap (λ (r : Result (List Unplaced) AsmFault). with_front labels (with_front (asm.statement_items n here s) r)) (same (asm.section_after here s))
@@ -78,8 +78,8 @@ line_is n here line others rest same (Ok tokens) =
     let said = statement_of here (asm.after_labels tokens) in
     let number = 2 * length (asm.labels_of tokens) in
     said_is n here places number (map (asm.label_item n here) (asm.labels_of tokens)) others rest same said
-    ∙ sym (labels_are n here places 0 tokens (statement_items n here places number said ++ rest (section_behind here said)))
-    ∙ ap without_places (sym (append_assoc (label_items n here places 0 tokens) (statement_items n here places number said) (rest (section_behind here said))))
+    ∙ sym (labels_are n here places 0 tokens (statement_items n here places number said ++ rest (next_section here said)))
+    ∙ ap without_places (sym (append_assoc (label_items n here places 0 tokens) (statement_items n here places number said) (rest (next_section here said))))
 
 pub unplaced_are : (n : ℕ) (here : Section) (lines : List (List ℕ)) → asm.items_from n here lines ≡ without_places (items_from n here lines)
 unfolding asm.items_from asm.line_items items_from line_items

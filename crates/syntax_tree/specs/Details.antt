@@ -44,19 +44,26 @@ abbrev pub is_comma : Token → Bool
 is_comma token.Comma = true
 is_comma _ = false
 
+-- a part from the token of number `first` on and before number k; where there is no token between two commas, or after
+-- the last, the place after the comma
+abbrev pub part : Parts → (first k : ℕ) → Span
+part d first k =
+    if nat_lt first k then between d first (k - 1)
+    else record { line = d.line; column = end_at d.places (k - 1); width = 0 }
+
 -- what stands between the commas of these tokens, the first of which has number k; the part that the next comma or the
 -- end closes begins with the token of number `first`
 abbrev pub comma_parts : Parts → (first k : ℕ) → List Token → List Span
-comma_parts d first k [] = between d first (k - 1) ∷ []
+comma_parts d first k [] = part d first k ∷ []
 comma_parts d first k (t ∷ rest) =
-    if is_comma t then between d first (k - 1) ∷ comma_parts d (k + 1) (k + 1) rest
+    if is_comma t then part d first k ∷ comma_parts d (k + 1) (k + 1) rest
     else comma_parts d first (k + 1) rest
 
 -- the same of the tokens from one number on and before another
 abbrev pub listed : Parts → (first until : ℕ) → List Span
 listed d first until = if nat_le until first then [] else comma_parts d first first (take (until - first) (drop first d.tokens))
 
--- the operands behind a mnemonic or a directive, and before the marks: of a `release` its registers, of data its numbers
+-- the operands after a mnemonic or a directive, and before the marks: of a `release` its registers, of data its numbers
 abbrev pub operand_spans : Parts → List Span
 operand_spans d = listed d 1 (length d.tokens - mark_count d.tokens)
 
@@ -69,7 +76,7 @@ abbrev pub mark_spans : Parts → List Span
 mark_spans d = token_spans d (length d.tokens - mark_count d.tokens) (mark_count d.tokens)
 
 -- The number, in the tokens of a `.task NAME create=REGS targets=TS`, of the word `targets`: it is the first name
--- behind `create=`.
+-- after `create=`.
 abbrev pub is_no_name : Token → Bool
 is_no_name (token.Name name) = false
 is_no_name _ = true
@@ -84,7 +91,7 @@ create_span d = between d 2 (targets_number d.tokens - 1)
 abbrev pub targets_span : Parts → Span
 targets_span d = between d (targets_number d.tokens) (length d.tokens - 1)
 
--- the registers behind `create=`, and the targets behind `targets=`; where there are none, the `-`
+-- the registers after `create=`, and the targets after `targets=`; where there are none, the `-`
 abbrev pub create_spans : Parts → List Span
 create_spans d = listed d 4 (targets_number d.tokens)
 

@@ -1,5 +1,5 @@
 -- Worked examples, computed by the check.
-use Rattle.std.specs.Prelude.{◌≡◌, ℕ, List, [], ◌∷◌, ◌++◌, Some, codes, refl}
+use Rattle.std.specs.Prelude.{◌≡◌, ℕ, ◌+◌, List, [], ◌∷◌, ◌++◌, Option, Some, None, codes, refl}
 use Rattle.std.specs.List.{flat_map}
 use Rattle.mips_instructions.specs.declared.instruction.Op.TheVariants as op
 use Rattle.program_tokens.specs.Numbers.{number_of, magnitude_of, number_in}
@@ -21,8 +21,9 @@ use Rattle.syntax_tree.specs.declared.item.Item.{Item}
 use Rattle.syntax_tree.specs.Trees.{tokens_items, line_items, items_from, tree_of, first_fault}
 use Rattle.syntax_tree.specs.declared.amounts.Amounts.{Amounts}
 use Rattle.syntax_tree.specs.declared.unknown_names.UsedAs.TheVariants.{Target, Operand}
-use Rattle.syntax_tree.specs.Repeats.{repeats}
-use Rattle.syntax_tree.specs.UnknownNames.{unknown_names}
+use Rattle.syntax_tree.specs.declared.unknown_names.UnknownName.{UnknownName}
+use Rattle.syntax_tree.specs.Repeats.{defined_in, repeated}
+use Rattle.syntax_tree.specs.UnknownNames.{labels_in, unknown_said}
 use Rattle.syntax_tree.specs.Amounts.{amounts}
 use Rattle.syntax_tree.specs.WholeFaults.{task_entries}
 use Rattle.syntax_tree.specs.Details.{detail_of, operand_spans, mark_spans, create_span, targets_span, create_spans, target_spans}
@@ -37,7 +38,7 @@ item line token column width s = record { line = line; token = token; column = c
 abbrev pub halt_said : Said
 halt_said = said.Statement (statement.Code (instruction.One op.Halt) no_marks)
 
--- a fault does not end the reading: a label in front of it stands, and so do the lines behind it
+-- a fault does not end the reading: a label in front of it stands, and so do the lines after it
 abbrev pub faulty_text : List ℕ
 faulty_text = text (codes "foo $8 # no such word" ∷ codes "A: B: addiu $8,$8" ∷ codes " 1a ?" ∷ codes "\thalt" ∷ [])
 
@@ -100,6 +101,11 @@ pub its_marks : mark_spans (detail_of a_load its_item) ≡ from 18 2 ∷ from 20
 unfolding spans_after line_tokens tokens_after token_of kind_of number_of magnitude_of number_in register_of register_named
 its_marks = refl
 
+-- after a comma nothing is missing but a part
+pub after_comma : operand_spans (detail_of (codes "T: release $8, !s") its_item) ≡ from 12 2 ∷ from 15 0 ∷ []
+unfolding spans_after line_tokens tokens_after token_of kind_of number_of magnitude_of number_in register_of register_named
+after_comma = refl
+
 pub no_operands : operand_spans (detail_of (codes "T: halt !s") its_item) ≡ []
 unfolding spans_after line_tokens tokens_after token_of kind_of
 no_operands = refl
@@ -114,8 +120,13 @@ so_much code bytes = record { code = code; bytes = bytes; fixed = 0; tasks = 0 }
 abbrev pub repeating_text : List ℕ
 repeating_text = text (codes "A: B: halt" ∷ codes ".start A" ∷ codes "B: A: .start C" ∷ codes ".task A create=- targets=-" ∷ [])
 
-pub repeats_are : repeats (tree_of repeating_text) ≡
-    record { item = 4; first = 1 } ∷ record { item = 5; first = 0 } ∷ record { item = 6; first = 3 } ∷ []
+-- for each of these items, the first of which has number k
+abbrev pub repeats_from : List Item → (k : ℕ) → List Item → List (Option ℕ)
+repeats_from items k [] = []
+repeats_from items k (item ∷ rest) = repeated (defined_in items) k item.said ∷ repeats_from items (k + 1) rest
+
+pub repeats_are : repeats_from (tree_of repeating_text) 0 (tree_of repeating_text) ≡
+    None ∷ None ∷ None ∷ None ∷ Some 1 ∷ Some 0 ∷ Some 3 ∷ None ∷ []
 unfolding items_from line_items tokens_items spans_after operands_of halt task_of registers_at registers_of places_of targets_of line_tokens tokens_after token_of kind_of number_of magnitude_of number_in register_of register_named
 repeats_are = refl
 
@@ -123,7 +134,12 @@ repeats_are = refl
 abbrev pub unknown_text : List ℕ
 unknown_text = text (codes ".task T create=- targets=T,U,@3" ∷ codes "T: j W" ∷ codes "la $8,D" ∷ codes "j D" ∷ codes "j W" ∷ codes ".data" ∷ codes "D:" ∷ [])
 
-pub unknown_are : unknown_names (tree_of unknown_text) ≡
+-- of these items, the first of which has number k
+abbrev pub unknown_from : List Item → (k : ℕ) → List Item → List UnknownName
+unknown_from items k [] = []
+unknown_from items k (item ∷ rest) = unknown_said items (labels_in items) k item.said ++ unknown_from items (k + 1) rest
+
+pub unknown_are : unknown_from (tree_of unknown_text) 0 (tree_of unknown_text) ≡
     record { item = 0; name = codes "U"; used_as = Target 1 }
     ∷ record { item = 2; name = codes "W"; used_as = Operand }
     ∷ record { item = 4; name = codes "D"; used_as = Operand }
@@ -138,9 +154,9 @@ pub amounts_are : amounts (tree_of (text (codes "A: li $8,70000" ∷ codes "halt
 unfolding items_from line_items tokens_items spans_after operands_of after_one after_two operand_at base_at load_immediate halt numbers_of bytes_of byte_statement line_tokens tokens_after token_of kind_of number_of magnitude_of number_in register_of register_named
 amounts_are = refl
 
--- two tasks at one instruction, and one behind the last
+-- two tasks at one instruction, and one after the last; a label of data is no place where a task begins
 abbrev pub entries_text : List ℕ
-entries_text = text (codes ".task A create=- targets=-" ∷ codes ".task B create=- targets=-" ∷ codes "A: B: halt" ∷ codes "C: .task C create=- targets=-" ∷ [])
+entries_text = text (codes ".task A create=- targets=-" ∷ codes ".task B create=- targets=-" ∷ codes "A: B: halt" ∷ codes "C: .task C create=- targets=-" ∷ codes ".data" ∷ codes "D: .task D create=- targets=-" ∷ [])
 
 pub entries_are : task_entries (tree_of entries_text) ≡
     record { task = 0; label = 2; entry = 0 } ∷ record { task = 1; label = 3; entry = 0 } ∷ record { task = 6; label = 5; entry = 1 } ∷ []

@@ -47,7 +47,7 @@ abbrev pub Spell : Section → List ℕ → Result Statement StatementFault → 
 Spell here bytes s = (tokens : List Token) × (line_tokens bytes ≡ Ok tokens) × (statement_of here tokens ≡ s)
 
 -- These bytes, read alone, are what an item says: a label's are its name, those of a statement are that statement,
--- and those of what is no statement have the fault that the line has.
+-- and those of what is no statement have the fault that the line has. Of a line that has no tokens nothing is said.
 abbrev pub Says : Section → List ℕ → Said → Type 0
 Says here bytes (said.Label name) = line_tokens bytes ≡ Ok (token.Name name ∷ [])
 Says here bytes (said.Statement s) = Spell here bytes (Ok s)

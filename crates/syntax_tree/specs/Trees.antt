@@ -1,6 +1,6 @@
 -- The labels and the statements of a text, each with its place, and the lines that cannot be read (own choice).
 -- Lines, tokens and statements are the assembler's; a line with a fault leaves the section as it was, and the
--- reading goes on behind it.
+-- reading goes on after it.
 use Rattle.std.specs.Prelude.{ℕ, ◌+◌, ◌-◌, ◌*◌, List, [], ◌∷◌, ◌++◌, length, slice_get, Option, Some, None, Result, Ok, Err}
 use Rattle.std.specs.Str.Lines.{strip_carriage_return}
 use Rattle.program_tokens.specs.Lines.{lines}
@@ -31,7 +31,7 @@ use Rattle.syntax_tree.specs.declared.item.Item.{Item}
 abbrev pub span_of : Item → Span
 span_of item = record { line = item.line; column = item.column; width = item.width }
 
--- the column at which the token of this number begins, and the one behind its last byte; behind the last token
+-- the column at which the token of this number begins, and the one after its last byte; after the last token
 -- both are the line's first
 abbrev pub column_of : Option Place → ℕ
 column_of None = 1
@@ -76,9 +76,10 @@ statement_items n here places number (Ok statement.Empty) = []
 statement_items n here places number (Ok s) = item_between n here places number (length places - 1) (said.Statement s) ∷ []
 statement_items n here places number (Err f) = item_between n here places number (length places - 1) (said.Fault (kind_of_fault f)) ∷ []
 
-abbrev pub section_behind : Section → Result Statement StatementFault → Section
-section_behind here (Ok s) = section_after here s
-section_behind here (Err f) = here
+-- the section of the lines after one of this statement
+abbrev pub next_section : Section → Result Statement StatementFault → Section
+next_section here (Ok s) = section_after here s
+next_section here (Err f) = here
 
 -- the items of a line of these tokens, which stand at these places
 unfoldable pub tokens_items : (n : ℕ) → Section → List Place → List Token → List Item
@@ -95,11 +96,11 @@ abbrev pub kind_of_tokens : TokenFault → LineFaultKind
 kind_of_tokens token_fault.NotAscii = kind.NotAscii
 kind_of_tokens token_fault.Token = kind.Token
 
--- the items of line n, and the section behind it
+-- the items of line n, and the section after it
 abbrev pub items_read : (n : ℕ) → Section → (line : List ℕ) → Result (List Token) TokenFault → List Item × Section
 items_read n here line (Err f) = (whole_line n here line (kind_of_tokens f) ∷ [], here)
 items_read n here line (Ok tokens) =
-    (tokens_items n here (line_spans line) tokens, section_behind here (statement_of here (after_labels tokens)))
+    (tokens_items n here (line_spans line) tokens, next_section here (statement_of here (after_labels tokens)))
 
 unfoldable pub line_items : (n : ℕ) → Section → (line : List ℕ) → List Item × Section
 line_items n here line = items_read n here line (line_tokens line)

@@ -1,4 +1,4 @@
--- Names that are no labels of the wanted kind (own choice): all of them, each with the item that uses it.
+-- Names that are no labels of the wanted kind (own choice).
 use Rattle.std.specs.Prelude.{ℕ, ◌+◌, Bool, true, false, List, [], ◌∷◌, ◌++◌, slice_get, Option, Some, None, is_some}
 use Rattle.program_statements.specs.declared.statement.Section.TheVariants as section
 use Rattle.program_statements.specs.declared.statement.Target.{Target}
@@ -46,7 +46,7 @@ abbrev pub is_code_label : List Item → Numbered → List ℕ → Bool
 is_code_label items labels name = is_code_at items (lookup labels name)
 
 -- The names that item k uses and that are not known: a task, a target, a place to go and the start are labels of code,
--- the name behind `la` is any label.
+-- the name after `la` is any label.
 
 abbrev pub unless : Bool → UnknownName → List UnknownName
 unless true unknown = []
@@ -78,11 +78,3 @@ unknown_said items labels k (said.Statement (statement.Task task)) =
     unless (is_code_label items labels task.name) (used k task.name Task) ++ unknown_targets items labels k 0 task.targets
 unknown_said items labels k (said.Statement (statement.Code i marks)) = unknown_operand items labels k i
 unknown_said items labels k _ = []
-
--- of these items, the first of which has number k
-abbrev pub unknown_from : List Item → Numbered → (k : ℕ) → List Item → List UnknownName
-unknown_from items labels k [] = []
-unknown_from items labels k (item ∷ rest) = unknown_said items labels k item.said ++ unknown_from items labels (k + 1) rest
-
-abbrev pub unknown_names : List Item → List UnknownName
-unknown_names items = unknown_from items (labels_in items) 0 items

@@ -4,10 +4,10 @@ ghost use Rattle.std.specs.Prelude.{◌≡◌, ◌≤◌, ◌<◌, ◌+◌, ◌-
 ghost use Rattle.program_tokens.specs.Grammar.{line_tokens};
 ghost use Rattle.program_tokens.specs.Spans.{line_spans};
 ghost use Rattle.program_statements.specs.Statements.{is_mark, mark_count};
-ghost use Rattle.syntax_tree.specs.Details.{Parts, tokens_or_none, detail_of, between, is_comma, comma_parts, listed, operand_spans, token_spans, mark_spans, is_no_name, targets_number, create_span, targets_span, create_spans, target_spans};
+ghost use Rattle.syntax_tree.specs.Details.{Parts, tokens_or_none, detail_of, between, is_comma, part, comma_parts, listed, operand_spans, token_spans, mark_spans, is_no_name, targets_number, create_span, targets_span, create_spans, target_spans};
 
 use crate::item::{Item, Span};
-use crate::spans::{column_at, read_places, width_between};
+use crate::spans::{column_at, end_at, read_places, width_between};
 use annotated_asm::assembler::MOST_TEXT;
 use program_tokens::line::line_tokens;
 use program_tokens::span::Span as Place;
@@ -56,7 +56,7 @@ fn places_of(alloc: Global, line: &[u8]) -> Result<Vec<Place>, AllocError>
     Ok(places)
 }
 
-/// What stands behind so many.
+/// What stands after so many.
 fn behind<T>(all: &[T], number: usize) -> &[T]
     ensures { result.now ≡ drop number all.now }
 {
@@ -156,6 +156,27 @@ impl Detail {
         }
     }
 
+    /// The token of this number, from 0 on, which is the item's own first.
+    pub fn token(&self, number: usize) -> Span
+        ensures { result ≡ between self.now number number }
+    {
+        self.between(number, number)
+    }
+
+    /// A part from the token of a number on and before another; where there is none, the place after the comma.
+    fn part(&self, first: usize, number: usize) -> Span
+        ensures { result ≡ part self.now first number }
+    {
+        if first < number {
+            return self.between(first, number - 1);
+        }
+        Span {
+            line: self.line,
+            column: end_at(&self.places, number.saturating_sub(1)) as usize,
+            width: 0,
+        }
+    }
+
     /// What stands between the commas of some tokens, the first of which has this number.
     fn comma_parts(
         &self,
@@ -171,14 +192,14 @@ impl Detail {
         let mut number = first;
         for token in tokens {
             if is_comma(token) {
-                spans.push(self.between(begin, number.saturating_sub(1)))?;
+                spans.push(self.part(begin, number))?;
                 begin = number + 1;
                 number += 1;
                 continue;
             }
             number += 1;
         }
-        spans.push(self.between(begin, number.saturating_sub(1)))?;
+        spans.push(self.part(begin, number))?;
         Ok(spans)
     }
 
@@ -221,7 +242,7 @@ impl Detail {
         self.tokens.len() - mark_count(&self.tokens)
     }
 
-    /// The operands behind the mnemonic or the directive, and before the marks: of a `release` its registers, of data
+    /// The operands after the mnemonic or the directive, and before the marks: of a `release` its registers, of data
     /// its numbers.
     ///
     /// # Errors
@@ -267,7 +288,7 @@ impl Detail {
         self.between(self.targets_number(), self.tokens.len().saturating_sub(1))
     }
 
-    /// The registers behind `create=`, where the item is a `.task`; where there are none, the `-`.
+    /// The registers after `create=`, where the item is a `.task`; where there are none, the `-`.
     ///
     /// # Errors
     ///
@@ -278,7 +299,7 @@ impl Detail {
         self.listed(alloc, 4, self.targets_number())
     }
 
-    /// The targets behind `targets=`, where the item is a `.task`, in their order; where there are none, the `-`.
+    /// The targets after `targets=`, where the item is a `.task`, in their order; where there are none, the `-`.
     ///
     /// # Errors
     ///

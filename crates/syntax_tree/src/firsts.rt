@@ -47,9 +47,9 @@ impl BuildHasher for NameKey {
     }
 }
 
-/// Names, each with the number of an item, in the order in which they were added.
+/// Names, each with the number of the item that defines it first, in the order of these items.
 #[derive(Drop)]
-pub(crate) struct Firsts {
+pub struct Firsts {
     rows: IndexMap<String, usize, NameKey>,
 }
 
@@ -74,8 +74,8 @@ impl Firsts {
         }
     }
 
-    /// The number that a name has, if it is there.
-    pub(crate) fn get(&self, name: &Name) -> Option<usize>
+    /// The number of the item that defines a name first, from 0 on, if one does.
+    pub fn get(&self, name: &Name) -> Option<usize>
         ensures { result ≡ lookup self.now name.now }
     {
         self.rows.get(name.as_str()).copied()

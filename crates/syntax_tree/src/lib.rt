@@ -4,7 +4,7 @@
 
 pub mod amounts;
 pub mod detail;
-mod firsts;
+pub mod firsts;
 pub mod item;
 pub mod laws;
 pub mod program_items;

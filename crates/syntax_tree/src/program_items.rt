@@ -122,7 +122,7 @@ pub fn data_items<'a>(alloc: Global, items: &'a [Item]) -> Result<Vec<&'a Item>,
 }
 
 /// Whether it says where the program starts.
-fn is_start(item: &Item) -> bool
+pub(crate) fn is_start(item: &Item) -> bool
     ensures { result ≡ is_start item.now.said }
 {
     matches!(&item.said, Said::Statement(Statement::Start(_)))

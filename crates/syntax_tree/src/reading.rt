@@ -4,7 +4,7 @@ ghost use Rattle.std.specs.Prelude.{◌≡◌, ◌≤◌, ◌<◌, ◌↔◌, �
 ghost use Rattle.program_statements.specs.Statements.{statement_of};
 ghost use Rattle.program_tokens.specs.Lines.{lines};
 ghost use Rattle.annotated_asm.specs.Items.{labels_of, after_labels};
-ghost use Rattle.syntax_tree.specs.Trees.{item_between, label_items, statement_items, section_behind, kind_of_fault, line_items, items_from, tokens_items, whole_line, tree_of};
+ghost use Rattle.syntax_tree.specs.Trees.{item_between, label_items, statement_items, next_section, kind_of_fault, line_items, items_from, tokens_items, whole_line, tree_of};
 
 use crate::item::{Item, LineFaultKind, Said};
 use crate::spans::{column_at, line_of, read_line, read_places, width_between};
@@ -42,7 +42,7 @@ fn item_between(
     }
 }
 
-/// The label at the front of some tokens, and the tokens behind its colon.
+/// The label at the front of some tokens, and the tokens after its colon.
 fn first_label<'a>(tokens: &'a [Token]) -> Option<(Name, &'a [Token])>
     ensures label { IfSome result (λ cut. tokens.now ≡ Token.Name cut.0 ∷ Token.Colon ∷ cut.1.now) }
     ensures none { IfNone result (labels_of tokens.now ≡ []) }
@@ -53,7 +53,7 @@ fn first_label<'a>(tokens: &'a [Token]) -> Option<(Name, &'a [Token])>
     }
 }
 
-/// Adds the labels at the front of a line. Answers the tokens behind them, and how many tokens they are.
+/// Adds the labels at the front of a line. Answers the tokens after them, and how many tokens they are.
 fn add_labels<'a>(
     items: &mut Vec<Item>,
     line: u32,
@@ -115,7 +115,7 @@ fn add_statement(
     }
 }
 
-/// Adds the items of a line of these tokens, and answers the section behind it.
+/// Adds the items of a line of these tokens, and answers the section after it.
 #[tactic(auto, unfolding(crate::specs::Trees::tokens_items))]
 fn add_tokens(
     alloc: Global,
@@ -127,7 +127,7 @@ fn add_tokens(
 ) -> Result<Section, AllocError>
     requires ends { All (λ span. span.column + span.len < 2 ^ 32) spans.now }
     requires few { length tokens.now < 2 ^ 32 }
-    ensures next { IfOk result (λ next. next ≡ section_behind section (statement_of section (after_labels tokens.now))) }
+    ensures next { IfOk result (λ next. next ≡ next_section section (statement_of section (after_labels tokens.now))) }
     ensures added { OnOk result (items.new.items ≡ items.old.items ++ tokens_items line section spans.now tokens.now) }
 {
     let (rest, number) = add_labels(items, line, section, spans, tokens)?;
@@ -173,7 +173,7 @@ struct Read {
     spans: Vec<Span>,
 }
 
-/// Adds the items of a line, and answers the section behind it.
+/// Adds the items of a line, and answers the section after it.
 #[tactic(auto, unfolding(crate::specs::Trees::line_items))]
 fn add_line(
     alloc: Global,
@@ -204,7 +204,7 @@ fn add_line(
     }
 }
 
-/// The syntax tree of a text, which has every line, also those with a fault and those behind them.
+/// The syntax tree of a text, which has every line, also those with a fault and those after them.
 ///
 /// # Errors
 ///

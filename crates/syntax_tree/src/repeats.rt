@@ -1,31 +1,76 @@
-//! What a text defines a second time.
+//! What a text defines, and what a second time.
 
-ghost use Rattle.std.specs.Prelude.{◌≡◌, ◌++◌, None, IfOk, OnOk};
-ghost use Rattle.syntax_tree.specs.Repeats.{first_like, with_definition, repeat_of, after_item, repeats};
+ghost use Rattle.std.specs.Prelude.{◌≡◌, position, IfOk, OnOk};
+ghost use Rattle.syntax_tree.specs.ProgramItems.{is_start};
+ghost use Rattle.syntax_tree.specs.Repeats.{with_task, tasks_in, defined_in, first_like, other_than, repeated};
 
 use crate::firsts::{Firsts, NameKey};
 use crate::item::{Item, Said};
+use crate::program_items::is_start;
+use crate::unknown_names::labels_in;
 use program_statements::statement::Statement;
 use std::alloc::{AllocError, Global};
 
-/// What some items define, with the number of the item that defines it first.
+/// What a text defines, each with the number of the item that defines it first, from 0 on.
 #[derive(Drop)]
-struct Defined {
-    labels: Firsts,
-    tasks: Firsts,
-    start: Option<usize>,
+pub struct Defined {
+    /// The labels.
+    pub labels: Firsts,
+    /// The tasks.
+    pub tasks: Firsts,
+    /// The start, if there is one.
+    pub start: Option<usize>,
 }
 
-/// An item that defines a label, a task or the start again.
-#[derive(Clone, Copy, Debug, PartialEq, Eq)]
-pub struct Repeat {
-    /// Its number among the items, from 0 on.
-    pub item: usize,
-    /// The number of the first item that defines the same.
-    pub first: usize,
+/// Adds the task of an item, where it is one and the first of its name.
+fn add_task(alloc: Global, tasks: &mut Firsts, number: usize, said: &Said) -> Result<(), AllocError>
+    ensures { OnOk result (tasks.new ≡ with_task tasks.old number said.now) }
+{
+    match said {
+        Said::Statement(Statement::Task(task)) => {
+            if tasks.get(&task.name).is_some() {
+                return Ok(());
+            }
+            tasks.add(alloc, &task.name, number)
+        }
+        _ => Ok(()),
+    }
 }
 
-/// The number of the item that defines first what is defined here, if one does.
+/// The tasks of a text, each with the number of the first item of its name.
+fn tasks_in(alloc: Global, items: &[Item]) -> Result<Firsts, AllocError>
+    ensures { IfOk result (λ tasks. tasks ≡ tasks_in items.now) }
+{
+    let mut tasks = Firsts::new(alloc, NameKey::of(items));
+    for (number, item) in items.iter().enumerate() {
+        add_task(alloc, &mut tasks, number, &item.said)?;
+    }
+    Ok(tasks)
+}
+
+/// The number of the first item that says where the program starts.
+fn start_in(items: &[Item]) -> Option<usize>
+    ensures { result ≡ position (λ item. is_start item.said) items.now }
+{
+    items.iter().position(|item| is_start(item))
+}
+
+/// What a text of these items defines.
+///
+/// # Errors
+///
+/// `AllocError` where memory was refused.
+pub fn defined_in(alloc: Global, items: &[Item]) -> Result<Defined, AllocError>
+    ensures { IfOk result (λ defined. defined ≡ defined_in items.now) }
+{
+    Ok(Defined {
+        labels: labels_in(alloc, items)?,
+        tasks: tasks_in(alloc, items)?,
+        start: start_in(items),
+    })
+}
+
+/// The number of the item that defines first what is defined here, if something is.
 fn first_like(defined: &Defined, said: &Said) -> Option<usize>
     ensures { result ≡ first_like defined.now said.now }
 {
@@ -37,65 +82,19 @@ fn first_like(defined: &Defined, said: &Said) -> Option<usize>
     }
 }
 
-/// Adds what is defined here, where it was not.
-fn define(
-    alloc: Global,
-    defined: &mut Defined,
-    number: usize,
-    said: &Said,
-) -> Result<(), AllocError>
-    requires { first_like defined.old said.now ≡ None }
-    ensures { OnOk result (defined.new ≡ with_definition defined.old number said.now) }
+/// A number, if it is another than this one.
+fn other_than(number: usize, first: Option<usize>) -> Option<usize>
+    ensures { result ≡ other_than number first }
 {
-    match said {
-        Said::Label(name) => defined.labels.add(alloc, name, number)?,
-        Said::Statement(Statement::Task(task)) => defined.tasks.add(alloc, &task.name, number)?,
-        Said::Statement(Statement::Start(_)) => defined.start = Some(number),
-        _ => {}
-    }
-    Ok(())
-}
-
-/// Goes on by one item.
-fn take_item(
-    alloc: Global,
-    defined: &mut Defined,
-    found: &mut Vec<Repeat>,
-    number: usize,
-    said: &Said,
-) -> Result<(), AllocError>
-    ensures defined { OnOk result (defined.new ≡ after_item defined.old number said.now (first_like defined.old said.now)) }
-    ensures found { OnOk result (found.new.items ≡ found.old.items ++ repeat_of number (first_like defined.old said.now)) }
-{
-    match first_like(defined, said) {
-        Some(first) => {
-            found.push(Repeat {
-                item: number,
-                first,
-            })?;
-            Ok(())
-        }
-        None => define(alloc, defined, number, said),
+    match first {
+        Some(first) if first != number => Some(first),
+        _ => None,
     }
 }
 
-/// All items that define a label, a task or the start that an item before them defines, in their order.
-///
-/// # Errors
-///
-/// `AllocError` where memory was refused.
-pub fn repeats(alloc: Global, items: &[Item]) -> Result<Vec<Repeat>, AllocError>
-    ensures { IfOk result (λ found. found.items ≡ repeats items.now) }
+/// The number of the item that defines first what the item of this number defines again, if it does.
+pub fn repeated(defined: &Defined, number: usize, said: &Said) -> Option<usize>
+    ensures { result ≡ repeated defined.now number said.now }
 {
-    let key = NameKey::of(items);
-    let mut found = Vec::new(alloc);
-    let mut defined = Defined {
-        labels: Firsts::new(alloc, key),
-        tasks: Firsts::new(alloc, key),
-        start: None,
-    };
-    for (number, item) in items.iter().enumerate() {
-        take_item(alloc, &mut defined, &mut found, number, &item.said)?;
-    }
-    Ok(found)
+    other_than(number, first_like(defined, said))
 }

@@ -25,7 +25,7 @@ pub(crate) fn read_line(tokens: &mut Vec<Token>, line: &[u8]) -> Result<(), Toke
     read_tokens(tokens, line)
 }
 
-/// Puts the places of a line's tokens in place of those that are there. No place ends behind the line.
+/// Puts the places of a line's tokens in place of those that are there. No place ends after the line.
 ///
 /// # Errors
 ///
@@ -38,7 +38,7 @@ pub(crate) fn read_places(spans: &mut Vec<Span>, line: &[u8]) -> Result<(), Allo
     read_spans(spans, line)
 }
 
-/// The column of the token of this number; behind the last token, where the line begins.
+/// The column of the token of this number; after the last token, where the line begins.
 pub(crate) fn column_at(spans: &[Span], number: usize) -> u32
     requires { All (λ span. span.column + span.len < 2 ^ 32) spans.now }
     ensures { result ≡ column_at spans.now number }
@@ -51,8 +51,8 @@ pub(crate) fn column_at(spans: &[Span], number: usize) -> u32
     }
 }
 
-/// The column behind the last byte of the token of this number.
-fn end_at(spans: &[Span], number: usize) -> u32
+/// The column after the last byte of the token of this number.
+pub(crate) fn end_at(spans: &[Span], number: usize) -> u32
     requires { All (λ span. span.column + span.len < 2 ^ 32) spans.now }
     ensures { result ≡ end_at spans.now number }
 {
@@ -72,7 +72,7 @@ pub(crate) fn width_between(spans: &[Span], first: usize, last: usize) -> u32
     end_at(spans, last).saturating_sub(column_at(spans, first))
 }
 
-/// The first line of a text, without its LF, and what is behind the LF.
+/// The first line of a text, without its LF, and what is after the LF.
 pub(crate) fn line_of(text: &[u8]) -> (&[u8], Option<&[u8]>)
     ensures more { IfSome result.1 (λ rest. lines text.now ≡ result.0.now ∷ lines rest.now) }
     ensures last { IfNone result.1 (lines text.now ≡ result.0.now ∷ []) }

@@ -1,8 +1,8 @@
-//! The names of a text that are no labels of the wanted kind.
+//! The names that an item uses and that are no labels of the wanted kind.
 
 ghost use Rattle.std.specs.Prelude.{◌≡◌, ◌++◌, is_some, IfOk, OnOk};
 ghost use Rattle.syntax_tree.specs.Firsts.{lookup};
-ghost use Rattle.syntax_tree.specs.UnknownNames.{with_label, labels_in, is_code_label, unless, used, unknown_target, unknown_targets, unknown_operand, unknown_said, unknown_names};
+ghost use Rattle.syntax_tree.specs.UnknownNames.{with_label, labels_in, is_code_label, unless, used, unknown_target, unknown_targets, unknown_operand, unknown_said};
 
 use crate::firsts::{Firsts, NameKey};
 use crate::item::{Item, Said};
@@ -13,13 +13,13 @@ use task_descriptor::name::Name;
 /// As what a name is used.
 #[derive(Clone, Copy, Debug, PartialEq, Eq)]
 pub enum UsedAs {
-    /// Behind `.start`: a label of code.
+    /// After `.start`: a label of code.
     Start,
     /// As the name of a `.task`: a label of code.
     Task,
     /// As the target of this number, from 0 on, of a `.task`: a label of code.
     Target(usize),
-    /// As the last operand of an instruction: a label of code, behind `la` any label.
+    /// As the last operand of an instruction: a label of code, after `la` any label.
     Operand,
 }
 
@@ -65,8 +65,9 @@ pub(crate) fn labels_in(alloc: Global, items: &[Item]) -> Result<Firsts, AllocEr
     Ok(labels)
 }
 
-/// Whether a name is a label of code.
-fn is_code_label(items: &[Item], labels: &Firsts, name: &Name) -> bool
+/// Whether a name is a label of code. `labels` are those of the text, each with the number of the first item of its
+/// name.
+pub fn is_code_label(items: &[Item], labels: &Firsts, name: &Name) -> bool
     ensures { result ≡ is_code_label items.now labels.now name.now }
 {
     match labels.get(name) {
@@ -190,18 +191,22 @@ fn add_unknown(
     }
 }
 
-/// All names that are no labels of the wanted kind, in the order of the text: each use of one, also the second.
+/// The names that the item of this number uses and that are no labels of the wanted kind, in their order. `labels` are
+/// those of the text, each with the number of the first item of its name.
 ///
 /// # Errors
 ///
 /// `AllocError` where memory was refused.
-pub fn unknown_names(alloc: Global, items: &[Item]) -> Result<Vec<UnknownName>, AllocError>
-    ensures { IfOk result (λ found. found.items ≡ unknown_names items.now) }
+pub fn unknown_names(
+    alloc: Global,
+    items: &[Item],
+    labels: &Firsts,
+    number: usize,
+    said: &Said,
+) -> Result<Vec<UnknownName>, AllocError>
+    ensures { IfOk result (λ found. found.items ≡ unknown_said items.now labels.now number said.now) }
 {
-    let labels = labels_in(alloc, items)?;
     let mut found = Vec::new(alloc);
-    for (number, item) in items.iter().enumerate() {
-        add_unknown(&mut found, items, &labels, number, &item.said)?;
-    }
+    add_unknown(&mut found, items, labels, number, said)?;
     Ok(found)
 }

@@ -2,12 +2,12 @@
 
 ghost use Rattle.std.specs.Prelude.{◌≡◌, ◌++◌, slice_get, IfOk, OnOk};
 ghost use Rattle.mips_instructions.specs.Words.{has};
-ghost use Rattle.syntax_tree.specs.WholeFaults.{section_limit, task_limit, limit_passed, creates_zero, entry_at, entry_of, entry_said, task_entries};
+ghost use Rattle.syntax_tree.specs.WholeFaults.{is_passed, section_limit, task_limit, limit_passed, creates_zero, entry_at, entry_of, entry_said, task_entries};
 
 use crate::amounts::{Amounts, amounts_before, with_said};
 use crate::firsts::Firsts;
 use crate::item::{Item, Said};
-use crate::unknown_names::labels_in;
+use crate::unknown_names::{is_code_label, labels_in};
 use mips_instructions::number::RegSet;
 use program_statements::statement::{Section, Statement, Task};
 use std::alloc::{AllocError, Global};
@@ -34,18 +34,25 @@ pub struct TaskEntry {
     pub task: usize,
     /// The number of the first label of its name.
     pub label: usize,
-    /// The index of the instruction behind that label.
+    /// The index of the instruction after that label.
     pub entry: u64,
 }
 
-/// The limit of a section that is passed with so much, if one is.
-fn section_limit(section: Section, behind: Amounts) -> Option<Limit>
-    ensures { result ≡ section_limit section behind }
+/// Whether a limit is passed from so much to so much.
+fn is_passed(most: u64, before: u64, after: u64) -> bool
+    ensures { result ≡ is_passed most before after }
+{
+    before <= most && most < after
+}
+
+/// The limit of a section that is passed from so much to so much, if one is.
+fn section_limit(section: Section, before: Amounts, after: Amounts) -> Option<Limit>
+    ensures { result ≡ section_limit section before after }
 {
     match section {
-        Section::Text if behind.code > 4_096 => Some(Limit::Code),
-        Section::Data if behind.bytes > 65_536 => Some(Limit::Bytes),
-        Section::Rodata if behind.fixed > 65_536 => Some(Limit::Fixed),
+        Section::Text if is_passed(4_096, before.code, after.code) => Some(Limit::Code),
+        Section::Data if is_passed(65_536, before.bytes, after.bytes) => Some(Limit::Bytes),
+        Section::Rodata if is_passed(65_536, before.fixed, after.fixed) => Some(Limit::Fixed),
         _ => None,
     }
 }
@@ -57,19 +64,20 @@ fn task_limit(before: Amounts, task: &Task) -> Option<Limit>
     if task.targets.as_slice().len() > 16 {
         return Some(Limit::Targets);
     }
-    if before.tasks >= 1_024 {
+    if is_passed(1_024, before.tasks, before.tasks.saturating_add(1)) {
         return Some(Limit::Tasks);
     }
     None
 }
 
-/// The limit that is passed with an item of a section before which so much stands, if one is.
+/// The limit that is passed with an item of a section before which so much stands, if one is: each limit is passed
+/// once, by the first item beyond it, but each task with too many targets passes theirs.
 pub fn limit_passed(before: Amounts, section: Section, said: &Said) -> Option<Limit>
     ensures { result ≡ limit_passed before section said.now }
 {
     match said {
         Said::Statement(Statement::Code(_, _) | Statement::Bytes(_) | Statement::Space(_)) =>
-            section_limit(section, with_said(before, section, said)),
+            section_limit(section, before, with_said(before, section, said)),
         Said::Statement(Statement::Task(task)) => task_limit(before, task),
         _ => None,
     }
@@ -139,22 +147,27 @@ fn add_entry(
 /// Adds where the task of an item begins, if it is one.
 fn add_said(
     found: &mut Vec<TaskEntry>,
+    items: &[Item],
     labels: &Firsts,
     all: &[Amounts],
     number: usize,
     said: &Said,
 ) -> Result<(), AllocError>
-    ensures { OnOk result (found.new.items ≡ found.old.items ++ entry_said labels.now all.now number said.now) }
+    ensures { OnOk result (found.new.items ≡ found.old.items ++ entry_said items.now labels.now all.now number said.now) }
 {
     match said {
         Said::Statement(Statement::Task(task)) => {
-            add_entry(found, all, number, labels.get(&task.name))
+            if is_code_label(items, labels, &task.name) {
+                add_entry(found, all, number, labels.get(&task.name))
+            } else {
+                Ok(())
+            }
         }
         _ => Ok(()),
     }
 }
 
-/// Where the tasks begin whose names are labels, in the order of the text.
+/// Where the tasks begin whose names are labels of code, in the order of the text.
 ///
 /// # Errors
 ///
@@ -166,7 +179,7 @@ pub fn task_entries(alloc: Global, items: &[Item]) -> Result<Vec<TaskEntry>, All
     let all = amounts_before(alloc, items)?;
     let mut found = Vec::new(alloc);
     for (number, item) in items.iter().enumerate() {
-        add_said(&mut found, &labels, &all, number, &item.said)?;
+        add_said(&mut found, items, &labels, &all, number, &item.said)?;
     }
     Ok(found)
 }

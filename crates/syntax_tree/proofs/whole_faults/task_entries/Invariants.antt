@@ -6,4 +6,4 @@ use Rattle.syntax_tree.specs.WholeFaults.{entries_from, task_entries}
 use Rattle.syntax_tree.proofs.whole_faults.task_entries.Given as goal
 
 abbrev pub invariant-loop-number : goal.invariant-loop-number
-invariant-loop-number l = l.found.items ++ entries_from (labels_in l.items) (amounts l.items) l.number (drop l.number l.items) ≡ task_entries l.items
+invariant-loop-number l = l.found.items ++ entries_from l.items (labels_in l.items) (amounts l.items) l.number (drop l.number l.items) ≡ task_entries l.items
