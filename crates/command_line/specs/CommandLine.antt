@@ -86,6 +86,10 @@ output = file_option (codes "output") 111
 abbrev pub in_place : Rule
 in_place = flag (codes "in-place")
 
+-- a script with expectations is judged
+abbrev pub strict : Rule
+strict = flag (codes "strict")
+
 -- no warnings of marks that are right but cost speed
 abbrev pub no_warnings : Rule
 no_warnings = flag (codes "no-warnings")
@@ -135,7 +139,7 @@ check = subcommand (codes "check") (program ∷ certificate_or_programs ∷ leas
 
 abbrev pub replay : Shape
 replay = subcommand (codes "replay") (program ∷ certificate ∷ free_script ∷ least ∷ units
-    ∷ word (codes "emit") (codes "answers") ∷ output ∷ [])
+    ∷ word (codes "emit") (codes "answers") ∷ strict ∷ output ∷ [])
 
 abbrev pub run : Shape
 run = subcommand (codes "run") (program ∷ free_certificate ∷ least ∷ schedule ∷ units ∷ workers ∷ budget

@@ -18,6 +18,7 @@ enum Wanted {
     Explain(WantedExplain),
     Check(CertificateSource, u32),
     Replay(CertificateSource, u32, ReplayEmit),
+    ReplayStrictly(CertificateSource, u32),
     Run(WantedRun),
     Curve(CertificateSource, u32, u32, Wanting, CurveEmit),
 }
@@ -110,6 +111,9 @@ impl Wanted {
                 units,
                 emit,
             } => Wanted::Replay(*certificate, units.get(), *emit),
+            Job::ReplayStrictly { certificate, units } => {
+                Wanted::ReplayStrictly(*certificate, units.get())
+            }
             Job::Run {
                 certificate,
                 schedule,

@@ -1,0 +1,4 @@
+pub mod StrictScript
+pub mod StrictReplay
+pub mod StandText
+pub mod Laws
