@@ -43,4 +43,4 @@ units_stand p places k [] = []
 units_stand p places k (u ∷ us) = unit_stand p places k u ++ units_stand p places (suc k) us
 
 abbrev pub stand_text : Listing → List Position → State → List ℕ
-stand_text p places s = codes "the units then:" ++ (10 ∷ units_stand p places 0 s.queue)
+stand_text p places s = codes "the units then, without registers of 0:" ++ (10 ∷ units_stand p places 0 s.queue)

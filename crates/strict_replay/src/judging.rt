@@ -161,13 +161,13 @@ fn write_unmet(text: &mut String, number: usize, unmet: Unmet) -> Result<(), All
 
 /// A program with the places of its instructions in its text, and the names of its tasks.
 #[derive(Drop)]
-struct Judge<'p, 't> {
+struct Referee<'p, 't> {
     program: &'p Program,
     places: &'t [Position],
     names: &'t TaskNames,
 }
 
-impl Judge<'_, '_> {
+impl Referee<'_, '_> {
     ghost use Rattle.std.specs.Prelude.{◌≡◌, ◌++◌, ◌≤◌, codes, length, None, Some, MatchResult, OnOk, IfOk};
     ghost use Rattle.std.specs.String.{string_bytes};
     ghost use Rattle.event_script.specs.EventScript.{lines as lines_of, names_in};
@@ -352,11 +352,11 @@ pub fn judge(
     let program = accepted.program();
     let places = places(alloc, program_text)?;
     let names = TaskNames::of(alloc, program.tasks())?;
-    let judge = Judge {
+    let referee = Referee {
         program,
         places: &places,
         names: &names,
     };
     let walk = Walk::new(alloc, accepted, units)?;
-    judge.judge(alloc, walk, script)
+    referee.judge(alloc, walk, script)
 }

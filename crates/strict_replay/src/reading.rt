@@ -74,7 +74,7 @@ pub(crate) fn event_text(content: &[u8]) -> &[u8]
 }
 
 /// The word that digits of a radix spell, with 2^32 for a larger one.
-#[tactic(auto, unfolding(Rattle::program_tokens::specs::Numbers::number_in))]
+#[tactic(auto, unfolding(program_tokens::specs::Numbers::number_in))]
 fn number_in(radix: u32, text: &[u8]) -> Option<u64>
     requires small { radix ≤ 16 }
     requires large { 2 ≤ radix }

@@ -153,7 +153,7 @@ pub(crate) fn write_stand(
 ) -> Result<(), AllocError>
     ensures { OnOk result (string_bytes text.new ≡ string_bytes text.old ++ stand_text program.now places.now (state machine.now)) }
 {
-    writeln!(text, "the units then:")?;
+    writeln!(text, "the units then, without registers of 0:")?;
     for position in 0..machine.active() {
         if let Some(unit) = machine.unit(position) {
             write_unit_stand(text, program, places, position, unit)?;

@@ -3,7 +3,7 @@ use Rattle.std.proofs.Common.{◌≡◌, ◌+◌, ◌≤◌, length}
 use Rattle.event_script.specs.EventScript.{lines}
 use Rattle.sequencer.specs.Machines.{SameRing, state, units_of}
 use Rattle.strict_replay.specs.StrictReplay.{report_from}
-use Rattle.strict_replay.proofs.judging.Judge.judge.Given as goal
+use Rattle.strict_replay.proofs.judging.Referee.judge.Given as goal
 
 abbrev pub invariant-loop-rest : goal.invariant-loop-rest
 invariant-loop-rest l =
