@@ -96,6 +96,7 @@ fn read_request(alloc: Global, name: &str, values: &ArgMatches<'_>) -> Result<Re
         paths,
         output,
         further,
+        report: is_given(values, "report"),
     })
 }
 
@@ -577,7 +578,7 @@ fn replay_of(
 ) -> Result<Job, UsageFault>
     ensures { MatchResult result
         (λ job. ((is_strict (values_in values.now) ≡ false) × (job ≡ Replay certificate units emit))
-            ⊎ ((is_strict (values_in values.now) ≡ true) × (emit ≡ Answers) × (job ≡ ReplayStrictly certificate units)))
+        ⊎ ((is_strict (values_in values.now) ≡ true) × (emit ≡ Answers) × (job ≡ ReplayStrictly certificate units)))
         (λ fault. IsOfKind ArgumentConflict fault × (is_strict (values_in values.now) ≡ true) × (emit ≢ Answers)) }
 {
     if !is_given(values, "strict") {
