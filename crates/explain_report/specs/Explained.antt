@@ -20,7 +20,7 @@ said_status (d ∷ ds) = 1
 -- what could be better about marks, where that is asked for
 abbrev pub AreWarned : (asked : Bool) → (text : List ℕ) → Listing → List Diagnostic → Type 0
 AreWarned false text p said = said ≡ []
-AreWarned true text p said = (least : List (List (ℕ × ℕ))) × IsLeast p least × AreMarkWarnings text p least true said
+AreWarned true text p said = (least : List (List (ℕ × ℕ))) × IsLeast p least × AreMarkWarnings text p least false said
 
 -- What is said of a program: of its marks, and then of the certificate. What could be better about marks is said only
 -- where none is wrong, and leaves the status as it is.

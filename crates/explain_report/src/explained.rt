@@ -115,7 +115,7 @@ fn all_warnings(
     requires least { IsLeast program.now least.now }
     ensures { IfOk result (λ list. AreWarned true text.now program.now list.items) }
 {
-    let list = mark_warnings(alloc, text, program, least, true)?;
+    let list = mark_warnings(alloc, text, program, least, false)?;
     Ok(list)
 }
 
