@@ -5,6 +5,7 @@ ghost use Rattle.std.specs.String.{string_bytes};
 ghost use Rattle.annotated_asm.specs.ProgramText.{parse};
 ghost use Rattle.program_tokens.specs.Lines.{lines};
 ghost use Rattle.source_map.specs.Sources.{sources_in, sources_of};
+ghost use Rattle.text_pieces.specs.Pieces.{joined};
 ghost use Rattle.explain_report.specs.Inputs.{ArePlaces, code_spans, file_lines, file_name, span_of};
 
 use annotated_asm::fault::AsmFault;
@@ -62,8 +63,17 @@ pub(crate) fn file_name(file: &Option<String>) -> &str
 pub(crate) fn joined(alloc: Global, text: &Text) -> Result<Vec<u8>, AllocError>
     ensures { IfOk result (λ bytes. bytes.items ≡ text.now) }
 {
+    let pieces = text.pieces(alloc)?;
+    let bytes = bytes_of(alloc, &pieces)?;
+    Ok(bytes)
+}
+
+/// The bytes of some pieces, one after another.
+fn bytes_of(alloc: Global, pieces: &[&[u8]]) -> Result<Vec<u8>, AllocError>
+    ensures { IfOk result (λ bytes. bytes.items ≡ joined (each (λ piece. piece.now) pieces.now)) }
+{
     let mut bytes = Vec::new(alloc);
-    for piece in text.pieces(alloc)? {
+    for piece in pieces {
         bytes.extend_from_slice(piece)?;
     }
     Ok(bytes)
