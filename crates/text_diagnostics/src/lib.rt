@@ -1,0 +1,16 @@
+//! What is wrong with a text that spells no program, as diagnostics: all of it, each with its place, what else shows it,
+//! and what to do.
+#![tactic(auto)]
+
+mod candidates;
+mod help;
+mod known;
+pub mod laws;
+mod line_place;
+mod mending;
+mod message;
+mod mistake;
+mod mistakes;
+mod place;
+pub mod refusal;
+mod rows;
