@@ -39,9 +39,10 @@ nothing_unmet number told (Some u) none = cc
 
 event_holds : (p : Listing) (number : ℕ) (parts : List (List ℕ)) (told : List ℕ) (s : State) (e : Event) (a : Result (Unit {0}) Refused)
     → (answer_departure p number parts told s e a ≡ None) ↔ ((a ≡ Ok tt) × AllMet (changes_of p s e (after p s e)) parts)
-event_holds p number parts told s e (Ok done) =
-    (λ none. (refl, all_met changes 1 parts (nothing_unmet number told (first_unmet changes 1 parts) none)),
-     λ holds. rw (none_unmet changes 1 parts holds.1) refl)
+event_holds p number parts told s e (Ok done) = (
+  λ none. (refl, all_met changes 1 parts (nothing_unmet number told (first_unmet changes 1 parts) none)),
+  λ holds. rw (none_unmet changes 1 parts holds.1) refl,
+)
   where
     changes : List Change
     changes = changes_of p s e (after p s e)
@@ -75,6 +76,7 @@ zero_where_all_hold p places units number n s (line ∷ more) =
     let s' = state_after p units n s meaning in
     let zero = unless_zero departure (report_from p places units (suc number) n' s' more) in
     let here = line_holds p places units number n parts s meaning in
-    let rest = zero_where_all_hold p places units (suc number) n' s' more in
-    (λ is_zero. (here.0 (zero.0 is_zero).0, rest.0 (zero.0 is_zero).1),
-     λ all. zero.1 (here.1 all.0, rest.1 all.1))
+    let rest = zero_where_all_hold p places units (suc number) n' s' more in (
+      λ is_zero. (here.0 (zero.0 is_zero).0, rest.0 (zero.0 is_zero).1),
+      λ all. zero.1 (here.1 all.0, rest.1 all.1),
+    )

@@ -20,9 +20,13 @@ abbrev pub word_text : (r : ℕ) → Option ℕ → List ℕ
 word_text r None = []
 word_text r (Some word) = if nat_eq word 0 then [] else codes " " ++ register_text r word
 
+-- a list with its label, unless it is empty
+abbrev pub labelled : (label list : List ℕ) → List ℕ
+labelled label [] = []
+labelled label (b ∷ bs) = codes "        " ++ (label ++ (b ∷ bs ++ 10 ∷ []))
+
 abbrev pub words_text : (label : List ℕ) → (words : ℕ → Option ℕ) → List ℕ
-words_text label words =
-    codes "        " ++ (label ++ (flat_map (λ r. word_text r (words r)) (range_with_len 0 register_count) ++ 10 ∷ []))
+words_text label words = labelled label (flat_map (λ r. word_text r (words r)) (range_with_len 0 register_count))
 
 -- a register that is reserved
 abbrev pub reserved_text : (r : ℕ) → Option ℕ → List ℕ
@@ -30,8 +34,7 @@ reserved_text r None = codes " $" ++ decimal r
 reserved_text r (Some word) = []
 
 abbrev pub waiting_text : (words : ℕ → Option ℕ) → List ℕ
-waiting_text words =
-    codes "        not there yet:" ++ (flat_map (λ r. reserved_text r (words r)) (range_with_len 0 register_count) ++ 10 ∷ [])
+waiting_text words = labelled (codes "not there yet:") (flat_map (λ r. reserved_text r (words r)) (range_with_len 0 register_count))
 
 abbrev pub unit_stand : Listing → List Position → (k : ℕ) → Active → List ℕ
 unit_stand p places k u =

@@ -139,7 +139,7 @@ report_from p places units number n s [] = as_expected n s
 report_from p places units number n s (line ∷ more) =
     let meaning = meaning_of (names_in p.tasks) (content line) in
     unless_departed (departure_of p places units number n (expected_parts (content line)) s meaning)
-      (report_from p places units (suc number) (count_after p units n s meaning) (state_after p units n s meaning) more)
+    (report_from p places units (suc number) (count_after p units n s meaning) (state_after p units n s meaning) more)
 
 -- the report of a script on a machine of so many units at the start of a program, whose instructions stand at these places
 abbrev pub strict_report : Listing → List Position → (units : ℕ) → (script : List ℕ) → Report

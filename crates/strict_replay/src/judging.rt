@@ -16,9 +16,7 @@ use event_script::reading::{event_of, next_line};
 use event_script::task_names::TaskNames;
 use event_trace::change::Change;
 use event_trace::places::places;
-use event_trace::text::{
-    write_address, write_ending, write_refused, write_register, write_taken,
-};
+use event_trace::text::{write_address, write_ending, write_refused, write_register, write_taken};
 use event_trace::told::Told;
 use event_trace::unit_change::UnitChange;
 use event_trace::walk::Walk;
@@ -195,7 +193,7 @@ impl Referee<'_, '_> {
         write_unmet(&mut text, number, unmet)?;
         write_taken(&mut text, self.program, self.places, number, event, changes)?;
         let machine = walk.into_machine();
-        write_stand(&mut text, self.program, self.places, &machine)?;
+        write_stand(alloc, &mut text, self.program, self.places, &machine)?;
         Ok(text)
     }
 
@@ -215,7 +213,7 @@ impl Referee<'_, '_> {
         writeln!(text, "line {number}: this event is not allowed")?;
         write_refused(&mut text, self.program, number, event, refusal)?;
         let machine = walk.into_machine();
-        write_stand(&mut text, self.program, self.places, &machine)?;
+        write_stand(alloc, &mut text, self.program, self.places, &machine)?;
         Ok(text)
     }
 
@@ -231,9 +229,9 @@ impl Referee<'_, '_> {
         requires { walk.entry.accepted.program ≡ self.now.program }
         ensures { IfOk result (λ taken. MatchResult taken
             (λ next. (event_departure self.now.program self.now.places (units_of walk.entry) number (length walk.entry.history) (expected_parts content.now) (state walk.entry) event ≡ None)
-                × GoesOn walk.entry event next)
+            × GoesOn walk.entry event next)
             (λ text. event_departure self.now.program self.now.places (units_of walk.entry) number (length walk.entry.history) (expected_parts content.now) (state walk.entry) event
-                ≡ Some (string_bytes text))) }
+            ≡ Some (string_bytes text))) }
     {
         let (next, told) = walk.step(alloc, &event)?;
         match told {
@@ -263,11 +261,11 @@ impl Referee<'_, '_> {
         requires names { length self.now.names ≤ 1024 }
         ensures { IfOk result (λ taken. MatchResult taken
             (λ next. (departure_of self.now.program self.now.places (units_of walk.entry) number (length walk.entry.history) (expected_parts (content line.now)) (state walk.entry) (meaning_of self.now.names (content line.now)) ≡ None)
-                × ((state next ≡ state_after self.now.program (units_of walk.entry) (length walk.entry.history) (state walk.entry) (meaning_of self.now.names (content line.now)))
-                × ((length next.history ≡ count_after self.now.program (units_of walk.entry) (length walk.entry.history) (state walk.entry) (meaning_of self.now.names (content line.now)))
-                × SameRing walk.entry next)))
+            × ((state next ≡ state_after self.now.program (units_of walk.entry) (length walk.entry.history) (state walk.entry) (meaning_of self.now.names (content line.now)))
+            × ((length next.history ≡ count_after self.now.program (units_of walk.entry) (length walk.entry.history) (state walk.entry) (meaning_of self.now.names (content line.now)))
+            × SameRing walk.entry next)))
             (λ text. departure_of self.now.program self.now.places (units_of walk.entry) number (length walk.entry.history) (expected_parts (content line.now)) (state walk.entry) (meaning_of self.now.names (content line.now))
-                ≡ Some (string_bytes text))) }
+            ≡ Some (string_bytes text))) }
     {
         let content = content(line);
         if is_silent(content) {
@@ -283,12 +281,7 @@ impl Referee<'_, '_> {
     }
 
     /// The report of a script, whose walk is at its start.
-    fn judge(
-        &self,
-        alloc: Global,
-        mut walk: Walk<'_>,
-        script: &[u8],
-    ) -> Result<Report, AllocError>
+    fn judge(&self, alloc: Global, mut walk: Walk<'_>, script: &[u8]) -> Result<Report, AllocError>
         requires over { walk.entry.accepted.program ≡ self.now.program }
         requires names { length self.now.names ≤ 1024 }
         requires all { self.now.names ≡ names_in self.now.program.tasks }

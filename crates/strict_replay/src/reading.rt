@@ -53,7 +53,9 @@ fn is_step_mark(text: &[u8]) -> bool
     ensures { result ≡ is_step_mark text.now }
 {
     text.starts_with(b"step ".as_slice())
-        && without_first_spaces(&text[5..]).iter().all(|byte| byte.is_ascii_digit())
+        && without_first_spaces(&text[5..])
+            .iter()
+            .all(|byte| byte.is_ascii_digit())
 }
 
 /// Whether a line says nothing of an event.

@@ -6,14 +6,14 @@ ghost use Rattle.std.specs.String.{string_bytes};
 ghost use Rattle.machine_model.specs.Machine.{value};
 ghost use Rattle.sequencer.specs.Machines.{state};
 ghost use Rattle.unit_core.specs.Units.{active_of};
-ghost use Rattle.strict_replay.specs.StandText.{reserved_text, spot_text, stand_text, unit_stand, units_stand, waiting_text, word_text, words_text};
+ghost use Rattle.strict_replay.specs.StandText.{labelled, reserved_text, spot_text, stand_text, unit_stand, units_stand, waiting_text, word_text, words_text};
 
 use event_trace::text::{write_exit, write_place, write_register, write_unit};
 use machine_events::event::Spot;
 use mips_instructions::number::Reg;
 use sequencer::machine::Machine;
 use source_map::position::Position;
-use std::alloc::AllocError;
+use std::alloc::{AllocError, Global};
 use task_descriptor::program::Program;
 use unit_core::unit::Unit;
 
@@ -51,6 +51,16 @@ fn write_word(text: &mut String, register: Reg, word: Option<u32>) -> Result<(),
     }
 }
 
+/// Adds a list with its label, unless it is empty.
+fn write_labelled(text: &mut String, label: &str, list: &str) -> Result<(), AllocError>
+    ensures { OnOk result (string_bytes text.new ≡ string_bytes text.old ++ labelled label.now list.now) }
+{
+    match list.as_bytes() {
+        [] => Ok(()),
+        _ => writeln!(text, "        {label}{list}"),
+    }
+}
+
 /// The register of a number.
 fn register_at(number: u8) -> Reg
     requires { number < 34 }
@@ -63,39 +73,39 @@ fn register_at(number: u8) -> Reg
 }
 
 /// Adds the registers that a unit has.
-fn write_values(text: &mut String, unit: &Unit) -> Result<(), AllocError>
+fn write_values(alloc: Global, text: &mut String, unit: &Unit) -> Result<(), AllocError>
     ensures { OnOk result (string_bytes text.new ≡ string_bytes text.old ++ words_text (codes "has:") (value (active_of unit.now))) }
 {
-    write!(text, "        has:")?;
+    let mut list = String::new(alloc);
     for number in 0..34 {
         let register = register_at(number);
-        write_word(text, register, unit.value(register))?;
+        write_word(&mut list, register, unit.value(register))?;
     }
-    writeln!(text, "")
+    write_labelled(text, "has:", &list)
 }
 
 /// Adds the registers that arrived at a unit.
-fn write_arrivals(text: &mut String, unit: &Unit) -> Result<(), AllocError>
+fn write_arrivals(alloc: Global, text: &mut String, unit: &Unit) -> Result<(), AllocError>
     ensures { OnOk result (string_bytes text.new ≡ string_bytes text.old ++ words_text (codes "arrived:") (active_of unit.now).arrived) }
 {
-    write!(text, "        arrived:")?;
+    let mut list = String::new(alloc);
     for number in 0..34 {
         let register = register_at(number);
-        write_word(text, register, unit.arrived(register))?;
+        write_word(&mut list, register, unit.arrived(register))?;
     }
-    writeln!(text, "")
+    write_labelled(text, "arrived:", &list)
 }
 
 /// Adds the registers that a unit sent.
-fn write_sendings(text: &mut String, unit: &Unit) -> Result<(), AllocError>
+fn write_sendings(alloc: Global, text: &mut String, unit: &Unit) -> Result<(), AllocError>
     ensures { OnOk result (string_bytes text.new ≡ string_bytes text.old ++ words_text (codes "sent:") (active_of unit.now).sent) }
 {
-    write!(text, "        sent:")?;
+    let mut list = String::new(alloc);
     for number in 0..34 {
         let register = register_at(number);
-        write_word(text, register, unit.sent(register))?;
+        write_word(&mut list, register, unit.sent(register))?;
     }
-    writeln!(text, "")
+    write_labelled(text, "sent:", &list)
 }
 
 /// Adds a register that is reserved.
@@ -112,19 +122,20 @@ fn write_reserved(text: &mut String, register: Reg, word: Option<u32>) -> Result
 }
 
 /// Adds the registers that a unit waits for.
-fn write_waiting(text: &mut String, unit: &Unit) -> Result<(), AllocError>
+fn write_waiting(alloc: Global, text: &mut String, unit: &Unit) -> Result<(), AllocError>
     ensures { OnOk result (string_bytes text.new ≡ string_bytes text.old ++ waiting_text (value (active_of unit.now))) }
 {
-    write!(text, "        not there yet:")?;
+    let mut list = String::new(alloc);
     for number in 0..34 {
         let register = register_at(number);
-        write_reserved(text, register, unit.value(register))?;
+        write_reserved(&mut list, register, unit.value(register))?;
     }
-    writeln!(text, "")
+    write_labelled(text, "not there yet:", &list)
 }
 
 /// Adds how the unit at a position stands.
 fn write_unit_stand(
+    alloc: Global,
     text: &mut String,
     program: &Program,
     places: &[Position],
@@ -138,14 +149,15 @@ fn write_unit_stand(
     write!(text, ": ")?;
     write_spot(text, program, places, unit.spot())?;
     writeln!(text, "")?;
-    write_values(text, unit)?;
-    write_arrivals(text, unit)?;
-    write_sendings(text, unit)?;
-    write_waiting(text, unit)
+    write_values(alloc, text, unit)?;
+    write_arrivals(alloc, text, unit)?;
+    write_sendings(alloc, text, unit)?;
+    write_waiting(alloc, text, unit)
 }
 
 /// Adds how the units of a machine stand, the head first.
 pub(crate) fn write_stand(
+    alloc: Global,
     text: &mut String,
     program: &Program,
     places: &[Position],
@@ -156,7 +168,7 @@ pub(crate) fn write_stand(
     writeln!(text, "the units then, without registers of 0:")?;
     for position in 0..machine.active() {
         if let Some(unit) = machine.unit(position) {
-            write_unit_stand(text, program, places, position, unit)?;
+            write_unit_stand(alloc, text, program, places, position, unit)?;
         }
     }
     Ok(())

@@ -170,7 +170,7 @@ fn is_named(file: &Option<String>, name: &str) -> bool {
 }
 
 // Words that give a job of the program `a.s`.
-const JOBS: [(&str, Wanted); 27] = [
+const JOBS: [(&str, Wanted); 29] = [
     ("seq a.s", Wanted::Seq(1_000_000)),
     ("seq --budget 17 a.s", Wanted::Seq(17)),
     ("print a.s", Wanted::Print),
@@ -221,6 +221,14 @@ const JOBS: [(&str, Wanted); 27] = [
     (
         "replay a.s --least --units 3 --emit summary a.events",
         Wanted::Replay(Least, 3, ReplayEmit::Summary),
+    ),
+    (
+        "replay --strict a.s a.cert a.events",
+        Wanted::ReplayStrictly(File, 4),
+    ),
+    (
+        "replay a.s --emit answers --units 2 --least --strict a.events",
+        Wanted::ReplayStrictly(Least, 2),
     ),
     (
         "replay a.s a.cert a.events --emit json",
@@ -370,7 +378,7 @@ fn expect_path(rt: &impl Abort, line: &str, path: &String, expected: &str) {
     assert!(rt; path.as_str() == expected, "{line}");
 }
 
-const NO_JOBS: [&str; 54] = [
+const NO_JOBS: [&str; 55] = [
     "seq",
     "seq a.s b.s",
     "seq a.s --budget 0",
@@ -410,6 +418,7 @@ const NO_JOBS: [&str; 54] = [
     "curve a.s a.cert --workers 2",
     "replay a.s a.cert a.events --emit report",
     "replay a.s a.cert a.events --emit Summary",
+    "replay a.s a.cert a.events --strict --emit trace",
     "run a.s a.cert --emit xml",
     "run a.s a.cert --emit text",
     "curve a.s a.cert --emit json",
