@@ -26,6 +26,7 @@ use Rattle.jobs.specs.declared.job.Format.TheVariants as form
 use Rattle.jobs.specs.declared.job.ReplayEmit.{ReplayEmit}
 use Rattle.jobs.specs.declared.job.ReplayEmit.TheVariants.{Answers}
 use Rattle.jobs.specs.declared.job.RunEmit.{RunEmit}
+use Rattle.jobs.specs.declared.job.RunEmit.TheVariants.{Script, ScriptWithValues}
 use Rattle.jobs.specs.declared.job.CurveEmit.{CurveEmit}
 use Rattle.jobs.specs.declared.job.Schedule.{Schedule}
 use Rattle.jobs.specs.declared.job.Prediction.{Prediction}
@@ -64,9 +65,6 @@ schedule_in values = option_and_then schedule_of (first_of (codes "schedule") va
 abbrev pub format_in : List Row → Option Format
 format_in values = option_and_then format_of (first_of (codes "format") values)
 
-abbrev pub run_emit_in : List Row → Option RunEmit
-run_emit_in values = option_and_then run_emit_of (first_of (codes "emit") values)
-
 abbrev pub replay_emit_in : List Row → Option ReplayEmit
 replay_emit_in values = option_and_then replay_emit_of (first_of (codes "emit") values)
 
@@ -76,6 +74,15 @@ curve_emit_in values = option_and_then curve_emit_of (first_of (codes "emit") va
 -- an option without a value is given
 abbrev pub is_given : Text → List Row → Bool
 is_given id values = option_map_or (λ word. bytes_eq word (codes "true")) (first_of id values) false
+
+-- `--with-values` goes with a script alone
+abbrev pub with_values : (given : Bool) → Option RunEmit → Option RunEmit
+with_values false emit = emit
+with_values true (Some Script) = Some ScriptWithValues
+with_values true other = None
+
+abbrev pub run_emit_in : List Row → Option RunEmit
+run_emit_in values = with_values (is_given (codes "with-values") values) (option_and_then run_emit_of (first_of (codes "emit") values))
 
 -- the result takes the place of the program text
 abbrev pub is_in_place : List Row → Bool

@@ -86,6 +86,10 @@ output = file_option (codes "output") 111
 abbrev pub in_place : Rule
 in_place = flag (codes "in-place")
 
+-- a script says what its events did
+abbrev pub valued : Rule
+valued = flag (codes "with-values")
+
 -- a script with expectations is judged
 abbrev pub strict : Rule
 strict = flag (codes "strict")
@@ -147,7 +151,7 @@ replay = subcommand (codes "replay") (program ∷ certificate ∷ free_script �
 
 abbrev pub run : Shape
 run = subcommand (codes "run") (program ∷ free_certificate ∷ least ∷ schedule ∷ units ∷ workers ∷ budget
-    ∷ word (codes "predict") (codes "first") ∷ word (codes "emit") (codes "report") ∷ output ∷ [])
+    ∷ word (codes "predict") (codes "first") ∷ word (codes "emit") (codes "report") ∷ valued ∷ output ∷ [])
 
 abbrev pub curve : Shape
 curve = subcommand (codes "curve") (program ∷ free_certificate ∷ least ∷ most_units ∷ budget

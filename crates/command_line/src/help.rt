@@ -226,6 +226,7 @@ With `--emit script` it writes what the machine did instead, one event on each l
 as many units:
   ./multiscalar run --least --units 2 --emit script examples/count/program.s > count.events
   ./multiscalar replay --least --units 2 examples/count/program.s count.events
+With `--with-values`, too, it says of each event what it did, for `replay --strict` and other simulators.
 
 With `--emit summary` it writes a table instead, with a row for each task and one for all of them:
   assigned  retired  squashed  dropped  unfinished  useful  wasted  task
@@ -378,6 +379,9 @@ pub const NO_FORMAT: &str = "the value of --format is text or sarif";
 /// Why another value of `--schedule` gives no job.
 pub const NO_SCHEDULE: &str = "the value of --schedule is threads or steps";
 
+/// `--with-values`.
+pub const WITH_VALUES: &str = "With --emit script: says of each event what it did, for replay --strict";
+
 /// `--strict`.
 pub const STRICT: &str = "Judges a script that says what its events must have done";
 
@@ -388,7 +392,7 @@ pub const STRICT_EMITS: &str = "with --strict there is no other --emit";
 pub const NO_REPLAY_EMIT: &str = "the value of --emit is answers, summary, svg, trace or json";
 
 /// Why another value of `--emit` of `run` gives no job.
-pub const NO_RUN_EMIT: &str = "the value of --emit is report, script, summary, svg, trace or json";
+pub const NO_RUN_EMIT: &str = "the value of --emit is report, script, summary, svg, trace or json; --with-values goes with script";
 
 /// Why another value of `--emit` of `curve` gives no job.
 pub const NO_CURVE_EMIT: &str = "the value of --emit is table or svg";

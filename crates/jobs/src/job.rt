@@ -41,6 +41,8 @@ pub enum RunEmit {
     Report,
     /// The history, as an event script that `replay` reads.
     Script,
+    /// The same with what each event did, as a script that `replay --strict` judges.
+    ScriptWithValues,
     /// How often each task was assigned, how that ended, and how much of its work was of use.
     Summary,
     /// The run as a picture, in SVG.

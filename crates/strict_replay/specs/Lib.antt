@@ -2,3 +2,4 @@ pub mod StrictScript
 pub mod StrictReplay
 pub mod StandText
 pub mod Laws
+pub mod ValuedScript

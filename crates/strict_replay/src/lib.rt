@@ -8,3 +8,4 @@ mod reading;
 pub mod replaying;
 mod text;
 pub mod unmet;
+pub mod writing;

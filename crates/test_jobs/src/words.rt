@@ -257,7 +257,7 @@ const JOBS: [(&str, Wanted); 29] = [
 ];
 
 // Words of `run`.
-const RUNS: [(&str, WantedRun); 13] = [
+const RUNS: [(&str, WantedRun); 14] = [
     ("run a.s a.cert", PLAIN_RUN),
     (
         "run --least a.s",
@@ -271,6 +271,13 @@ const RUNS: [(&str, WantedRun); 13] = [
         WantedRun {
             certificate: Least,
             emit: RunEmit::Script,
+            ..PLAIN_RUN
+        },
+    ),
+    (
+        "run --with-values a.s a.cert --emit script",
+        WantedRun {
+            emit: RunEmit::ScriptWithValues,
             ..PLAIN_RUN
         },
     ),
@@ -378,7 +385,7 @@ fn expect_path(rt: &impl Abort, line: &str, path: &String, expected: &str) {
     assert!(rt; path.as_str() == expected, "{line}");
 }
 
-const NO_JOBS: [&str; 55] = [
+const NO_JOBS: [&str; 57] = [
     "seq",
     "seq a.s b.s",
     "seq a.s --budget 0",
@@ -420,6 +427,8 @@ const NO_JOBS: [&str; 55] = [
     "replay a.s a.cert a.events --emit Summary",
     "replay a.s a.cert a.events --strict --emit trace",
     "run a.s a.cert --emit xml",
+    "run a.s a.cert --with-values",
+    "run a.s a.cert --with-values --emit trace",
     "run a.s a.cert --emit text",
     "curve a.s a.cert --emit json",
     "curve --least a.s --emit Table",

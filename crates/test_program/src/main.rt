@@ -23,7 +23,7 @@ use std::sync::Wait;
 use std::thread::Threads;
 use whole_file::system::SystemFolder;
 
-const LINES: [&str; 52] = [
+const LINES: [&str; 53] = [
     "check five-findings.s five-findings.cert2",
     "check --workers 3 large.s large.cert2",
     "replay --units 2 count.s count.cert2 count.events",
@@ -76,6 +76,7 @@ const LINES: [&str; 52] = [
     "replay --least --strict --units 2 count.s strict.events",
     "replay --least --strict --units 2 count.s departs.events",
     "replay --least --strict --emit trace count.s strict.events",
+    "run --least --schedule steps --units 1 --emit script --with-values count.s",
 ];
 
 // Where standard error is a terminal.
