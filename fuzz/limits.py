@@ -108,9 +108,9 @@ def programs(folder):
     texts = {
         "one label many times": (b"a:" * half, b"8 Duplicate line 1", b":1:3: "),
         "many labels": ((":".join(labels) + ":").encode(), b"10 Build 2 NoTask", b": "),
-        "many targets": (b".task A create=- targets=" + b"A," * (half - 20) + b"A\nA: halt\n", b"10 Build 1 TooMany", b":1:7: "),
-        "an unknown name beside many targets": (b".task A create=- targets=" + b"A," * (half - 24) + b"A\nA: j X\nhalt\n", b"9 Unknown line 2", b":1:7: "),
-        "many targets, the last of them unknown": (b".task A create=- targets=" + b"A," * (half - 24) + b"X\nA: j A\nhalt\n", b"9 Unknown line 1", b":1:7: "),
+        "many targets": (b".task A create=- targets=" + b"A," * (half - 20) + b"A\nA: halt\n", b"10 Build 1 TooMany", b":1:18: "),
+        "an unknown name beside many targets": (b".task A create=- targets=" + b"A," * (half - 24) + b"A\nA: j X\nhalt\n", b"9 Unknown line 2", b":1:18: "),
+        "many targets, the last of them unknown": (b".task A create=- targets=" + b"A," * (half - 24) + b"X\nA: j A\nhalt\n", b"9 Unknown line 1", b":1:18: "),
         "many words": (b".data\n.word " + b"0," * (half - 20) + b"0\n", b"10 Build 1 TooMany", b":2:1: "),
         "many instructions": (b"nop\n" * (PROGRAM_LIMIT // 4), b"10 Build 1 TooMany", b":4097:1: "),
     }
