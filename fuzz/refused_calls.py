@@ -33,10 +33,10 @@ TOP = HERE.parent
 EXAMPLES = TOP / "examples"
 CALLS = TOP / "crates" / "test_growths"
 NAME = "calls_of_libraries"
-BELOW = ("mips_instructions mips_plain task_descriptor annotated_asm source_map refusal_text canonical_text canonical_round_trip task_graph "
-         "mask_certificate mark_checker annotator finding_paths certificate_remarks diagnostic_text machine_events register_ring unit_core sequencer "
+BELOW = ("mips_instructions mips_plain task_descriptor annotated_asm source_map diagnostics text_diagnostics canonical_text canonical_round_trip task_graph "
+         "mask_certificate mark_checker annotator finding_paths mark_diagnostics input_diagnostics machine_events register_ring unit_core sequencer "
          "parallel_check threaded_runner synchronous_runner event_script text_pieces shared_fetch jobs command_line verdict_report "
-         "task_lives run_summary run_picture event_trace event_json speed_curve curve_picture marks_in_text costly_marks warning_text sarif_log log_entries")
+         "task_lives run_summary run_picture event_trace event_json speed_curve curve_picture marks_in_text costly_marks diagnostic_log")
 
 SOURCE = r"""
 #define _GNU_SOURCE
@@ -114,9 +114,9 @@ halt
 """
 # Calls on a program alone, on its certificate too, and those that make threads.
 ON_PROGRAM = ["Memory::new", "Program::plain", "Plain::new", "Plain::step", "Plain::run", "assemble", "print",
-              "print_and_assemble", "members", "propose", "certify", "is_sound", "source_map", "shown_findings", "explain", "with_marks_of", "costly_marks", "warnings",
-              "mark_entries", "log_text"]
-ON_BOTH = ["fitting", "certificate read", "certificate write", "check_task", "verdict", "Accepted::new", "fetch", "Text::append", "Text::pieces"]
+              "print_and_assemble", "members", "propose", "certify", "is_sound", "source_map", "shown_findings", "mark_errors", "with_marks_of", "costly_marks", "mark_warnings",
+              "text_of", "log_text", "lines_text"]
+ON_BOTH = ["certificate_errors", "certificate read", "certificate write", "check_task", "verdict", "Accepted::new", "fetch", "Text::append", "Text::pieces"]
 IN_THREADS = ["read_shared", "verdict_shared", "accepts_shared", "fetch_shared", "run_threads", "run_workers", "serve"]
 # Calls on an accepted program whose run ends.
 ON_ACCEPTED = ["Unit::exec", "Unit::exec_ahead", "Unit::take", "Machine::new", "finish", "Burst::run", "apply_burst", "run_threads", "run_steps", "lives_of_runs", "summary", "picture", "trace", "lines of JSON",
@@ -218,7 +218,7 @@ def refusals():
             yield Case("refusal", path.name, path, path, path, 1, 1, ())
     program = EXAMPLES / "count" / "program.s"
     for certificate in (EXAMPLES / "pair" / "certificate.cert2", EXAMPLES / "README.md", program):
-        yield Case("certificate refused", str(certificate.relative_to(EXAMPLES)), program, certificate, program, 1, 1, ())
+        yield Case("certificate_errors", str(certificate.relative_to(EXAMPLES)), program, certificate, program, 1, 1, ())
 
 
 def scripts():

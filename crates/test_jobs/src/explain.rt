@@ -189,7 +189,7 @@ a.s:4:4: help: did you mean halt?
 ",
     ),
     (
-        ".task A create=$8 targets=-\nA: addi $8,$8,1 !f\n   ble $8,$9,A\n   halt !s\n",
+        ".task A create=$8 targets=-\nA: subi $8,$8,1 !f\n   mul $8,$8,$9\n   halt\n",
         "a.s:2:4: error: there is no instruction or directive `addi` here [4 Mnemonic line 2]
     2 | A: addi $8,$8,1 !f
       |    ^~~~
@@ -201,9 +201,9 @@ a.s:3:4: help: write slt $1,rt,rs and beq $1,$0,T
 ",
     ),
     (
-        ".task A create=$8
-A: addu $8,$8 !f
-   release $8,
+        ".task A create=$8 targets=-
+A: addu $8,$8,1 !f
+   lw $9,$8
    halt $8
 ",
         "a.s:1:18: error: the operands of `.task` end too early [5 Operand line 1]
@@ -229,7 +229,7 @@ a.s:4:9: help: the form is halt
 .text !f
 A: addiu $8,$8,1 !f !f
    beq $8,$9,A !st !sn
-   halt !s
+   halt
 ",
         "a.s:2:7: error: the mark `!f` stands on a directive [7 Mark line 2]
     2 | .text !f
