@@ -21,8 +21,7 @@ use Rattle.command_line.specs.declared.request.Request.{Request}
 use Rattle.std.proofs.lemmas.Bool.{eqb-true, false≢true}
 use Rattle.std.proofs.lemmas.List.{nil_from_length}
 use Rattle.program_edge.specs.Streams.{IsBroken, World}
-use Rattle.program_edge.specs.Beside.{Audience, IsBeside, IsRest}
-use Rattle.program_edge.specs.Hints.{hint_for}
+use Rattle.program_edge.specs.Beside.{Audience, IsBeside}
 use Rattle.program_edge.specs.Refusals.{is_refusal}
 use Rattle.verdict_report.specs.declared.fault.ServeFault.{ServeFault}
 use Rattle.verdict_report.specs.declared.fault.ServeFault.TheVariants as serve
@@ -98,17 +97,6 @@ done_unheard audience job texts ending old new h done is_told kept same = record
   told = unheard audience.is_terminal audience.wants_rest audience.name job texts.program.items done.report h;
   said = (is_told, kept);
   files = same;
-}
-
--- what is said beside a report is its hint and what is left
-pub beside : (audience : Audience) (job : Job) (program name : List ℕ) (written : Report) (hint rest said : List ℕ)
-    → name ≡ audience.name → hint ≡ hint_for audience.is_terminal job name written
-    → IsRest (audience.is_terminal || audience.wants_rest) audience.wants_rest job program audience.name written rest
-    → said ≡ hint ++ rest → IsBeside audience job program written said
-beside audience job program name written hint rest said same hinted left is = record {
-  rest = rest;
-  left = left;
-  both = is ∙ ap (λ (l : List ℕ). l ++ rest) (hinted ∙ ap (λ (n : List ℕ). hint_for audience.is_terminal job n written) same);
 }
 
 memory_is_no_write : serve.OutOfMemory ≡ serve.Write → ⊥

@@ -85,15 +85,10 @@ abbrev pub IsDelivered : (watched : Bool) → Audience → Option (String Global
 IsDelivered watched audience None job texts ending old new = IsJobDone audience job texts ending old new
 IsDelivered watched audience (Some path) job texts ending old new = IsPut watched audience job path texts ending old new
 
--- who reads what is said beside the report; `is_terminal` says whether standard error is a terminal
-abbrev pub audience_of : (is_terminal : Bool) → Request → Audience
-audience_of is_terminal request =
-    record { is_terminal = is_terminal; wants_rest = request.report; name = string_bytes request.paths.program }
-
--- what becomes of the texts that were read, or of why one was not
+-- what is said beside the report names the program's file; `is_terminal` says whether standard error is a terminal
 abbrev pub IsServed : (watched is_terminal : Bool) → Request → Result Texts Unread → Ending → World → World → Type 0
 IsServed watched is_terminal request (Ok texts) ending old new =
-    IsDelivered watched (audience_of is_terminal request) request.output request.job texts ending old new
+    IsDelivered watched (record { is_terminal = is_terminal; wants_rest = request.report; name = string_bytes request.paths.program }) request.output request.job texts ending old new
     ⊎ IsNotDone request.job texts ending old new
 IsServed watched is_terminal request (Err unread) ending old new = IsToldAlone (unread_fault request.job unread) ending old new
 

@@ -1,7 +1,6 @@
 -- What was taken is the report of the job, with what is said beside it.
-use Rattle.std.proofs.Common.{inl, inr, refl, subst}
+use Rattle.std.proofs.Common.{inl, inr, refl}
 use Rattle.report_texts.specs.OutputTexts.{Report}
-use Rattle.program_edge.specs.Beside.{IsBeside}
 use Rattle.program_edge.proofs.ReportLemmas.{not_done, put}
 use Rattle.program_edge.proofs.SeveralLemmas.{same_fault}
 use Rattle.program_edge.proofs.answer.put.Goals as goal
