@@ -8,3 +8,5 @@ mod diagnostic_texts;
 mod input_texts;
 #[cfg(test)]
 mod mark_texts;
+#[cfg(test)]
+mod text_errors;

@@ -1,10 +1,9 @@
 -- Texts that may be meant in place of what is wrong in a line (own choice).
-use Rattle.std.specs.Prelude.{ℕ, List, [], ◌∷◌, ◌++◌, filter, map, codes, Option, if◌then◌else◌, ◌==◌, ◌&&◌}
-use Rattle.std.specs.Str.{byte, str_to_ascii_lowercase}
+use Rattle.std.specs.Prelude.{ℕ, List, [], ◌∷◌, ◌++◌, filter, map, codes, Option, Some, None, if◌then◌else◌, ◌==◌, ◌&&◌}
+use Rattle.std.specs.Str.{byte, bytes_eq, str_to_ascii_lowercase}
 use Rattle.program_tokens.specs.Numbers.{begins_with_digit}
 use Rattle.mips_instructions.specs.InstructionTable.{word_of, every_mnemonic}
-use Rattle.line_faults.specs.Near.{is_near}
-use Rattle.line_faults.specs.OtherNames.{behind_name}
+use Rattle.near_words.specs.Near.{is_near}
 use Rattle.syntax_tree.specs.declared.item.LineFaultKind.{LineFaultKind}
 use Rattle.syntax_tree.specs.declared.item.LineFaultKind.TheVariants as kind
 
@@ -25,29 +24,34 @@ instead_table =
     ∷ (codes "bge", codes "write slt $1,rs,rt and beq $1,$0,T")
     ∷ (codes "bgt", codes "write slt $1,rt,rs and bne $1,$0,T")
     ∷ (codes "ble", codes "write slt $1,rt,rs and beq $1,$0,T")
-    ∷ (codes "div", codes "no instruction divides: subtract in a loop, or shift by sra for a power of two")
-    ∷ (codes "divu", codes "no instruction divides: subtract in a loop, or shift by srl for a power of two")
-    ∷ (codes "rem", codes "no instruction divides: subtract in a loop, or use andi for a power of two")
-    ∷ (codes "syscall", codes "no instruction calls a system: out writes a word, and halt ends the program")
-    ∷ (codes "break", codes "no instruction calls a system: halt ends the program")
-    ∷ (codes ".asciiz", codes "write .byte with the numbers of the letters, and 0 at the end")
-    ∷ (codes ".ascii", codes "write .byte with the numbers of the letters")
-    ∷ (codes ".string", codes "write .byte with the numbers of the letters, and 0 at the end")
-    ∷ (codes ".half", codes "write .byte with the low and the high byte of each number")
+    ∷ (codes "div", codes "write sra for a power of 2, or subtract in a loop")
+    ∷ (codes "divu", codes "write srl for a power of 2, or subtract in a loop")
+    ∷ (codes "rem", codes "write andi for a power of 2, or subtract in a loop")
+    ∷ (codes "syscall", codes "write out for a word, or halt at the end")
+    ∷ (codes "break", codes "write halt, which ends the program")
+    ∷ (codes ".asciiz", codes "write .byte with the letters' numbers, and 0")
+    ∷ (codes ".ascii", codes "write .byte with the letters' numbers")
+    ∷ (codes ".string", codes "write .byte with the letters' numbers, and 0")
+    ∷ (codes ".half", codes "write .byte with the low and the high byte")
     ∷ (codes ".long", codes "write .word")
     ∷ (codes ".int", codes "write .word")
     ∷ (codes ".align", codes "write .space with as many bytes as are missing")
     ∷ (codes ".section", codes "write .text, .data or .rodata")
     ∷ (codes ".bss", codes "write .data and .space")
-    ∷ (codes ".globl", codes "leave the line out: there is one program, and each label is known in all of it")
-    ∷ (codes ".global", codes "leave the line out: there is one program, and each label is known in all of it")
-    ∷ (codes ".set", codes "leave the line out: no line changes how others are read")
-    ∷ (codes ".ent", codes "leave the line out: .task says where a task begins")
-    ∷ (codes ".end", codes "leave the line out: the last line ends the program")
+    ∷ (codes ".globl", codes "leave it out: each label is known everywhere")
+    ∷ (codes ".global", codes "leave it out: each label is known everywhere")
+    ∷ (codes ".set", codes "leave it out: no line changes how others are read")
+    ∷ (codes ".ent", codes "leave it out: .task says where a task begins")
+    ∷ (codes ".end", codes "leave it out: the last line ends the program")
     ∷ []
 
+-- what stands after this word in a table
+abbrev pub row_of : (word : List ℕ) → List (List ℕ × List ℕ) → Option (List ℕ)
+row_of word [] = None
+row_of word (row ∷ rows) = if bytes_eq row.0 word then Some row.1 else row_of word rows
+
 unfoldable pub instead : List ℕ → Option (List ℕ)
-instead word = behind_name word instead_table
+instead word = row_of word instead_table
 
 -- r8 is $8
 abbrev pub digits_of_register : List ℕ → List ℕ

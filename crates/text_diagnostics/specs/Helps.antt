@@ -1,5 +1,5 @@
 -- What to do about each mistake (own words).
-use Rattle.std.specs.Prelude.{ℕ, List, [], ◌∷◌, ◌++◌, ◌&&◌, ◌||◌, ◌==◌, codes, take, find, position, slice_get, nat_lt, length, Bool, true, false, Option, Some, None, is_some, unwrap_or, if◌then◌else◌}
+use Rattle.std.specs.Prelude.{ℕ, List, [], ◌∷◌, ◌++◌, ◌&&◌, ◌||◌, ◌==◌, codes, take, find, position, slice_get, nat_lt, length, Bool, true, false, not, Option, Some, None, is_some, unwrap_or, if◌then◌else◌}
 use Rattle.std.specs.Str.{byte}
 use Rattle.program_tokens.specs.declared.span.Span.{Span as Place}
 use Rattle.program_tokens.specs.declared.token.Token.{Token}
@@ -9,11 +9,11 @@ use Rattle.program_statements.specs.declared.statement.Section.{Section}
 use Rattle.program_statements.specs.declared.statement.Section.TheVariants as section
 use Rattle.program_statements.specs.declared.statement.Instruction.TheVariants as instruction
 use Rattle.program_statements.specs.declared.statement.Statement.TheVariants as statement
-use Rattle.line_faults.specs.Bytes.{bytes_at, byte_at, token_help}
-use Rattle.line_faults.specs.Meant.{span_at, number_index}
-use Rattle.line_faults.specs.Near.{is_near}
-use Rattle.line_faults.specs.Shapes.{shape_of, near_statement, form_text, range_text}
-use Rattle.line_faults.specs.declared.shape.Shape.{Shape}
+use Rattle.text_diagnostics.specs.Bytes.{bytes_at, byte_at, token_help}
+use Rattle.text_diagnostics.specs.Meant.{span_at, number_index}
+use Rattle.near_words.specs.Near.{is_near}
+use Rattle.text_diagnostics.specs.Shapes.{shape_of, near_statement, form_text, range_text}
+use Rattle.text_diagnostics.specs.declared.shape.Shape.{Shape}
 use Rattle.syntax_tree.specs.declared.item.LineFaultKind.{LineFaultKind}
 use Rattle.syntax_tree.specs.declared.item.LineFaultKind.TheVariants as kind
 use Rattle.syntax_tree.specs.declared.item.Said.{Said}
@@ -86,22 +86,19 @@ line_help k n here line r at = help_by k (line_words k here line r at) (span_in 
 
 -- Of an item.
 
--- the mark to remove: `!f`, or the stop
-abbrev pub is_forward : Token → Bool
-is_forward (token.Mark mark.Forward) = true
-is_forward _ = false
+-- a mark to remove or to write anew: a stop, or `!f`
+abbrev pub is_mark_of : (is_stop : Bool) → Token → Bool
+is_mark_of is_stop (token.Mark mark.Forward) = not is_stop
+is_mark_of is_stop (token.Mark mark.Always) = is_stop
+is_mark_of is_stop (token.Mark mark.Taken) = is_stop
+is_mark_of is_stop (token.Mark mark.NotTaken) = is_stop
+is_mark_of is_stop _ = false
 
-abbrev pub is_stop_mark : Token → Bool
-is_stop_mark (token.Mark mark.Always) = true
-is_stop_mark (token.Mark mark.Taken) = true
-is_stop_mark (token.Mark mark.NotTaken) = true
-is_stop_mark _ = false
+abbrev pub mark_place : (is_stop : Bool) → Reading → Place
+mark_place is_stop r = span_at r.places (unwrap_or (position (is_mark_of is_stop) r.tokens) 0)
 
-abbrev pub forward_place : Reading → Place
-forward_place r = span_at r.places (unwrap_or (position is_forward r.tokens) 0)
-
-abbrev pub stop_place : Reading → Place
-stop_place r = span_at r.places (unwrap_or (position is_stop_mark r.tokens) 0)
+abbrev pub mark_help : (n : ℕ) → (line : List ℕ) → (is_stop : Bool) → (words text : List ℕ) → Help
+mark_help n line is_stop words text = by_text words (span_in n (mark_place is_stop (reading_of line))) text
 
 -- the first label that is near to a name, among the first 4,096 items: one of code, but after `la` any
 abbrev pub is_loaded : Said → Bool
@@ -148,9 +145,9 @@ item_words _ = []
 
 -- with a text to write, where it is known
 unfoldable pub item_help : List Item → Item → (line : List ℕ) → Kind → (name : List ℕ) → Span → Help
-item_help items item line UnfitForward name span = by_text (codes "remove !f") (span_in item.line (forward_place (reading_of line))) []
-item_help items item line StopOnHalt name span = by_text (codes "remove the stop") (span_in item.line (stop_place (reading_of line))) []
-item_help items item line OneSidedStop name span = by_text (codes "write !s, which stops always") (span_in item.line (stop_place (reading_of line))) (codes "!s")
+item_help items item line UnfitForward name span = mark_help item.line line false (codes "remove !f") []
+item_help items item line StopOnHalt name span = mark_help item.line line true (codes "remove the stop") []
+item_help items item line OneSidedStop name span = mark_help item.line line true (codes "write !s, which stops always") (codes "!s")
 item_help items item line (NoLabel as_what) name span = near_help span (near_item (is_loaded item.said) name items)
 item_help items item line (DataLabel as_what) name span = near_help span (near_item (is_loaded item.said) name items)
 item_help items item line kind name span = in_words (item_words kind)

@@ -15,7 +15,7 @@ abbrev pub is_fault : Item → Bool
 is_fault item = is_fault_said item.said
 
 -- where a task begins is judged of as many tasks as a program may have
-abbrev pub known_in : List Item → Known
+unfoldable pub known_in : List Item → Known
 known_in items = record {
   defined = defined_in items;
   amounts = amounts items;

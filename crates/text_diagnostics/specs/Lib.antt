@@ -1,6 +1,10 @@
 pub mod Knowledge
 pub mod Mistakes
 pub mod Rows
+pub mod Bytes
+pub mod Shapes
+pub mod Forms
+pub mod Meant
 pub mod LinePlaces
 pub mod Candidates
 pub mod Mending

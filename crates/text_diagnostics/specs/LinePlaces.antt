@@ -2,11 +2,11 @@
 use Rattle.std.specs.Prelude.{ℕ, List, [], ◌∷◌, codes, unwrap_or, if◌then◌else◌}
 use Rattle.std.specs.Str.{bytes_eq}
 use Rattle.program_tokens.specs.declared.span.Span.{Span}
-use Rattle.line_faults.specs.declared.shape.Shape.{Shape}
-use Rattle.line_faults.specs.declared.shape.Shape.TheVariants.{Nothing}
-use Rattle.line_faults.specs.Shapes.{shape_of}
-use Rattle.line_faults.specs.Bytes.{bytes_at, byte_span, token_span}
-use Rattle.line_faults.specs.Meant.{span_at, operand_span, number_index, mark_index}
+use Rattle.text_diagnostics.specs.declared.shape.Shape.{Shape}
+use Rattle.text_diagnostics.specs.declared.shape.Shape.TheVariants.{Nothing}
+use Rattle.text_diagnostics.specs.Shapes.{shape_of}
+use Rattle.text_diagnostics.specs.Bytes.{bytes_at, byte_span, token_span}
+use Rattle.text_diagnostics.specs.Meant.{span_at, operand_span, number_index, mark_index}
 use Rattle.syntax_tree.specs.declared.item.LineFaultKind.{LineFaultKind}
 use Rattle.syntax_tree.specs.declared.item.LineFaultKind.TheVariants as kind
 use Rattle.text_diagnostics.specs.declared.rows.Reading.{Reading}
@@ -20,7 +20,7 @@ abbrev pub word_in : (line : List ℕ) → Reading → List ℕ
 word_in line r = bytes_at line (word_place line r.places)
 
 -- the operands that follow a word
-unfoldable pub shape_named : (word : List ℕ) → Shape
+abbrev pub shape_named : (word : List ℕ) → Shape
 shape_named word = unwrap_or (shape_of word) Nothing
 
 -- the first byte that no text has; what is no token; the word; the first token that is no operand; the first number out

@@ -7,8 +7,8 @@ use Rattle.program_tokens.specs.declared.token.Token.{Token}
 use Rattle.program_tokens.specs.declared.token.LineFault.{LineFault}
 use Rattle.program_statements.specs.Statements.{statement_of}
 use Rattle.program_statements.specs.declared.statement.Section.{Section}
-use Rattle.line_faults.specs.Bytes.{bytes_at}
-use Rattle.line_faults.specs.Meant.{label_tokens, operand_span}
+use Rattle.text_diagnostics.specs.Bytes.{bytes_at}
+use Rattle.text_diagnostics.specs.Meant.{label_tokens, operand_span}
 use Rattle.syntax_tree.specs.declared.item.LineFaultKind.{LineFaultKind}
 use Rattle.syntax_tree.specs.declared.item.LineFaultKind.TheVariants as kind
 use Rattle.diagnostics.specs.Quotations.{as_shown}

@@ -5,13 +5,12 @@ use Rattle.program_tokens.specs.declared.span.Span.{Span}
 use Rattle.program_tokens.specs.declared.token.Token.{Token}
 use Rattle.program_tokens.specs.declared.token.Token.TheVariants as token
 use Rattle.program_tokens.specs.declared.token.Mark.TheVariants as mark
-use Rattle.line_faults.specs.Bytes.{bytes_at, byte_at}
-use Rattle.line_faults.specs.Meant.{mark_index}
-use Rattle.line_faults.specs.Shapes.{shape_of}
+use Rattle.text_diagnostics.specs.Bytes.{bytes_at, byte_at}
+use Rattle.text_diagnostics.specs.Meant.{mark_index}
+use Rattle.text_diagnostics.specs.Shapes.{shape_of}
 use Rattle.syntax_tree.specs.declared.item.LineFaultKind.{LineFaultKind}
 use Rattle.syntax_tree.specs.declared.item.LineFaultKind.TheVariants as kind
 use Rattle.syntax_tree.specs.declared.unknown_names.UsedAs.TheVariants as used
-use Rattle.syntax_tree.specs.declared.whole_faults.Limit.{Limit}
 use Rattle.syntax_tree.specs.declared.whole_faults.Limit.TheVariants as limit
 use Rattle.diagnostics.specs.Quotations.{quoted}
 use Rattle.text_diagnostics.specs.declared.mistake.Kind.{Kind}
@@ -21,9 +20,6 @@ use Rattle.text_diagnostics.specs.Candidates.{instead}
 use Rattle.text_diagnostics.specs.LinePlaces.{word_in}
 
 -- Of a line that cannot be read.
-
-unfoldable pub is_ours : (word : List ℕ) → Bool
-is_ours word = is_some (shape_of word)
 
 -- a word that begins a statement of another section, a word of other assemblers, and any other
 abbrev pub mnemonic_message : (ours theirs : Bool) → (word : List ℕ) → List ℕ
@@ -48,24 +44,21 @@ unfoldable pub line_message : LineFaultKind → (line : List ℕ) → Reading �
 line_message kind.NotAscii line r at = codes "a program text cannot have the byte " ++ decimal (byte_at line at)
 line_message kind.Token line r at = quoted (bytes_at line at) ++ codes " is no token"
 line_message kind.Mnemonic line r at =
-    mnemonic_message (is_ours (bytes_at line at)) (is_some (instead (bytes_at line at))) (quoted (bytes_at line at))
+    mnemonic_message (is_some (shape_of (bytes_at line at))) (is_some (instead (bytes_at line at))) (quoted (bytes_at line at))
 line_message kind.Operand line r at = operand_message at.len (quoted (word_in line r)) (quoted (bytes_at line at))
 line_message kind.Number line r at = quoted (bytes_at line at) ++ codes " is out of its range"
 line_message kind.Mark line r at = mark_message (is_no_mark (slice_get r.tokens (mark_index r.tokens))) (quoted (bytes_at line at))
 
 -- Of an item.
 
-abbrev pub limit_message : Limit → List ℕ
-limit_message limit.Code = codes "the program has more than 4096 instructions"
-limit_message limit.Bytes = codes "the program has more than 65536 bytes of .data"
-limit_message limit.Fixed = codes "the program has more than 65536 bytes of .rodata"
-limit_message limit.Tasks = codes "the program has more than 1024 tasks"
-limit_message limit.Targets = codes "the task has more than 16 targets"
-
 -- a sentence without a name
 abbrev pub nameless_message : Kind → List ℕ
 nameless_message StartTwice = codes ".start stands a second time"
-nameless_message (Passes passed) = limit_message passed
+nameless_message (Passes limit.Code) = codes "the program has more than 4096 instructions"
+nameless_message (Passes limit.Bytes) = codes "the program has more than 65536 bytes of .data"
+nameless_message (Passes limit.Fixed) = codes "the program has more than 65536 bytes of .rodata"
+nameless_message (Passes limit.Tasks) = codes "the program has more than 1024 tasks"
+nameless_message (Passes limit.Targets) = codes "the task has more than 16 targets"
 nameless_message CreatesZero = codes "a create mask has $0, which nothing writes"
 nameless_message UnfitForward = codes "!f stands on an instruction that writes no register"
 nameless_message StopOnHalt = codes "a stop stands on halt, which ends the program"

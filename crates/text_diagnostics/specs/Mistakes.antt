@@ -190,5 +190,5 @@ mistakes_from items known k [] = []
 mistakes_from items known k (item ∷ rest) = item_mistakes items known k item ++ mistakes_from items known (k + 1) rest
 
 -- what is wrong with a text, in the order of its items
-abbrev pub mistakes : List Item → Known → List Mistake
+unfoldable pub mistakes : List Item → Known → List Mistake
 mistakes items known = mistakes_from items known 0 items

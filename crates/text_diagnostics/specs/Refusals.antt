@@ -10,11 +10,10 @@ use Rattle.program_statements.specs.declared.statement.Section.{Section}
 use Rattle.annotated_asm.specs.declared.fault.AsmFault.{AsmFault}
 use Rattle.annotated_asm.specs.declared.fault.AsmFault.TheVariants as fault
 use Rattle.annotated_asm.specs.ProgramText.{parse}
-use Rattle.line_faults.specs.Bytes.{bytes_at}
+use Rattle.text_diagnostics.specs.Bytes.{bytes_at}
 use Rattle.syntax_tree.specs.declared.item.LineFaultKind.{LineFaultKind}
-use Rattle.syntax_tree.specs.declared.item.LineFaultKind.TheVariants as kind
 use Rattle.syntax_tree.specs.declared.item.Item.{Item}
-use Rattle.syntax_tree.specs.Trees.{tree_of, span_of}
+use Rattle.syntax_tree.specs.Trees.{tree_of, span_of, fault_at}
 use Rattle.syntax_tree.specs.Details.{detail_of}
 use Rattle.diagnostics.specs.declared.code.Code.{Code}
 use Rattle.diagnostics.specs.declared.code.Code.TheVariants as code
@@ -42,16 +41,30 @@ use Rattle.text_diagnostics.specs.Helps.{line_help, item_help}
 
 -- Codes.
 
-abbrev pub line_code : LineFaultKind → Code
-line_code kind.NotAscii = code.NotAscii
-line_code kind.Token = code.Token
-line_code kind.Mnemonic = code.Mnemonic
-line_code kind.Operand = code.Operand
-line_code kind.Number = code.Number
-line_code kind.Mark = code.Mark
+abbrev pub build_code : BuildFault → Code
+build_code build.TooMany = code.TooMany
+build_code build.NoTask = code.NoTask
+build_code build.BadEntry = code.BadEntry
+build_code build.DuplicateEntry = code.DuplicateEntry
+build_code build.BadMask = code.BadMask
+build_code (build.BadMark index) = code.BadMark
+build_code build.BadStart = code.BadStart
 
+-- of a fault, with its line, if it has one
+abbrev pub told_as : AsmFault → Code × Option ℕ
+told_as (fault.NotAscii n) = (code.NotAscii, Some n)
+told_as (fault.Token n) = (code.Token, Some n)
+told_as (fault.Mnemonic n) = (code.Mnemonic, Some n)
+told_as (fault.Operand n) = (code.Operand, Some n)
+told_as (fault.Number n) = (code.Number, Some n)
+told_as (fault.Mark n) = (code.Mark, Some n)
+told_as (fault.Duplicate n) = (code.Duplicate, Some n)
+told_as (fault.Unknown n) = (code.Unknown, Some n)
+told_as (fault.Build f) = (build_code f, None)
+told_as _ = (code.TooLong, None)
+
+-- of what is wrong with an item that can be read
 abbrev pub kind_code : Kind → Code
-kind_code (Line k) = line_code k
 kind_code LabelTwice = code.Duplicate
 kind_code TaskTwice = code.Duplicate
 kind_code StartTwice = code.Duplicate
@@ -98,7 +111,7 @@ unfoldable pub line_diagnostic : LineFaultKind → (n : ℕ) → Section → (li
 line_diagnostic k n here line =
     let r = reading_of line in
     let at = line_place k line r in
-    error_of (line_code k) (Some (span_in n at)) (line_message k line r at) [] (Some (line_help k n here line r at))
+    error_of (told_as (fault_at n k)).0 (Some (span_in n at)) (line_message k line r at) [] (Some (line_help k n here line r at))
 
 -- an item of a line
 unfoldable pub item_diagnostic : List Item → Mistake → Item → (line : List ℕ) → Diagnostic
@@ -135,7 +148,7 @@ no_task known =
 abbrev pub most_shown : ℕ
 most_shown = 1000
 
-abbrev pub told_of : (rows : List (List ℕ)) → List Item → Known → List Mistake → List Diagnostic
+unfoldable pub told_of : (rows : List (List ℕ)) → List Item → Known → List Mistake → List Diagnostic
 told_of rows items known all =
     flat_map (said_of rows items) (take most_shown all)
     ++ (no_task known ++ more_note Program (length all - most_shown) (codes "error") (codes "errors"))
@@ -148,38 +161,6 @@ told text =
 
 -- The first fault, at which the assembler stops, is always told: where it is not among these, by itself.
 
-abbrev pub build_code : BuildFault → Code
-build_code build.TooMany = code.TooMany
-build_code build.NoTask = code.NoTask
-build_code build.BadEntry = code.BadEntry
-build_code build.DuplicateEntry = code.DuplicateEntry
-build_code build.BadMask = code.BadMask
-build_code (build.BadMark index) = code.BadMark
-build_code build.BadStart = code.BadStart
-
-abbrev pub fault_code : AsmFault → Code
-fault_code (fault.NotAscii n) = code.NotAscii
-fault_code (fault.Token n) = code.Token
-fault_code (fault.Mnemonic n) = code.Mnemonic
-fault_code (fault.Operand n) = code.Operand
-fault_code (fault.Number n) = code.Number
-fault_code (fault.Mark n) = code.Mark
-fault_code (fault.Duplicate n) = code.Duplicate
-fault_code (fault.Unknown n) = code.Unknown
-fault_code (fault.Build f) = build_code f
-fault_code _ = code.TooLong
-
-abbrev pub fault_line : AsmFault → Option ℕ
-fault_line (fault.NotAscii n) = Some n
-fault_line (fault.Token n) = Some n
-fault_line (fault.Mnemonic n) = Some n
-fault_line (fault.Operand n) = Some n
-fault_line (fault.Number n) = Some n
-fault_line (fault.Mark n) = Some n
-fault_line (fault.Duplicate n) = Some n
-fault_line (fault.Unknown n) = Some n
-fault_line _ = None
-
 -- of this code, and of the fault's line, if it has one
 abbrev pub is_on : Option ℕ → Option Span → Bool
 is_on None span = true
@@ -187,7 +168,7 @@ is_on (Some n) None = false
 is_on (Some n) (Some span) = nat_eq span.line n
 
 abbrev pub tells : AsmFault → Diagnostic → Bool
-tells f d = bytes_eq (code_id (fault_code f)) (code_id d.code) && is_on (fault_line f) d.span
+tells f d = bytes_eq (code_id (told_as f).0) (code_id d.code) && is_on (told_as f).1 d.span
 
 -- the beginning of a line
 abbrev pub line_start : Option ℕ → Option Span
@@ -196,7 +177,7 @@ line_start (Some n) = Some (record { line = n; column = 1; width = 0 })
 
 abbrev pub plain : AsmFault → Diagnostic
 plain fault.TooLong = error_of code.TooLong None (codes "the text is too long") [] (Some (in_words (codes "a text has at most 4194304 bytes")))
-plain f = error_of (fault_code f) (line_start (fault_line f)) (codes "this is what is refused first") [] None
+plain f = error_of (told_as f).0 (line_start (told_as f).1) (codes "this is what is refused first") [] None
 
 abbrev pub with_first : AsmFault → List Diagnostic → List Diagnostic
 with_first f list = if list_any (tells f) list then list else plain f ∷ list

@@ -3,12 +3,11 @@
 ghost use Rattle.std.specs.Prelude.{◌≡◌, ◌++◌, ◌∷◌, [], map as each, filter, IfOk, OnOk};
 ghost use Rattle.std.specs.Option.{option_map};
 ghost use Rattle.mips_instructions.specs.InstructionTable.{word_of};
-ghost use Rattle.line_faults.specs.Near.{is_near};
-ghost use Rattle.line_faults.specs.OtherNames.{behind_name};
-ghost use Rattle.text_diagnostics.specs.Candidates.{instead, digits_of_register, candidates};
+ghost use Rattle.near_words.specs.Near.{is_near};
+ghost use Rattle.text_diagnostics.specs.Candidates.{row_of, instead, digits_of_register, candidates};
 
-use line_faults::near::is_near;
 use mips_instructions::instruction::{MNEMONICS, Mnemonic};
+use near_words::is_near;
 use std::alloc::{AllocError, Global};
 use syntax_tree::item::LineFaultKind;
 
@@ -29,63 +28,30 @@ const OTHER_WORDS: [(&str, &str); 33] = [
     ("bge", "write slt $1,rs,rt and beq $1,$0,T"),
     ("bgt", "write slt $1,rt,rs and bne $1,$0,T"),
     ("ble", "write slt $1,rt,rs and beq $1,$0,T"),
-    (
-        "div",
-        "no instruction divides: subtract in a loop, or shift by sra for a power of two",
-    ),
-    (
-        "divu",
-        "no instruction divides: subtract in a loop, or shift by srl for a power of two",
-    ),
-    (
-        "rem",
-        "no instruction divides: subtract in a loop, or use andi for a power of two",
-    ),
-    (
-        "syscall",
-        "no instruction calls a system: out writes a word, and halt ends the program",
-    ),
-    (
-        "break",
-        "no instruction calls a system: halt ends the program",
-    ),
-    (
-        ".asciiz",
-        "write .byte with the numbers of the letters, and 0 at the end",
-    ),
-    (".ascii", "write .byte with the numbers of the letters"),
-    (
-        ".string",
-        "write .byte with the numbers of the letters, and 0 at the end",
-    ),
-    (
-        ".half",
-        "write .byte with the low and the high byte of each number",
-    ),
+    ("div", "write sra for a power of 2, or subtract in a loop"),
+    ("divu", "write srl for a power of 2, or subtract in a loop"),
+    ("rem", "write andi for a power of 2, or subtract in a loop"),
+    ("syscall", "write out for a word, or halt at the end"),
+    ("break", "write halt, which ends the program"),
+    (".asciiz", "write .byte with the letters' numbers, and 0"),
+    (".ascii", "write .byte with the letters' numbers"),
+    (".string", "write .byte with the letters' numbers, and 0"),
+    (".half", "write .byte with the low and the high byte"),
     (".long", "write .word"),
     (".int", "write .word"),
     (".align", "write .space with as many bytes as are missing"),
     (".section", "write .text, .data or .rodata"),
     (".bss", "write .data and .space"),
-    (
-        ".globl",
-        "leave the line out: there is one program, and each label is known in all of it",
-    ),
-    (
-        ".global",
-        "leave the line out: there is one program, and each label is known in all of it",
-    ),
-    (
-        ".set",
-        "leave the line out: no line changes how others are read",
-    ),
-    (".ent", "leave the line out: .task says where a task begins"),
-    (".end", "leave the line out: the last line ends the program"),
+    (".globl", "leave it out: each label is known everywhere"),
+    (".global", "leave it out: each label is known everywhere"),
+    (".set", "leave it out: no line changes how others are read"),
+    (".ent", "leave it out: .task says where a task begins"),
+    (".end", "leave it out: the last line ends the program"),
 ];
 
 /// What stands after this word in a table.
 fn row_of(rows: &[(&'static str, &'static str)], word: &[u8]) -> Option<&'static str>
-    ensures { option_map (λ text. text.now) result ≡ behind_name word.now (each (λ row. (row.0.now, row.1.now)) rows.now) }
+    ensures { option_map (λ text. text.now) result ≡ row_of word.now (each (λ row. (row.0.now, row.1.now)) rows.now) }
 {
     for (name, text) in rows {
         if name.as_bytes() == word {

@@ -2,28 +2,27 @@
 
 ghost use Rattle.std.specs.Prelude.{◌≡◌, find, take, position, slice_get, IfOk};
 ghost use Rattle.std.specs.Option.{option_copied, option_map};
-ghost use Rattle.line_faults.specs.Shapes.{near_statement};
+ghost use Rattle.text_diagnostics.specs.Shapes.{near_statement};
 ghost use Rattle.diagnostics.specs.Quotations.{as_shown};
 ghost use Rattle.text_diagnostics.specs.Candidates.{instead};
-ghost use Rattle.diagnostics.specs.Helps.{by_text};
-ghost use Rattle.text_diagnostics.specs.Places.{span_in};
-ghost use Rattle.text_diagnostics.specs.Helps.{meant_text, mending_help, section_help, word_help, token_words, number_help, line_words, help_by, line_help, is_forward, is_stop_mark, forward_place, stop_place, is_loaded, is_code, is_near_said, is_near_label, near_item, unknown_words, said_help, near_help, item_words, item_help};
+ghost use Rattle.text_diagnostics.specs.Helps.{meant_text, mending_help, section_help, word_help, token_words, number_help, line_words, help_by, line_help, is_mark_of, mark_place, mark_help, is_loaded, is_code, is_near_said, is_near_label, near_item, unknown_words, said_help, near_help, item_words, item_help};
 
+use crate::bytes::{byte_at, bytes_at, token_help};
 use crate::candidates::instead;
 use crate::line_place::{shape_named, word_in};
+use crate::meant::{number_index, span_at};
 use crate::mending::mended;
 use crate::mistake::Kind;
 use crate::place::span_in;
-use crate::rows::{Reading, first, read};
+use crate::rows::{Reading, read};
+use crate::shape::{Shape, form_text, near_statement, range_text, shape_of};
+use crate::slices::first;
 use diagnostics::diagnostic::{Help, Span};
 use diagnostics::helps::{by_text, in_words};
 use diagnostics::quotation::as_shown;
 use diagnostics::words;
 use diagnostics::words::Words;
-use line_faults::bytes::{byte_at, bytes_at, token_help};
-use line_faults::meant::{number_index, span_at};
-use line_faults::near::is_near;
-use line_faults::shape::{Shape, form_text, near_statement, range_text, shape_of};
+use near_words::is_near;
 use program_statements::statement::{Instruction, Section, Statement};
 use program_tokens::span::Span as Place;
 use program_tokens::token::{Mark, Token};
@@ -183,38 +182,29 @@ pub(crate) fn line_help(
     }
 }
 
-/// Whether a token is the mark `!f`.
-fn is_forward(token: &Token) -> bool
-    ensures { result ≡ is_forward token.now }
+/// Whether a token is a stop, or the mark `!f`.
+fn is_mark_of(is_stop: bool, token: &Token) -> bool
+    ensures { result ≡ is_mark_of is_stop token.now }
 {
-    matches!(token, Token::Mark(Mark::Forward))
+    match token {
+        Token::Mark(Mark::Forward) => !is_stop,
+        Token::Mark(Mark::Always | Mark::Taken | Mark::NotTaken) => is_stop,
+        _ => false,
+    }
 }
 
-/// Whether a token is a stop.
-fn is_stop_mark(token: &Token) -> bool
-    ensures { result ≡ is_stop_mark token.now }
+/// The number of the first token that is one.
+fn mark_number(is_stop: bool, tokens: &[Token]) -> Option<usize>
+    ensures { result ≡ position (is_mark_of is_stop) tokens.now }
 {
-    matches!(
-        token,
-        Token::Mark(Mark::Always | Mark::Taken | Mark::NotTaken)
-    )
+    tokens.iter().position(|token| is_mark_of(is_stop, token))
 }
 
-/// Where the mark `!f` of a line stands.
-fn forward_place(reading: &Reading) -> Place
-    ensures { result ≡ forward_place reading.now }
+/// Where the stop of a line stands, or its mark `!f`.
+fn mark_place(is_stop: bool, reading: &Reading) -> Place
+    ensures { result ≡ mark_place is_stop reading.now }
 {
-    let tokens = reading.tokens.as_slice();
-    let number = tokens.iter().position(|token| is_forward(token));
-    span_at(reading.places.as_slice(), number.unwrap_or(0))
-}
-
-/// Where the stop of a line stands.
-fn stop_place(reading: &Reading) -> Place
-    ensures { result ≡ stop_place reading.now }
-{
-    let tokens = reading.tokens.as_slice();
-    let number = tokens.iter().position(|token| is_stop_mark(token));
+    let number = mark_number(is_stop, reading.tokens.as_slice());
     span_at(reading.places.as_slice(), number.unwrap_or(0))
 }
 
@@ -316,21 +306,23 @@ fn item_words(kind: Kind) -> &'static str
     }
 }
 
-/// A text to write in place of a part of a line.
-fn in_line(
+/// A text to write in place of a mark of a line.
+fn mark_help(
     alloc: Global,
-    line: u32,
-    place: Place,
+    number: u32,
+    line: &[u8],
+    is_stop: bool,
     words: &str,
     text: &str,
 ) -> Result<Help, AllocError>
-    ensures { IfOk result (λ help. help ≡ by_text words.now (span_in line place) text.now) }
+    ensures { IfOk result (λ help. help ≡ mark_help number line.now is_stop words.now text.now) }
 {
+    let place = mark_place(is_stop, &read(alloc, line)?);
     let message = Words::of(alloc, words)?;
     by_text(
         alloc,
         message,
-        span_in(line, place),
+        span_in(number, place),
         Words::of(alloc, text)?,
     )
 }
@@ -349,23 +341,11 @@ pub(crate) fn item_help(
     ensures { IfOk result (λ help. help ≡ item_help items.now item.now line.now kind name.now span) }
 {
     match kind {
-        Kind::UnfitForward => {
-            let place = forward_place(&read(alloc, line)?);
-            in_line(alloc, item.line, place, "remove !f", "")
-        }
-        Kind::StopOnHalt => {
-            let place = stop_place(&read(alloc, line)?);
-            in_line(alloc, item.line, place, "remove the stop", "")
-        }
+        Kind::UnfitForward => mark_help(alloc, item.line, line, false, "remove !f", ""),
+        Kind::StopOnHalt => mark_help(alloc, item.line, line, true, "remove the stop", ""),
         Kind::OneSidedStop => {
-            let place = stop_place(&read(alloc, line)?);
-            in_line(
-                alloc,
-                item.line,
-                place,
-                "write !s, which stops always",
-                "!s",
-            )
+            let words = "write !s, which stops always";
+            mark_help(alloc, item.line, line, true, words, "!s")
         }
         Kind::NoLabel(_) | Kind::DataLabel(_) => {
             near_help(alloc, span, near_item(is_loaded(&item.said), name, items))

@@ -81,6 +81,7 @@ fn first_entries(alloc: Global, items: &[Item]) -> Result<Vec<TaskEntry>, AllocE
 }
 
 /// What is known of a text of these items.
+#[tactic(auto, unfolding(crate::specs::Knowledge::known_in))]
 pub(crate) fn known_in(alloc: Global, items: &[Item]) -> Result<Known, AllocError>
     ensures { IfOk result (λ known. known ≡ known_in items.now) }
 {

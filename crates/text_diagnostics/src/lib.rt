@@ -2,11 +2,14 @@
 //! and what to do.
 #![tactic(auto)]
 
+mod bytes;
 mod candidates;
+mod form;
 mod help;
 mod known;
 pub mod laws;
 mod line_place;
+mod meant;
 mod mending;
 mod message;
 mod mistake;
@@ -14,3 +17,5 @@ mod mistakes;
 mod place;
 pub mod refusal;
 mod rows;
+mod shape;
+mod slices;

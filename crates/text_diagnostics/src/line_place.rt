@@ -3,10 +3,10 @@
 ghost use Rattle.std.specs.Prelude.{◌≡◌, IfOk};
 ghost use Rattle.text_diagnostics.specs.LinePlaces.{word_place, word_in, shape_named, line_place};
 
+use crate::bytes::{byte_span, bytes_at, token_span};
+use crate::meant::{mark_index, number_index, operand_span, span_at};
 use crate::rows::Reading;
-use line_faults::bytes::{byte_span, bytes_at, token_span};
-use line_faults::meant::{mark_index, number_index, operand_span, span_at};
-use line_faults::shape::{Shape, shape_of};
+use crate::shape::{Shape, shape_of};
 use program_tokens::span::Span;
 use std::alloc::{AllocError, Global};
 use syntax_tree::item::LineFaultKind;
@@ -36,7 +36,6 @@ pub(crate) fn word_in<'a>(line: &'a [u8], reading: &Reading) -> &'a [u8]
 }
 
 /// The operands that follow a word; none where it begins no statement.
-#[tactic(auto, unfolding(crate::specs::LinePlaces::shape_named))]
 pub(crate) fn shape_named(word: &[u8]) -> Shape
     ensures { result ≡ shape_named word.now }
 {

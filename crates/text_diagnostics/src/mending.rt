@@ -1,18 +1,19 @@
 //! Which texts mend a line, in place of what is wrong in it.
 
-ghost use Rattle.std.specs.Prelude.{◌≡◌, is_ok, find, map as each, drop, take, IfOk};
+ghost use Rattle.std.specs.Prelude.{◌≡◌, is_ok, find, map as each, IfOk};
 ghost use Rattle.std.specs.Option.{option_map};
 ghost use Rattle.program_statements.specs.Statements.{statement_of};
-ghost use Rattle.line_faults.specs.Meant.{label_tokens};
+ghost use Rattle.text_diagnostics.specs.Meant.{label_tokens};
 ghost use Rattle.text_diagnostics.specs.Mending.{replaced, reads, goes_further, mends, mended};
 
+use crate::bytes::bytes_at;
 use crate::candidates::candidates;
 use crate::line_place::{shape_named, word_in};
+use crate::meant::{label_tokens, operand_span};
 use crate::rows::read;
+use crate::slices::{after, first};
 use diagnostics::quotation::as_shown;
 use diagnostics::words::Words;
-use line_faults::bytes::{bytes_at, front};
-use line_faults::meant::{label_tokens, operand_span};
 use program_statements::fault::StatementError;
 use program_statements::line::statement_of;
 use program_statements::statement::Section;
@@ -22,23 +23,12 @@ use program_tokens::token::{Token, TokenFault};
 use std::alloc::{AllocError, Global};
 use syntax_tree::item::LineFaultKind;
 
-/// What stands after so many bytes.
-fn after(line: &[u8], count: usize) -> &[u8]
-    ensures { result.now ≡ drop count line.now }
-{
-    if count < line.len() {
-        &line[count..]
-    } else {
-        &[]
-    }
-}
-
 /// A line with a text in place of a part.
 fn replaced(alloc: Global, line: &[u8], place: Span, text: &[u8]) -> Result<Vec<u8>, AllocError>
     ensures { IfOk result (λ bytes. bytes.items ≡ replaced line.now place text.now) }
 {
     let before = place.column.saturating_sub(1);
-    let mut bytes = front(line, before).to_vec(alloc)?;
+    let mut bytes = first(line, before).to_vec(alloc)?;
     bytes.extend_from_slice(text)?;
     bytes.extend_from_slice(after(after(line, before), place.len))?;
     Ok(bytes)

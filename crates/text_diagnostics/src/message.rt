@@ -2,35 +2,26 @@
 
 ghost use Rattle.std.specs.Prelude.{◌≡◌, is_some, IfOk};
 ghost use Rattle.std.specs.Option.{option_copied};
-ghost use Rattle.line_faults.specs.Shapes.{shape_of};
 ghost use Rattle.diagnostics.specs.Quotations.{quoted};
 ghost use Rattle.text_diagnostics.specs.Candidates.{instead};
-ghost use Rattle.text_diagnostics.specs.Messages.{is_ours, mnemonic_message, operand_message, is_no_mark, mark_message, line_message, limit_message, nameless_message, item_message};
+ghost use Rattle.text_diagnostics.specs.Messages.{mnemonic_message, operand_message, is_no_mark, mark_message, line_message, nameless_message, item_message};
 
+use crate::bytes::{byte_at, bytes_at};
 use crate::candidates::instead;
 use crate::line_place::word_in;
+use crate::meant::mark_index;
 use crate::mistake::Kind;
 use crate::rows::Reading;
+use crate::shape::shape_of;
 use diagnostics::quotation::quoted;
 use diagnostics::words;
 use diagnostics::words::Words;
-use line_faults::bytes::{byte_at, bytes_at};
-use line_faults::meant::mark_index;
-use line_faults::shape::shape_of;
 use program_tokens::span::Span;
 use program_tokens::token::{Mark, Token};
 use std::alloc::{AllocError, Global};
 use syntax_tree::item::LineFaultKind;
 use syntax_tree::unknown_names::UsedAs;
 use syntax_tree::whole_faults::Limit;
-
-/// Whether a word begins a statement, in some section.
-#[tactic(auto, unfolding(crate::specs::Messages::is_ours))]
-fn is_ours(word: &[u8]) -> bool
-    ensures { result ≡ is_ours word.now }
-{
-    shape_of(word).is_some()
-}
 
 /// Of a word that begins no statement here: one of another section, of other assemblers, or any other.
 fn mnemonic_message(
@@ -104,7 +95,12 @@ pub(crate) fn line_message(
         }
         LineFaultKind::Token => words!(in alloc; "{meant} is no token"),
         LineFaultKind::Mnemonic => {
-            mnemonic_message(alloc, is_ours(bytes), instead(bytes).is_some(), &meant)
+            mnemonic_message(
+                alloc,
+                shape_of(bytes).is_some(),
+                instead(bytes).is_some(),
+                &meant,
+            )
         }
         LineFaultKind::Operand => {
             let word = quoted(alloc, word_in(line, reading))?;
@@ -117,26 +113,17 @@ pub(crate) fn line_message(
     }
 }
 
-/// Of a limit that is passed.
-fn limit_message(limit: Limit) -> &'static str
-    ensures { result.now ≡ limit_message limit }
-{
-    match limit {
-        Limit::Code => "the program has more than 4096 instructions",
-        Limit::Bytes => "the program has more than 65536 bytes of .data",
-        Limit::Fixed => "the program has more than 65536 bytes of .rodata",
-        Limit::Tasks => "the program has more than 1024 tasks",
-        Limit::Targets => "the task has more than 16 targets",
-    }
-}
-
 /// Of an item, without a name.
 fn nameless_message(kind: Kind) -> &'static str
     ensures { result.now ≡ nameless_message kind }
 {
     match kind {
         Kind::StartTwice => ".start stands a second time",
-        Kind::Passes(limit) => limit_message(limit),
+        Kind::Passes(Limit::Code) => "the program has more than 4096 instructions",
+        Kind::Passes(Limit::Bytes) => "the program has more than 65536 bytes of .data",
+        Kind::Passes(Limit::Fixed) => "the program has more than 65536 bytes of .rodata",
+        Kind::Passes(Limit::Tasks) => "the program has more than 1024 tasks",
+        Kind::Passes(Limit::Targets) => "the task has more than 16 targets",
         Kind::CreatesZero => "a create mask has $0, which nothing writes",
         Kind::UnfitForward => "!f stands on an instruction that writes no register",
         Kind::StopOnHalt => "a stop stands on halt, which ends the program",

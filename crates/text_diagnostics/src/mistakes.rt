@@ -391,6 +391,7 @@ fn add_item_mistakes(
 }
 
 /// What is wrong with each item of a text, in the order of the items.
+#[tactic(auto, unfolding(crate::specs::Mistakes::mistakes))]
 pub(crate) fn mistakes(
     alloc: Global,
     items: &[Item],

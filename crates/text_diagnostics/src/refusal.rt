@@ -5,8 +5,9 @@ ghost use Rattle.std.specs.List.{flat_map, list_any};
 ghost use Rattle.std.specs.Option.{option_copied};
 ghost use Rattle.program_tokens.specs.Lines.{lines};
 ghost use Rattle.syntax_tree.specs.Trees.{tree_of};
-ghost use Rattle.text_diagnostics.specs.Refusals.{line_code, kind_code, note_text, note_at, item_at, error_of, line_diagnostic, item_diagnostic, diagnostic_by, said_of, no_task_error, no_task, told_of, told, build_code, fault_code, fault_line, is_on, tells, line_start, plain, with_first, refusal, text_diagnostics};
+ghost use Rattle.text_diagnostics.specs.Refusals.{kind_code, note_text, note_at, item_at, error_of, line_diagnostic, item_diagnostic, diagnostic_by, said_of, no_task_error, no_task, told_of, told, build_code, told_as, is_on, tells, line_start, plain, with_first, refusal, text_diagnostics};
 
+use crate::bytes::bytes_at;
 use crate::help::{item_help, line_help};
 use crate::known::{Known, known_in};
 use crate::line_place::line_place;
@@ -14,7 +15,8 @@ use crate::message::{item_message, line_message};
 use crate::mistake::{Kind, Mistake};
 use crate::mistakes::mistakes;
 use crate::place::{item_span, place_in, shown_span, span_in};
-use crate::rows::{first, line_at, lines_of, read};
+use crate::rows::{line_at, lines_of, read};
+use crate::slices::first;
 use annotated_asm::assembler::assemble;
 use annotated_asm::fault::AsmFault;
 use diagnostics::code::Code;
@@ -24,7 +26,6 @@ use diagnostics::listed::Listed;
 use diagnostics::more::add_more;
 use diagnostics::quotation::quoted;
 use diagnostics::words::Words;
-use line_faults::bytes::bytes_at;
 use program_statements::statement::Section;
 use std::alloc::{AllocError, Global};
 use syntax_tree::detail::read_detail;
@@ -36,26 +37,11 @@ use task_descriptor::program::BuildFault;
 /// The most errors that are shown of a text; of any more it is said how many they are (own choice).
 pub const MOST_SHOWN: usize = 1_000;
 
-/// The code of a line's fault.
-fn line_code(kind: LineFaultKind) -> Code
-    ensures { result ≡ line_code kind }
-{
-    match kind {
-        LineFaultKind::NotAscii => Code::NotAscii,
-        LineFaultKind::Token => Code::Token,
-        LineFaultKind::Mnemonic => Code::Mnemonic,
-        LineFaultKind::Operand => Code::Operand,
-        LineFaultKind::Number => Code::Number,
-        LineFaultKind::Mark => Code::Mark,
-    }
-}
-
-/// The code of what is wrong with an item.
+/// The code of what is wrong with an item that can be read.
 fn kind_code(kind: Kind) -> Code
     ensures { result ≡ kind_code kind }
 {
     match kind {
-        Kind::Line(kind) => line_code(kind),
         Kind::LabelTwice | Kind::TaskTwice | Kind::StartTwice => Code::Duplicate,
         Kind::NoLabel(_) | Kind::DataLabel(_) => Code::Unknown,
         Kind::Passes(_) => Code::TooMany,
@@ -63,9 +49,7 @@ fn kind_code(kind: Kind) -> Code
         Kind::NoInstruction => Code::BadEntry,
         Kind::SameEntry => Code::DuplicateEntry,
         Kind::NoTaskThere => Code::BadStart,
-        Kind::UnfitForward | Kind::StopOnHalt | Kind::OneSidedStop | Kind::ReleasesZero => {
-            Code::BadMark
-        }
+        _ => Code::BadMark,
     }
 }
 
@@ -141,7 +125,8 @@ fn line_diagnostic(
     let help = line_help(alloc, kind, number, section, line, &reading, place)?;
     let span = span_in(number, place);
     let notes = Listed::new(Vec::new(alloc));
-    Ok(error_of(line_code(kind), Some(span), message, notes, Some(help)))
+    let (code, _) = told_as(kind.on_line(number));
+    Ok(error_of(code, Some(span), message, notes, Some(help)))
 }
 
 /// What is said of an item of a line.
@@ -246,6 +231,7 @@ fn add_no_task(alloc: Global, list: &mut Vec<Diagnostic>, known: &Known) -> Resu
 }
 
 /// What is said of what was found in a text.
+#[tactic(auto, unfolding(crate::specs::Refusals::told_of))]
 fn told_of(
     alloc: Global,
     rows: &[&[u8]],
@@ -277,38 +263,21 @@ fn build_code(fault: BuildFault) -> Code
     }
 }
 
-/// The code of a fault.
-fn fault_code(fault: AsmFault) -> Code
-    ensures { result ≡ fault_code fault }
+/// The code of a fault, and its line, if it has one.
+fn told_as(fault: AsmFault) -> (Code, Option<u32>)
+    ensures { result ≡ told_as fault }
 {
     match fault {
-        AsmFault::NotAscii(_) => Code::NotAscii,
-        AsmFault::Token(_) => Code::Token,
-        AsmFault::Mnemonic(_) => Code::Mnemonic,
-        AsmFault::Operand(_) => Code::Operand,
-        AsmFault::Number(_) => Code::Number,
-        AsmFault::Mark(_) => Code::Mark,
-        AsmFault::Duplicate(_) => Code::Duplicate,
-        AsmFault::Unknown(_) => Code::Unknown,
-        AsmFault::Build(fault) => build_code(fault),
-        AsmFault::TooLong | AsmFault::OutOfMemory => Code::TooLong,
-    }
-}
-
-/// The line of a fault, if it has one.
-fn fault_line(fault: AsmFault) -> Option<u32>
-    ensures { result ≡ fault_line fault }
-{
-    match fault {
-        AsmFault::NotAscii(line)
-        | AsmFault::Token(line)
-        | AsmFault::Mnemonic(line)
-        | AsmFault::Operand(line)
-        | AsmFault::Number(line)
-        | AsmFault::Mark(line)
-        | AsmFault::Duplicate(line)
-        | AsmFault::Unknown(line) => Some(line),
-        _ => None,
+        AsmFault::NotAscii(line) => (Code::NotAscii, Some(line)),
+        AsmFault::Token(line) => (Code::Token, Some(line)),
+        AsmFault::Mnemonic(line) => (Code::Mnemonic, Some(line)),
+        AsmFault::Operand(line) => (Code::Operand, Some(line)),
+        AsmFault::Number(line) => (Code::Number, Some(line)),
+        AsmFault::Mark(line) => (Code::Mark, Some(line)),
+        AsmFault::Duplicate(line) => (Code::Duplicate, Some(line)),
+        AsmFault::Unknown(line) => (Code::Unknown, Some(line)),
+        AsmFault::Build(fault) => (build_code(fault), None),
+        AsmFault::TooLong | AsmFault::OutOfMemory => (Code::TooLong, None),
     }
 }
 
@@ -329,8 +298,8 @@ fn is_on(line: Option<u32>, span: Option<Span>) -> bool
 fn tells(fault: AsmFault, said: &Diagnostic) -> bool
     ensures { result ≡ tells fault said.now }
 {
-    fault_code(fault).id().as_bytes() == said.code.id().as_bytes()
-        && is_on(fault_line(fault), said.span)
+    let (code, line) = told_as(fault);
+    code.id().as_bytes() == said.code.id().as_bytes() && is_on(line, said.span)
 }
 
 /// Whether one of some diagnostics does.
@@ -368,8 +337,8 @@ fn plain(alloc: Global, fault: AsmFault) -> Result<Diagnostic, AllocError>
         }
         _ => {
             let message = Words::of(alloc, "this is what is refused first")?;
-            let span = line_start(fault_line(fault));
-            Ok(error_of(fault_code(fault), span, message, notes, None))
+            let (code, line) = told_as(fault);
+            Ok(error_of(code, line_start(line), message, notes, None))
         }
     }
 }

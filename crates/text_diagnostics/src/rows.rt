@@ -1,6 +1,6 @@
 //! The lines of a text, and what is read of one.
 
-ghost use Rattle.std.specs.Prelude.{◌≡◌, map as each, take, IfOk};
+ghost use Rattle.std.specs.Prelude.{◌≡◌, map as each, IfOk};
 ghost use Rattle.program_tokens.specs.Grammar.{line_tokens};
 ghost use Rattle.program_tokens.specs.Spans.{line_spans};
 ghost use Rattle.program_tokens.specs.Lines.{lines};
@@ -36,17 +36,6 @@ pub(crate) fn line_at<'a>(rows: &[&'a [u8]], number: u32) -> &'a [u8]
     match rows.get(number.saturating_sub(1) as usize) {
         Some(line) => line,
         None => &[],
-    }
-}
-
-/// The first of some, at most as many.
-pub(crate) fn first<T>(all: &[T], count: usize) -> &[T]
-    ensures { result.now ≡ take count all.now }
-{
-    if count < all.len() {
-        &all[..count]
-    } else {
-        all
     }
 }
 

@@ -2,7 +2,6 @@
 
 use annotated_asm::assembler::assemble;
 use canonical_text::print::print;
-use jobs::job::Texts;
 use mark_checker::accept::Accepted;
 use mask_certificate::certificate::Cert;
 use mask_certificate::reading::read;
@@ -13,7 +12,6 @@ use std::marker::Sync;
 use std::sync::Wait;
 use std::thread::Threads;
 use task_descriptor::program::Program;
-use text_pieces::text::Text;
 
 /// How often a call is made at most.
 pub(crate) const TRIES: u32 = 1000;
@@ -37,7 +35,6 @@ pub(crate) struct Given<'a> {
     pub(crate) script: Vec<u8>,
     pub(crate) units: u32,
     pub(crate) workers: u32,
-    pub(crate) words: Vec<String>,
 }
 
 impl Given<'_> {
@@ -97,23 +94,5 @@ impl Given<'_> {
         let program = self.assembled()?;
         let cert = self.certified(&program)?;
         Accepted::new(program, cert).ok()
-    }
-
-    /// The certificate in pieces of about 4,000 bytes.
-    pub(crate) fn certificate_in_pieces(&self) -> Option<Text> {
-        let mut text = Text::new(self.alloc(), Vec::new(self.alloc()));
-        for part in self.certificate.chunks(4000) {
-            text.append(part.to_vec(self.alloc()).ok()?).ok()?;
-        }
-        Some(text)
-    }
-
-    /// The texts for `serve`.
-    pub(crate) fn texts(&self) -> Option<Texts> {
-        Some(Texts {
-            program: self.program.to_vec(self.alloc()).ok()?,
-            certificate: self.certificate_in_pieces()?,
-            script: self.script.to_vec(self.alloc()).ok()?,
-        })
     }
 }

@@ -1,21 +1,21 @@
 //! Public calls of the libraries, each made again where memory was refused.
 //!
-//! `CALL PROGRAM CERTIFICATE SCRIPT UNITS WORKERS [WORD..]` makes one call, named CALL, on the texts of three
-//! files. `begin` is written before the call, and `end` after it, each as one write, so that another process can
-//! refuse growths in between. Then a line says `refused: unchanged`, `refused: changed`, or that there was another
-//! fault; the call is made again until it is not refused. After the line `answer` comes what it answered, with
-//! the state that it left. Lines that begin with `note` tell what differs from run to run.
+//! `CALL PROGRAM CERTIFICATE SCRIPT UNITS WORKERS` makes one call, named CALL, on the texts of three files.
+//! `begin` is written before the call, and `end` after it, each as one write, so that another process can refuse
+//! growths in between. Then a line says `refused: unchanged`, `refused: changed`, or that there was another fault;
+//! the call is made again until it is not refused. After the line `answer` comes what it answered, with the state
+//! that it left. Lines that begin with `note` tell what differs from run to run.
 #![tactic(auto)]
 
 mod bursts;
 mod checks;
+mod files;
 mod given;
 mod machines;
 mod plain;
 mod programs;
 mod runs;
 mod units;
-mod words;
 
 use crate::bursts::bursts;
 use crate::given::{Given, Runtime};
@@ -56,9 +56,7 @@ fn made_above(given: &Given<'_>, rt: &impl Runtime, call: &str) -> Option<()> {
         "Burst::run" => bursts(given, false),
         "apply_burst" => bursts(given, true),
         "run_threads" => runs::runs_threads(given, rt),
-        "request_of" => words::reads_words(given),
-        "fetch" => words::fetches(given),
-        "serve" => words::serves(given, rt),
+        "fetch" => files::fetches(given),
         _ => None,
     }
 }
@@ -77,13 +75,6 @@ fn work(host: &HostRuntime, rt: &impl Runtime) -> Option<()> {
     if words.len() < 7 {
         return None;
     }
-    let mut rest = Vec::new(host.alloc());
-    rest.push(String::from_str(host.alloc(), "multiscalar").ok()?)
-        .ok()?;
-    for word in words.get(7..)? {
-        rest.push(String::from_str(host.alloc(), word.as_str()).ok()?)
-            .ok()?;
-    }
     let given = Given {
         rt: host,
         program: file(host, words[2].as_str())?,
@@ -91,7 +82,6 @@ fn work(host: &HostRuntime, rt: &impl Runtime) -> Option<()> {
         script: file(host, words[4].as_str())?,
         units: words[5].parse().ok()?,
         workers: words[6].parse().ok()?,
-        words: rest,
     };
     made(&given, rt, words[1].as_str())
 }
