@@ -8,8 +8,12 @@ use test_programs::programs::{
 
 // A program text, a certificate, and what stands in the log behind its tool and its rules.
 const LOGS: [(&str, &str, &str); 10] = [
-    (SPIN, "", "\"unicodeCodePoints\",\"results\":[]}]}
-"),
+    (
+        SPIN,
+        "",
+        "\"unicodeCodePoints\",\"results\":[]}]}
+",
+    ),
     (
         COUNT,
         "",
