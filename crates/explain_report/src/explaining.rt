@@ -35,7 +35,14 @@ pub fn explain(
     let text = texts.program.as_slice();
     let certificate = joined(alloc, &texts.certificate)?;
     let explained = explained(alloc, file, warnings, text, &certificate)?;
-    let said = explained_text(alloc, name, file, text, &certificate, explained.said.as_slice())?;
+    let said = explained_text(
+        alloc,
+        name,
+        file,
+        text,
+        &certificate,
+        explained.said.as_slice(),
+    )?;
     Ok(Report::new(said.into_bytes(), explained.status))
 }
 

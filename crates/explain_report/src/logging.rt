@@ -33,7 +33,14 @@ pub fn explain_log(
     let text = texts.program.as_slice();
     let certificate = joined(alloc, &texts.certificate)?;
     let explained = explained(alloc, file, warnings, text, &certificate)?;
-    let log = explained_log(alloc, name, file, text, &certificate, explained.said.as_slice())?;
+    let log = explained_log(
+        alloc,
+        name,
+        file,
+        text,
+        &certificate,
+        explained.said.as_slice(),
+    )?;
     Ok(Report::new(log, explained.status))
 }
 
