@@ -1,5 +1,5 @@
 -- Worked examples, computed by the checker.
-use Rattle.std.specs.Prelude.{◌≡◌, ℕ, List, [], ◌∷◌, codes, Some, None, refl}
+use Rattle.std.specs.Prelude.{◌≡◌, ℕ, codes, Some, refl}
 use Rattle.std.specs.Str.{is_utf8, chars}
 use lib.Utf8.{encode}
 use Rattle.program_tokens.specs.Numbers.{number_of, magnitude_of, number_in}
