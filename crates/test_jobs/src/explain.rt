@@ -2,8 +2,6 @@
 //! that are right and cost nothing.
 
 use crate::answers::{expect_of, expect_of_each, expect_with};
-use std::alloc::Global;
-use std::process::Abort;
 use test_programs::programs::{
     COUNT, COUNT_CREATES_LESS, COUNT_FORWARDED, DIAMOND, FIVE_FINDINGS, PRODUCT, READ_ONLY,
     RELEASE, RELEASE_CREATES_MORE, SPIN, UNLISTED_JUMP,
@@ -191,7 +189,7 @@ a.s:4:4: help: did you mean halt?
 ",
     ),
     (
-        ".task A create=$8 targets=-\nA: addi $8,$8,1 !f\n   ble $8,$9,A\n   halt !s\n",
+        ".task A create=$8 targets=-\nA: subi $8,$8,1 !f\n   mul $8,$8,$9\n   halt\n",
         "a.s:2:4: error: there is no instruction or directive `addi` here [4 Mnemonic line 2]
     2 | A: addi $8,$8,1 !f
       |    ^~~~
@@ -203,9 +201,9 @@ a.s:3:4: help: write slt $1,rt,rs and beq $1,$0,T
 ",
     ),
     (
-        ".task A create=$8
-A: addu $8,$8 !f
-   release $8,
+        ".task A create=$8 targets=-
+A: addu $8,$8,1 !f
+   lw $9,$8
    halt $8
 ",
         "a.s:1:18: error: the operands of `.task` end too early [5 Operand line 1]
@@ -231,7 +229,7 @@ a.s:4:9: help: the form is halt
 .text !f
 A: addiu $8,$8,1 !f !f
    beq $8,$9,A !st !sn
-   halt !s
+   halt
 ",
         "a.s:2:7: error: the mark `!f` stands on a directive [7 Mark line 2]
     2 | .text !f
@@ -414,9 +412,8 @@ fn explains_each_rule(rt: HostRuntime) {
 }
 
 // Certificates of `spin`, and what is said of them: the right one, one that is none from its first or from its
-// third line on, and one without a mask for the task's entry. A file that begins as no certificate does is not
-// named to be written.
-const CERTIFICATES: [(&str, &str, u8); 4] = [
+// third line on, one without a mask for the task's entry, and one with a mask that is too large.
+const CERTIFICATES: [(&str, &str, u8); 5] = [
     ("cert 2\ntask A\n0 0000000000000000\n", "", 0),
     (
         SPIN,
@@ -435,6 +432,11 @@ a.cert: help: make it anew: multiscalar annotate --emit keep a.s > a.cert
         1,
     ),
     (
+        "cert 2\ntask A\n0 0000000000000100\n",
+        "",
+        1,
+    ),
+    (
         "cert 2\ntask A\n",
         "a.cert: error: this is not a certificate of a.s as it stands; findings with it: 1, with the least certificate: 0
 a.cert: help: make it anew: multiscalar annotate --emit keep a.s > a.cert
@@ -448,71 +450,5 @@ fn explains_certificates(rt: HostRuntime) {
     for &(certificate, expected, status) in &CERTIFICATES {
         let words = "explain --certificate a.cert a.s";
         expect_with(&rt, rt.alloc(), words, SPIN, certificate, expected, status);
-    }
-}
-
-// Names of a program and of a certificate that does not fit, and whether the command names both: a shell takes
-// them as they stand, and they are two.
-const NAMES: [(&str, &str, bool); 8] = [
-    ("a.s", "b/c-1_2.cert", true),
-    ("a.s", "a.s", false),
-    ("a.s", "-", false),
-    ("-", "a.cert", false),
-    ("a.s", "a\t.cert", false),
-    ("a.s", "a;.cert", false),
-    ("$a.s", "a.cert", false),
-    ("./-a.s", "a.cert", true),
-];
-
-// What is said of the certificate.
-fn said_of_names(
-    rt: &impl Abort,
-    alloc: Global,
-    program: &str,
-    certificate: &str,
-    named: bool,
-) -> String {
-    let mut text = String::new(alloc);
-    let error = "error: this is not a certificate of";
-    let found = "findings with it: 1, with the least certificate: 0";
-    assert!(rt;
-        writeln!(
-            text,
-            "{certificate}: {error} {program} as it stands; {found}"
-        )
-        .is_ok()
-    );
-    let command = "multiscalar annotate --emit keep";
-    let help = if named {
-        writeln!(
-            text,
-            "{certificate}: help: make it anew: {command} {program} > {certificate}"
-        )
-    } else {
-        writeln!(
-            text,
-            "{certificate}: help: make a certificate: {command} PROGRAM > CERT"
-        )
-    };
-    assert!(rt; help.is_ok());
-    text
-}
-
-#[test]
-fn names_files_that_a_shell_takes(rt: HostRuntime) {
-    for &(program, certificate, named) in &NAMES {
-        let mut words = String::new(rt.alloc());
-        assert!(rt; write!(words, "explain --certificate {certificate} {program}").is_ok());
-        let said = said_of_names(&rt, rt.alloc(), program, certificate, named);
-        let certificate = "cert 2\ntask A\n";
-        expect_with(
-            &rt,
-            rt.alloc(),
-            words.as_str(),
-            SPIN,
-            certificate,
-            said.as_str(),
-            1,
-        );
     }
 }
