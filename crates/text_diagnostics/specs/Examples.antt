@@ -1,5 +1,5 @@
 -- Worked examples, computed by the checker.
-use Rattle.std.specs.Prelude.{◌≡◌, ℕ, List, [], ◌∷◌, codes, Some, None, refl}
+use Rattle.std.specs.Prelude.{◌≡◌, ℕ, codes, Some, refl}
 use Rattle.std.specs.Str.{is_utf8, chars}
 use lib.Utf8.{encode}
 use Rattle.program_tokens.specs.Numbers.{number_of, magnitude_of, number_in}
@@ -13,7 +13,8 @@ use Rattle.program_statements.specs.declared.statement.Section.TheVariants.{Text
 use Rattle.diagnostics.specs.Excerpt.{is_readable}
 use Rattle.diagnostics.specs.Quotations.{as_shown}
 use Rattle.syntax_tree.specs.declared.item.LineFaultKind.TheVariants as kind
-use Rattle.text_diagnostics.specs.LinePlaces.{shape_named}
+use Rattle.text_diagnostics.specs.Shapes.{shape_of}
+use Rattle.text_diagnostics.specs.Meant.{operand_span}
 use Rattle.text_diagnostics.specs.Candidates.{candidates}
 use Rattle.text_diagnostics.specs.Mending.{reads, goes_further, mended}
 
@@ -31,5 +32,5 @@ a_colon = refl
 
 -- the first of three registers
 pub a_register : mended kind.Operand Text (codes "addu r8,r9,r10") (at 6 2) ≡ Some (codes "$8")
-unfolding mended candidates reads goes_further shape_named line_tokens tokens_after token_of kind_of number_of magnitude_of number_in register_of register_named spans_after operands_of after_one after_two operand_at base_at three as_shown is_readable is_utf8 chars encode
+unfolding mended candidates reads goes_further operand_span shape_of line_tokens tokens_after token_of kind_of number_of magnitude_of number_in register_of register_named spans_after operands_of after_one after_two operand_at base_at three as_shown is_readable is_utf8 chars encode
 a_register = refl

@@ -1,6 +1,6 @@
 -- Which tokens follow one another in the operands of a statement (own choice: read from left to right, so
 -- that the first token can be named that does not fit).
-use Rattle.std.specs.Prelude.{ℕ, ◌+◌, List, [], ◌∷◌, Bool, true, false, drop, nat_lt, codes, Option, Some, None, if◌then◌else◌, ◌||◌, ◌&&◌}
+use Rattle.std.specs.Prelude.{ℕ, ◌+◌, List, [], ◌∷◌, Bool, true, false, drop, nat_lt, codes, Option, Some, None, if◌then◌else◌}
 use Rattle.std.specs.Str.{bytes_eq}
 use Rattle.program_tokens.specs.declared.token.Token.{Token}
 use Rattle.program_tokens.specs.declared.token.Token.TheVariants as token
@@ -123,18 +123,21 @@ may_be_none _ t = false
 
 -- Where a token leads, if it fits: how far the first part has come, and the parts.
 
+abbrev pub leads : Bool → Inside → List Part → Option (Inside × List Part)
+leads fits inside parts = if fits then Some (inside, parts) else None
+
 -- at the beginning of a part
 abbrev pub at_part : List Part → Token → Option (Inside × List Part)
 at_part [] t = None
 at_part (part ∷ parts) t =
     if may_be_none part t then Some (Before, parts)
-    else if is_part part t then (if is_list part then Some (Member, part ∷ parts) else Some (Before, parts))
-    else None
+    else if is_list part then leads (is_part part t) Member (part ∷ parts)
+    else leads (is_part part t) Before parts
 
 -- after a comma of a list
 abbrev pub at_member : List Part → Token → Option (Inside × List Part)
 at_member [] t = None
-at_member (part ∷ parts) t = if is_part part t then Some (Member, part ∷ parts) else None
+at_member (part ∷ parts) t = leads (is_part part t) Member (part ∷ parts)
 
 abbrev pub next_part : Inside → List Part → Token → Option (Inside × List Part)
 next_part Before parts t = at_part parts t

@@ -1,5 +1,5 @@
 -- What to do about each mistake (own words).
-use Rattle.std.specs.Prelude.{ℕ, List, [], ◌∷◌, ◌++◌, ◌&&◌, ◌||◌, ◌==◌, codes, take, find, position, slice_get, nat_lt, length, Bool, true, false, not, Option, Some, None, is_some, unwrap_or, if◌then◌else◌}
+use Rattle.std.specs.Prelude.{ℕ, List, [], ◌++◌, ◌&&◌, ◌||◌, ◌==◌, codes, take, find, position, slice_get, nat_lt, length, Bool, true, false, not, Option, Some, None, is_some, unwrap_or, if◌then◌else◌}
 use Rattle.std.specs.Str.{byte}
 use Rattle.program_tokens.specs.declared.span.Span.{Span as Place}
 use Rattle.program_tokens.specs.declared.token.Token.{Token}

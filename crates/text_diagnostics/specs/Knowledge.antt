@@ -1,5 +1,5 @@
 -- What has to be known of a whole text to judge one of its items (own choice).
-use Rattle.std.specs.Prelude.{ℕ, Bool, not, List, take, length}
+use Rattle.std.specs.Prelude.{Bool, not, List, take, length}
 use Rattle.std.specs.List.{list_any}
 use Rattle.syntax_tree.specs.declared.item.Item.{Item}
 use Rattle.syntax_tree.specs.ProgramItems.{code_items, is_task as is_task_said, is_fault as is_fault_said}

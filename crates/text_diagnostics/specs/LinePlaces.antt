@@ -1,5 +1,5 @@
 -- Which bytes of a line are meant by its fault (own choice).
-use Rattle.std.specs.Prelude.{ℕ, List, [], ◌∷◌, codes, unwrap_or, if◌then◌else◌}
+use Rattle.std.specs.Prelude.{ℕ, List, ◌∷◌, codes, unwrap_or, if◌then◌else◌}
 use Rattle.std.specs.Str.{bytes_eq}
 use Rattle.program_tokens.specs.declared.span.Span.{Span}
 use Rattle.text_diagnostics.specs.declared.shape.Shape.{Shape}

@@ -1,5 +1,5 @@
 -- What is said of each mistake (own words): one sentence. What is quoted is the name or the bytes that are meant.
-use Rattle.std.specs.Prelude.{ℕ, nat_eq, if◌then◌else◌, List, [], ◌++◌, codes, Bool, true, false, Option, Some, is_some, slice_get}
+use Rattle.std.specs.Prelude.{ℕ, nat_eq, List, [], ◌++◌, codes, Bool, true, false, Option, Some, is_some, slice_get}
 use Rattle.std.specs.Fmt.{decimal}
 use Rattle.program_tokens.specs.declared.span.Span.{Span}
 use Rattle.program_tokens.specs.declared.token.Token.{Token}
@@ -27,10 +27,9 @@ mnemonic_message true theirs word = word ++ codes " cannot stand in this section
 mnemonic_message false true word = word ++ codes " is not in this profile"
 mnemonic_message false false word = codes "there is no instruction or directive " ++ word
 
-abbrev pub operand_message : (width : ℕ) → (word meant : List ℕ) → List ℕ
-operand_message width word meant =
-    if nat_eq width 0 then codes "the operands of " ++ (word ++ codes " end too early")
-    else word ++ (codes " cannot take " ++ (meant ++ codes " here"))
+abbrev pub operand_message : (is_early : Bool) → (word meant : List ℕ) → List ℕ
+operand_message true word meant = codes "the operands of " ++ (word ++ codes " end too early")
+operand_message false word meant = word ++ (codes " cannot take " ++ (meant ++ codes " here"))
 
 abbrev pub is_no_mark : Option Token → Bool
 is_no_mark (Some (token.Mark mark.Unknown)) = true
@@ -45,7 +44,7 @@ line_message kind.NotAscii line r at = codes "a program text cannot have the byt
 line_message kind.Token line r at = quoted (bytes_at line at) ++ codes " is no token"
 line_message kind.Mnemonic line r at =
     mnemonic_message (is_some (shape_of (bytes_at line at))) (is_some (instead (bytes_at line at))) (quoted (bytes_at line at))
-line_message kind.Operand line r at = operand_message at.len (quoted (word_in line r)) (quoted (bytes_at line at))
+line_message kind.Operand line r at = operand_message (nat_eq at.len 0) (quoted (word_in line r)) (quoted (bytes_at line at))
 line_message kind.Number line r at = quoted (bytes_at line at) ++ codes " is out of its range"
 line_message kind.Mark line r at = mark_message (is_no_mark (slice_get r.tokens (mark_index r.tokens))) (quoted (bytes_at line at))
 

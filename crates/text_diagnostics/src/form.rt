@@ -2,7 +2,7 @@
 
 ghost use Rattle.std.specs.Prelude.{◌≡◌, ◌≤◌, length, drop};
 ghost use Rattle.std.specs.Option.{option_map};
-ghost use Rattle.text_diagnostics.specs.Forms.{instruction_form, form_of, is_general, is_word, is_part, is_list, may_be_none, at_part, next_part, fitting};
+ghost use Rattle.text_diagnostics.specs.Forms.{instruction_form, form_of, is_general, is_word, is_part, is_list, may_be_none, at_part, at_member, next_part, fitting};
 
 use crate::form::Part::{
     Close, Comma, Create, Equals, Label, Number, Numbers, Open, Place, Places, Register,
@@ -142,7 +142,10 @@ fn is_list(part: Part) -> bool
 fn may_be_none(part: Part, token: &Token) -> bool
     ensures { result ≡ may_be_none part token.now }
 {
-    matches!(part, RegisterSet | Places) && matches!(token, Token::Minus)
+    match part {
+        RegisterSet | Places => matches!(token, Token::Minus),
+        _ => false,
+    }
 }
 
 /// Where a token leads that stands at the beginning of these parts.
@@ -155,13 +158,10 @@ fn at_part(parts: &'static [Part], token: &Token) -> Option<(Inside, &'static [P
             if may_be_none(*part, token) {
                 return Some((Inside::Before, rest));
             }
-            if !is_part(*part, token) {
-                return None;
-            }
             if is_list(*part) {
-                return Some((Inside::Member, parts));
+                return is_part(*part, token).then_some((Inside::Member, parts));
             }
-            Some((Inside::Before, rest))
+            is_part(*part, token).then_some((Inside::Before, rest))
         }
     }
 }
@@ -173,6 +173,16 @@ fn after_first(parts: &'static [Part]) -> &'static [Part]
     match parts {
         [_, rest @ ..] => rest,
         [] => parts,
+    }
+}
+
+/// Where a token leads that stands after a comma of the first part.
+fn at_member(parts: &'static [Part], token: &Token) -> Option<(Inside, &'static [Part])>
+    ensures { option_map (λ next. (next.0, next.1.now)) result ≡ at_member parts.now token.now }
+{
+    match parts {
+        [] => None,
+        [part, ..] => is_part(*part, token).then_some((Inside::Member, parts)),
     }
 }
 
@@ -192,10 +202,7 @@ fn next_part(
             }
             at_part(after_first(parts), token)
         }
-        Inside::AfterComma => match parts {
-            [part, ..] if is_part(*part, token) => Some((Inside::Member, parts)),
-            _ => None,
-        },
+        Inside::AfterComma => at_member(parts, token),
     }
 }
 

@@ -242,6 +242,13 @@ fn is_near_label(any: bool, name: &[u8], item: &Item) -> bool
     (any || is_code(item.section)) && is_near_said(name, &item.said)
 }
 
+/// The first label of some items near to a name, of code or any.
+fn near_among<'a>(any: bool, name: &[u8], items: &'a [Item]) -> Option<&'a Item>
+    ensures { option_copied result ≡ find (is_near_label any name.now) items.now }
+{
+    items.iter().find(|item| is_near_label(any, name, item))
+}
+
 /// How many items are looked through for a label that is near.
 const MOST_SEEN: usize = 4_096;
 
@@ -252,9 +259,7 @@ fn near_item<'a>(any: bool, name: &[u8], items: &'a [Item]) -> Option<&'a Item>
     if name.len() < 2 {
         return None;
     }
-    first(items, MOST_SEEN)
-        .iter()
-        .find(|item| is_near_label(any, name, item))
+    near_among(any, name, first(items, MOST_SEEN))
 }
 
 /// What to do about a name that is no label of the wanted kind, where no label is near.

@@ -44,17 +44,17 @@ fn mnemonic_message(
 /// Of operands of a word: that they end, or that this is none.
 fn operand_message(
     alloc: Global,
-    width: usize,
+    is_early: bool,
     word: &Words,
     meant: &Words,
 ) -> Result<Words, AllocError>
-    ensures { IfOk result (λ words. words ≡ operand_message width word.now meant.now) }
+    ensures { IfOk result (λ words. words ≡ operand_message is_early word.now meant.now) }
 {
-    if width == 0 {
-        words!(in alloc; "the operands of {word} end too early")
-    } else {
-        words!(in alloc; "{word} cannot take {meant} here")
+    if is_early {
+        return words!(in alloc; "the operands of {word} end too early");
     }
+    let end = words!(in alloc; " cannot take {meant} here")?;
+    words!(in alloc; "{word}{end}")
 }
 
 /// Whether a token is a mark that there is not.
@@ -104,7 +104,7 @@ pub(crate) fn line_message(
         }
         LineFaultKind::Operand => {
             let word = quoted(alloc, word_in(line, reading))?;
-            operand_message(alloc, place.len, &word, &meant)
+            operand_message(alloc, place.len == 0, &word, &meant)
         }
         LineFaultKind::Number => words!(in alloc; "{meant} is out of its range"),
         LineFaultKind::Mark => {

@@ -5,7 +5,7 @@ ghost use Rattle.std.specs.List.{flat_map, list_any};
 ghost use Rattle.std.specs.Option.{option_copied};
 ghost use Rattle.program_tokens.specs.Lines.{lines};
 ghost use Rattle.syntax_tree.specs.Trees.{tree_of};
-ghost use Rattle.text_diagnostics.specs.Refusals.{kind_code, note_text, note_at, item_at, error_of, line_diagnostic, item_diagnostic, diagnostic_by, said_of, no_task_error, no_task, told_of, told, build_code, told_as, is_on, tells, line_start, plain, with_first, refusal, text_diagnostics};
+ghost use Rattle.text_diagnostics.specs.Refusals.{kind_code, note_text, note_at, item_at, error_of, line_diagnostic, item_diagnostic, diagnostic_by, said_at, said_of, no_task_error, no_task, told_of, told, build_code, told_as, is_on, tells, line_start, plain, with_first, refusal, text_diagnostics};
 
 use crate::bytes::bytes_at;
 use crate::help::{item_help, line_help};
@@ -167,6 +167,25 @@ fn diagnostic_by(
     }
 }
 
+/// Adds what is said of a mistake of an item, if there is one.
+fn add_said_at(
+    alloc: Global,
+    list: &mut Vec<Diagnostic>,
+    rows: &[&[u8]],
+    items: &[Item],
+    mistake: &Mistake,
+    item: Option<&Item>,
+) -> Result<(), AllocError>
+    ensures { OnOk result (list.new.items
+        ≡ list.old.items ++ said_at (each (λ row. row.now) rows.now) items.now mistake.now (option_copied item.entry)) }
+{
+    if let Some(item) = item {
+        let line = line_at(rows, item.line);
+        list.push(diagnostic_by(alloc, items, mistake, item, line)?)?;
+    }
+    Ok(())
+}
+
 /// Adds what is said of a mistake.
 fn add_said(
     alloc: Global,
@@ -178,15 +197,8 @@ fn add_said(
     ensures { OnOk result (list.new.items
         ≡ list.old.items ++ said_of (each (λ row. row.now) rows.now) items.now mistake.now) }
 {
-    match items.get(mistake.item) {
-        Some(item) => {
-            let line = line_at(rows, item.line);
-            let said = diagnostic_by(alloc, items, mistake, item, line)?;
-            list.push(said)?;
-            Ok(())
-        }
-        None => Ok(()),
-    }
+    let item = items.get(mistake.item);
+    add_said_at(alloc, list, rows, items, mistake, item)
 }
 
 /// What is said of mistakes.
