@@ -54,7 +54,6 @@ pub(crate) fn run_emit(code: u32) -> Option<RunEmit>
         3 => Some(RunEmit::Picture),
         4 => Some(RunEmit::Trace),
         5 => Some(RunEmit::Json),
-        6 => Some(RunEmit::ScriptWithValues),
         _ => None,
     }
 }

@@ -18,7 +18,6 @@ enum Wanted {
     Explain(WantedExplain),
     Check(CertificateSource, u32),
     Replay(CertificateSource, u32, ReplayEmit),
-    ReplayStrictly(CertificateSource, u32),
     Run(WantedRun),
     Curve(CertificateSource, u32, u32, Wanting, CurveEmit),
 }
@@ -111,9 +110,6 @@ impl Wanted {
                 units,
                 emit,
             } => Wanted::Replay(*certificate, units.get(), *emit),
-            Job::ReplayStrictly { certificate, units } => {
-                Wanted::ReplayStrictly(*certificate, units.get())
-            }
             Job::Run {
                 certificate,
                 schedule,
@@ -170,7 +166,7 @@ fn is_named(file: &Option<String>, name: &str) -> bool {
 }
 
 // Words that give a job of the program `a.s`.
-const JOBS: [(&str, Wanted); 29] = [
+const JOBS: [(&str, Wanted); 27] = [
     ("seq a.s", Wanted::Seq(1_000_000)),
     ("seq --budget 17 a.s", Wanted::Seq(17)),
     ("print a.s", Wanted::Print),
@@ -223,14 +219,6 @@ const JOBS: [(&str, Wanted); 29] = [
         Wanted::Replay(Least, 3, ReplayEmit::Summary),
     ),
     (
-        "replay --strict a.s a.cert a.events",
-        Wanted::ReplayStrictly(File, 4),
-    ),
-    (
-        "replay a.s --emit answers --units 2 --least --strict a.events",
-        Wanted::ReplayStrictly(Least, 2),
-    ),
-    (
         "replay a.s a.cert a.events --emit json",
         Wanted::Replay(File, 4, ReplayEmit::Json),
     ),
@@ -257,7 +245,7 @@ const JOBS: [(&str, Wanted); 29] = [
 ];
 
 // Words of `run`.
-const RUNS: [(&str, WantedRun); 14] = [
+const RUNS: [(&str, WantedRun); 13] = [
     ("run a.s a.cert", PLAIN_RUN),
     (
         "run --least a.s",
@@ -271,13 +259,6 @@ const RUNS: [(&str, WantedRun); 14] = [
         WantedRun {
             certificate: Least,
             emit: RunEmit::Script,
-            ..PLAIN_RUN
-        },
-    ),
-    (
-        "run --with-values a.s a.cert --emit script",
-        WantedRun {
-            emit: RunEmit::ScriptWithValues,
             ..PLAIN_RUN
         },
     ),
@@ -385,7 +366,7 @@ fn expect_path(rt: &impl Abort, line: &str, path: &String, expected: &str) {
     assert!(rt; path.as_str() == expected, "{line}");
 }
 
-const NO_JOBS: [&str; 57] = [
+const NO_JOBS: [&str; 54] = [
     "seq",
     "seq a.s b.s",
     "seq a.s --budget 0",
@@ -425,10 +406,7 @@ const NO_JOBS: [&str; 57] = [
     "curve a.s a.cert --workers 2",
     "replay a.s a.cert a.events --emit report",
     "replay a.s a.cert a.events --emit Summary",
-    "replay a.s a.cert a.events --strict --emit trace",
     "run a.s a.cert --emit xml",
-    "run a.s a.cert --with-values",
-    "run a.s a.cert --with-values --emit trace",
     "run a.s a.cert --emit text",
     "curve a.s a.cert --emit json",
     "curve --least a.s --emit Table",

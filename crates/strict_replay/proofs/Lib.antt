@@ -1,2 +1,0 @@
-mod Capped
-pub mod Holding
