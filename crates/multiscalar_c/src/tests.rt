@@ -18,7 +18,10 @@ fn runs_sequentially(rt: HostRuntime) {
     let (mut out, mut len) = ([0u8; 64], 0);
     let status = multiscalar_c_seq(rt.alloc(), 100, RIGHT, &mut out, &mut len);
     assert!(rt; status == 0 && len == 30);
-    assert!(rt; &out[..30] == b"5\nhalted after 3 instructions\n".as_slice());
+    assert!(rt;
+        out.as_slice()
+            .starts_with(b"5\nhalted after 3 instructions\n".as_slice())
+    );
 }
 
 #[test]
@@ -36,10 +39,16 @@ fn judges_marks(rt: HostRuntime) {
     let (mut out, mut len) = ([0u8; 64], 0);
     let status = multiscalar_c_check(rt.alloc(), true, WRONG, b"", &mut out, &mut len);
     assert!(rt; status == 1);
-    assert!(rt; &out[..24] == b"A 0 rule 5 $8\nrefused 1\n".as_slice());
+    assert!(rt;
+        out.as_slice()
+            .starts_with(b"A 0 rule 5 $8\nrefused 1\n".as_slice())
+    );
     let status = multiscalar_c_check(rt.alloc(), false, RIGHT, CERTIFICATE, &mut out, &mut len);
     assert!(rt; status == 0);
-    assert!(rt; &out[..32] == b"accepted 1 tasks 3 instructions\n".as_slice());
+    assert!(rt;
+        out.as_slice()
+            .starts_with(b"accepted 1 tasks 3 instructions\n".as_slice())
+    );
 }
 
 #[test]
@@ -49,7 +58,7 @@ fn writes_texts(rt: HostRuntime) {
     assert!(rt; status == 0);
     let status = multiscalar_c_annotate(rt.alloc(), 1, WRONG, &mut out, &mut len);
     assert!(rt; status == 0);
-    assert!(rt; &out[..6] == b"cert 2".as_slice());
+    assert!(rt; out.as_slice().starts_with(b"cert 2".as_slice()));
     let status = multiscalar_c_explain(
         rt.alloc(),
         0,
@@ -63,7 +72,7 @@ fn writes_texts(rt: HostRuntime) {
         &mut len,
     );
     assert!(rt; status == 1);
-    assert!(rt; &out[..10] == b"wrong.s:1:".as_slice());
+    assert!(rt; out.as_slice().starts_with(b"wrong.s:1:".as_slice()));
 }
 
 #[test]
@@ -83,7 +92,7 @@ fn runs_machines(rt: HostRuntime) {
         &mut len,
     );
     assert!(rt; status == 0);
-    assert!(rt; &out[..2] == b"5\n".as_slice());
+    assert!(rt; out.as_slice().starts_with(b"5\n".as_slice()));
     let status = multiscalar_c_curve(
         rt.alloc(),
         true,
