@@ -1,0 +1,90 @@
+// A schedule by hand: the events that the machine allows now, to click; those that it refuses, with the reason.
+
+import { announce, copy, download, find, make, put } from './elements.js';
+import { answerTo, registerName } from './asking.js';
+import { refusalSentence } from './sentences.js';
+
+// Refusals that teach nothing: the event makes no sense where the unit stands.
+const POINTLESS = ['NoSuch', 'AlreadyThere', 'NotStopped', 'Stopped', 'NoMismatch', 'Ended', 'IsListed'];
+const MOST_TASKS = 24;
+
+function eventsOfUnit(unit, position, tasks, masks) {
+  const name = `unit ${unit.seat}`;
+  const events = [];
+  if (!unit.hasStopped) events.push({ line: `exec ${position}`, says: `${name} executes line ${unit.line ?? '?'}` });
+  if (position > 0) for (const register of masks.filter(it => !(it in unit.arrived))) events.push({ line: `transfer ${position} $${register}`, says: `${name} takes ${registerName(register)} from the unit before` });
+  if (unit.hasStopped) for (const register of tasks.get(unit.task)?.create ?? []) if (!(register in unit.sent)) events.push({ line: `drain ${position} $${register}`, says: `${name} sends ${registerName(register)}` });
+  if (unit.hasStopped) events.push({ line: `squash ${position}`, says: `${name} squashes the units behind it` });
+  if (unit.hasStopped && position === 0) events.push({ line: 'retire', says: `${name} retires ${unit.task}` }, { line: 'fault', says: 'the run ends as unlisted' });
+  return { title: `Unit ${unit.seat}, position ${position}${position === 0 ? ', head' : ''}: ${unit.task}`, events };
+}
+
+// All events that could come next, in groups.
+function groupsOf(state, tasks) {
+  const masks = [...new Set([...tasks.values()].flatMap(it => it.create))].sort((one, other) => one - other);
+  const youngest = state.queue.at(-1);
+  const seat = (state.head + state.queue.length) % state.units;
+  const assigns = [...tasks.keys()].slice(0, MOST_TASKS).map(name => ({ line: `assign ${name}`, says: `unit ${seat} takes task ${name}` }));
+  const drops = state.queue.slice(1).map((unit, at) => ({ line: `drop ${at + 1}`, says: `unit ${unit.seat} and all behind it give up` }));
+  const units = state.queue.map((unit, position) => eventsOfUnit(unit, position, tasks, masks));
+  const next = youngest ? `A next task behind ${youngest.task}` : 'A first task';
+  return [...units, { title: next, events: assigns }, { title: 'Give up', events: drops }];
+}
+
+function refusalText(line, answer) {
+  const register = answer.register === null ? '' : ` ${registerName(answer.register)}`;
+  return `${line} is refused: ${answer.code} ${answer.name}${register}: ${refusalSentence(answer.name)}.`;
+}
+
+export class Hand {
+  // `changed` is called with the new script.
+  constructor(changed) {
+    this.changed = changed;
+    this.script = [];
+    find('script').addEventListener('input', () => this.take(find('script').value.split('\n').filter(it => it !== '')));
+    find('undo').addEventListener('click', () => this.take(this.script.slice(0, -1)));
+    find('restart').addEventListener('click', () => this.take([]));
+    find('copy-script').addEventListener('click', event => copy(this.text, event.target));
+    find('save-script').addEventListener('click', () => download('script.events', this.text));
+  }
+
+  get text() {
+    return this.script.map(line => `${line}\n`).join('');
+  }
+
+  take(script) {
+    this.load(script);
+    this.changed(script);
+  }
+
+  load(script) {
+    this.script = script;
+    if (find('script').value.trimEnd() !== this.text.trimEnd()) find('script').value = this.text;
+    find('undo').disabled = find('restart').disabled = script.length === 0;
+    find('refusal').textContent = '';
+  }
+
+  // Shows what can be done in a state; `ask` answers to one more event there.
+  show(state, ask, position, tasks) {
+    const groups = groupsOf(state, tasks).map(group => ({ ...group, events: group.events.map(it => ({ ...it, answer: ask(it.line) })) }));
+    const allowed = groups.map(it => ({ ...it, events: it.events.filter(event => event.answer.isAllowed) })).filter(it => it.events.length);
+    const refused = groups.flatMap(it => it.events).filter(it => !it.answer.isAllowed && !POINTLESS.includes(it.answer.name));
+    put(find('allowed'), allowed.length ? allowed.map(group => this.group(group, position)) : make('p', {}, state.standing === 'running' ? 'Nothing is allowed.' : 'The run has ended. Take events back, or start again.'));
+    find('refused-title').textContent = `Not allowed now (${refused.length}): click one to see why`;
+    put(find('refused'), refused.map(it => this.refusedButton(it)));
+  }
+
+  group(group, position) {
+    const buttons = group.events.map(it => make('button', { 'data-key': `hand-${it.line}`, onclick: () => this.take([...this.script.slice(0, position), it.line]) }, make('code', {}, it.line), make('small', {}, it.says)));
+    return make('fieldset', { class: 'hand-group' }, make('legend', {}, group.title), buttons);
+  }
+
+  refusedButton(event) {
+    const why = () => {
+      const said = refusalText(event.line, event.answer);
+      find('refusal').textContent = said;
+      announce(said);
+    };
+    return make('button', { class: 'is-refused', 'data-key': `hand-${event.line}`, onclick: why }, make('code', {}, event.line), make('small', {}, `${event.answer.code} ${event.answer.name}`));
+  }
+}
