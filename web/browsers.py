@@ -5,6 +5,7 @@ Debian's packages: chromium, chromium-driver, firefox-esr.
 import base64, json, os, pathlib, shutil, socket, subprocess, tempfile, time, urllib.request
 
 PATIENCE = 180
+LATER = 'const done = arguments[arguments.length - 1]; (async () => { %s })().then(done, error => done(String(error)));'
 
 
 def free_port():
@@ -78,6 +79,10 @@ class Chromium(Browser):
 
     def run(self, script):
         return self.ask('POST', f'{self.session}/execute/sync', {'script': script, 'args': []})
+
+    def later(self, script):
+        """As run, for the body of an asynchronous function."""
+        return self.ask('POST', f'{self.session}/execute/async', {'script': LATER % script, 'args': []})
 
     def size(self, width, height):
         self.command('Emulation.setDeviceMetricsOverride', width=width, height=height, deviceScaleFactor=1, mobile=False)
@@ -161,6 +166,9 @@ class Firefox(Browser):
 
     def run(self, script):
         return self.ask('WebDriver:ExecuteScript', {'script': script, 'args': []})['value']
+
+    def later(self, script):
+        return self.ask('WebDriver:ExecuteAsyncScript', {'script': LATER % script, 'args': []})['value']
 
     def size(self, width, height):
         """The window is larger than the page by its frame."""

@@ -235,6 +235,7 @@ function sayNoModule(error) {
 async function open() {
   try {
     const jobs = new Jobs(await startModule(await moduleBytes()));
+    globalThis.multiscalar = jobs; // for web/compare, and for the console
     fillExamples();
     const page = new Page(jobs);
     await page.openLink(location.hash);
