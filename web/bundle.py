@@ -95,4 +95,5 @@ def main(module, page):
     print(f'{page}: {len(text.encode())} bytes')
 
 
-main(*sys.argv[1:])
+if __name__ == '__main__':
+    main(*sys.argv[1:])

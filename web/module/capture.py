@@ -55,4 +55,5 @@ def main(crate, to):
         shutil.rmtree(room)
 
 
-main(*sys.argv[1:])
+if __name__ == '__main__':
+    main(*sys.argv[1:])

@@ -125,7 +125,7 @@ export const EXERCISES = [
     program: BRANCH,
     text: [
       'Behind CHOOSE comes SECOND or FIRST, and that is known only after its branch. Until then the machine guesses the first target in the list, and here the guess is wrong: find the squash, and what was executed in vain.',
-      'Change the descriptor of CHOOSE so that on 3 units, with the first target predicted, no task is ever squashed.',
+      'Change the .task line of CHOOSE so that on 3 units, with the first target predicted, no task is ever squashed.',
     ],
     goals: [RIGHT, { kind: 'unsquashed', units: 3, text: 'No task is squashed on 3 units.' }, prints(7), SAME],
   },

@@ -43,7 +43,7 @@ class Page {
   }
 
   key(event) {
-    const isControl = event.target.closest('input, textarea, select, [role=tab]');
+    const isControl = event.target.closest('input, textarea, select, [role=tab], .scroll');
     if (isControl || event.ctrlKey || event.altKey || event.metaKey || this.tabs.view === 'compare') return;
     this.stage.key(event);
   }

@@ -162,7 +162,7 @@ export class Stage {
   // Keys that move, where no control takes them itself.
   key(event) {
     const steps = event.shiftKey ? direction => this.stepFrom(direction) : direction => this.position + direction;
-    const targets = { ArrowRight: () => steps(1), ArrowLeft: () => steps(-1), PageDown: () => this.stepFrom(1), PageUp: () => this.stepFrom(-1), Home: () => 0, End: () => this.last };
+    const targets = { ArrowRight: () => steps(1), ArrowLeft: () => steps(-1) };
     if (!this.run || !targets[event.key]) return;
     event.preventDefault();
     this.go(targets[event.key]());
