@@ -130,10 +130,12 @@ export class Editor {
 export function findingBody(finding, apply) {
   const where = finding.place ? `Line ${finding.place.line}: ` : '';
   const notes = finding.notes.map(it => make('p', { class: 'note' }, it.place ? `Line ${it.place.line}: ${it.sentence}` : it.sentence));
+  const path = finding.path.length > 1 ? make('p', { class: 'note' }, `Path: ${finding.path.map(it => it.line).join(' → ')}`) : null;
   const button = finding.edits.length ? make('button', { class: 'apply', 'data-key': `apply-${finding.number}`, onclick: apply }, 'Do so') : null;
   return make('div', {},
     make('p', {}, make('b', {}, where), finding.sentence, ' ', make('span', { class: 'quiet' }, nameOf(finding.code))),
     notes,
+    path,
     finding.help ? make('p', { class: 'help' }, finding.help, ' ', button) : button);
 }
 

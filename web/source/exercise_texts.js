@@ -113,8 +113,8 @@ export const EXERCISES = [
       { name: 'word', label: 'Right word of $9 in the second round', expected: '2' },
     ],
     goals: [
-      { kind: 'answer', name: 'stale', text: 'The stale word is right.' },
-      { kind: 'answer', name: 'word', text: 'The right word is right.' },
+      { kind: 'answer', name: 'stale', text: 'You have found the stale word.' },
+      { kind: 'answer', name: 'word', text: 'You have found the right word.' },
       RIGHT, prints(20), SAME,
     ],
   },

@@ -104,7 +104,9 @@ class Page {
 
   viewChanged() {
     find('stage').hidden = this.tabs.view === 'compare';
+    find('stage').classList.toggle('is-hand', this.tabs.view === 'hand');
     find('hand-panel').hidden = this.tabs.view !== 'hand';
+    find('run-settings').hidden = this.tabs.view === 'hand';
     if (this.tabs.view === 'run') this.playRun();
     if (this.tabs.view === 'hand') this.playHand(Infinity);
     if (this.tabs.view === 'compare') this.showCompare();
