@@ -129,7 +129,7 @@ class Firefox(Browser):
         lines = [f'user_pref({json.dumps(name)}, {json.dumps(value)});' for name, value in {**PREFERENCES, 'marionette.port': port}.items()]
         pathlib.Path(self.room, 'user.js').write_text('\n'.join(lines))
         log = open(os.path.join(self.room, 'log'), 'w')
-        words = ['firefox-esr', '--headless', '--marionette', '--no-remote', '--profile', self.room]
+        words = ['firefox-esr', '--headless', '--marionette', '--remote-allow-system-access', '--no-remote', '--profile', self.room]
         self.program = subprocess.Popen(words, stdout=log, stderr=log, env={**os.environ, 'HOME': self.room})
         self.number = 0
         self.line = until(lambda: socket.create_connection(('127.0.0.1', port), PATIENCE), 'firefox')

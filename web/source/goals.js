@@ -28,7 +28,7 @@ function squashedIn(summary) {
 
 function playedOf(work) {
   const run = makeReplay(work.jobs, work.text, work.script, MOST_UNITS);
-  return run.reason ? null : run.history.states;
+  return run.history?.states ?? null;
 }
 
 const CHECKS = {

@@ -64,6 +64,12 @@ export class Hand {
     find('refusal').textContent = '';
   }
 
+  // Says why a script cannot be read, and opens it to be mended.
+  sayFault(sentence) {
+    find('refusal').textContent = sentence;
+    find('script-details').open = true;
+  }
+
   // Shows what can be done in a state; `ask` answers to one more event there.
   show(state, ask, position, tasks) {
     const groups = groupsOf(state, tasks).map(group => ({ ...group, events: group.events.map(it => ({ ...it, answer: ask(it.line) })) }));

@@ -124,9 +124,11 @@ class Page {
   }
 
   playHand(position) {
-    const run = makeReplay(this.jobs, this.editor.text, this.hand.script, readSettings().units);
+    const { units } = readSettings();
+    const run = makeReplay(this.jobs, this.editor.text, this.hand.script, units);
     if (run.reason) this.stage.clear(run.reason);
-    else this.stage.load(run, position);
+    else this.stage.load(run.scriptFault ? makeReplay(this.jobs, this.editor.text, [], units) : run, position);
+    if (run.scriptFault) this.hand.sayFault(run.scriptFault);
     this.exercises.take(this.editor.text, this.hand.script);
     this.saveLink();
   }
@@ -204,11 +206,11 @@ class Page {
     this.isOpen = false;
     this.exercises.fromLink(state);
     this.kept = state.kept ?? null;
-    writeSettings({ units: Number(state.units), budget: Number(state.budget), predict: state.predict });
     this.tabs.choose(state.view ?? 'run');
     if (state.exercise) this.exercises.open(Number(state.exercise));
     else this.openExample(state.example in EXAMPLES ? state.example : Object.keys(EXAMPLES)[0]);
     if (state.exercise && state.view) this.tabs.choose(state.view);
+    writeSettings({ units: Number(state.units), budget: Number(state.budget), predict: state.predict });
     if (state.text) this.editor.load(state.text);
     if (state.script) this.hand.load(state.script.split('\n'));
     this.wantedPosition = Number(state.at) || 0;

@@ -54,11 +54,13 @@ export function makeRun(jobs, program, settings) {
   };
 }
 
-// Replays a script by hand, and answers what the stage shows, or the reason why it cannot be played.
+// Replays a script by hand, and answers what the stage shows, or why it cannot be played: a fault of the script, or
+// the reason why the program does not run.
 export function makeReplay(jobs, program, script, units) {
   const { text } = jobs.replay(program, script.map(line => `${line}\n`).join(''), units, 'json');
   const told = readLines(text);
-  if (!told) return { reason: text.startsWith('script refused') ? `The script cannot be read: ${text.trim().replace('script refused: ', '')}.` : whyNoRun(text) };
+  if (!told && text.startsWith('script refused')) return { scriptFault: `The script cannot be read: ${text.trim().replace('script refused: ', '')}.` };
+  if (!told) return { reason: whyNoRun(text) };
   return { program, units, script, history: historyOf(told.events, units), end: told.end, tasks: tasksOf(jobs, program), steps: null };
 }
 
