@@ -78,14 +78,16 @@ function transferReason(answer, register, position) {
 // Why the unit at a position does not go on, or that it can. `ask` answers to one more event.
 export function reasonOf(ask, unit, position, isOver) {
   if (isOver) return { kind: 'over', sentence: 'the run has ended', register: null };
-  if (unit.hasStopped) return position === 0 ? headReason(ask('retire')) : { kind: 'done', sentence: 'has stopped, and waits for its turn to retire', register: null };
+  if (unit.hasStopped && position === 0) return headReason(ask('retire'));
+  if (unit.hasStopped) return { kind: 'done', sentence: 'has stopped, and waits for its turn to retire', register: null };
   const answer = ask(`exec ${position}`);
   if (answer.isAllowed) return { kind: 'ready', sentence: 'can execute', register: null };
   if (answer.name === 'Waiting') {
     const { register } = answer;
     return { kind: 'waits', sentence: transferReason(ask(`transfer ${position} $${register}`), register, position), register };
   }
-  if (answer.name === 'NotHead') return { kind: 'waits', sentence: 'waits to become the head: only the head loads, stores, puts out or halts', register: null };
+  if (answer.name === 'NotHead')
+    return { kind: 'waits', sentence: 'waits to become the head: only the head loads, stores, puts out or halts', register: null };
   return { kind: 'waits', sentence: answer.name ?? 'cannot go on', register: null };
 }
 

@@ -18,11 +18,18 @@ function statesOf(unit, register, isOwed, isWaited) {
   return said;
 }
 
+function kindOf(unit, register, isWaited) {
+  if (isWaited) return 'is-waited';
+  if (register in unit.sent) return 'is-sent';
+  if (register in unit.written) return 'is-written';
+  return register in unit.arrived ? 'is-arrived' : 'is-owed';
+}
+
 function chip(unit, register, isOwed, isWaited, committed) {
   const said = statesOf(unit, register, isOwed, isWaited);
   const has = register in unit.sent || register in unit.written || register in unit.arrived;
   const word = has ? wordOf(unit, register, committed) : null;
-  const kind = isWaited ? 'is-waited' : register in unit.sent ? 'is-sent' : register in unit.written ? 'is-written' : register in unit.arrived ? 'is-arrived' : 'is-owed';
+  const kind = kindOf(unit, register, isWaited);
   const words = word === null ? registerName(register) : `${registerName(register)} = ${word}`;
   return make('li', { class: `chip ${kind}`, title: word === null ? null : `0x${word.toString(16)}` }, make('b', {}, words), ` ${said.join(', ')}`);
 }
@@ -41,10 +48,15 @@ function instruction(unit, lines) {
 function card(unit, position, { tasks, lines, reasons, committed, actor }) {
   const reason = reasons[position];
   const create = tasks.get(unit.task)?.create ?? [];
-  const chips = registersOf(unit, create, reason.register).map(register => chip(unit, register, create.includes(register), register === reason.register && reason.kind === 'waits', committed));
+  const isWaited = register => register === reason.register && reason.kind === 'waits';
+  const registers = registersOf(unit, create, reason.register);
+  const chips = registers.map(it => chip(unit, it, create.includes(it), isWaited(it), committed));
   const name = `Unit ${unit.seat}${position === 0 ? ', head' : ''}`;
   return make('li', { class: `card ${position === 0 ? 'is-head' : ''} ${actor === unit.seat ? 'is-actor' : ''}` },
-    make('h4', {}, make('span', { class: 'seat-badge' }, String(unit.seat)), ` ${unit.task} `, make('span', { class: 'quiet' }, position === 0 ? 'head' : `position ${position}`), make('span', { class: 'unseen' }, name)),
+    make('h4', {},
+      make('span', { class: 'seat-badge' }, String(unit.seat)), ` ${unit.task} `,
+      make('span', { class: 'quiet' }, position === 0 ? 'head' : `position ${position}`),
+      make('span', { class: 'unseen' }, name)),
     instruction(unit, lines),
     make('p', { class: `reason is-${reason.kind}` }, reason.sentence),
     make('ul', { class: 'chips', 'aria-label': `Registers of ${name}` }, chips));

@@ -29,7 +29,10 @@ function axes(most, placeX, placeY) {
     parts.push(draw('line', { x1: MARGIN.left, x2: WIDTH - MARGIN.right, y1: placeY(value), y2: placeY(value), class: 'grid-line' }));
     parts.push(draw('text', { x: MARGIN.left - 6, y: placeY(value) + 4, 'text-anchor': 'end', class: 'axis' }, String(value)));
   }
-  for (let units = 1; units <= 16; units += 1) parts.push(draw('text', { x: placeX(units), y: HEIGHT - MARGIN.bottom + 16, 'text-anchor': 'middle', class: 'axis' }, String(units)));
+  for (let units = 1; units <= 16; units += 1) {
+    const place = { x: placeX(units), y: HEIGHT - MARGIN.bottom + 16 };
+    parts.push(draw('text', { ...place, 'text-anchor': 'middle', class: 'axis' }, String(units)));
+  }
   parts.push(draw('text', { x: (WIDTH + MARGIN.left) / 2, y: HEIGHT - 4, 'text-anchor': 'middle', class: 'axis' }, 'units'));
   parts.push(draw('text', { x: 12, y: HEIGHT / 2, 'text-anchor': 'middle', class: 'axis', transform: `rotate(-90 12 ${HEIGHT / 2})` }, 'steps'));
   return parts;
@@ -66,7 +69,11 @@ function waitsTable(one, other, units) {
   if (!keys.length) return make('p', {}, `On ${units} units nobody waits for a register or for the head.`);
   const count = (rows, key) => rows.find(it => `${it.task}\n${it.reason}` === key)?.count ?? 0;
   const sum = rows => rows.reduce((total, it) => total + it.count, 0);
-  const rows = keys.map(key => make('tr', {}, make('th', { scope: 'row' }, key.split('\n')[0]), make('td', {}, key.split('\n')[1]), make('td', {}, String(count(one, key))), make('td', {}, String(count(other, key)))));
+  const rows = keys.map(key => {
+    const [task, reason] = key.split('\n');
+    const cells = [reason, count(one, key), count(other, key)].map(it => make('td', {}, String(it)));
+    return make('tr', {}, make('th', { scope: 'row' }, task), cells);
+  });
   return make('table', {}, make('caption', {}, `Waits on ${units} units, in steps`),
     make('tr', {}, ['task', 'waits for', '● this program', '■ the other'].map(it => make('th', { scope: 'col' }, it))), rows,
     make('tr', {}, make('th', { scope: 'row' }, 'all'), make('td', {}, ''), make('td', {}, String(sum(one))), make('td', {}, String(sum(other)))));
@@ -76,7 +83,8 @@ function sideBySide(one, other) {
   const rows = alignLines(one, other);
   const left = rows.filter(it => it.kind !== 'added').map(it => make('div', { class: it.kind === 'removed' ? 'is-removed' : '' }, it.text || ' '));
   const right = rows.filter(it => it.kind !== 'removed').map(it => make('div', { class: it.kind === 'added' ? 'is-added' : '' }, it.text || ' '));
-  return [make('div', { class: 'text-column', role: 'group', 'aria-label': 'This program' }, left), make('div', { class: 'text-column', role: 'group', 'aria-label': 'The other' }, right)];
+  const column = (name, lines) => make('div', { class: 'text-column', role: 'group', 'aria-label': name }, lines);
+  return [column('This program', left), column('The other', right)];
 }
 
 export class Compare {

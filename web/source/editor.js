@@ -22,11 +22,15 @@ function stretchesOf(line, ranges) {
     return { ...it, from, to };
   });
   const points = [...cuts].sort((one, other) => one - other);
-  return points.slice(1).map((to, at) => ({ from: points[at], to, kinds: inside.filter(it => it.from <= points[at] && it.to >= to && it.to > it.from).map(it => it.kind) }));
+  return points.slice(1).map((to, at) => {
+    const from = points[at];
+    const over = inside.filter(it => it.from <= from && it.to >= to && it.to > it.from);
+    return { text: line.slice(from, to), kinds: over.map(it => `mark-${it.kind}`).join(' ') };
+  });
 }
 
 function markedLine(line, ranges, units) {
-  const parts = stretchesOf(line, ranges).map(it => it.kinds.length ? make('span', { class: it.kinds.map(kind => `mark-${kind}`).join(' ') }, line.slice(it.from, it.to)) : line.slice(it.from, it.to));
+  const parts = stretchesOf(line, ranges).map(it => it.kinds ? make('span', { class: it.kinds }, it.text) : it.text);
   if (ranges.some(it => it.endColumn !== null && it.endColumn <= it.column)) parts.push(make('span', { class: 'mark-error' }, ' '));
   return make('span', { class: units.length ? 'line is-here' : 'line' }, parts, '\n');
 }
@@ -111,7 +115,8 @@ export class Editor {
     const bubble = find('bubble');
     const { chosen } = this;
     if (!chosen?.place) return;
-    put(bubble, findingBody(chosen, () => this.applyFix(chosen)), make('button', { class: 'close', 'aria-label': 'Close', onclick: () => this.hideBubble() }, '×'));
+    const close = make('button', { class: 'close', 'aria-label': 'Close', onclick: () => this.hideBubble() }, '×');
+    put(bubble, findingBody(chosen, () => this.applyFix(chosen)), close);
     bubble.hidden = false;
     bubble.style.left = `${find('editor').scrollLeft + 8}px`;
     bubble.style.width = `${Math.min(540, find('editor').clientWidth - find('gutter').offsetWidth - 16)}px`;
@@ -145,9 +150,14 @@ export function showFindings(place, findings, editor) {
     put(place, make('li', { class: 'is-fine' }, 'The marks are right on every path, and none costs speed.'));
     return;
   }
+  const showButton = it => make('button', {
+    class: 'show',
+    'data-key': `show-${it.number}`,
+    'aria-label': `Show finding ${it.number + 1} in the text`,
+    onclick: () => editor.choose(it),
+  }, 'Show');
   put(place, findings.map(it => make('li', { class: `is-${it.level}` },
-    findingBody(it, () => editor.applyFix(it)),
-    it.place ? make('button', { class: 'show', 'data-key': `show-${it.number}`, onclick: () => editor.choose(it), 'aria-label': `Show finding ${it.number + 1} in the text` }, 'Show') : null)));
+    findingBody(it, () => editor.applyFix(it)), it.place ? showButton(it) : null)));
 }
 
 // One line on what was found.

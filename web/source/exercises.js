@@ -4,6 +4,12 @@ import { announce, copy, find, make, plural, put } from './elements.js';
 import { EXERCISES } from './exercise_texts.js';
 import { isReached } from './goals.js';
 
+function goalRow(goal, isReachedNow) {
+  return make('li', { class: `${isReachedNow ? 'is-reached' : 'is-open'} ${goal.isFurther ? 'is-further' : ''}` },
+    make('span', { 'aria-hidden': 'true' }, isReachedNow ? '✓ ' : '○ '), goal.text,
+    make('span', { class: 'unseen' }, isReachedNow ? ' Reached.' : ' Open.'));
+}
+
 export class Exercises {
   // `opened` is called with an exercise and the work on it.
   constructor(jobs, opened) {
@@ -50,7 +56,8 @@ export class Exercises {
   }
 
   field({ name, label }) {
-    const input = make('input', { type: 'text', inputmode: 'numeric', size: 8, value: this.work.answers[name] ?? '', oninput: () => this.answer(name, input.value) });
+    const value = this.work.answers[name] ?? '';
+    const input = make('input', { type: 'text', inputmode: 'numeric', size: 8, value, oninput: () => this.answer(name, input.value) });
     return make('label', {}, `${label} `, input);
   }
 
@@ -78,8 +85,7 @@ export class Exercises {
 
   check() {
     const reached = this.reachedOf(this.number);
-    put(find('goals'), this.exercise.goals.map((goal, at) => make('li', { class: `${reached[at] ? 'is-reached' : 'is-open'} ${goal.isFurther ? 'is-further' : ''}` },
-      make('span', { 'aria-hidden': 'true' }, reached[at] ? '✓ ' : '○ '), goal.text, make('span', { class: 'unseen' }, reached[at] ? ' Reached.' : ' Open.'))));
+    put(find('goals'), this.exercise.goals.map((goal, at) => goalRow(goal, reached[at])));
     const isSolved = this.exercise.goals.every((goal, at) => goal.isFurther || reached[at]);
     find('solved').hidden = !isSolved;
     if (isSolved && !this.work.wasSolved) announce(`Exercise ${this.number} is solved.`);

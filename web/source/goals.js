@@ -50,7 +50,10 @@ const CHECKS = {
     const field = work.fields.find(it => it.name === goal.name);
     return (work.answers[goal.name] ?? '').trim() === field.expected;
   },
-  wasted: (work, goal) => (playedOf(work) ?? []).some(state => state.left.some(it => it.task === goal.task && it.fate === 'squashed' && it.executed >= goal.least)),
+  wasted: (work, goal) => {
+    const isMeant = unit => unit.task === goal.task && unit.fate === 'squashed' && unit.executed >= goal.least;
+    return (playedOf(work) ?? []).some(state => state.left.some(isMeant));
+  },
   ended: work => playedOf(work)?.at(-1).standing === 'halted',
   'put-out': (work, goal) => playedOf(work)?.at(-1).output.join() === goal.words.join(),
 };

@@ -8,15 +8,25 @@ import { refusalSentence } from './sentences.js';
 const POINTLESS = ['NoSuch', 'AlreadyThere', 'NotStopped', 'Stopped', 'NoMismatch', 'Ended', 'IsListed'];
 const MOST_TASKS = 24;
 
+function transfersOf(unit, position, masks) {
+  if (position === 0) return [];
+  const missing = masks.filter(it => !(it in unit.arrived));
+  return missing.map(it => ({ line: `transfer ${position} $${it}`, says: `unit ${unit.seat} takes ${registerName(it)} from the unit before` }));
+}
+
+function eventsAtStop(unit, position, create) {
+  const owed = create.filter(it => !(it in unit.sent));
+  const drains = owed.map(it => ({ line: `drain ${position} $${it}`, says: `unit ${unit.seat} sends ${registerName(it)}` }));
+  const squash = { line: `squash ${position}`, says: `unit ${unit.seat} squashes the units behind it` };
+  if (position > 0) return [...drains, squash];
+  return [...drains, squash, { line: 'retire', says: `unit ${unit.seat} retires ${unit.task}` }, { line: 'fault', says: 'the run ends as unlisted' }];
+}
+
 function eventsOfUnit(unit, position, tasks, masks) {
-  const name = `unit ${unit.seat}`;
-  const events = [];
-  if (!unit.hasStopped) events.push({ line: `exec ${position}`, says: `${name} executes line ${unit.line ?? '?'}` });
-  if (position > 0) for (const register of masks.filter(it => !(it in unit.arrived))) events.push({ line: `transfer ${position} $${register}`, says: `${name} takes ${registerName(register)} from the unit before` });
-  if (unit.hasStopped) for (const register of tasks.get(unit.task)?.create ?? []) if (!(register in unit.sent)) events.push({ line: `drain ${position} $${register}`, says: `${name} sends ${registerName(register)}` });
-  if (unit.hasStopped) events.push({ line: `squash ${position}`, says: `${name} squashes the units behind it` });
-  if (unit.hasStopped && position === 0) events.push({ line: 'retire', says: `${name} retires ${unit.task}` }, { line: 'fault', says: 'the run ends as unlisted' });
-  return { title: `Unit ${unit.seat}, position ${position}${position === 0 ? ', head' : ''}: ${unit.task}`, events };
+  const execute = { line: `exec ${position}`, says: `unit ${unit.seat} executes line ${unit.line ?? '?'}` };
+  const own = unit.hasStopped ? eventsAtStop(unit, position, tasks.get(unit.task)?.create ?? []) : [execute];
+  const head = position === 0 ? ', head' : '';
+  return { title: `Unit ${unit.seat}, position ${position}${head}: ${unit.task}`, events: [...own, ...transfersOf(unit, position, masks)] };
 }
 
 // All events that could come next, in groups.
@@ -75,13 +85,16 @@ export class Hand {
     const groups = groupsOf(state, tasks).map(group => ({ ...group, events: group.events.map(it => ({ ...it, answer: ask(it.line) })) }));
     const allowed = groups.map(it => ({ ...it, events: it.events.filter(event => event.answer.isAllowed) })).filter(it => it.events.length);
     const refused = groups.flatMap(it => it.events).filter(it => !it.answer.isAllowed && !POINTLESS.includes(it.answer.name));
-    put(find('allowed'), allowed.length ? allowed.map(group => this.group(group, position)) : make('p', {}, state.standing === 'running' ? 'Nothing is allowed.' : 'The run has ended. Take events back, or start again.'));
+    const over = state.standing === 'running' ? 'Nothing is allowed.' : 'The run has ended. Take events back, or start again.';
+    put(find('allowed'), allowed.length ? allowed.map(group => this.group(group, position)) : make('p', {}, over));
     find('refused-title').textContent = `Not allowed now (${refused.length}): click one to see why`;
     put(find('refused'), refused.map(it => this.refusedButton(it)));
   }
 
   group(group, position) {
-    const buttons = group.events.map(it => make('button', { 'data-key': `hand-${it.line}`, onclick: () => this.take([...this.script.slice(0, position), it.line]) }, make('code', {}, it.line), make('small', {}, it.says)));
+    const choose = line => this.take([...this.script.slice(0, position), line]);
+    const buttons = group.events.map(it => make('button', { 'data-key': `hand-${it.line}`, onclick: () => choose(it.line) },
+      make('code', {}, it.line), make('small', {}, it.says)));
     return make('fieldset', { class: 'hand-group' }, make('legend', {}, group.title), buttons);
   }
 
@@ -91,6 +104,7 @@ export class Hand {
       find('refusal').textContent = said;
       announce(said);
     };
-    return make('button', { class: 'is-refused', 'data-key': `hand-${event.line}`, onclick: why }, make('code', {}, event.line), make('small', {}, `${event.answer.code} ${event.answer.name}`));
+    return make('button', { class: 'is-refused', 'data-key': `hand-${event.line}`, onclick: why },
+      make('code', {}, event.line), make('small', {}, `${event.answer.code} ${event.answer.name}`));
   }
 }

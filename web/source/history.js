@@ -97,8 +97,11 @@ function seatOf(state, event) {
   return (state.head + position) % state.units;
 }
 
+// What a state says of its own event alone: a register that moved, a word that was stored, units that lost their tasks.
+const QUIET = { moved: null, stored: null, left: [] };
+
 function stateAfter(before, event, lives) {
-  const state = { ...before, queue: [...before.queue], before, moved: null, stored: null, left: [], event };
+  const state = { ...before, ...QUIET, queue: [...before.queue], before, event };
   state.actor = seatOf(before, event);
   for (const change of event.changes) CHANGES[change.change]?.(state, change, event, lives);
   state.before = null;
@@ -114,11 +117,12 @@ function noteAct(state, before, event) {
 // The states of a machine of so many units: the first is before all events, and one is after each.
 export function historyOf(events, units) {
   const lives = [];
-  const first = { units, queue: [], head: 0, committed: {}, output: [], retired: 0, standing: 'running', moved: null, stored: null, left: [], event: null, actor: null };
+  const first = { ...QUIET, units, queue: [], head: 0, committed: {}, output: [], retired: 0, standing: 'running', event: null, actor: null };
   const states = [first];
   for (const event of events) {
     const before = states.at(-1);
-    const state = event.answer === 'refused' ? { ...before, event, actor: seatOf(before, event), moved: null, stored: null, left: [] } : stateAfter(before, event, lives);
+    const isRefused = event.answer === 'refused';
+    const state = isRefused ? { ...before, ...QUIET, event, actor: seatOf(before, event) } : stateAfter(before, event, lives);
     noteAct(state, before, event);
     states.push(state);
   }

@@ -44,7 +44,10 @@ function signsOf(life, columnOf, shown, choose) {
 function ruler(shown, units) {
   const marks = [];
   for (let column = shown.first; column <= shown.last; column += 1)
-    if (column % 5 === 0 || column === shown.first) marks.push(draw('text', { x: LEFT + (column - shown.first) * COLUMN + COLUMN / 2 - 1, y: 13, class: 'ruler', 'text-anchor': 'middle' }, String(column)));
+    if (column % 5 === 0 || column === shown.first) {
+      const x = LEFT + (column - shown.first) * COLUMN + COLUMN / 2 - 1;
+      marks.push(draw('text', { x, y: 13, class: 'ruler', 'text-anchor': 'middle' }, String(column)));
+    }
   for (let unit = 0; unit < units; unit += 1) marks.push(draw('text', { x: 4, y: TOP + unit * ROW + 19, class: 'lane-name' }, `unit ${unit}`));
   return marks;
 }
@@ -65,7 +68,8 @@ export function drawLanes({ states, lives }, columnOf, current, choose) {
   const bars = lives.map(life => bar(life, columnOf(life.from), columnOf(life.to ?? count), shown));
   const signs = lives.flatMap(life => signsOf(life, columnOf, shown, choose));
   const parts = [current ? cursor(columnOf(current), shown, units) : null, ...bars, ...signs, ...ruler(shown, units)];
-  return draw('svg', { width, height, viewBox: `0 0 ${width} ${height}`, role: 'img', 'aria-label': 'Lanes: what each unit does over time. The list of events says the same in words.' }, parts);
+  const label = 'Lanes: what each unit does over time. The list of events has it in words.';
+  return draw('svg', { width, height, viewBox: `0 0 ${width} ${height}`, role: 'img', 'aria-label': label }, parts);
 }
 
 // Where the column of an event begins in the picture.

@@ -156,7 +156,9 @@ class Page {
   listOthers() {
     const choice = find('compare-choice');
     const before = choice.value || 'proposed';
-    const others = [['proposed', 'the proposed marks'], ...this.kept === null ? [] : [['kept', 'the text that you kept']], ...Object.keys(EXAMPLES).map(it => [`example ${it}`, `example ${it}`])];
+    const kept = this.kept === null ? [] : [['kept', 'the text that you kept']];
+    const examples = Object.keys(EXAMPLES).map(it => [`example ${it}`, `example ${it}`]);
+    const others = [['proposed', 'the proposed marks'], ...kept, ...examples];
     choice.replaceChildren(...others.map(([value, name]) => make('option', { value }, name)));
     choice.value = before;
   }
@@ -232,7 +234,8 @@ function fillExamples() {
 
 function sayNoModule(error) {
   find('loading').hidden = false;
-  find('loading').textContent = `This browser cannot run the module. It needs WebAssembly with a memory of 64 bits, which Chromium and Chrome have from 133 on, and Firefox from 134 on. (${error})`;
+  const needs = 'It needs WebAssembly with a memory of 64 bits, which Chromium and Chrome have from 133 on, and Firefox from 134 on.';
+  find('loading').textContent = `This browser cannot run the module. ${needs} (${error})`;
   find('loading').className = 'is-error';
 }
 

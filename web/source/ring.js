@@ -46,18 +46,27 @@ function under(unit) {
   return unit.hasStopped ? 'stopped' : `line ${unit.line ?? '?'}`;
 }
 
+function cross(x, y, half) {
+  return draw('path', { class: 'cross', d: `M${x - half} ${y - half}l${2 * half} ${2 * half}m0 ${-2 * half}l${-2 * half} ${2 * half}` });
+}
+
 function drawSeat(seat, state, reasons, size) {
   const { x, y, angle } = spotOf(seat, state.units);
   const position = state.queue.findIndex(it => it.seat === seat);
   const unit = state.queue[position] ?? state.left.find(it => it.seat === seat && it.fate !== 'retired');
-  const kinds = ['seat', unit ? '' : 'is-free', position === 0 ? 'is-head' : '', state.actor === seat ? 'is-actor' : '', unit?.fate ? 'is-lost' : '', reasons[position]?.kind ? `is-${reasons[position].kind}` : ''];
+  const kinds = ['seat'];
+  if (!unit) kinds.push('is-free');
+  if (unit?.fate) kinds.push('is-lost');
+  if (position === 0) kinds.push('is-head');
+  if (state.actor === seat) kinds.push('is-actor');
+  if (reasons[position]) kinds.push(`is-${reasons[position].kind}`);
   const out = size + (state.units > 9 ? 12 : 14);
-  const parts = [draw('circle', { cx: x, cy: y, r: size, class: kinds.filter(Boolean).join(' ') })];
+  const parts = [draw('circle', { cx: x, cy: y, r: size, class: kinds.join(' ') })];
   if (state.units > 1) parts.push(write(x + Math.cos(angle) * out, y + Math.sin(angle) * out + 4, String(seat), 'seat-number'));
   if (!unit) parts.push(write(x, y + 4, 'free', 'seat-line'));
   else if (state.units > 9) parts.push(write(x, y + 4, shortened(unit.task, state.units), 'seat-task is-small'));
   else parts.push(write(x, y - 1, shortened(unit.task, state.units), 'seat-task'), write(x, y + 14, under(unit), 'seat-line'));
-  if (unit?.fate) parts.push(draw('path', { class: 'cross', d: `M${x - size * 0.7} ${y - size * 0.7}L${x + size * 0.7} ${y + size * 0.7}M${x + size * 0.7} ${y - size * 0.7}L${x - size * 0.7} ${y + size * 0.7}` }));
+  if (unit?.fate) parts.push(cross(x, y, size * 0.7));
   return draw('g', {}, parts);
 }
 

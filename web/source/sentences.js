@@ -63,7 +63,10 @@ function actorOf(state, event) {
 export function eventSentence(state) {
   const { event } = state;
   if (!event) return 'Before the first event: all units are free.';
-  if (event.answer === 'refused') return `refused ${event.code} ${event.name}${event.register !== undefined ? ` $${event.register}` : ''}: ${refusalSentence(event.name)}`;
+  if (event.answer === 'refused') {
+    const register = event.register === undefined ? '' : ` $${event.register}`;
+    return `refused ${event.code} ${event.name}${register}: ${refusalSentence(event.name)}`;
+  }
   const phrases = event.changes.filter(it => isShown(it, event)).map(it => PHRASES[it.change]?.(it) ?? it.change);
   return `${actorOf(state, event)}: ${phrases.join('; ')}`;
 }
@@ -72,11 +75,12 @@ export function eventSentence(state) {
 export function squashSentence(state) {
   const lost = state.left.filter(it => it.fate === 'squashed');
   if (!lost.length) return null;
-  const right = state.queue.at(-1);
+  const stopped = state.queue.at(-1);
   const wasted = lost.reduce((sum, unit) => sum + unit.executed, 0);
-  const guess = `${lost[0].task} was guessed as the task after ${right?.task ?? 'it'}, but ${right?.task ?? 'it'} goes on to ${right?.exit ? exitText(right.exit) : 'another place'}`;
+  const guess = `${lost[0].task} was guessed as the task after ${stopped.task}, but ${stopped.task} goes on to ${exitText(stopped.exit)}`;
   const many = lost.length === 1 ? 'The unit loses its task' : `All ${lost.length} units from there on lose their tasks`;
-  return `Squash. ${guess}. ${many}, and ${wasted === 1 ? '1 instruction was' : `${wasted} instructions were`} executed in vain. Nothing of it has reached the output or memory.`;
+  const vain = wasted === 1 ? '1 instruction was' : `${wasted} instructions were`;
+  return `Squash. ${guess}. ${many}, and ${vain} executed in vain. Nothing of it has reached the output or memory.`;
 }
 
 // How a run ended, from its last line.

@@ -22,7 +22,14 @@ export class Stage {
     this.playing = null;
     this.run = null;
     find('slider').addEventListener('input', event => this.go(Number(event.target.value)));
-    const buttons = { 'to-start': () => 0, back: () => this.position - 1, forward: () => this.position + 1, 'to-end': () => this.last, 'step-back': () => this.stepFrom(-1), 'step-forward': () => this.stepFrom(1) };
+    const buttons = {
+      'to-start': () => 0,
+      'step-back': () => this.stepFrom(-1),
+      back: () => this.position - 1,
+      forward: () => this.position + 1,
+      'step-forward': () => this.stepFrom(1),
+      'to-end': () => this.last,
+    };
     for (const [id, target] of Object.entries(buttons)) find(id).addEventListener('click', () => this.go(target()));
     find('play').addEventListener('click', () => this.togglePlay());
   }
@@ -117,12 +124,16 @@ export class Stage {
   }
 
   showEvents() {
-    const rows = this.run.history.states.slice(1).map((state, at) => make('li', {},
-      make('button', { class: `event ${state.event.answer === 'refused' ? 'is-refused' : ''} is-${state.event.kind}`, 'data-key': `event-${at + 1}`, onclick: () => this.go(at + 1) },
-        make('span', { class: 'event-number' }, `${at + 1}`),
-        this.run.steps ? make('span', { class: 'event-step' }, `step ${this.columnOf(at + 1)}`) : null,
-        make('code', {}, this.run.script[at]), make('span', {}, eventSentence(state)))));
+    const rows = this.run.history.states.slice(1).map((state, at) => this.eventRow(state, at + 1));
     put(find('events'), rows);
+  }
+
+  eventRow(state, number) {
+    const kinds = `event is-${state.event.kind} ${state.event.answer === 'refused' ? 'is-refused' : ''}`;
+    const step = this.run.steps ? make('span', { class: 'event-step' }, `step ${this.columnOf(number)}`) : null;
+    return make('li', {}, make('button', { class: kinds, 'data-key': `event-${number}`, onclick: () => this.go(number) },
+      make('span', { class: 'event-number' }, String(number)), step,
+      make('code', {}, this.run.script[number - 1]), make('span', {}, eventSentence(state))));
   }
 
   markEvent() {
@@ -131,7 +142,9 @@ export class Stage {
     if (!row) return;
     row.setAttribute('aria-current', 'step');
     const list = find('events');
-    if (row.offsetTop < list.scrollTop || row.offsetTop + row.offsetHeight > list.scrollTop + list.clientHeight) list.scrollTop = row.offsetTop - list.clientHeight / 2;
+    const isAbove = row.offsetTop < list.scrollTop;
+    const isBelow = row.offsetTop + row.offsetHeight > list.scrollTop + list.clientHeight;
+    if (isAbove || isBelow) list.scrollTop = row.offsetTop - list.clientHeight / 2;
   }
 
   // The last event of the step before or after the one that is shown.
