@@ -1,5 +1,10 @@
 // The findings of `explain`, read from its log (SARIF). A finding may lack a place, notes, a path, a help or edits.
 
+// A question needs no period after it.
+function tidy(sentence) {
+  return sentence.replace(/([?!])\.$/, '$1');
+}
+
 function placeOf(location) {
   const region = location?.physicalLocation?.region;
   if (!region?.startLine) return null;
@@ -32,14 +37,14 @@ function pathOf(result) {
 
 // Notes are the related places; the last one at the finding's own place is the help, if the sentence has none below it.
 function notesAndHelp(result, place, below) {
-  const notes = (result.relatedLocations ?? []).map(it => ({ place: placeOf(it), sentence: it.message?.text ?? '' }));
+  const notes = (result.relatedLocations ?? []).map(it => ({ place: placeOf(it), sentence: tidy(it.message?.text ?? '') }));
   const said = below.filter(line => line.startsWith('help: ')).map(line => line.slice(6));
   if (said.length) return { notes, help: said.join(' ') };
-  const described = result.fixes?.[0]?.description?.text;
+  const described = result.fixes?.[0]?.description?.text === undefined ? null : tidy(result.fixes[0].description.text);
   const last = notes.at(-1);
   if (last && (last.sentence === described || isSamePlace(last.place, place) || (!place && !last.place)))
     return { notes: notes.slice(0, -1), help: last.sentence };
-  return { notes, help: described ?? null };
+  return { notes, help: described };
 }
 
 function findingOf(result, number) {
