@@ -1,11 +1,12 @@
 #!/usr/bin/env python3
-"""Refuses each growth of memory of the worked examples in turn, over the program that `rt ci` built.
+"""Refuses each growth of memory of the worked examples in turn, over the programs that `rt ci` built.
 
-    growths.py [--minutes M] [--program BUILT]
+    growths.py [--minutes M] [--program BUILT] [--calls BUILT]
 
-It runs the program `multiscalar` on each worked example whose growths are refused (fuzz/refused_growths.py). A library
-that is loaded before the C library refuses one growth of each run. A table tells what was answered; a difference, a tool
-that is missing, or too little time ends the script with status 1.
+It runs the program `multiscalar` on each worked example whose growths are refused (fuzz/refused_growths.py), and the
+program of crates/test_growths, which makes one public call and makes it again after a refusal (fuzz/refused_calls.py). A
+library that is loaded before the C library refuses one growth of each run. A table tells what was answered; a
+difference, a call that was not tried, a tool that is missing, or too little time ends the script with status 1.
 
 Needs python3, cc and Linux.
 """
@@ -14,6 +15,7 @@ import collections
 import multiprocessing
 import os
 import pathlib
+import re
 import shutil
 import sys
 import tempfile
@@ -21,9 +23,15 @@ import time
 
 TOP = pathlib.Path(__file__).resolve().parent.parent
 sys.path.insert(0, str(TOP / "fuzz"))
+import refused_calls
 import refused_growths
 
-BUILT = "crates/multiscalar/out/multiscalar"
+BUILT = "crates/{0}/out/{0}"
+
+
+def calls_of_program():
+    """The names of the calls that the program of crates/test_growths knows."""
+    return re.findall(r'^ +"([^"]+)" => ', (TOP / "crates" / "test_growths" / "src" / "main.rt").read_text(), re.MULTILINE)
 
 
 def of_program(program, part, of, seconds):
@@ -32,28 +40,44 @@ def of_program(program, part, of, seconds):
     return "multiscalar", runs, answers, [*wrong, *([] if is_whole else [f"{name}: not all were made in the time"])]
 
 
-def tried(program, seconds):
+def of_call(program, call, seconds):
+    """Runs of a public call, as `of_program` has them."""
+    rows = refused_calls.run(program, seconds / 60, only=call, chosen=refused_calls.worked_cases)
+    runs, growths = sum(row.runs for row in rows), sum(row.growths for row in rows)
+    answers = sum((row.answers for row in rows), collections.Counter())
+    wrong = [difference for row in rows for difference in row.differences]
+    if growths == 0:
+        wrong.append(f"{call}: no growth was counted")
+    if any(row.notes["cut short"] for row in rows):
+        wrong.append(f"{call}: not all were made in the time")
+    return call, runs, dict(answers), wrong
+
+
+def tried(program, calls, seconds):
     """The rows of all parts, in as many processes at once as there are cores."""
     cores = len(os.sched_getaffinity(0))
     with multiprocessing.Pool(cores) as pool:
-        parts = [pool.apply_async(of_program, (program, part, cores, seconds)) for part in range(1, cores + 1)]
-        return [it.get() for it in parts]
+        of_programs = [pool.apply_async(of_program, (program, part, cores, seconds)) for part in range(1, cores + 1)]
+        of_calls = [pool.apply_async(of_call, (calls, call, seconds)) for call in calls_of_program()]
+        return [it.get() for it in [*of_programs, *of_calls]]
 
 
 def main():
     parser = argparse.ArgumentParser(description=__doc__.splitlines()[0])
     parser.add_argument("--minutes", default=5, type=float, help="fail where this does not suffice")
-    parser.add_argument("--program", default=TOP / BUILT, type=pathlib.Path)
+    parser.add_argument("--program", default=TOP / BUILT.format("multiscalar"), type=pathlib.Path)
+    parser.add_argument("--calls", default=TOP / BUILT.format("test_growths"), type=pathlib.Path)
     args = parser.parse_args()
-    missing = ([] if args.program.is_file() else [str(args.program)]) + ([] if shutil.which("cc") else ["cc"])
+    missing = [str(it) for it in (args.program, args.calls) if not it.is_file()] + ([] if shutil.which("cc") else ["cc"])
     if missing:
         print("growths: FAILED: missing:", *missing)
         return 1
     begin = time.monotonic()
     with tempfile.TemporaryDirectory(prefix="multiscalar-growths-") as name:
-        program = shutil.copy(args.program, name)
-        os.chmod(program, 0o755)
-        rows = tried(program, 60 * args.minutes)
+        copies = [shutil.copy(it, name) for it in (args.program, args.calls)]
+        for copy in copies:
+            os.chmod(copy, 0o755)
+        rows = tried(*copies, 60 * args.minutes)
     wrong = [difference for row in rows for difference in row[3]]
     for name in dict.fromkeys(row[0] for row in rows):
         answers = sum((collections.Counter(row[2]) for row in rows if row[0] == name), collections.Counter())

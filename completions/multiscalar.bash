@@ -4,7 +4,7 @@ _multiscalar_options() {
     case $1 in
         seq) echo "--budget --output --help" ;;
         print) echo "--output --help" ;;
-        annotate) echo "--emit --in-place --output --help" ;;
+        annotate) echo "--emit --in-place --report --output --help" ;;
         explain) echo "--certificate --format --no-warnings --output --help" ;;
         check) echo "--workers --least --output --help" ;;
         replay) echo "--units --emit --least --output --help" ;;

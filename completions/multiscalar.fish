@@ -18,6 +18,7 @@ complete -c multiscalar -n "not __fish_seen_subcommand_from $subcommands" -a hel
 complete -c multiscalar -n '__fish_seen_subcommand_from seq print annotate explain check replay run curve' -l help -d 'print the help'
 complete -c multiscalar -n '__fish_seen_subcommand_from seq print annotate explain check replay run curve' -l output -s o -r -d 'where the result goes'
 complete -c multiscalar -n '__fish_seen_subcommand_from annotate' -l in-place -d 'replace the program text'
+complete -c multiscalar -n '__fish_seen_subcommand_from annotate' -l report -d 'say what is left to mend by hand'
 complete -c multiscalar -n '__fish_seen_subcommand_from seq run curve' -l budget -x -d 'when to end'
 complete -c multiscalar -n '__fish_seen_subcommand_from replay run curve' -l units -x -a '1 2 4 8 16' -d 'how many units'
 complete -c multiscalar -n '__fish_seen_subcommand_from check run' -l workers -x -a '1 2 4 8 16' -d 'how many threads'

@@ -1,11 +1,10 @@
 #!/usr/bin/env python3
-"""Compares the warnings of `explain` with a model that walks paths, and follows the help of each.
+"""Compares the warnings of `explain` with a model that walks paths, and makes each change that they propose.
 
 Takes random programs, changes marks that cost speed (a register more in a create mask, a forward bit left out,
-a release, code that no task reaches), and compares what `explain` prints of right marks with the model, byte
-for byte; of wrong marks it must print no warning. Then it follows each help that names a change of marks: that
-warning must be gone, and marks that were right must still be right. PROGRAM is the built `multiscalar`; with
-`--model` only the helps are followed, and no program is needed.
+a release, code that no task reaches), and compares the log of `explain` of right marks with the model; of wrong marks
+it must have no warning. Then it makes the changes of each fix alone: that warning must be gone, and the marks must
+still be right. PROGRAM is the built `multiscalar`; with `--model` the changes are the model's, and no program is needed.
 """
 import argparse
 import collections
@@ -17,8 +16,8 @@ import time
 import accepted as generator
 import explain
 from accepted import accepted
-from explain import MOST_SHOWN, Bench, excerpt, laid_out, lists, places, plant
-from model import Fault, assemble, certify, dests, inner, print_program, verdict
+from explain import MOST_SHOWN, Bench, changed, laid_out, lists, places, plant, region_of
+from model import Fault, assemble, certify, dests, exits, inner, print_program, verdict
 
 R = random.Random()
 
@@ -73,19 +72,28 @@ def warnings(program):
     return found
 
 
+CODES = {"stop": "NoExit", "never": "NeverProduced", "last": "NotForwarded", "sent": "SentBefore", "unreached": "Unreached"}
+
+
+def unended(program):
+    """The tasks that have targets, but come to no stop."""
+    for number, (_, entry, _, targets) in enumerate(program.tasks):
+        seen = walk(program, [entry])
+        leaves = lambda i: exits(program, i) or (program.code[i][0][0] in ("jr", "jalr") and program.code[i][2])
+        if targets and not any(leaves(i) for i in seen):
+            yield number
+
+
 def sentence(program, warning):
-    """What is said, and what to do."""
+    """What is said."""
     kind, number, register = warning
-    name = program.tasks[number][0] if kind == "never" else None
+    name = program.tasks[number][0] if kind in ("never", "stop") else None
     return {
-        "never": (f"no instruction of task {name} writes or releases ${register}, which its create mask has",
-                  f"remove ${register} from the create mask of task {name}"),
-        "last": ("this is a last update without !f: later tasks wait for what it writes",
-                 "add !f here"),
-        "sent": (f"${register} was sent before on each path to this release",
-                 f"remove ${register} from this release; if it names no other register, write nop in its place"),
-        "unreached": ("no task reaches the code from here on",
-                      "remove it up to the next instruction that a task reaches, or let a task go on to it"),
+        "stop": f"task {name} has targets, but comes to no stop.",
+        "never": f"no instruction of task {name} writes or releases ${register}, which its create mask has.",
+        "last": "this is a last update without !f: later tasks wait for what it writes.",
+        "sent": f"${register} was sent before on each path to this release.",
+        "unreached": "no task reaches the code from here on.",
     }[kind]
 
 
@@ -93,21 +101,18 @@ def meant(text, warning):
     """The line, the column and the width of what a warning is about."""
     kind, number, _ = warning
     tasks, code = places(text)
-    return (tasks[number][0], *lists(text)[number][0]) if kind == "never" else code[number]
+    return (tasks[number][0], *lists(text)[number][kind == "stop"]) if kind in ("never", "stop") else code[number]
 
 
-def told(program, text, name):
-    """All that is said of the marks that cost speed."""
-    found, lines = warnings(program), []
-    for warning in found[:MOST_SHOWN]:
-        line, column, width = meant(text, warning)
-        said, todo = sentence(program, warning)
-        at = f"{name}:{line}:{column}: "
-        lines += [f"{at}warning: {said}", *excerpt(text, line, column, width), f"{at}help: {todo}"]
-    more = len(found) - MOST_SHOWN
-    if more > 0:
-        lines.append(f"{name}: note: {more} more warning{'s' if more > 1 else ''}")
-    return "".join(line + "\n" for line in lines)
+def told(program, text):
+    """All that is said of right marks: code, place and sentence of each."""
+    found = [("stop", number, None) for number in unended(program)] + warnings(program)
+    return [(f"warning-{CODES[it[0]]}", tuple(meant(text, it)), sentence(program, it)) for it in found[:MOST_SHOWN]]
+
+
+def said_of(results):
+    """The same of a log."""
+    return [(it["ruleId"], region_of(it["locations"][0]), it["message"]["text"]) for it in results if it["ruleId"] != "more"]
 
 
 def numbers(listed):
@@ -156,6 +161,29 @@ def loosened(text):
     return text
 
 
+def unmended(program, text, warning, after, was_right):
+    """What is wrong after a change."""
+    new = assemble(after.encode("latin-1"))
+    if warning in warnings(new):
+        return f"{warning} is there after its change:\n{after}"
+    if was_right and verdict(new, certify(new)):
+        return f"wrong marks after the change of {warning}:\n{after}"
+    return None
+
+
+def wrong_by_model(text, counts):
+    """What is wrong with the model's own changes; None where nothing is."""
+    program = assemble(text.encode("latin-1"))
+    was_right = not verdict(program, certify(program))
+    for warning in warnings(program):
+        counts[warning[0]] += 1
+        after = followed(text, warning)
+        what = after is not None and unmended(program, text, warning, after, was_right)
+        if what:
+            return what
+    return None
+
+
 def wrong(bench, text, counts):
     """What is wrong with what is said of a text; None where nothing is."""
     try:
@@ -163,27 +191,23 @@ def wrong(bench, text, counts):
     except Fault:
         return None
     counts["programs"] += 1
-    was_right = not verdict(program, certify(program))
-    if bench:
-        said, status, complaint = bench.explain(text)
-        wanted = told(program, text, "p.s")
-        if was_right and (said, status, complaint) != (wanted, 0, ""):
-            return "other warnings:\n" + wanted
-        if was_right and bench.explain(text, "--no-warnings") != ("", 0, ""):
-            return "something is said without warnings"
-        if not was_right and bench.explain(text, "--no-warnings") != (said, status, complaint):
-            return "a warning of wrong marks"
-        counts["right" if was_right else "wrong"] += 1
-    for warning in warnings(program):
+    if not bench:
+        return wrong_by_model(text, counts)
+    results, status = bench.results(text)
+    without, _ = bench.results(text, "--no-warnings")
+    if verdict(program, certify(program)):
+        counts["wrong"] += 1
+        return "a warning of wrong marks" if results != without else None
+    counts["right"] += 1
+    if without or status or said_of(results) != told(program, text):
+        return f"other warnings: {said_of(results)}, not {told(program, text)}"
+    found = [("stop", number, None) for number in unended(program)] + warnings(program)
+    for warning, result in zip(found, results):
         counts[warning[0]] += 1
-        after = followed(text, warning)
-        if after is None:
-            continue
-        new = assemble(after.encode("latin-1"))
-        if warning in warnings(new):
-            return f"{warning} is there after its help"
-        if was_right and verdict(new, certify(new)):
-            return f"wrong marks after the help of {warning}"
+        after = changed(text, result)
+        what = after is not None and unmended(program, text, warning, after, True)
+        if what:
+            return what
     return None
 
 

@@ -1,15 +1,17 @@
 #!/usr/bin/env python3
-"""Compares what `explain` says with the model, and applies each help that it gives.
+"""Compares what `explain` says with the model, and makes each change that it proposes.
 
 Takes random programs whose marks are right, plants wrong marks, and lays the text out anew: labels on
-lines of their own or before their statement, blanks, comments, blank lines. For each it compares the
-diagnostics with the model's: places, sentences, that each path is a path inside the task, that it leads
-where the rule says, and that none is shorter. Then it follows each help alone, and that finding must be
-gone. Every third program is explained together with a certificate: that of the program, one with a wrong mask
-or a line too few, or a text that is none. It asks for no warnings, which `costly_marks.py` compares. PROGRAM is the built `multiscalar`.
+lines of their own or before their statement, blanks, comments, blank lines. It reads the log of each: its errors
+must be what the model tells, at the same places; each path must be a path inside the task that leads where the rule
+says, and none may be shorter. Then it makes the changes of each fix alone, and what the error stands for must be gone.
+Of a refused text the model's first fault must be told. Every third program is explained together with a certificate:
+that of the program, one with a wrong mask or a line too few, or a text that is none. It asks for no warnings, which
+`costly_marks.py` compares. PROGRAM is the built `multiscalar`.
 """
 import argparse
 import collections
+import json
 import os
 import random
 import re
@@ -23,7 +25,7 @@ from accepted import accepted
 from model import CertFault, Fault, TOK, assemble, cert_parse, cert_text, certify, dests, exits, inner, print_program, verdict
 
 R = random.Random()
-WRITTEN = {5, 6, 7}
+MASK = {5, 8}
 MOST_SHOWN = 1000
 
 
@@ -76,10 +78,10 @@ def lists(text):
 
 def meant(program, text, finding):
     """The line, the column and the width of what a finding is about."""
-    task, index, rule, register = finding
+    task, index, rule, _ = finding
     tasks, code = places(text)
     create, targets, each = lists(text)[task]
-    if rule == 5:
+    if rule in MASK:
         return tasks[task][0], *create
     if rule == 12:
         begins = {t[1] for t in program.tasks}
@@ -98,50 +100,40 @@ def instructions(head, starts):
     return 1 if value < 0x10000 or value >= 0xFFFF8000 else 2
 
 
-def listed(pieces):
-    """A list in a `.task`."""
-    return ",".join(pieces) or "-"
+def told(program):
+    """What is told of a program, in its order: task, index, rule and registers. All that a create mask lacks is one error."""
+    findings, errors = verdict(program, certify(program)), []
+    for task in range(len(program.tasks)):
+        own = [it for it in findings if it[0] == task]
+        lacking = [it for it in own if it[2] in MASK]
+        if lacking:
+            errors.append((task, lacking[0][1], lacking[0][2], tuple(sorted({it[3] for it in lacking}))))
+        errors += [(*it[:3], (it[3],)) for it in own if it[2] not in MASK]
+    return errors
 
 
-def sentence(program, finding):
-    """The error and the help of a finding."""
-    number, _, rule, register = finding
-    task, _, create, places_listed = program.tasks[number]
-    begins = {t[1]: t[0] for t in program.tasks}
-    with_register = listed(f"${r}" for r in range(34) if r in create or r == register)
-    kept = listed(begins[j] for j in places_listed if j in begins)
+def sentence(program, error):
+    """What an error says, as a pattern."""
+    number, _, rule, registers = error
+    task, listed = program.tasks[number][0], ",".join(f"\\${r}" for r in registers if r is not None)
+    place = r"(?:@\d+|\w+|the end of the program)"
     return {
-        5: (f"task {task} may write ${register}, which its create mask lacks",
-            f"add ${register} to the create mask of task {task}: create={with_register}"),
-        6: (f"task {task} forwards ${register} here and may write it again",
-            f"remove !f here and put it at the last instruction that writes ${register}"),
-        7: (f"task {task} releases ${register} here and may write it again",
-            f"remove ${register} from this release, and release it behind the last instruction that writes it"),
-        8: (f"task {task} sends ${register} here, which its create mask lacks",
-            f"add ${register} to the create mask of task {task}: create={with_register}"),
-        9: (f"task {task} can end here and go on to a place that is not one of its targets",
-            f"add the place to the targets of task {task}; if no task begins there, the control flow must change"),
-        10: (f"task {task} can go on from here to an index that has no instruction",
-             "the control flow must change: put halt or a jump there"),
-        11: (f"task {task} goes on over a jump to an address in a register", "end the task here: add !s"),
-        12: (f"a target of task {task} is not where a task begins",
-             f"let a task begin there, or remove the target: targets={kept}"),
+        5: f"the create mask of task {task} lacks {listed}",
+        8: f"the create mask of task {task} lacks {listed}",
+        6: f"task {task} forwards {listed} here and may write it again",
+        7: f"task {task} releases {listed} here and may write it again",
+        9: f"task {task} can end here and go on to {place}(?: if the branch is (?:not )?taken)?(?: and to {place} if it is)?, which its targets lack",
+        10: f"task {task} can go on from here to {place}, where no instruction is",
+        11: f"task {task} goes on over a jump to an address in a register",
+        12: rf"task {task} lists the target @\d+, where no task begins",
     }[rule]
 
 
 def excerpt(text, line, column, width):
-    """The two rows that show a part of a line of a text; none of a line that is too long."""
+    """The two rows that show a part of a line of a text."""
     shown, number = text.split("\n")[line - 1].removesuffix("\r"), str(line)
-    if len(shown) > 1000:
-        return []
     below = "".join("\t" if c == "\t" else " " for c in shown[:column - 1])
     return [f"{number:>5} | {shown}", f"{' ' * max(5, len(number))} | {below}^{'~' * (width - 1)}"]
-
-
-def cut(told, rows):
-    """Takes these rows off the front of what was told, and says whether they were there."""
-    front, told[:len(rows)] = told[:len(rows)], []
-    return front == rows
 
 
 def distance(program, start, sought, on):
@@ -156,16 +148,20 @@ def distance(program, start, sought, on):
     return None
 
 
-def query(program, finding):
-    """Where a path that shows a finding begins, what it leads to, and whether it goes on by an edge."""
-    task, index, rule, register = finding
+def queries(program, error):
+    """Where each path that shows an error begins, what it leads to, and whether it goes on by an edge."""
+    task, index, rule, registers = error
     entry = program.tasks[task][1]
-    writes = lambda i: register in dests(program.code[i][0])
-    if rule == 5:
-        return entry, writes, False
-    if rule in (6, 7):
-        return index, writes, True
-    return (entry, lambda i: i == index, False) if rule in (8, 9, 10, 11) else None
+    findings = [it for it in verdict(program, certify(program)) if it[0] == task and it[2] in MASK]
+    if rule in MASK:
+        for r in registers[:5]:
+            first = next(it for it in findings if it[3] == r)
+            writes = lambda i, r=r: r in dests(program.code[i][0])
+            yield (entry, writes, False) if first[2] == 5 else (entry, lambda i, at=first[1]: i == at, False)
+    elif rule in (6, 7):
+        yield index, lambda i: registers[0] in dests(program.code[i][0]), True
+    elif rule in (9, 10, 11):
+        yield entry, lambda i: i == index, False
 
 
 def lines_lead(program, code, lines, start, sought):
@@ -176,231 +172,79 @@ def lines_lead(program, code, lines, start, sought):
     return any(sought(i) for i in at)
 
 
-def differs(program, text, name, said):
-    """What is wrong with what was said; None where nothing is."""
-    tasks, code = places(text)
-    told = said.split("\n")[:-1]
-    findings = verdict(program, certify(program))
-    for finding in findings[:MOST_SHOWN]:
-        task, index, rule, register = finding
-        line, column, width = meant(program, text, finding)
-        error, todo = sentence(program, finding)
-        at = f"{name}:{line}:{column}: "
-        if not cut(told, [f"{at}error: {error} [rule {rule}]", *excerpt(text, line, column, width)]):
-            return f"the error of {finding}"
-        asked = query(program, finding)
-        if asked:
-            start, sought, on = asked
-            match = re.fullmatch(r"(.*):(\d+):(\d+): note: (written here|reached from here), on the path ([\d >-]+)",
-                                 told.pop(0) if told else "")
-            if not match:
-                return f"the note of {finding}"
-            path = [int(n) for n in match.group(5).split(" -> ")]
-            if not lines_lead(program, code, path, start, sought):
-                return f"the path of {finding}"
-            if len(path) != distance(program, start, sought, on) + 1:
-                return f"the length of the path of {finding}"
-            end = path[-1] if rule in WRITTEN else path[0]
-            words = "written here" if rule in WRITTEN else "reached from here"
-            if (match.group(1), int(match.group(2)), match.group(4)) != (name, end, words):
-                return f"the place of the note of {finding}"
-            column = int(match.group(3))
-            widths = {width for at, begins, width in code if (at, begins) == (end, column)}
-            if len(widths) != 1 or not cut(told, excerpt(text, end, column, *widths)):
-                return f"the column of the note of {finding}"
-        if not cut(told, [f"{at}help: {todo}"]):
-            return f"the help of {finding}"
-    more = len(findings) - MOST_SHOWN
-    if more > 0 and not cut(told, [f"{name}: note: {more} more finding{'s' if more > 1 else ''}"]):
-        return f"that there are {more} more findings"
-    return f"more is said: {told[0]}" if told else None
+def region_of(place):
+    """Line, column and width of a place in a log; None where it has no line."""
+    region = place["physicalLocation"].get("region")
+    return region and (region["startLine"], region["startColumn"], region["endColumn"] - region["startColumn"])
 
 
-REFUSAL = re.compile(r"(.*):(\d+):(\d+): error: [^\n]+ \[([^\n\]]+)\]\n((?: *\d+ \| [^\n]*\n +\| [ \t]*\^~*\n)?)"
-                     r"\1:\2:\3: help: [^\n]+\n")
+def paths_of(result):
+    """The lines of each path of a result."""
+    return [[region_of(step["location"])[0] for step in flow["threadFlows"][0]["locations"]] for flow in result["codeFlows"]]
 
 
-def shown_so(text, line, column, rows):
-    """Whether the rows show the line with a caret below the column, and tildes below what stands behind it."""
-    text = "".join(c if ord(c) < 128 else "?" for c in text)
-    front = "\n".join(excerpt(text, line, column, 1))
-    return rows.startswith(front) and re.fullmatch(r"~*\n" if front else "", rows[len(front):]) is not None
+def differs(program, text, results):
+    """What is wrong with what was said of a program; None where nothing is."""
+    code, errors = places(text)[1], told(program)
+    said = [it for it in results if it["level"] == "error"]
+    if len(said) != min(len(errors), MOST_SHOWN) or len(results) != len(said) + (len(errors) > MOST_SHOWN):
+        return f"{len(said)} errors for {len(errors)}"
+    for error, result in zip(errors, said):
+        if result["ruleId"] != f"rule{error[2]}" or region_of(result["locations"][0]) != tuple(meant(program, text, error)):
+            return f"the rule or the place of {error}"
+        if not re.fullmatch(sentence(program, error) + r"\.", result["message"]["text"]):
+            return f"the sentence of {error}"
+        asked, paths = list(queries(program, error)), paths_of(result)
+        if len(asked) != len(paths):
+            return f"{len(paths)} paths of {error}"
+        for (start, sought, on), path in zip(asked, paths):
+            if not lines_lead(program, code, path, start, sought) or len(path) != distance(program, start, sought, on) + 1:
+                return f"a path of {error}"
+    return None
 
 
-def added(head, starts):
-    """How many bytes a line with this directive adds."""
-    numbers = [t for _, t in starts[1:] if t != ","]
-    return int(numbers[0], 16 if "x" in numbers[0] else 10) if head == ".space" else len(numbers) * {".word": 4, ".byte": 1}.get(head, 0)
+def changed(text, result):
+    """The text with the changes of a result's fix; None where it has none."""
+    if not result["fixes"]:
+        return None
+    lines = text.split("\n")
+    changes = result["fixes"][0]["artifactChanges"][0]["replacements"]
+    places_there = [(it["deletedRegion"], it.get("insertedContent", {}).get("text", "")) for it in changes]
+    for region, put in sorted(places_there, key=lambda it: (-it[0]["startLine"], -it[0]["startColumn"])):
+        line = lines[region["startLine"] - 1]
+        lines[region["startLine"] - 1] = line[:region["startColumn"] - 1] + put + line[region["endColumn"] - 1:]
+    return "\n".join(lines)
 
 
-def places_of_whole(text):
-    """For each kind of fault of the whole program that the text has, the token that shows it and the one of its note.
-
-    A token is line, column and width. The kinds are 8, and 1, 3, 4, 5 and 7 of `10 Build`, not in the order in
-    which they are judged.
-    """
-    first, tasks, start, code, found = {}, [], None, 0, {}
-    section, sizes = ".text", {".text": 0, ".data": 0, ".rodata": 0}
-    for number, line in enumerate(text.split("\n"), 1):
-        starts = columns(line)
-        token = lambda k: (number, starts[k][0], len(starts[k][1]))
-        def define(key, k):
-            if key in first:
-                found.setdefault(8, (token(k), first[key]))
-            return first.setdefault(key, token(k))
-        while len(starts) >= 2 and starts[1][1] == ":":
-            define(("label", starts[0][1]), 0)
-            first.setdefault(("index", starts[0][1]), sizes[".text"])
-            starts = starts[2:]
-        if not starts:
-            continue
-        head = starts[0][1]
-        if head in sizes:
-            section = head
-        elif head == ".start":
-            define("start", 0)
-            start = start or token(1)
-        elif head == ".task":
-            define(("task", starts[1][1]), 1)
-            words = [t for _, t in starts]
-            if "$0" in words or "$zero" in words:
-                found.setdefault(5, (token(2), None))
-            targets = words[max(k for k, t in enumerate(words) if t == "=") + 1:]
-            if len(tasks) == 1024 or len(targets) > 2 * 16:
-                found.setdefault(1, (token(1), None))
-            tasks.append((starts[1][1], token(1)))
-        else:
-            sizes[section] += added(head, starts) if head.startswith(".") else instructions(head, starts)
-            if section == ".text":
-                code = code or token(0)
-            if sizes[section] > (4096 if section == ".text" else 65536):
-                found.setdefault(1, (token(0), None))
-    begins = {}
-    for task, at in tasks:
-        index = first.get(("index", task))
-        if index is not None and index >= sizes[".text"]:
-            found.setdefault(3, (at, first[("label", task)]))
-        if index in begins:
-            found.setdefault(4, (at, begins[index]))
-        begins.setdefault(index, at)
-    found[7] = (start or code, None)
-    return found
+def code_of(fault):
+    """The identifier of a fault of a program text."""
+    return "refused-" + "-".join(word for word in fault.text()[len("program refused: "):-1].split(" line ")[0].split()[:4])
 
 
-NOTES = {8: "it stands here first", 3: "its label stands here, with no instruction behind it",
-         4: "this task begins there, too"}
-
-
-def whole_so(fault, text, name, said):
-    """Whether what is said of a fault of the whole program is told at the token that shows it."""
-    kind = fault.sub or fault.k
-    (line, column, width), note = places_of_whole(text)[kind]
-    told, rows = fault.text()[len("program refused: "):-1], said.split("\n")[:-1]
-    at = f"{name}:{line}:{column}: "
-    if not rows or not rows[0].startswith(f"{at}error: ") or not rows.pop(0).endswith(f" [{told}]"):
-        return False
-    if not cut(rows, excerpt(text, line, column, width)):
-        return False
-    if note and not cut(rows, [f"{name}:{note[0]}:{note[1]}: note: {NOTES[kind]}", *excerpt(text, *note)]):
-        return False
-    return len(rows) == 1 and rows[0].startswith(f"{at}help: ")
-
-
-def refused_so(fault, text, name, said):
-    """Whether what is said tells the first fault of a text, at its line if it has one, and then those of later lines."""
-    if fault.k == 8 or fault.sub in (1, 3, 4, 5, 7):
-        return whole_so(fault, text, name, said)
+def refused_so(fault, text, results):
+    """Whether what is said tells the first fault of a text, at its line if it has one; all that is said is an error in a line of it."""
     line = places(text)[1][fault.index][0] if fault.index is not None else fault.line
-    told = fault.text()[len("program refused: "):-1]
-    if not line:
-        at = re.escape(f"{name}: ")
-        return re.fullmatch(f"{at}error: [^\n]+ \\[{re.escape(told)}\\]\n{at}help: [^\n]+\n", said) is not None
-    at, lines = 0, []
-    while match := REFUSAL.match(said, at):
-        here, column, tag = int(match.group(2)), int(match.group(3)), match.group(4)
-        if match.group(1) != name or not shown_so(text, here, column, match.group(5)):
-            return False
-        if not lines and (here, tag) != (line, told):
-            return False
-        if lines and not (fault.k in range(2, 8) and here > lines[-1] and re.fullmatch(rf"[2-7] \w+ line {here}", tag)):
-            return False
-        lines.append(here)
-        at = match.end()
-    more = re.fullmatch(re.escape(name) + r": note: (1 more line|\d+ more lines) with a fault\n", said[at:])
-    return 0 < len(lines) <= 20 and (at == len(said) or (len(lines) == 20 and more is not None))
+    codes = {"-".join(it["ruleId"].split("-")[:5]) for it in results if not line or (region_of(it["locations"][0]) or [0])[0] == line}
+    lines = text.count("\n") + 1
+    return code_of(fault) in codes and all(
+        it["level"] == "error" and (region_of(it["locations"][0]) or [1])[0] <= lines or it["ruleId"] == "more" for it in results)
 
 
-CERTIFICATE_FAULTS = {
-    1: ("the first line is neither cert 2 nor cert 1", "a certificate begins with the line cert 2, or with cert 1 where its masks have 8 digits"),
-    2: ("this is no line of a certificate", "a line is task NAME, or an index of at most 5 digits, one blank and a mask: in cert 2 of 16 lower-case "
-        "hexadecimal digits, in cert 1 of 8, with no bit above 33"),
-    3: ("this is not the program's next task", "a certificate has one line task NAME for each task of the program, in the order of the program"),
-    4: ("a task of the program is missing", "a certificate has one line task NAME for each task of the program, in the order of the program"),
-    5: ("the indices of a task do not rise, or one of them is above 4095", "within a task each index is larger than the one before it, and at most 4095"),
-}
-
-
-def remark(program, name, file, text):
-    """What is said of a certificate in a file of this name, behind what is said of the marks."""
-    command = "multiscalar annotate --emit keep"
-    plain = f"{file}: help: make a certificate: {command} PROGRAM > CERT\n"
-    named = f"{file}: help: make it anew: {command} {name} > {file}\n"
-    anew = named if name != file and all(re.fullmatch(r"(?!-)[A-Za-z0-9._/+,:@-]+", it) for it in (name, file)) else plain
+def remarks(program, text):
+    """The identifiers of what is said of the text of a certificate."""
     try:
         found = verdict(program, cert_parse(text, program))
     except CertFault as fault:
-        line = 1 if fault.k == 1 else fault.n
-        at = f"{file}:{line}: " if line else f"{file}: "
-        told = fault.text()[len("certificate refused: "):-1]
-        sentence, expected = CERTIFICATE_FAULTS[fault.k]
-        # what does not begin as a certificate may be anything else
-        return f"{at}error: {sentence} [{told}]\n{at}help: {expected}\n{plain if fault.k == 1 else anew}"
-    least = verdict(program, certify(program))
-    if len(found) <= len(least) and all(rule > 4 for _, _, rule, _ in found):
-        return ""
-    return (f"{file}: error: this is not a certificate of {name} as it stands; findings with it: {len(found)}, "
-            f"with the least certificate: {len(least)}\n{anew}")
-
-
-def label_of(program, index):
-    """A place as a program text names it."""
-    for name, entry, _, _ in program.tasks:
-        if entry == index:
-            return name
-    return f"@{index}"
-
-
-def mended(program, text, finding):
-    """The text with what the help of a finding says; None where it says that the control flow must change."""
-    task, index, rule, register = finding
-    tasks, code = places(text)
-    lines = text.split("\n")
-    number = (tasks[task] if rule in (5, 8, 9, 12) else code[index])[0] - 1
-    line = lines[number]
-    if rule in (5, 8):
-        line = line.replace("create=-", f"create=${register}") if "create=-" in line else \
-            line.replace("create=", f"create=${register},")
-    elif rule == 6:
-        line = line.replace("!f", "", 1)
-    elif rule == 7:
-        match = re.search(r"release ([$\w, ]+\w)", line)
-        rest = [r for r in match.group(1).replace(" ", "").split(",") if r != f"${register}"]
-        line = line.replace(match.group(0), "release " + ",".join(rest) if rest else "nop")
-    elif rule == 9:
-        new = [label_of(program, j) for j in exits(program, index) if j not in program.tasks[task][3]]
-        joined = ",".join(new)
-        line = line.replace("targets=-", f"targets={joined}") if "targets=-" in line else \
-            line.replace("targets=", f"targets={joined},")
-    elif rule == 11:
-        line = re.sub(r"\s*(#.*)?$", lambda m: " !s" + (" " + m.group(1) if m.group(1) else ""), line, count=1)
-    elif rule == 12:
-        begins = {t[1] for t in program.tasks}
-        kept = [label_of(program, j) for j in program.tasks[task][3] if j in begins]
-        line = re.sub(r"targets=[\w,@-]+", "targets=" + (",".join(kept) or "-"), line)
-    else:
-        return None
-    lines[number] = line
-    return "\n".join(lines)
+        return ["-".join(["certificate", *fault.text()[len("certificate refused: "):-1].split()[:2]])]
+    own, masks = [it for it in found if it[2] <= 4], set()
+    if not own:
+        return ["certificate-unfit"] if len(found) > len(verdict(program, certify(program))) else []
+    codes = []
+    for task, index, rule, _ in own:
+        if rule < 3 or (task, index) not in masks:
+            codes.append(f"rule{rule}")
+        masks |= {(task, index)} if rule >= 3 else set()
+    return codes[:MOST_SHOWN]
 
 
 def plant(text):
@@ -503,7 +347,8 @@ class Bench:
         self.counts = collections.Counter()
 
     def explain(self, text, *options, certificate=None):
-        with open(os.path.join(self.folder, "p.s"), "w") as file:
+        """What is written, the status, and what is said on standard error."""
+        with open(os.path.join(self.folder, "p.s"), "w", encoding="latin-1", newline="") as file:
             file.write(text)
         if certificate is not None:
             with open(os.path.join(self.folder, "c"), "wb") as file:
@@ -512,42 +357,49 @@ class Bench:
         run = subprocess.run([self.program, *words], cwd=self.folder, capture_output=True)
         return run.stdout.decode("latin-1"), run.returncode, run.stderr.decode("latin-1")
 
+    def results(self, text, *options, certificate=None):
+        """The results of the log, and the status."""
+        log, status, complaint = self.explain(text, "--format", "sarif", *options, certificate=certificate)
+        if complaint:
+            raise ValueError(complaint)
+        return json.loads(log)["runs"][0]["results"], status
+
     def wrong_certificate(self, text, program, said):
-        """What is wrong with what is said of a certificate: behind what is said without one stands the remark."""
+        """What is wrong with what is said of a certificate: after what is said without one stand the remarks."""
         certificate = spoiled(cert_text(certify(program), program)).encode()
-        wanted = said + remark(program, "p.s", "c", certificate)
-        given = self.explain(text, "--no-warnings", certificate=certificate)
+        wanted = remarks(program, certificate)
+        results, status = self.results(text, "--no-warnings", certificate=certificate)
         self.counts["certificates"] += 1
-        self.counts["certificates that do not fit"] += wanted != said
-        if given != (wanted, 1 if wanted else 0, ""):
-            return f"of the certificate {certificate!r}: {given[0][len(said):]!r}, status {given[1]}"
+        self.counts["certificates that do not fit"] += bool(wanted)
+        if results[:len(said)] != said or [it["ruleId"] for it in results[len(said):] if it["ruleId"] != "more"] != wanted or status != bool(said or wanted):
+            return f"of the certificate {certificate!r}: {[it['ruleId'] for it in results[len(said):]]}, not {wanted}"
 
     def wrong(self, text):
-        said, status, complaint = self.explain(text, "--no-warnings")
+        results, status = self.results(text, "--no-warnings")
         try:
             program = assemble(text.encode("latin-1"))
         except Fault as fault:
             self.counts["refused texts"] += 1
-            return None if status == 1 and not complaint and refused_so(fault, text, "p.s", said) else "a refused text"
-        findings = verdict(program, certify(program))
+            return None if status == 1 and refused_so(fault, text, results) else "a refused text"
         self.counts["programs"] += 1
-        self.counts["findings"] += len(findings)
-        if status != (1 if findings else 0) or complaint:
-            return f"status {status}, {len(findings)} findings"
-        beside = self.wrong_certificate(text, program, said) if R.random() < 1 / 3 else None
-        return beside or differs(program, text, "p.s", said) or self.unmended(program, text, findings)
+        self.counts["errors"] += len(results)
+        if status != (1 if results else 0):
+            return f"status {status}, {len(results)} results"
+        beside = self.wrong_certificate(text, program, results) if R.random() < 1 / 3 else None
+        return beside or differs(program, text, results) or self.unmended(program, text, results)
 
-    def unmended(self, program, text, findings):
-        for finding in findings:
-            after = mended(program, text, finding)
+    def unmended(self, program, text, results):
+        """An error that is there after the changes of its fix."""
+        for error, result in zip(told(program), results):
+            after = changed(text, result)
             if after is None:
-                self.counts["helps on control flow"] += 1
+                self.counts["helps in words"] += 1
                 continue
-            new = assemble(after.encode("latin-1"))
-            left = verdict(new, certify(new))
-            if finding in left:
-                return f"{finding} is there after its help"
-            self.counts["helps that mend"] += 1
+            left = told(assemble(after.encode("latin-1")))
+            if any(it[0] == error[0] and it[2] in MASK for it in left) if error[2] in MASK else error in left:
+                return f"{error} is there after its fix:\n{after}"
+            self.counts["fixes that mend"] += 1
+            self.counts["fixes after which other errors are there"] += not set(left) <= set(told(program))
         return None
 
 

@@ -235,8 +235,8 @@ def wanted(words, texts):
     if name == "check":
         return check_text(*given)
     if name == "explain":
-        wanted = wanted_explanation(files, given, "no-warnings" in options)
-        return wanted_log(files, given, wanted) if options.get("format") == "sarif" else wanted
+        wanted = wanted_log if options.get("format") == "sarif" else wanted_explanation
+        return wanted(files, given, "no-warnings" in options)
     if name == "curve":
         return wanted_curve(options, given)
     if name == "replay":
@@ -292,54 +292,56 @@ def picture_of(rows):
     return curve_picture.picture([(units, *row) for units, row in enumerate(rows, 1)])
 
 
-def wanted_log(files, given, wanted):
-    """A log whose results, laid out as the text form, are what `explain` says."""
+def wanted_results(files, given, no_warnings):
+    """Whether the results of a log are what the model tells of a program and of a certificate, or of a refused text."""
     text = given[0].decode("latin-1")
     try:
-        assemble(given[0])
-        fault = None
-    except Fault as first:
-        fault = first
+        program = assemble(given[0])
+    except Fault as fault:
+        return lambda results, first=fault: explain.refused_so(first, text, results)
+    errors = len(verdict(program, certify(program))) > 0
+    remarks = explain.remarks(program, given[1]) if len(files) > 1 else []
+
+    def fits(results):
+        own = [it for it in results if it["locations"][0]["physicalLocation"]["artifactLocation"].get("uri") != files[1]] if len(files) > 1 else results
+        beside = [it["ruleId"] for it in results[len(own):] if it["ruleId"] != "more"]
+        warned = [] if no_warnings else costly_marks.told(program, text)
+        return beside == remarks and (not explain.differs(program, text, own) if errors else costly_marks.said_of(own) == warned)
+
+    return fits
+
+
+def wanted_log(files, given, no_warnings=False):
+    """A log whose results are what the model tells."""
+    wanted = wanted_results(files, given, no_warnings)
 
     def fits(out, status):
         try:
             results = sarif.read_log(out.encode("latin-1"))
-            return all(is_of_certificate(it, files) for it in results) and wanted(sarif.as_text(results, text, fault), status)
+            return status == any(it["level"] == "error" for it in results) and wanted(results)
         except (ValueError, KeyError, TypeError, AttributeError):
             return False
 
     return fits
 
 
-def is_of_certificate(result, files):
-    """Whether a result is none of a certificate, or has the rule and the place that its message tells."""
-    if not result["ruleId"].startswith("certificate-"):
-        return True
-    message = result["message"]["text"]
-    kind = re.match(r"[^\n]*\[(\d+) (\w+)", message)
-    line = re.match(rf"{re.escape(files[1])}:(\d+): ", message)
-    place = (files[1], int(line[1]) if line else None, None, None)
-    return (result["ruleId"], sarif.place_of(result["locations"][0])) == (f"certificate-{kind[1]}-{kind[2]}" if kind else "certificate-unfit", place)
-
-
 def wanted_explanation(files, given, no_warnings=False):
-    """The model's findings or its warnings, told as explain.py and costly_marks.py have them, and what is said of a certificate; of a refused text its faults."""
-    name, text = files[0], given[0].decode("latin-1")
+    """The model's errors or its warnings, told in their order; of a refused text its first fault."""
+    text = given[0].decode("latin-1")
     try:
         program = assemble(given[0])
     except Fault as fault:
-        first = fault
-        return lambda out, status: status == 1 and explain.refused_so(first, text, name, out)
-    findings = len(verdict(program, certify(program)))
-    remark = explain.remark(program, name, files[1], given[1]) if len(files) > 1 else ""
+        told = re.sub(r"(BadMark) \d+$", r"\1", fault.text()[len("program refused: "):-1])
+        return lambda out, status: status == 1 and f" [{told}]\n" in out
+    errors = [explain.sentence(program, it) for it in explain.told(program)][:explain.MOST_SHOWN]
+    remarks = len(explain.remarks(program, given[1])) if len(files) > 1 else 0
+    warned = [it[2].removesuffix(".") for it in costly_marks.told(program, text)] if not errors and not no_warnings else []
 
     def fits(out, status):
-        said = out.removesuffix(remark)
-        if status != (1 if findings or remark else 0) or not out.endswith(remark):
-            return False
-        if not findings:
-            return said == ("" if no_warnings else costly_marks.told(program, text, name))
-        return not explain.differs(program, text, name, said)
+        said = [re.match(r"[^|]*?: (error|warning): (.*?)(?: \[[^]]*\])?$", line) for line in out.split("\n")]
+        wrong = [it[2] for it in said if it and it[1] == "error"]
+        return status == (1 if errors or remarks else 0) and len(wrong) == len(errors) + remarks \
+            and all(re.fullmatch(*pair) for pair in zip(errors, wrong)) and [it[2] for it in said if it and it[1] == "warning"] == warned
 
     return fits
 

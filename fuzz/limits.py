@@ -108,9 +108,9 @@ def programs(folder):
     texts = {
         "one label many times": (b"a:" * half, b"8 Duplicate line 1", b":1:3: "),
         "many labels": ((":".join(labels) + ":").encode(), b"10 Build 2 NoTask", b": "),
-        "many targets": (b".task A create=- targets=" + b"A," * (half - 20) + b"A\nA: halt\n", b"10 Build 1 TooMany", b":1:7: "),
-        "an unknown name beside many targets": (b".task A create=- targets=" + b"A," * (half - 24) + b"A\nA: j X\nhalt\n", b"9 Unknown line 2", b":2:6: "),
-        "many targets, the last of them unknown": (b".task A create=- targets=" + b"A," * (half - 24) + b"X\nA: j A\nhalt\n", b"9 Unknown line 1", b":1:1: "),
+        "many targets": (b".task A create=- targets=" + b"A," * (half - 20) + b"A\nA: halt\n", b"10 Build 1 TooMany", b":1:18: "),
+        "an unknown name beside many targets": (b".task A create=- targets=" + b"A," * (half - 24) + b"A\nA: j X\nhalt\n", b"9 Unknown line 2", b":1:18: "),
+        "many targets, the last of them unknown": (b".task A create=- targets=" + b"A," * (half - 24) + b"X\nA: j A\nhalt\n", b"9 Unknown line 1", b":1:18: "),
         "many words": (b".data\n.word " + b"0," * (half - 20) + b"0\n", b"10 Build 1 TooMany", b":2:1: "),
         "many instructions": (b"nop\n" * (PROGRAM_LIMIT // 4), b"10 Build 1 TooMany", b":4097:1: "),
     }
@@ -147,7 +147,7 @@ def certificates(folder):
         return BOUNDS["check" if words[0] == "explain" else words[0]]
 
     def refused(words, told, line=""):
-        return f"{path}:{line} error: ".encode() if words[0] == "explain" else f"certificate refused: {told}\n".encode()
+        return f"{path}:{line}".encode() if words[0] == "explain" else f"certificate refused: {told}\n".encode()
 
     for name, mask in (("the longest certificate", "0" * 16), ("the longest certificate, short lines", "0" * 8)):
         certificate(path, mask)

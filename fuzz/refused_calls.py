@@ -3,7 +3,7 @@
 
     refused_calls.py [--program BUILT] [--keep BUILT] [--unproved] [--only CALL] [--minutes M]
 
-It puts the modules of growth_calls/ and calls.rt.txt into the repository as a crate of its own, builds it (proved over the
+It puts the modules of crates/test_growths and calls.rt.txt into the repository as a crate of its own, builds it (proved over the
 libraries that `rt ci` left, which takes some ten minutes, or with --unproved by `rt try` and clang), and takes it away again; --keep
 keeps the built program, and --program takes one that was kept. That program makes one public call on the texts of an example. A library that is
 loaded before the C library refuses the growths inside the call: each alone, and each with the four behind it.
@@ -12,7 +12,7 @@ unchanged), and the same call made again must answer, and leave, what it does wi
 threads are tried three times for each growth, since threads take memory in no fixed order. A table tells how
 many growths each call has and what was answered; differences end the script with status 1.
 
-None of it is part of the tests; `.ci/growths.py` refuses the growths of whole runs after `rt ci`.
+`.ci/growths.py` does so after `rt ci` with the calls of crates/test_growths, on two examples; the rest is no part of the tests.
 Needs python3, cc, rt unless there is --program, and Linux.
 """
 import argparse
@@ -31,12 +31,12 @@ import ending
 HERE = pathlib.Path(__file__).resolve().parent
 TOP = HERE.parent
 EXAMPLES = TOP / "examples"
-CALLS = HERE / "growth_calls"
+CALLS = TOP / "crates" / "test_growths"
 NAME = "calls_of_libraries"
-BELOW = ("mips_instructions mips_plain task_descriptor annotated_asm source_map refusal_text canonical_text canonical_round_trip task_graph "
-         "mask_certificate mark_checker annotator finding_paths certificate_remarks diagnostic_text machine_events register_ring unit_core sequencer "
+BELOW = ("mips_instructions mips_plain task_descriptor annotated_asm source_map diagnostics text_diagnostics canonical_text canonical_round_trip task_graph "
+         "mask_certificate mark_checker annotator finding_paths mark_diagnostics input_diagnostics machine_events register_ring unit_core sequencer "
          "parallel_check threaded_runner synchronous_runner event_script text_pieces shared_fetch jobs command_line verdict_report "
-         "task_lives run_summary run_picture event_trace event_json speed_curve curve_picture marks_in_text costly_marks warning_text sarif_log log_entries")
+         "task_lives run_summary run_picture event_trace event_json speed_curve curve_picture marks_in_text costly_marks diagnostic_log")
 
 SOURCE = r"""
 #define _GNU_SOURCE
@@ -114,9 +114,9 @@ halt
 """
 # Calls on a program alone, on its certificate too, and those that make threads.
 ON_PROGRAM = ["Memory::new", "Program::plain", "Plain::new", "Plain::step", "Plain::run", "assemble", "print",
-              "print_and_assemble", "members", "propose", "certify", "is_sound", "source_map", "shown_findings", "explain", "with_marks_of", "costly_marks", "warnings",
-              "mark_entries", "log_text"]
-ON_BOTH = ["fitting", "certificate read", "certificate write", "check_task", "verdict", "Accepted::new", "fetch", "Text::append", "Text::pieces"]
+              "print_and_assemble", "members", "propose", "certify", "is_sound", "source_map", "shown_findings", "mark_errors", "with_marks_of", "costly_marks", "mark_warnings",
+              "text_of", "log_text", "lines_text"]
+ON_BOTH = ["certificate_errors", "certificate read", "certificate write", "check_task", "verdict", "Accepted::new", "fetch", "Text::append", "Text::pieces"]
 IN_THREADS = ["read_shared", "verdict_shared", "accepts_shared", "fetch_shared", "run_threads", "run_workers", "serve"]
 # Calls on an accepted program whose run ends.
 ON_ACCEPTED = ["Unit::exec", "Unit::exec_ahead", "Unit::take", "Machine::new", "finish", "Burst::run", "apply_burst", "run_threads", "run_steps", "lives_of_runs", "summary", "picture", "trace", "lines of JSON",
@@ -129,7 +129,7 @@ Ran = collections.namedtuple("Ran", "status faults notes answer growths refusals
 
 def replaced(text, old, new):
     if text.count(old) != 1:
-        raise SystemExit(f"{CALLS}/main.rt.txt has not once: {old}")
+        raise SystemExit(f"{CALLS}/src/main.rt has not once: {old}")
     return text.replace(old, new)
 
 
@@ -153,9 +153,7 @@ def built(folder, unproved):
     crate, listed = TOP / "crates" / NAME, TOP / "crates.txt"
     before = listed.read_text()
     try:
-        (crate / "src").mkdir(parents=True)
-        for text in CALLS.glob("*.rt.txt"):
-            shutil.copy(text, crate / "src" / text.name.removesuffix(".txt"))
+        shutil.copytree(CALLS / "src", crate / "src")
         shutil.copy(HERE / "calls.rt.txt", crate / "src" / "others.rt")
         main = crate / "src" / "main.rt"
         main.write_text(replaced(replaced(main.read_text(), "mod plain;", "mod others;\nmod plain;"), "_ => None,", "_ => others::made(given, rt, call),"))
@@ -220,7 +218,7 @@ def refusals():
             yield Case("refusal", path.name, path, path, path, 1, 1, ())
     program = EXAMPLES / "count" / "program.s"
     for certificate in (EXAMPLES / "pair" / "certificate.cert2", EXAMPLES / "README.md", program):
-        yield Case("certificate refused", str(certificate.relative_to(EXAMPLES)), program, certificate, program, 1, 1, ())
+        yield Case("certificate_errors", str(certificate.relative_to(EXAMPLES)), program, certificate, program, 1, 1, ())
 
 
 def scripts():
@@ -245,7 +243,7 @@ def made(folder):
 
 
 def worked_cases(folder):
-    """Cases of each call of growth_calls/, on two examples, one script, and a program of long tasks for the bursts."""
+    """Cases of each call of crates/test_growths, on two examples, one script, and a program of long tasks for the bursts."""
     count, five = EXAMPLES / "count", EXAMPLES / "five-findings"
     for example in (count, five):
         yield from of_example(example, ["Memory::new", "Program::plain", "Plain::new", "Plain::step", "Plain::run", "assemble", "print", "members",
@@ -254,9 +252,6 @@ def worked_cases(folder):
             yield from of_example(example, ["verdict_shared", "accepts_shared"], workers=workers)
     yield from of_example(count, ["Unit::exec", "Unit::exec_ahead", "Machine::new", "apply", "finish", "Burst::run", "apply_burst", "run_threads"])
     yield from of_example(folder / "long tasks", ["Unit::take", "Burst::run", "apply_burst"])
-    for line in ("seq P", "check P C --workers 3", "replay P C S --units 2", "run P C --units 2", "annotate P --emit cert"):
-        for call in ("request_of", "serve"):
-            yield Case(call, line, count / "program.s", count / "certificate.cert2", count / "script.events", 1, 1, line.split())
 
 
 class Bench:

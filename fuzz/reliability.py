@@ -18,9 +18,9 @@ runs of `run`. With `--whole`, nothing is drawn where all can be made: each grow
 growths in a row, each call that fails, all seeds and kept cases of hostile bytes, all inputs that are worst for time, however long that takes.
 
 Each part answers rows: the part, the number of runs, how often each answer was seen, and the differences, one line each with what
-reproduces it; they go to standard error as soon as a part is done. The table is printed in the form of docs/RELIABILITY.md;
-with --write it takes the place of the figures that stand there. The script ends with status 1 if there is any difference. Needs
-python3, cc, and what the modules say; what makes answers of the model is run by pypy3 where there is one.
+reproduces it; they go to standard error as soon as a part is done, with its minutes. The table that is printed has all rows;
+--write puts one row for each part in place of the figures of docs/RELIABILITY.md. The script ends with status 1 if there is any difference.
+Needs python3, cc, and what the modules say; what makes answers of the model is run by pypy3 where there is one.
 """
 import argparse
 import ast
@@ -58,6 +58,25 @@ SHARES = {
     "seeds": 1,
     "worst_times": 1,
     "selftest": 6,
+}
+# What the document says of each part.
+TOLD = {
+    "every_growth": "each allocation of the examples refused alone",
+    "growths_in_a_row": "several in a row, or all, from each on",
+    "refused_growths": "draws of these, of one in 10 or 100, and in texts at the limits; little address space, small stacks",
+    "refused_calls": "each allocation of public calls refused, and the call made again",
+    "limits": "texts at the limits: answers and memory",
+    "failed_calls": "opens, reads and writes that fail, are short or interrupted; odd files and streams",
+    "ended_runs": "signals",
+    "schedules": "each number of units, predictor and number of workers, over and over",
+    "load": "threads under load, with small means, and refused",
+    "races": "thread sanitizer, and a control",
+    "model": "random texts beside the model",
+    "fuzzer": "hostile bytes, the program whole in one process",
+    "kept_cases": "what the fuzzer kept, beside the model",
+    "seeds": "what it begins with, beside the model",
+    "worst_times": "inputs that are worst for time, at sizes n, 2n and 4n",
+    "selftest": "faults planted, to see whether these scripts find them",
 }
 # Parts that are there with --whole alone; without, refused_growths draws from them.
 OF_WHOLE = ("every_growth", "growths_in_a_row")
@@ -259,6 +278,23 @@ def table(rows):
     yield f"| all | {figure(sum(row[1] for row in rows))} | | {sum(len(row[3]) for row in rows)} |"
 
 
+def known(row):
+    """How many runs a row has: those that were made, or all from which they were drawn."""
+    drawn = re.search(r"\(drawn, of (\d+)\)", row[0])
+    return max(row[1], int(drawn.group(1))) if drawn else row[1]
+
+
+def summary(by_part):
+    """One row for each part, in the form of the document."""
+    yield "| What was tried | Runs | Drawn from | Differences |"
+    yield "|---|---|---|---|"
+    for name, rows in by_part.items():
+        made, every = sum(row[1] for row in rows), sum(map(known, rows))
+        yield f"| {TOLD[name]} | {figure(made)} | {figure(every) if every > made else ''} | {sum(len(row[3]) for row in rows)} |"
+    found = [row for rows in by_part.values() for row in rows]
+    yield f"| all | {figure(sum(row[1] for row in found))} | | {sum(len(row[3]) for row in found)} |"
+
+
 def machine():
     """What this runs on."""
     with open("/proc/cpuinfo") as file:
@@ -269,17 +305,17 @@ def machine():
 
 
 def heading(rows, left_out):
-    """On what, for how long, and with what seeds this was run."""
+    """On what, for how long in all, and with what seeds this was run."""
     kept = [(name, rows.of(name)) for name in SHARES if rows.of(name)]
     days = sorted({run["day"] for _, runs in kept for run in runs})
-    took = ", ".join(f"{name} {sum(run['minutes'] for run in runs):.1f}" for name, runs in kept)
+    took = sum(run["minutes"] for _, runs in kept for run in runs)
     seeds = collections.defaultdict(list)
     for name, runs in kept:
         seeds[", ".join(str(run["seed"]) for run in runs)].append(name)
     usual = max(seeds, key=lambda seed: len(seeds[seed]), default="")
     others = "".join(f"; {', '.join(names)}: {seed}" for seed, names in seeds.items() if seed != usual)
     yield (f"{' and '.join(days)}, on {machine()}. The program's SHA-256 begins with {rows.digest[:16]}. "
-           f"Minutes of each part: {took}. Seed {usual}{others}.")
+           f"The parts took {took:.0f} minutes in all. Seed {usual}{others}.")
     if left_out:
         yield ""
         yield f"Left out: {'; '.join(left_out)}."
@@ -302,7 +338,7 @@ def arguments():
     parser.add_argument("--runs", type=int, help="go on with load until there are so many runs of `run`")
     parser.add_argument("--module", type=os.path.abspath, help="the program's LLVM module")
     parser.add_argument("--patience", default=1.0, type=float, help="how many times the usual seconds selftest.py gives a script")
-    parser.add_argument("--write", type=pathlib.Path, metavar="DOCUMENT", help="put the table into this document")
+    parser.add_argument("--write", type=pathlib.Path, metavar="DOCUMENT", help="put a row for each part into this document")
     parser.add_argument("--alone", choices=list(SHARES), help=argparse.SUPPRESS)
     return parser.parse_args()
 
@@ -328,13 +364,15 @@ def tell(args, rows, failed):
     """Prints the table of all that is kept of the program and of what failed, and writes it; whether there is no difference."""
     missing = lacks(args)
     left_out = [f"{name}: {missing.get(name, 'not asked for')}" for name in SHARES if not rows.of(name) and (args.whole or name not in OF_WHOLE)]
-    found = [row for name in SHARES for row in added(one for kept in rows.of(name) for one in kept["rows"])] + failed
-    text = "\n".join([*heading(rows, left_out), "", *table(found), ""])
-    print(text)
+    by_part = {name: [*added(one for kept in rows.of(name) for one in kept["rows"]), *(row for row in failed if row[0] == name)] for name in SHARES}
+    by_part = {name: some for name, some in by_part.items() if some}
+    found = [row for some in by_part.values() for row in some]
+    begin = [*heading(rows, left_out), ""]
+    print("\n".join([*begin, *table(found), ""]))
     for difference in (difference for row in found for difference in row[3]):
         print("difference:", difference)
     if args.write:
-        write(args.write, text)
+        write(args.write, "\n".join([*begin, *summary(by_part), ""]))
     return not any(row[3] for row in found)
 
 

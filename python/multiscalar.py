@@ -23,6 +23,7 @@ from dataclasses import dataclass
 from enum import IntEnum
 from pathlib import Path
 from typing import Sequence, Union
+from urllib.parse import unquote
 
 __all__ = [
     "AnnotateEmit", "CurveEmit", "Diagnostic", "FIRST", "Finding", "LAST", "ReplayEmit", "Report", "RunEmit", "Verdict",
@@ -123,7 +124,8 @@ class Verdict(Report):
 
 @dataclass(frozen=True)
 class Diagnostic:
-    """One thing that is wrong, or that costs speed. Lines and columns begin with 1; columns count bytes."""
+    """One thing that is wrong, or that costs speed. Lines and columns begin with 1; columns count characters. The
+    advice has a sentence for each further place that shows it, and then what to do."""
 
     severity: str
     code: str
@@ -132,6 +134,7 @@ class Diagnostic:
     line: int | None
     column: int | None
     end_column: int | None
+    advice: tuple[str, ...]
 
 
 def _library() -> ctypes.CDLL:
@@ -205,14 +208,24 @@ def explain(program: Text, name: str = "program.s", certificate: Text | None = N
             warnings: bool = True) -> list[Diagnostic]:
     """What is wrong with a program, and with a certificate if there is one; empty where nothing is."""
     _, data = _call("explain", 1, warnings, certificate is not None, name.encode(), _bytes(program), certificate_name.encode(), _bytes(certificate))
-    return [_diagnostic(result, name) for result in json.loads(data)["runs"][0]["results"]]
+    return [_diagnostic(result) for result in json.loads(data)["runs"][0]["results"]]
 
 
-def _diagnostic(result: dict, name: str) -> Diagnostic:
+def _said(message: dict) -> str:
+    return message["text"].removesuffix(".")
+
+
+def _name(artifact: dict) -> str:
+    """The file's name as it was given: only standard input has no URI."""
+    return unquote(artifact["uri"].removeprefix("file://")) if "uri" in artifact else "-"
+
+
+def _diagnostic(result: dict) -> Diagnostic:
     place = result["locations"][0]["physicalLocation"]
     region = place.get("region", {})
-    return Diagnostic(result["level"], result["ruleId"], result["message"]["text"], place["artifactLocation"].get("uri", name),
-                      region.get("startLine"), region.get("startColumn"), region.get("endColumn"))
+    return Diagnostic(result["level"], result["ruleId"], _said(result["message"]), _name(place["artifactLocation"]),
+                      region.get("startLine"), region.get("startColumn"), region.get("endColumn"),
+                      tuple(_said(related["message"]) for related in result["relatedLocations"]))
 
 
 def print_program(program: Text) -> Report:

@@ -25,6 +25,8 @@ class Calls(unittest.TestCase):
         self.assertEqual(multiscalar.explain(RIGHT), [])
         found = multiscalar.explain(WRONG, name="wrong.s")
         self.assertEqual([(it.severity, it.code, it.name, it.line) for it in found], [("error", "rule5", "wrong.s", 1)])
+        self.assertEqual(found[0].message, "the create mask of task A lacks $8")
+        self.assertEqual(found[0].advice, ("$8 is written here", "write create=$8"))
         self.assertTrue(multiscalar.explain_text(WRONG, name="wrong.s").text.startswith("wrong.s:1:"))
 
     def test_annotate(self):

@@ -1,3 +1,3 @@
 .task A create=- targets=-
 A: Loop:
-  End: Loop: halt !s
+  End: Loop: halt

@@ -1,3 +1,3 @@
 .task A create=$8 targets=-
 A: addiu $8,$8,1 !f
-A: halt !s
+A: halt

@@ -1,2 +1,2 @@
 .task A create=- targets=-
-A: End: A: halt !s
+A: End: A: halt

@@ -1,4 +1,4 @@
 .task A create=- targets=-
 .start A
-A: halt !s
+A: halt
 B: .start B

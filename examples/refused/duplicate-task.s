@@ -1,4 +1,4 @@
 .task A create=$8 targets=-
 .start A
 .task A create=- targets=-
-A: halt !s
+A: halt

@@ -1,3 +1,3 @@
 .task B create=- targets=-
-A: halt !s
+A: halt
 B:

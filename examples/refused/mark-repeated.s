@@ -2,4 +2,4 @@
 .text !f
 A: addiu $8,$8,1 !f !f
    beq $8,$9,A !st !sn
-   halt !s
+   halt

@@ -1,2 +1,2 @@
 .task A create=$0 targets=-
-A: halt !s
+A: halt

@@ -1,2 +1,2 @@
 .task A create=$8,$zero targets=-
-A: halt !s
+A: halt

@@ -1,5 +1,5 @@
 .task A create=$8 targets=-
-A: halt !s
+A: halt
 .data
 B: addu $8,$8,$9
 .text

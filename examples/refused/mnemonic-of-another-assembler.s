@@ -1,6 +1,6 @@
 .task A create=$1,$8 targets=A,B
-A: addi $8,$8,1 !f
-   ble $8,$9,A !st
+A: subi $8,$8,1 !f
+   mul $8,$8,$9
 .task B create=- targets=-
 B: .globl A
-   halt !s
+   halt

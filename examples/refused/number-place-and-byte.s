@@ -1,4 +1,4 @@
 .task A create=- targets=@0,@4097
-A: halt !s
+A: halt
 .data
 .byte 1,256,2

@@ -8,4 +8,4 @@ Main:
 Odd: Loop:
   addu $8,$8,$9 !f
   bne $8,$9,Loop !s
-Last: halt !s
+Last: halt

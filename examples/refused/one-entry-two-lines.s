@@ -2,4 +2,4 @@
 .task B create=- targets=-
 A:
 B:
-   halt !s
+   halt

@@ -1,3 +1,3 @@
 .task A create=- targets=-
 .task B create=- targets=-
-A: B: halt !s
+A: B: halt

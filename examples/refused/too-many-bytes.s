@@ -1,5 +1,5 @@
 .task A create=$8 targets=-
-A: halt !s
+A: halt
 .data
 .space 65536
 .byte 1

@@ -1,5 +1,5 @@
 .task A create=- targets=-
-A: halt !s
+A: halt
 .data
   .space 65536
 .rodata

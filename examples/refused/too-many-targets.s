@@ -1,2 +1,2 @@
 .task A create=- targets=A,A,A,A,A,A,A,A,A,A,A,A,A,A,A,A,A
-A: halt !s
+A: halt

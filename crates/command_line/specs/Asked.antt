@@ -205,6 +205,7 @@ IsRequested name values request = IsAsked name values request.job request.paths
     × (destination_in values request.job ≡ Some (option_map string_bytes request.output))
     × (map string_bytes request.further.items ≡ further_in request.job values)
     × (goes_together request.job request.output request.further.items ≡ true)
+    × (request.report ≡ is_given (codes "report") values)
 
 -- the words ask for this: `clap` has no fault for them, and it is the request of the subcommand that `clap` makes
 -- of them

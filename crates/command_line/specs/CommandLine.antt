@@ -86,6 +86,10 @@ output = file_option (codes "output") 111
 abbrev pub in_place : Rule
 in_place = flag (codes "in-place")
 
+-- what is left to mend by hand is told
+abbrev pub report : Rule
+report = flag (codes "report")
+
 -- no warnings of marks that are right but cost speed
 abbrev pub no_warnings : Rule
 no_warnings = flag (codes "no-warnings")
@@ -125,7 +129,7 @@ abbrev pub print : Shape
 print = subcommand (codes "print") (program ∷ output ∷ [])
 
 abbrev pub annotate : Shape
-annotate = subcommand (codes "annotate") (program ∷ free_word (codes "emit") ∷ output ∷ in_place ∷ [])
+annotate = subcommand (codes "annotate") (program ∷ free_word (codes "emit") ∷ output ∷ in_place ∷ report ∷ [])
 
 abbrev pub explain : Shape
 explain = subcommand (codes "explain") (program ∷ further ∷ explained_certificate ∷ no_warnings ∷ layout ∷ output ∷ [])

@@ -72,7 +72,11 @@ targets stay as they are. The proposal is not trusted: `check` judges it like an
 With `--emit marks` it writes your own text with the proposed create masks and forward bits; comments,
 labels and layout stay as they are. With `--in-place` that text takes the place of PROGRAM.
 
-Stops, releases and targets are yours to mend: `explain` of the proposed text says which.
+Stops, releases and targets are yours to mend. With `--report` standard error is told what is left of them,
+as `explain` says it of the proposed text, and how much it is:
+  multiscalar: PROGRAM: N left to mend by hand
+  multiscalar: PROGRAM: all marks are right
+Where standard error is a terminal, it is told without being asked, if anything is left.
 
 For example, a certificate of the program as it stands:
   ./multiscalar annotate --emit keep examples/count/program.s
@@ -288,6 +292,9 @@ pub const OUTPUT: &str =
 /// `--in-place`.
 pub const IN_PLACE: &str =
     "Writes the text with the proposed marks to PROGRAM itself, whole or not at all";
+
+/// `--report`.
+pub const REPORT: &str = "Says on standard error what is left to mend by hand, and how much it is";
 
 /// Why words with `--in-place` give no job.
 pub const NOT_IN_PLACE: &str =

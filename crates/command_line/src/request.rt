@@ -15,4 +15,6 @@ pub struct Request {
     /// `check --least` and of `explain`; of every other job none. Where there is one, the job has no certificate
     /// in a file and no log in SARIF, and `output` is `None`.
     pub further: Vec<String>,
+    /// Whether standard error is to be told what `annotate` leaves to mend by hand; of every other job not.
+    pub report: bool,
 }

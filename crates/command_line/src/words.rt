@@ -94,6 +94,7 @@ fn read_request(alloc: Global, name: &str, values: &ArgMatches<'_>) -> Result<Re
         paths,
         output,
         further,
+        report: is_given(values, "report"),
     })
 }
 

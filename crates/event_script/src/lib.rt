@@ -7,5 +7,5 @@ mod fault_text;
 pub mod laws;
 mod name_key;
 pub mod reading;
-mod task_names;
+pub mod task_names;
 pub mod writing;

@@ -41,7 +41,8 @@ fn number_of(word: &[u8]) -> Option<u32>
     Some(number)
 }
 
-fn register_of(word: &[u8]) -> Option<Reg>
+/// The register that a word spells: `$` and its number, 0 to 33.
+pub fn register_of(word: &[u8]) -> Option<Reg>
     ensures { result ≡ register_in word.now }
 {
     if word.is_empty() || word[0] != b'$' {
@@ -167,7 +168,7 @@ fn with_two(verb: &[u8], first: &[u8], second: &[u8]) -> Result<Event, LineFault
 }
 
 /// The event that a line spells, which is given without its LF.
-pub(crate) fn event_of(names: &TaskNames, line: &[u8]) -> Result<Event, LineFault>
+pub fn event_of(names: &TaskNames, line: &[u8]) -> Result<Event, LineFault>
     requires { length names.now ≤ 1024 }
     ensures { result ≡ event_in names.now line.now }
 {

@@ -10,7 +10,7 @@ use task_descriptor::name::Name;
 /// The names of the tasks of a program, in their order: a name's number is found without comparing it with
 /// every other one.
 #[derive(Drop)]
-pub(crate) struct TaskNames {
+pub struct TaskNames {
     // Texts, not names: a text is hashed up to 16 bytes at a time, and compared as bytes.
     names: IndexSet<String, NameKey>,
 }
@@ -30,7 +30,7 @@ impl TaskNames {
     ghost use Rattle.event_script.specs.EventScript.{names_in};
 
     /// The names of tasks of which no two have one name. The error says that memory was refused.
-    pub(crate) fn of(alloc: Global, tasks: &[Descriptor]) -> Result<TaskNames, AllocError>
+    pub fn of(alloc: Global, tasks: &[Descriptor]) -> Result<TaskNames, AllocError>
         requires { has_duplicate tasks.now ≡ false }
         ensures { IfOk result (λ names. names ≡ names_in tasks.now) }
     {
@@ -42,7 +42,7 @@ impl TaskNames {
     }
 
     /// The number of the task of this name, if there is one.
-    pub(crate) fn number_of(&self, name: &Name) -> Option<usize>
+    pub fn number_of(&self, name: &Name) -> Option<usize>
         ensures number { result ≡ position (λ other. bytes_eq other name.now) self.now }
         ensures within { IfSome result (λ number. number < length self.now) }
     {

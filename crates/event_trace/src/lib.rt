@@ -8,7 +8,7 @@ mod instruction;
 pub mod places;
 mod registers;
 pub mod telling;
-mod text;
+pub mod text;
 pub mod told;
 pub mod trace;
 pub mod unit_change;

@@ -15,14 +15,14 @@ use std::alloc::AllocError;
 use task_descriptor::program::Program;
 
 /// Adds an address.
-pub(crate) fn write_address(text: &mut String, address: u32) -> Result<(), AllocError>
+pub fn write_address(text: &mut String, address: u32) -> Result<(), AllocError>
     ensures { OnOk result (string_bytes text.new ≡ string_bytes text.old ++ address_text address) }
 {
     write!(text, "0x{address:x}")
 }
 
 /// Adds where the instruction of this index stands.
-fn write_place(text: &mut String, places: &[Position], index: u32) -> Result<(), AllocError>
+pub fn write_place(text: &mut String, places: &[Position], index: u32) -> Result<(), AllocError>
     ensures { OnOk result (string_bytes text.new ≡ string_bytes text.old ++ place_text places.now index) }
 {
     match places.get(index as usize) {
@@ -35,7 +35,7 @@ fn write_place(text: &mut String, places: &[Position], index: u32) -> Result<(),
 }
 
 /// Adds where an exit leads to.
-fn write_exit(
+pub fn write_exit(
     text: &mut String,
     program: &Program,
     places: &[Position],
@@ -50,7 +50,7 @@ fn write_exit(
 }
 
 /// Adds a register with its word.
-pub(crate) fn write_register(text: &mut String, register: Reg, word: u32) -> Result<(), AllocError>
+pub fn write_register(text: &mut String, register: Reg, word: u32) -> Result<(), AllocError>
     ensures { OnOk result (string_bytes text.new ≡ string_bytes text.old ++ register_text register word) }
 {
     let number = register.get();
@@ -58,7 +58,7 @@ pub(crate) fn write_register(text: &mut String, register: Reg, word: u32) -> Res
 }
 
 /// Adds how a run stands.
-pub(crate) fn write_ending(text: &mut String, standing: Standing) -> Result<(), AllocError>
+pub fn write_ending(text: &mut String, standing: Standing) -> Result<(), AllocError>
     ensures { OnOk result (string_bytes text.new ≡ string_bytes text.old ++ ending_text standing) }
 {
     match standing {
@@ -73,7 +73,7 @@ pub(crate) fn write_ending(text: &mut String, standing: Standing) -> Result<(), 
 }
 
 /// Adds a unit, by its position and by the name of its task.
-fn write_unit(
+pub fn write_unit(
     text: &mut String,
     program: &Program,
     position: u32,
@@ -221,7 +221,7 @@ fn write_numbered(
 /// Adds the event of this number, which the machine took, in the words of a script, and under it what it
 /// changed. `places` has for each instruction of the program where it stands in the program text; one that
 /// it lacks is told by its index. An error says that memory was refused.
-pub(crate) fn write_taken(
+pub fn write_taken(
     text: &mut String,
     program: &Program,
     places: &[Position],
@@ -238,7 +238,7 @@ pub(crate) fn write_taken(
 
 /// Adds the event of this number, which the machine refused, in the words of a script, and the reason. An
 /// error says that memory was refused.
-pub(crate) fn write_refused(
+pub fn write_refused(
     text: &mut String,
     program: &Program,
     number: usize,

@@ -1,2 +1,5 @@
+pub mod Inputs
+pub mod Beside
+pub mod Explained
 pub mod ExplainText
 pub mod LogText

@@ -1,31 +1,20 @@
-//! The job `explain`.
-ghost use Rattle.std.specs.Prelude.{◌≡◌, ◌&&◌, ◌++◌, Ok, IfOk};
+//! The job `explain`, where it writes text.
+ghost use Rattle.std.specs.Prelude.{◌≡◌, [], map as each, None, IfOk};
 ghost use Rattle.std.specs.Option.{option_map};
 ghost use Rattle.std.specs.String.{string_bytes};
-ghost use Rattle.annotated_asm.specs.ProgramText.{parse};
-ghost use Rattle.mask_certificate.specs.CertificateReading.{cert_parse, names_of};
-ghost use Rattle.mark_checker.specs.Rules.{all_rules};
-ghost use Rattle.annotator.specs.Least.{IsLeast};
-ghost use Rattle.certificate_remarks.specs.Remarks.{fitting_text};
-ghost use Rattle.explain_report.specs.ExplainText.{AreWarningsSaid, IsCertificateSaid, IsExplainReport, IsFittingSaid, IsProgramExplained, IsReadSaid, is_silent, said_status};
+ghost use Rattle.diagnostics.specs.TextForm.{text_form};
+ghost use Rattle.diagnostics.specs.declared.colour.Colour.TheVariants.{Never};
+ghost use Rattle.explain_report.specs.ExplainText.{IsExplainReport, explained_text, named_texts};
 
-use annotated_asm::assembler::assemble;
-use annotated_asm::fault::AsmFault;
-use annotator::certify::certify;
-use certificate_remarks::fitting::fitting;
-use certificate_remarks::refused::refused;
-use diagnostic_text::diagnostics;
+use crate::explained::explained;
+use crate::inputs::{file_lines, file_name, joined, lines_of};
+use diagnostics::colour::Colour;
+use diagnostics::diagnostic::Diagnostic;
+use diagnostics::files::{Files, TextFile};
+use diagnostics::text::text_of;
 use jobs::job::Texts;
-use mark_checker::check::verdict;
-use mask_certificate::certificate::Cert;
-use mask_certificate::fault::CertFault;
-use refusal_text::refusal::refusal;
-use report_texts::judging::read;
 use report_texts::report::Report;
 use std::alloc::{AllocError, Global};
-use task_descriptor::program::Program;
-use text_pieces::text::Text;
-use warning_text::warnings::warnings;
 
 /// What `explain` writes of a program text, whose file has this name, with warnings or without, and of the
 /// text of a certificate, if a file of one is named.
@@ -44,184 +33,56 @@ pub fn explain(
         texts.now.program.items texts.now.certificate report) }
 {
     let text = texts.program.as_slice();
-    match assemble(alloc, text) {
-        Ok(program) => explain_program(
-            alloc,
-            name,
-            file,
-            warnings,
-            text,
-            &texts.certificate,
-            &program,
-        ),
-        Err(AsmFault::OutOfMemory) => Err(AllocError),
-        Err(fault) => Ok(Report::new(refusal(alloc, name, text, fault)?.into_bytes(), 1)),
-    }
+    let certificate = joined(alloc, &texts.certificate)?;
+    let explained = explained(alloc, file, warnings, text, &certificate)?;
+    let said = explained_text(
+        alloc,
+        name,
+        file,
+        text,
+        &certificate,
+        explained.said.as_slice(),
+    )?;
+    Ok(Report::new(said.into_bytes(), explained.status))
 }
 
-// What is said of the program that a text spells: of its marks, and then of the certificate.
-fn explain_program(
+/// What is said of a program text in a file of this name, and of a certificate, if a file of one is named, in text form.
+///
+/// # Errors
+///
+/// `AllocError` where memory was refused.
+pub fn explained_text(
     alloc: Global,
     name: &str,
     file: &Option<String>,
-    warnings: bool,
     text: &[u8],
-    certificate: &Text,
-    program: &Program,
-) -> Result<Report, AllocError>
-    requires { parse text.now ≡ Ok program.now }
-    ensures { IfOk result (λ report. IsProgramExplained name.now (option_map string_bytes file.now) warnings
-        text.now certificate.now program.now report) }
-{
-    let least = certify(alloc, program)?;
-    let marks = diagnostics::explain(alloc, name, text, program, &least)?;
-    let asked = is_asked(warnings, marks.as_str());
-    let costly = explain_costly(alloc, name, text, program, &least, asked)?;
-    let beside = explain_certificate(alloc, name, file, program, &least, certificate)?;
-    let said = report_of(marks, costly.as_str(), beside.as_str())?;
-    Ok(said)
-}
-
-// The report of what is said of marks, of marks that cost speed, and of the certificate.
-fn report_of(mut marks: String, costly: &str, beside: &str) -> Result<Report, AllocError>
-    ensures bytes { IfOk result (λ report. report.bytes ≡ string_bytes marks ++ (costly.now ++ beside.now)) }
-    ensures status { IfOk result (λ report. report.status ≡ said_status (string_bytes marks ++ beside.now)) }
-{
-    let status = status_of(marks.as_str(), beside);
-    marks.push_str(costly)?;
-    marks.push_str(beside)?;
-    Ok(Report::new(marks.into_bytes(), status))
-}
-
-// What is said of marks that cost speed, where that is asked for.
-fn explain_costly(
-    alloc: Global,
-    name: &str,
-    text: &[u8],
-    program: &Program,
-    least: &Cert,
-    asked: bool,
+    certificate: &[u8],
+    said: &[Diagnostic],
 ) -> Result<String, AllocError>
-    requires spelled { parse text.now ≡ Ok program.now }
-    requires least { IsLeast program.now least.now }
-    ensures { IfOk result (λ said. AreWarningsSaid asked name.now text.now program.now (string_bytes said)) }
+    ensures { IfOk result (λ words. string_bytes words
+        ≡ explained_text name.now (option_map string_bytes file.now) text.now certificate.now said.now) }
 {
-    if asked {
-        warnings(alloc, name, text, program, least)
-    } else {
-        Ok(String::new(alloc))
-    }
+    let rows = lines_of(alloc, text)?;
+    let beside = file_lines(alloc, file, certificate)?;
+    text_with(alloc, name, &rows, file_name(file), &beside, said)
 }
 
-// What is said of a certificate, if a file of one is named.
-fn explain_certificate(
+// The text form of what is said of texts with these names and lines.
+fn text_with(
     alloc: Global,
     name: &str,
-    file: &Option<String>,
-    program: &Program,
-    least: &Cert,
-    certificate: &Text,
-) -> Result<String, AllocError>
-    requires { IsLeast program.now least.now }
-    ensures { IfOk result (λ said. IsCertificateSaid name.now (option_map string_bytes file.now)
-        program.now certificate.now (string_bytes said)) }
-{
-    match file {
-        Some(file) => explain_text(alloc, name, file.as_str(), program, least, certificate),
-        None => Ok(String::new(alloc)),
-    }
-}
-
-// What is said of the text of a certificate, in a file of this name.
-fn explain_text(
-    alloc: Global,
-    name: &str,
+    rows: &[&[u8]],
     file: &str,
-    program: &Program,
-    least: &Cert,
-    certificate: &Text,
+    beside: &[&[u8]],
+    said: &[Diagnostic],
 ) -> Result<String, AllocError>
-    requires { IsLeast program.now least.now }
-    ensures { IfOk result (λ said. IsReadSaid name.now file.now program.now
-        (cert_parse certificate.now (names_of program.now)) (string_bytes said)) }
+    ensures { IfOk result (λ words. string_bytes words
+        ≡ text_form Never (named_texts name.now (each (λ row. row.now) rows.now) file.now (each (λ row. row.now) beside.now)) said.now) }
 {
-    match read(alloc, certificate, program) {
-        Ok(cert) => explain_fitting(alloc, name, file, program, least, &cert),
-        Err(CertFault::OutOfMemory) => Err(AllocError),
-        Err(fault) => refused(alloc, name, file, fault),
-    }
-}
-
-// What is said of a certificate that could be read.
-fn explain_fitting(
-    alloc: Global,
-    name: &str,
-    file: &str,
-    program: &Program,
-    least: &Cert,
-    cert: &Cert,
-) -> Result<String, AllocError>
-    requires { IsLeast program.now least.now }
-    ensures { IfOk result (λ said. IsFittingSaid name.now file.now program.now cert.now (string_bytes said)) }
-{
-    let said = compare(alloc, name, file, program, cert, least)?;
-    Ok(said)
-}
-
-// What is said of a certificate beside another one. Not inlined, so that only a run with a certificate pays for
-// the room on the stack.
-#[inline(never)]
-fn compare(
-    alloc: Global,
-    name: &str,
-    file: &str,
-    program: &Program,
-    cert: &Cert,
-    least: &Cert,
-) -> Result<String, AllocError>
-    ensures { IfOk result (λ said. string_bytes said
-        ≡ fitting_text name.now file.now (all_rules program.now cert.now) (all_rules program.now least.now)) }
-{
-    let found = verdict(alloc, program, cert)?;
-    let wanted = verdict(alloc, program, least)?;
-    let found = found.findings.as_slice();
-    fitting(alloc, name, file, found, wanted.findings.as_slice())
-}
-
-// Whether nothing is said.
-fn is_silent(said: &str) -> bool
-    ensures { result ≡ is_silent said.now }
-{
-    match said.as_bytes() {
-        [] => true,
-        _ => false,
-    }
-}
-
-// Whether warnings are to be told: they are asked for, and nothing is said of the marks.
-fn is_asked(warnings: bool, marks: &str) -> bool
-    ensures { result ≡ (warnings && is_silent marks.now) }
-{
-    warnings && is_silent(marks)
-}
-
-// The status of what is said of the marks and of the certificate: 0 where it is nothing.
-fn status_of(marks: &str, beside: &str) -> u8
-    ensures { result ≡ said_status (marks.now ++ beside.now) }
-{
-    if is_silent(marks) {
-        status_alone(beside)
-    } else {
-        1
-    }
-}
-
-// The status of what is said: 0 where it is nothing.
-fn status_alone(said: &str) -> u8
-    ensures { result ≡ said_status said.now }
-{
-    match said.as_bytes() {
-        [] => 0,
-        _ => 1,
-    }
+    let files = Files::new(
+        TextFile::new(name, rows),
+        TextFile::new(file, beside),
+        TextFile::new("", &[]),
+    );
+    text_of(alloc, &files, said, Colour::Never)
 }

@@ -12,8 +12,8 @@ use Rattle.mark_checker.specs.declared.finding.Rule.TheVariants as rule
 use Rattle.canonical_text.specs.CanonicalText.{members}
 use Rattle.diagnostics.specs.declared.diagnostic.Diagnostic.{Diagnostic}
 use Rattle.diagnostics.specs.declared.diagnostic.Span.{Span}
-use Rattle.diagnostics.specs.Excerpt.{is_readable}
-use Rattle.diagnostics.specs.Quotations.{quoted}
+use Rattle.diagnostics.specs.Excerpt.{is_readable, letter_start}
+use Rattle.diagnostics.specs.Quotations.{as_shown, quoted}
 use Rattle.input_diagnostics.specs.ScriptErrors.{script_errors}
 use Rattle.input_diagnostics.specs.RefusedCertificates.{refused_error}
 use Rattle.input_diagnostics.specs.Misfits.{misfit_error}
@@ -39,7 +39,7 @@ right = refl
 
 pub nearest_task : map told (script_errors program (codes "retire\nassign LOPO\n"))
     ≡ (at 2 8 4, codes "the program has no task `LOPO`", Some (codes "did you mean LOOP?")) ∷ []
-unfolding digits is_readable is_utf8 chars encode quoted
+unfolding digits is_readable is_utf8 chars encode letter_start as_shown quoted
 nearest_task = refl
 
 -- each line
@@ -47,7 +47,7 @@ pub two_lines : map told (script_errors program (codes "exce 0\ntransfer 0 8"))
     ≡ (at 1 1 4, codes "`exce` begins no event", Some (codes "an event begins with assign, exec, transfer, drain, squash, retire, fault or drop"))
     ∷ (at 2 12 1, codes "`8` is no register", Some (codes "write $ and the register's number, from $0 to $33, without leading zeros"))
     ∷ []
-unfolding digits is_readable is_utf8 chars encode quoted
+unfolding digits is_readable is_utf8 chars encode letter_start as_shown quoted
 two_lines = refl
 
 pub missing_word : map told (script_errors program (codes "exec"))

@@ -6,7 +6,7 @@ use Rattle.event_script.specs.EventScript.{is_space, first_word, wrong_part, lin
 use Rattle.event_script.specs.declared.bad_line.BadLine.{BadLine}
 use Rattle.event_script.specs.declared.fault.LineFault.{LineFault}
 use Rattle.event_script.specs.declared.fault.LineFault.TheVariants.{NoEvent, TooFew, TooMany, NoPosition, NoRegister, NoName, NoTask}
-use Rattle.line_faults.specs.Near.{nearest}
+use Rattle.near_words.specs.Near.{nearest}
 use Rattle.diagnostics.specs.declared.code.Code.{Code}
 use Rattle.diagnostics.specs.declared.code.Code.TheVariants.{ScriptLine, ScriptTaskName}
 use Rattle.diagnostics.specs.declared.diagnostic.Diagnostic.{Diagnostic}

@@ -3,7 +3,7 @@
 ghost use Rattle.std.specs.Prelude.{◌≡◌, ◌↔◌, ◌<◌, ◌^◌, ◌++◌, [], length, map as each, false, IfOk, OnOk};
 ghost use Rattle.std.specs.Option.{option_map};
 ghost use Rattle.event_script.specs.EventScript.{names_in, script_of};
-ghost use Rattle.line_faults.specs.Near.{nearest};
+ghost use Rattle.near_words.specs.Near.{nearest};
 ghost use Rattle.input_diagnostics.specs.ScriptErrors.{form_help, slip_span, word_message, slip_message, near_task, task_help, word_help, word_remedy, slip_help, code_of, line_error, ends_with_return, said_of, script_errors, IsRead};
 
 use crate::lines::{lines_of, row_at};
@@ -18,7 +18,7 @@ use diagnostics::words::Words;
 use event_script::bad_line::{BadLine, bad_lines, first_word};
 use event_script::fault::LineFault;
 use event_script::laws::refused_for_the_first;
-use line_faults::near::is_near;
+use near_words::is_near;
 use std::alloc::{AllocError, Global};
 use task_descriptor::descriptor::Descriptor;
 use task_descriptor::program::Program;

@@ -3,21 +3,22 @@ use Rattle.std.proofs.Common.{◌≡◌, ◌++◌, ℕ, List, [], None, Ok, fals
 use Rattle.task_descriptor.specs.Listing.{Listing}
 use Rattle.annotated_asm.specs.ProgramText.{parse}
 use Rattle.report_texts.specs.OutputTexts.{Report}
-use Rattle.explain_report.specs.ExplainText.{IsExplainReport, IsProgramExplained, said_status}
+use Rattle.explain_report.specs.Explained.{IsProgramExplained, said_status}
+use Rattle.explain_report.specs.ExplainText.{IsExplainReport, explained_text}
 use Rattle.left_over.specs.LeftOvers.{IsLeftIn, closing_line}
 use Rattle.left_over.specs.declared.left.LeftOver.{LeftOver}
 
 program_explained : (name text certificate : List ℕ) (p : Listing) (left : LeftOver) (h : IsLeftIn name text p left)
-    → IsProgramExplained name None false text certificate p (record { bytes = h.marks; status = said_status h.marks })
+    → IsProgramExplained None false text certificate p (record { said = h.errors; status = said_status h.errors })
 program_explained name text certificate p left h = record {
-  marks = h.marks;
-  explained = h.explained;
-  costly = [];
-  warned = refl;
+  errors = h.errors;
+  wrong = h.wrong;
+  warned = [];
+  better = refl;
   beside = [];
   certified = refl;
-  bytes = sym (append-nil h.marks);
-  status = ap said_status (sym (append-nil h.marks));
+  said = sym (append-nil h.errors);
+  status = ap said_status (sym (append-nil h.errors));
 }
 
 -- without a certificate and without warnings
@@ -26,7 +27,12 @@ pub said_explained : (name text certificate : List ℕ) (p : Listing) (left : Le
     → (report : Report) × IsExplainReport name None false text certificate report
     × (left.said.items ≡ report.bytes ++ closing_line name left.count)
 said_explained name text certificate p left spelled h = (
-  record { bytes = h.marks; status = said_status h.marks },
-  rw spelled (program_explained name text certificate p left h),
+  record { bytes = explained_text name None text certificate h.errors; status = said_status h.errors },
+  record {
+    explained = record { said = h.errors; status = said_status h.errors };
+    is = rw spelled (program_explained name text certificate p left h);
+    bytes = refl;
+    status = refl;
+  },
   h.written,
 )

@@ -6,13 +6,15 @@ use Rattle.annotated_asm.specs.declared.fault.AsmFault.{AsmFault}
 use Rattle.annotated_asm.specs.ProgramText.{parse}
 use Rattle.mark_checker.specs.Rules.{all_rules}
 use Rattle.annotator.specs.Least.{IsLeast}
-use Rattle.diagnostic_text.specs.Diagnostics.{IsExplained}
+use Rattle.diagnostics.specs.declared.diagnostic.Diagnostic.{Diagnostic}
+use Rattle.mark_diagnostics.specs.Errors.{AreMarkErrors}
 use Rattle.jobs.specs.declared.job.Emit.{Emit}
 use Rattle.jobs.specs.declared.job.Emit.TheVariants.{Text, Cert, Keep, Marks}
 use Rattle.jobs.specs.declared.job.Job.{Job}
 use Rattle.jobs.specs.declared.job.Job.TheVariants.{Annotate}
 use Rattle.report_texts.specs.OutputTexts.{Report}
 use Rattle.report_texts.specs.AnnotateText.{IsAnnotateReport}
+use Rattle.explain_report.specs.ExplainText.{explained_text}
 use Rattle.left_over.specs.declared.left.LeftOver.{LeftOver}
 
 -- the last line: how much is left
@@ -30,10 +32,10 @@ pub record IsFindingCount (p : Listing) (count : ℕ) : Type 0 where
 -- What is left in a text that spells the program p, in a file of this name: its findings, which are counted, and of
 -- which `explain` says what it says.
 pub record IsLeftIn (name text : List ℕ) (p : Listing) (left : LeftOver) : Type 0 where
-  pub marks : List ℕ
-  pub explained : IsExplained name text marks
+  pub errors : List Diagnostic
+  pub wrong : AreMarkErrors text errors
   pub counted : IsFindingCount p left.count
-  pub written : left.said.items ≡ marks ++ closing_line name left.count
+  pub written : left.said.items ≡ explained_text name None text [] errors ++ closing_line name left.count
 
 abbrev pub IsLeftRead : (name text : List ℕ) → Result Listing AsmFault → Option LeftOver → Type 0
 IsLeftRead name text (Ok p) left = IsSomeAnd left (IsLeftIn name text p)

@@ -9,9 +9,10 @@ use crate::left::LeftOver;
 use annotated_asm::assembler::assemble;
 use annotated_asm::fault::AsmFault;
 use annotator::certify::certify;
-use diagnostic_text::diagnostics::explain;
+use explain_report::explaining::explained_text;
 use finding_paths::shown::shown_findings;
 use jobs::job::{Emit, Job};
+use mark_diagnostics::error::mark_errors;
 use mask_certificate::certificate::Cert;
 use report_texts::annotating::annotate;
 use std::alloc::{AllocError, Global};
@@ -93,7 +94,8 @@ fn left_in(
     ensures { IfOk result (λ left. IsLeftIn name.now text.now program.now left) }
 {
     let least = certify(alloc, program)?;
-    let mut said = explain(alloc, name, text, program, &least)?;
+    let errors = mark_errors(alloc, text, program, &least)?;
+    let mut said = explained_text(alloc, name, &None, text, &[], &errors)?;
     let count = finding_count(alloc, program, &least)?;
     write_closing(&mut said, name, count)?;
     Ok(LeftOver {

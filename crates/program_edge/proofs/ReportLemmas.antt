@@ -1,6 +1,7 @@
 -- What was written to memory that held nothing is the report; what becomes of it.
-use Rattle.std.proofs.Common.{◌≡◌, ◌∙◌, ap, ap₂, subst, sym, inl, inr, refl, ℕ, Bool, false, true, List, [], ◌∷◌, ◌++◌, ◌⊎◌, ◌==◌, length}
+use Rattle.std.proofs.Common.{◌≡◌, ◌∙◌, ap, ap₂, subst, sym, inl, inr, refl, ℕ, Bool, false, true, List, [], ◌∷◌, ◌++◌, ◌⊎◌, ◌==◌, ◌||◌, length}
 use Rattle.std.specs.Prelude.{Some}
+use Rattle.std.specs.Io.KnownBytes.{Keeps}
 use Rattle.jobs.specs.declared.job.Job.{Job}
 use Rattle.jobs.specs.declared.job.Texts.{Texts}
 use Rattle.report_texts.specs.OutputTexts.{Report}
@@ -20,7 +21,7 @@ use Rattle.command_line.specs.declared.request.Request.{Request}
 use Rattle.std.proofs.lemmas.Bool.{eqb-true, false≢true}
 use Rattle.std.proofs.lemmas.List.{nil_from_length}
 use Rattle.program_edge.specs.Streams.{IsBroken, World}
-use Rattle.program_edge.specs.Hints.{IsSaid, hint_for}
+use Rattle.program_edge.specs.Beside.{Audience, IsBeside}
 use Rattle.program_edge.specs.Refusals.{is_refusal}
 use Rattle.verdict_report.specs.declared.fault.ServeFault.{ServeFault}
 use Rattle.verdict_report.specs.declared.fault.ServeFault.TheVariants as serve
@@ -47,15 +48,18 @@ not_kept watched hint path name reason report ending old new is stays others tol
 })
 
 -- a report that standard output took is that of a job that was done; one that it did not take, of a job that was not
-pub shown : (hint : Report → List ℕ) (job : Job) (texts : Texts) (report : Report) (said : List ℕ) (ending : Ending) (old new : World)
-    → said ≡ hint report → IsReportOf job texts report → IsShown said report ending old new ⊎ IsBroken report ending old new
-    → IsJobDone hint job texts ending old new ⊎ IsNotDone job texts ending old new
-shown hint job texts report said ending old new is right (inl h) = inl (record {
+pub shown : (audience : Audience) (job : Job) (texts : Texts) (report : Report) (said : List ℕ) (ending : Ending) (old new : World)
+    → IsBeside audience job texts.program.items report said → IsReportOf job texts report
+    → IsShown said report ending old new ⊎ IsBroken report ending old new
+    → IsJobDone audience job texts ending old new ⊎ IsNotDone job texts ending old new
+shown audience job texts report said ending old new told right (inl h) = inl (record {
   done = record { report = report; right = right; answered = h.answered; written = h.written };
-  said = subst (λ l. IsSaid l ending.is_told old.errors new.errors) is h.said;
+  beside = said;
+  told = told;
+  said = h.said;
   files = h.files;
 })
-shown hint job texts report said ending old new is right (inr h) = inr (record {
+shown audience job texts report said ending old new told right (inr h) = inr (record {
   fault = serve.Write;
   output = h.output;
   nothing = λ other. absurd (other refl);
@@ -64,14 +68,35 @@ shown hint job texts report said ending old new is right (inr h) = inr (record {
   files = h.files;
 })
 
-pub put : (watched : Bool) (hint : Report → List ℕ) (job : Job) (path : String Global) (texts : Texts) (report : Report) (said : List ℕ) (ending : Ending) (old new : World)
-    → said ≡ hint report → IsReportOf job texts report
+pub put : (watched : Bool) (audience : Audience) (job : Job) (path : String Global) (texts : Texts) (report : Report) (said : List ℕ) (ending : Ending) (old new : World)
+    → IsBeside audience job texts.program.items report said → IsReportOf job texts report
     → IsTaken watched (is_refusal job report.status report.bytes) said path report ending old new
-    → IsPut watched hint job path texts ending old new
-put watched hint job path texts report said ending old new is right taken = record {
+    → IsPut watched audience job path texts ending old new
+put watched audience job path texts report said ending old new told right taken = record {
   report = report;
   right = right;
-  taken = subst (λ l. IsTaken watched (is_refusal job report.status report.bytes) l path report ending old new) is taken;
+  beside = said;
+  told = told;
+  taken = taken;
+}
+
+-- where nobody listens, nothing is said
+unheard : (t w : Bool) (name : List ℕ) (job : Job) (program : List ℕ) (written : Report) → (t || w) ≡ false
+    → IsBeside (record { is_terminal = t; wants_rest = w; name = name }) job program written []
+unheard false false name job program written h = record { rest = []; left = refl; both = refl }
+unheard false true name job program written h = absurd (cc)
+unheard true w name job program written h = absurd (cc)
+
+-- a job was done whose report standard output took, where nobody listens
+pub done_unheard : (audience : Audience) (job : Job) (texts : Texts) (ending : Ending) (old new : World)
+    → (audience.is_terminal || audience.wants_rest) ≡ false → IsDone job texts ending.status old.output new.output
+    → ending.is_told ≡ true → Keeps old.errors new.errors → Same old.files new.files → IsJobDone audience job texts ending old new
+done_unheard audience job texts ending old new h done is_told kept same = record {
+  done = done;
+  beside = [];
+  told = unheard audience.is_terminal audience.wants_rest audience.name job texts.program.items done.report h;
+  said = (is_told, kept);
+  files = same;
 }
 
 memory_is_no_write : serve.OutOfMemory ≡ serve.Write → ⊥
@@ -89,11 +114,6 @@ not_done job texts fault ending old new is told same = record {
   told = told;
   files = same;
 }
-
--- the hint for a name that is the file's
-pub hint_named : (is_terminal : Bool) (job : Job) (name file : List ℕ) (report : Report) (said : List ℕ) → name ≡ file
-    → said ≡ hint_for is_terminal job name report → said ≡ hint_for is_terminal job file report
-hint_named is_terminal job name file report said same is = is ∙ ap (λ (n : List ℕ). hint_for is_terminal job n report) same
 
 -- a request with no further program, and one with further ones
 pub alone : (watched t : Bool) (known : List ℕ → Known) (request : Request) (items names : List (String Global)) (b : Bool) (ending : Ending) (old new : World)

@@ -19,7 +19,8 @@ use Rattle.program_edge.specs.declared.unread.Unread.{Unread}
 use Rattle.program_edge.specs.declared.told.Ending.{Ending}
 use Rattle.program_edge.specs.FileTexts.{Known, AreTextsOf}
 use Rattle.program_edge.specs.Asking.{KnownWords, IsAskedOf}
-use Rattle.program_edge.specs.Hints.{IsSaid, hint_for}
+use Rattle.program_edge.specs.Beside.{Audience, IsBeside}
+use Rattle.program_edge.specs.Hints.{IsSaid}
 use Rattle.program_edge.specs.Refusals.{is_refusal}
 use Rattle.program_edge.specs.Several.{IsEach}
 use Rattle.program_edge.specs.Streams.{IsBroken, IsToldAlone, World}
@@ -35,26 +36,29 @@ pub record IsNotDone (job : Job) (texts : Texts) (ending : Ending) (old new : Wo
   pub told : IsTold (Serve fault) ending.status ending.is_told output new.output old.errors new.errors
   pub files : Same old.files new.files
 
--- the job was done: its report was added to standard output, its hint to standard error, and nothing to a file
-pub record IsJobDone (hint : Report → List ℕ) (job : Job) (texts : Texts) (ending : Ending) (old new : World) : Type 0 where
+-- the job was done: its report was added to standard output, to standard error what is said beside it, and nothing
+-- to a file
+pub record IsJobDone (audience : Audience) (job : Job) (texts : Texts) (ending : Ending) (old new : World) : Type 0 where
   pub done : IsDone job texts ending.status old.output new.output
-  pub said : IsSaid (hint done.report) ending.is_told old.errors new.errors
+  pub beside : List ℕ
+  pub told : IsBeside audience job texts.program.items done.report beside
+  pub said : IsSaid beside ending.is_told old.errors new.errors
   pub files : Same old.files new.files
 
--- standard output took a report, and standard error its hint
-pub record IsShown (hint : List ℕ) (report : Report) (ending : Ending) (old new : World) : Type 0 where
+-- standard output took a report, and standard error what is said beside it
+pub record IsShown (beside : List ℕ) (report : Report) (ending : Ending) (old new : World) : Type 0 where
   pub answered : ending.status ≡ report.status
   pub written : Appends old.output new.output report.bytes
-  pub said : IsSaid hint ending.is_told old.errors new.errors
+  pub said : IsSaid beside ending.is_told old.errors new.errors
   pub files : Same old.files new.files
 
--- the file took the report, and holds nothing else; standard error took its hint
-pub record IsKept (watched : Bool) (hint : List ℕ) (path : String Global) (report : Report) (ending : Ending) (old new : World) : Type 0 where
+-- the file took the report, and holds nothing else; standard error took what is said beside it
+pub record IsKept (watched : Bool) (beside : List ℕ) (path : String Global) (report : Report) (ending : Ending) (old new : World) : Type 0 where
   pub answered : ending.status ≡ report.status
   pub kept : watched ≡ true → new.files (string_bytes path) ≡ Some report.bytes
   pub others : ChangesAt old.files new.files (string_bytes path)
   pub silent : Keeps old.output new.output
-  pub said : IsSaid hint ending.is_told old.errors new.errors
+  pub said : IsSaid beside ending.is_told old.errors new.errors
 
 -- the file did not take the report: it is as it was, and why is told
 pub record IsNotKept (path : String Global) (ending : Ending) (old new : World) : Type 0 where
@@ -64,25 +68,27 @@ pub record IsNotKept (path : String Global) (ending : Ending) (old new : World) 
   pub told : IsTold (NotWritten path reason) ending.status ending.is_told old.output new.output old.errors new.errors
 
 -- what becomes of a report that a file is to take: a refusal goes to standard output
-abbrev pub IsTaken : (watched refused : Bool) → (hint : List ℕ) → (path : String Global) → Report → Ending → World → World → Type 0
-IsTaken watched true hint path report ending old new = IsShown hint report ending old new ⊎ IsBroken report ending old new
-IsTaken watched false hint path report ending old new = IsKept watched hint path report ending old new ⊎ IsNotKept path ending old new
+abbrev pub IsTaken : (watched refused : Bool) → (beside : List ℕ) → (path : String Global) → Report → Ending → World → World → Type 0
+IsTaken watched true beside path report ending old new = IsShown beside report ending old new ⊎ IsBroken report ending old new
+IsTaken watched false beside path report ending old new = IsKept watched beside path report ending old new ⊎ IsNotKept path ending old new
 
 -- the job was done, and a file is to take its report
-pub record IsPut (watched : Bool) (hint : Report → List ℕ) (job : Job) (path : String Global) (texts : Texts) (ending : Ending) (old new : World) : Type 0 where
+pub record IsPut (watched : Bool) (audience : Audience) (job : Job) (path : String Global) (texts : Texts) (ending : Ending) (old new : World) : Type 0 where
   pub report : Report
   pub right : IsReportOf job texts report
-  pub taken : IsTaken watched (is_refusal job report.status report.bytes) (hint report) path report ending old new
+  pub beside : List ℕ
+  pub told : IsBeside audience job texts.program.items report beside
+  pub taken : IsTaken watched (is_refusal job report.status report.bytes) beside path report ending old new
 
 -- the job was done, with its report where it was asked for
-abbrev pub IsDelivered : (watched : Bool) → (hint : Report → List ℕ) → Option (String Global) → Job → Texts → Ending → World → World → Type 0
-IsDelivered watched hint None job texts ending old new = IsJobDone hint job texts ending old new
-IsDelivered watched hint (Some path) job texts ending old new = IsPut watched hint job path texts ending old new
+abbrev pub IsDelivered : (watched : Bool) → Audience → Option (String Global) → Job → Texts → Ending → World → World → Type 0
+IsDelivered watched audience None job texts ending old new = IsJobDone audience job texts ending old new
+IsDelivered watched audience (Some path) job texts ending old new = IsPut watched audience job path texts ending old new
 
--- the hint names the program's file; `is_terminal` says whether standard error is a terminal
+-- what is said beside the report names the program's file; `is_terminal` says whether standard error is a terminal
 abbrev pub IsServed : (watched is_terminal : Bool) → Request → Result Texts Unread → Ending → World → World → Type 0
 IsServed watched is_terminal request (Ok texts) ending old new =
-    IsDelivered watched (λ report. hint_for is_terminal request.job (string_bytes request.paths.program) report) request.output request.job texts ending old new
+    IsDelivered watched (record { is_terminal = is_terminal; wants_rest = request.report; name = string_bytes request.paths.program }) request.output request.job texts ending old new
     ⊎ IsNotDone request.job texts ending old new
 IsServed watched is_terminal request (Err unread) ending old new = IsToldAlone (unread_fault request.job unread) ending old new
 

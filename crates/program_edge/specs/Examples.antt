@@ -1,6 +1,6 @@
 -- Worked examples, computed by the checker: names of standard input, the lines that tell a fault, what is no
--- result for a file, and what a terminal is told beside a result.
-use Rattle.std.specs.Prelude.{◌≡◌, ℕ, List, Bool, Option, true, false, [], ◌∷◌, ◌++◌, codes}
+-- result for a file, and what standard error is told beside a result.
+use Rattle.std.specs.Prelude.{◌≡◌, ℕ, List, Bool, Option, true, false, [], ◌∷◌, ◌++◌, codes, Some}
 use Rattle.std.specs.String.{string_bytes}
 use Rattle.std.specs.declared.io.ErrorKind.TheVariants as kind
 use Rattle.std.proofs.Common.{refl}
@@ -15,7 +15,9 @@ use Rattle.report_texts.specs.OutputTexts.{Report}
 use Rattle.std.specs.declared.string.String.{String}
 use Rattle.std.specs.declared.alloc.Global.{Global}
 use Rattle.whole_file.specs.declared.unwritten.Unwritten.TheVariants.{NoSuchFolder}
+use Rattle.left_over.specs.declared.left.LeftOver.{LeftOver}
 use Rattle.program_edge.specs.Asking.{input_of}
+use Rattle.program_edge.specs.Beside.{rest_said}
 use Rattle.program_edge.specs.FileTexts.{but_there, opening_reason}
 use Rattle.program_edge.specs.Hints.{hint_for, hint_of}
 use Rattle.program_edge.specs.Refusals.{is_refusal}
@@ -95,3 +97,10 @@ explained name certificate warnings format text = refl
 
 pub no_terminal : (job : Job) (report : Report) → hint_for false job (codes "a.s") report ≡ []
 no_terminal job report = refl
+
+-- where nothing is left, only who asks hears of it
+pub asked : (left : LeftOver) → rest_said true (Some left) ≡ left.said.items
+asked left = refl
+
+pub unasked : (left : LeftOver) → left.count ≡ 0 → rest_said false (Some left) ≡ []
+unasked left none = rw (none) refl

@@ -4,6 +4,7 @@ pub mod Refusals
 pub mod Hints
 pub mod Telling
 pub mod Asking
+pub mod Beside
 pub mod Streams
 pub mod Summaries
 pub mod Several

@@ -1,9 +1,7 @@
 //! From what was asked and its files to what is written and the status.
 ghost use Rattle.std.specs.Prelude.{◌≡◌, ◌⊎◌, ◌∷◌, IfOk, false};
-ghost use Rattle.std.specs.String.{string_bytes};
 ghost use Rattle.whole_file.specs.Files.{Files};
 ghost use Rattle.program_edge.specs.Answering.{IsAnswered, IsAnsweredFor, IsDelivered, IsJobDone, IsNotDone, IsPut, IsRead, IsShown, IsTaken};
-ghost use Rattle.program_edge.specs.Hints.{hint_for};
 ghost use Rattle.program_edge.specs.Refusals.{is_refusal};
 ghost use Rattle.program_edge.specs.Several.{IsEach};
 ghost use Rattle.program_edge.specs.Streams.{IsBroken};
@@ -12,8 +10,9 @@ ghost use Rattle.program_edge.specs.Telling.{unread_fault};
 use crate::each::answer_each;
 use crate::fault::Fault;
 use crate::named_files::NamedFiles;
+use crate::reader::{Reader, told_report};
 use crate::refusal::is_refusal;
-use crate::reports::{Written, hinted_report};
+use crate::reports::Written;
 use crate::streams::{say, write_whole};
 use crate::texts::{NamedTexts, read_texts};
 use crate::told::{Ending, tell};
@@ -50,8 +49,8 @@ pub fn answer<F: NamedFiles, D: Folder, O: Write, E: Write, R: Threads + Wait + 
 /// Does the job that was asked for, with the texts of its files: its report goes to `output`, or to the file of
 /// `folder` that was asked for, and the status is the report's. A text that is refused gives no result, and so
 /// changes no file. Where `errors` is a terminal, a report that refuses a text, or that is of a run that trapped or
-/// ended as unlisted, gets one line there. The first fault ends it, and is told. `check` and `run` make threads. (own
-/// choice)
+/// ended as unlisted, gets one line there; and there, or where it is asked for, what `annotate` leaves to mend by hand
+/// is told. The first fault ends it, and is told. `check` and `run` make threads. (own choice)
 pub fn answer_reader<F: NamedFiles, D: Folder, O: Write, E: Write, R: Threads + Wait + Sync>(
     rt: &R,
     alloc: Global,
@@ -132,10 +131,15 @@ fn answer_request<F: NamedFiles, D: Folder, O: Write, E: Write, R: Threads + Wai
         paths,
         output: place,
         further: _,
+        report: wants_rest,
     } = request;
     match read_texts(rt, alloc, files, &job, paths) {
         Ok(NamedTexts { name, texts }) => {
-            let reader = Reader { is_terminal, name };
+            let reader = Reader {
+                is_terminal,
+                wants_rest,
+                name,
+            };
             deliver(
                 rt, alloc, &job, &texts, place, &reader, folder, output, errors,
             )
@@ -163,6 +167,7 @@ fn answer_several<F: NamedFiles, O: Write, E: Write, R: Threads + Wait + Sync>(
         paths,
         output: _,
         further,
+        report: _,
     } = request;
     match names_of(further, paths.program) {
         Ok(names) => answer_each(
@@ -201,13 +206,6 @@ fn fault_of_file(job: &Job, unread: Unread) -> Fault
     }
 }
 
-// Who reads standard error, and the name of the program's file.
-#[derive(Drop)]
-struct Reader {
-    is_terminal: bool,
-    name: String,
-}
-
 // Does a job with its texts; its report goes to a file, if there is one.
 fn deliver<D: Folder, O: Write, E: Write, R: Threads + Wait + Sync>(
     rt: &R,
@@ -220,8 +218,7 @@ fn deliver<D: Folder, O: Write, E: Write, R: Threads + Wait + Sync>(
     output: &mut O,
     errors: &mut E,
 ) -> Ending
-    ensures { IsDelivered D.is_watched (λ report. hint_for reader.now.is_terminal job.now (string_bytes reader.now.name) report)
-        place job.now texts.now result
+    ensures { IsDelivered D.is_watched reader.now place job.now texts.now result
         record { output = O.contents output.old; errors = E.contents errors.old; files = D.known folder.old }
         record { output = O.contents output.new; errors = E.contents errors.new; files = D.known folder.new }
         ⊎ IsNotDone job.now texts.now result
@@ -246,22 +243,14 @@ fn put<D: Folder, O: Write, E: Write, R: Threads + Wait + Sync>(
     output: &mut O,
     errors: &mut E,
 ) -> Ending
-    ensures { IsPut D.is_watched (λ report. hint_for reader.now.is_terminal job.now (string_bytes reader.now.name) report)
-        job.now path texts.now result
+    ensures { IsPut D.is_watched reader.now job.now path texts.now result
         record { output = O.contents output.old; errors = E.contents errors.old; files = D.known folder.old }
         record { output = O.contents output.new; errors = E.contents errors.new; files = D.known folder.new }
         ⊎ IsNotDone job.now texts.now result
         record { output = O.contents output.old; errors = E.contents errors.old; files = D.known folder.old }
         record { output = O.contents output.new; errors = E.contents errors.new; files = D.known folder.new } }
 {
-    match hinted_report(
-        rt,
-        alloc,
-        job,
-        texts,
-        reader.is_terminal,
-        reader.name.as_str(),
-    ) {
+    match told_report(rt, alloc, job, texts, reader) {
         Ok(hinted) => {
             let hint = hinted.hint.as_slice();
             take(
@@ -279,7 +268,7 @@ fn put<D: Folder, O: Write, E: Write, R: Threads + Wait + Sync>(
     }
 }
 
-// Does a job of which standard output takes the report. Where there is no hint, it need not be kept.
+// Does a job of which standard output takes the report. Where nothing is said beside it, it need not be kept.
 fn write_out<O: Write, E: Write, R: Threads + Wait + Sync>(
     rt: &R,
     alloc: Global,
@@ -289,15 +278,14 @@ fn write_out<O: Write, E: Write, R: Threads + Wait + Sync>(
     output: &mut O,
     errors: &mut E,
 ) -> Ending
-    ensures { (files : Files) → IsJobDone (λ report. hint_for reader.now.is_terminal job.now (string_bytes reader.now.name) report)
-        job.now texts.now result
+    ensures { (files : Files) → IsJobDone reader.now job.now texts.now result
         record { output = O.contents output.old; errors = E.contents errors.old; files = files }
         record { output = O.contents output.new; errors = E.contents errors.new; files = files }
         ⊎ IsNotDone job.now texts.now result
         record { output = O.contents output.old; errors = E.contents errors.old; files = files }
         record { output = O.contents output.new; errors = E.contents errors.new; files = files } }
 {
-    if reader.is_terminal {
+    if reader.listens() {
         return show_hinted(rt, alloc, job, texts, reader, output, errors);
     }
     match serve(rt, alloc, job, texts, output) {
@@ -309,7 +297,7 @@ fn write_out<O: Write, E: Write, R: Threads + Wait + Sync>(
     }
 }
 
-// Does a job of which standard output takes the report, and standard error the hint.
+// Does a job of which standard output takes the report, and standard error what is said beside it.
 fn show_hinted<O: Write, E: Write, R: Threads + Wait + Sync>(
     rt: &R,
     alloc: Global,
@@ -319,22 +307,14 @@ fn show_hinted<O: Write, E: Write, R: Threads + Wait + Sync>(
     output: &mut O,
     errors: &mut E,
 ) -> Ending
-    ensures { (files : Files) → IsJobDone (λ report. hint_for reader.now.is_terminal job.now (string_bytes reader.now.name) report)
-        job.now texts.now result
+    ensures { (files : Files) → IsJobDone reader.now job.now texts.now result
         record { output = O.contents output.old; errors = E.contents errors.old; files = files }
         record { output = O.contents output.new; errors = E.contents errors.new; files = files }
         ⊎ IsNotDone job.now texts.now result
         record { output = O.contents output.old; errors = E.contents errors.old; files = files }
         record { output = O.contents output.new; errors = E.contents errors.new; files = files } }
 {
-    match hinted_report(
-        rt,
-        alloc,
-        job,
-        texts,
-        reader.is_terminal,
-        reader.name.as_str(),
-    ) {
+    match told_report(rt, alloc, job, texts, reader) {
         Ok(hinted) => show(&hinted.report, hinted.hint.as_slice(), output, errors),
         Err(lack) => tell(&Fault::Serve(lack), output, errors),
     }
@@ -369,7 +349,7 @@ fn take<D: Folder, O: Write, E: Write>(
     }
 }
 
-// Writes a report to standard output, and then its hint to standard error.
+// Writes a report to standard output, and then what is said beside it to standard error.
 fn show<O: Write, E: Write>(report: &Written, hint: &[u8], output: &mut O, errors: &mut E) -> Ending
     ensures { (files : Files) → IsShown hint.now record { bytes = report.now.bytes.items; status = report.now.status } result
         record { output = O.contents output.old; errors = E.contents errors.old; files = files }

@@ -2,7 +2,7 @@
 //!
 //! `program::run` is what `main` calls. It is proved over any words, any files and any streams; `words` and
 //! `named_files` have those of the system. What it does is in `answer`, for several programs in `each`: `texts` reads the
-//! files that a job has, `told` says what went wrong.
+//! files that a job has, `told` says what went wrong, and `reader` what stands on standard error beside a report.
 #![tactic(auto)]
 
 pub mod answer;
@@ -13,6 +13,7 @@ pub mod hint;
 pub mod named_files;
 mod part;
 pub mod program;
+mod reader;
 pub mod refusal;
 mod reports;
 mod streams;

@@ -18,7 +18,7 @@ pub(crate) struct Written {
     pub status: u8,
 }
 
-// What a job writes, and the hint to it.
+// What a job writes, and what is said beside it.
 #[derive(Drop)]
 pub(crate) struct Hinted {
     pub report: Written,

@@ -1,10 +1,10 @@
-//! Programs, their certificates, and texts that are long.
+//! Programs and their certificates.
 
 use annotated_asm::assembler::assemble;
 use mask_certificate::certificate::Cert;
 use mask_certificate::reading::read;
 use mips_instructions::number::RegSet;
-use std::alloc::{AllocError, Global};
+use std::alloc::Global;
 use std::process::Abort;
 use task_descriptor::program::Program;
 
@@ -45,49 +45,5 @@ fn expect_masks(rt: &impl Abort, cert: &Cert) {
     for (task, index, bits) in MASKS {
         let found = cert.mask(task, index).map(RegSet::bits);
         assert!(rt; found == bits, "task {task} index {index}");
-    }
-}
-
-/// A text in which a part stands many times, and what is said of it.
-#[derive(Clone, Copy)]
-pub(crate) struct Long<'a> {
-    /// What stands before the part.
-    pub(crate) head: &'a str,
-    /// What stands there many times.
-    pub(crate) part: &'a str,
-    /// How many times.
-    pub(crate) times: usize,
-    /// What stands behind it.
-    pub(crate) tail: &'a str,
-    /// How many lines are said of the text.
-    pub(crate) lines: usize,
-    /// How they end.
-    pub(crate) end: &'a str,
-}
-
-impl Long<'_> {
-    /// The text.
-    pub(crate) fn text(&self, rt: &impl Abort, alloc: Global) -> String {
-        self.try_text(alloc).ok().expect(rt, "room for a text")
-    }
-
-    fn try_text(&self, alloc: Global) -> Result<String, AllocError> {
-        let mut text = String::from_str(alloc, self.head)?;
-        for _ in 0..self.times {
-            text.push_str(self.part)?;
-        }
-        text.push_str(self.tail)?;
-        Ok(text)
-    }
-
-    /// Asserts the number of lines that are said, and how they end.
-    pub(crate) fn expect_said(&self, rt: &impl Abort, said: &str) {
-        let lines = said
-            .as_bytes()
-            .iter()
-            .filter(|byte| **byte == b'\n')
-            .count();
-        assert!(rt; lines == self.lines);
-        assert!(rt; said.ends_with(self.end), "{}", self.end);
     }
 }

@@ -1,4 +1,4 @@
-//! Each public call that checks, proposes or explains the marks of a program, once at concrete values: what
+//! Each public call that checks or proposes the marks of a program, once at concrete values: what
 //! no clause says, as that there is memory. The expected values are the formats' own. They stand in a crate
 //! apart from the crates that they call, since a crate with tests is proved a second time.
 #![tactic(auto)]
@@ -9,8 +9,6 @@ mod certificates;
 mod checker;
 #[cfg(test)]
 mod count;
-#[cfg(test)]
-mod explanations;
 #[cfg(test)]
 mod given;
 #[cfg(test)]

@@ -2,8 +2,6 @@
 //! that are right and cost nothing.
 
 use crate::answers::{expect_of, expect_of_each, expect_with};
-use std::alloc::Global;
-use std::process::Abort;
 use test_programs::programs::{
     COUNT, COUNT_CREATES_LESS, COUNT_FORWARDED, DIAMOND, FIVE_FINDINGS, PRODUCT, READ_ONLY,
     RELEASE, RELEASE_CREATES_MORE, SPIN, UNLISTED_JUMP,
@@ -23,7 +21,7 @@ const COSTLY: [(&str, &str); 3] = [
         "a.s:7:1: warning: this is a last update without !f: later tasks wait for what it writes
     7 | slti $10,$8,4
       | ^~~~~~~~~~~~~
-a.s:7:1: help: add !f here
+a.s:7:14: help: add !f here
 ",
     ),
     (
@@ -31,7 +29,7 @@ a.s:7:1: help: add !f here
         "a.s:1:9: warning: no instruction of task A writes or releases $7, which its create mask has
     1 | .task A create=$7,$8,$9 targets=B
       |         ^~~~~~~~~~~~~~~
-a.s:1:9: help: remove $7 from the create mask of task A
+a.s:1:9: help: write create=$8,$9
 ",
     ),
     // No task waits for what this one writes, since it has no target.
@@ -40,7 +38,7 @@ a.s:1:9: help: remove $7 from the create mask of task A
         "a.s:4:1: warning: no task reaches the code from here on
     4 | halt
       | ^~~~
-a.s:4:1: help: remove it up to the next instruction that a task reaches, or let a task go on to it
+a.s:4:1: help: let a task go on to it; or remove it up to the next instruction that a task reaches, where no name refers to it
 ",
     ),
 ];
@@ -61,42 +59,39 @@ fn says_nothing_of_them_without_warnings(rt: HostRuntime) {
 const WRONG: [(&str, &str); 2] = [
     (
         COUNT_CREATES_LESS,
-        "a.s:2:9: error: task A may write $10, which its create mask lacks [rule 5]
+        "a.s:2:9: error: the create mask of task A lacks $10 [rule 5]
     2 | .task A create=$8,$9 targets=A,B
       |         ^~~~~~~~~~~~
-a.s:7:1: note: written here, on the path 5 -> 6 -> 7
+a.s:7:1: note: $10 is written here, on the path 5 -> 6 -> 7
     7 | slti $10,$8,4
       | ^~~~~~~~~~~~~
-a.s:2:9: help: add $10 to the create mask of task A: create=$8,$9,$10
+a.s:2:9: help: write create=$8,$9,$10
 ",
     ),
     (
         FIVE_FINDINGS,
-        "a.s:1:9: error: task A may write $8, which its create mask lacks [rule 5]
+        "a.s:1:9: error: the create mask of task A lacks $8 [rule 5]
     1 | .task A create=- targets=B
       |         ^~~~~~~~
-a.s:4:4: note: written here, on the path 4
+a.s:4:4: note: $8 is written here, on the path 4
     4 | A: addiu $8,$0,1 !f !s
       |    ^~~~~~~~~~~~~~~~~~~
-a.s:1:9: help: add $8 to the create mask of task A: create=$8
-a.s:4:4: error: task A sends $8 here, which its create mask lacks [rule 8]
-    4 | A: addiu $8,$0,1 !f !s
-      |    ^~~~~~~~~~~~~~~~~~~
-a.s:4:4: note: reached from here, on the path 4
-    4 | A: addiu $8,$0,1 !f !s
-      |    ^~~~~~~~~~~~~~~~~~~
-a.s:4:4: help: add $8 to the create mask of task A: create=$8
-a.s:5:4: error: task B can end here and go on to a place that is not one of its targets [rule 9]
+a.s:1:9: help: write create=$8
+a.s:5:4: error: task B can end here and go on to C, which its targets lack [rule 9]
     5 | B: addiu $9,$0,2 !s
       |    ^~~~~~~~~~~~~~~~
 a.s:5:4: note: reached from here, on the path 5
-    5 | B: addiu $9,$0,2 !s
-      |    ^~~~~~~~~~~~~~~~
-a.s:5:4: help: add the place to the targets of task B; if no task begins there, the control flow must change
-a.s:2:27: error: a target of task B is not where a task begins [rule 12]
+a.s:6:4: note: task C begins here
+    6 | C: out $9
+      |    ^~~~~~
+a.s:2:19: help: write targets=C
+a.s:2:27: error: task B lists the target @3, where no task begins [rule 12]
     2 | .task B create=$9 targets=D
       |                           ^
-a.s:2:27: help: let a task begin there, or remove the target: targets=-
+a.s:7:4: note: no task begins here
+    7 | D: halt
+      |    ^~~~
+a.s:2:19: help: no exit leads there: write targets=-
 ",
     ),
 ];
@@ -110,7 +105,7 @@ fn explains_wrong_marks(rt: HostRuntime) {
 const REFUSED: [(&str, &str); 12] = [
     (
         "foo $8",
-        "a.s:1:1: error: there is no instruction or directive `foo` here [4 Mnemonic line 1]
+        "a.s:1:1: error: there is no instruction or directive `foo` [4 Mnemonic line 1]
     1 | foo $8
       | ^~~
 a.s:1:1: help: in .text stand instructions and .start, .task, .text, .data and .rodata
@@ -118,44 +113,48 @@ a.s:1:1: help: in .text stand instructions and .start, .task, .text, .data and .
     ),
     (
         ".task A create=- targets=-\nA: halt\nA: nop\n",
-        "a.s:3:1: error: `A` stands a second time [8 Duplicate line 3]
+        "a.s:3:1: error: the label `A` stands a second time [8 Duplicate line 3]
     3 | A: nop
       | ^
 a.s:2:1: note: it stands here first
     2 | A: halt
       | ^
-a.s:3:1: help: a label and a task of one name stand once, and .start stands once
+a.s:3:1: help: give one of them another name
 ",
     ),
     // The second of the line's names stood before, on the same line.
     (
         ".task A create=- targets=-\nB: A: C: A: halt\n",
-        "a.s:2:10: error: `A` stands a second time [8 Duplicate line 2]
+        "a.s:2:10: error: the label `A` stands a second time [8 Duplicate line 2]
     2 | B: A: C: A: halt
       |          ^
 a.s:2:4: note: it stands here first
     2 | B: A: C: A: halt
       |    ^
-a.s:2:10: help: a label and a task of one name stand once, and .start stands once
+a.s:2:10: help: give one of them another name
 ",
     ),
     // `li` is two instructions, so `Odd` and `Loop` both are index 2.
     (
         ".task Loop create=- targets=-\n  .task Odd create=- targets=-\nli $8,70000\nOdd: Loop: halt\n",
-        "a.s:2:9: error: two tasks begin at one instruction [10 Build 4 DuplicateEntry]
+        "a.s:2:9: error: the task `Odd` begins where another task begins [10 Build 4 DuplicateEntry]
     2 |   .task Odd create=- targets=-
       |         ^~~
-a.s:1:7: note: this task begins there, too
+a.s:1:1: note: this task begins there, too
     1 | .task Loop create=- targets=-
-      |       ^~~~
-a.s:2:9: help: each task begins at an instruction of its own
+      | ^~~~~~~~~~~~~~~~~~~~~~~~~~~~~
+a.s:2:9: help: remove one of the tasks, or write an instruction between their labels
+a.s:3:1: error: the program starts where no task begins [10 Build 7 BadStart]
+    3 | li $8,70000
+      | ^~~~~~~~~~~
+a.s:3:1: help: .start names a task; without it the program starts at its first instruction
 ",
     ),
     (
         ".task A create=- targets=-\nA: halt\n.data\n.space 65535\n.byte 1\n B: .byte 2\n",
         "a.s:6:5: error: the program has more than 65536 bytes of .data [10 Build 1 TooMany]
     6 |  B: .byte 2
-      |     ^~~~~
+      |     ^~~~~~~
 a.s:6:5: help: at most 4096 instructions, 1024 tasks, 16 targets of a task, 65536 bytes of .data and 65536 of .rodata
 ",
     ),
@@ -168,10 +167,10 @@ a.s: help: add a line for each task, such as .task A create=$8 targets=A,B
     // `li` is two instructions, so the one with the wrong mark has the index 2; it stands in line 4.
     (
         ".task A create=$8 targets=-\n\nA: li $8,0x12345678\n  out $8 !f\nhalt\n",
-        "a.s:4:3: error: this instruction cannot have this mark, or releases nothing [10 Build 6 BadMark 2]
+        "a.s:4:3: error: !f stands on an instruction that writes no register [10 Build 6 BadMark]
     4 |   out $8 !f
-      |   ^
-a.s:4:3: help: !f stands on an instruction that writes a register, !st and !sn on a conditional branch, no stop on halt; release takes registers other than $0
+      |   ^~~~~~~~~
+a.s:4:10: help: remove !f
 ",
     ),
     (
@@ -180,46 +179,42 @@ A:
    adu $8,$8,$9 !f
    hlat !s
 ",
-        "a.s:3:4: error: there is no instruction or directive `adu` here [4 Mnemonic line 3]
+        "a.s:3:4: error: there is no instruction or directive `adu` [4 Mnemonic line 3]
     3 |    adu $8,$8,$9 !f
       |    ^~~
 a.s:3:4: help: did you mean addu?
-a.s:4:4: error: there is no instruction or directive `hlat` here [4 Mnemonic line 4]
+a.s:4:4: error: there is no instruction or directive `hlat` [4 Mnemonic line 4]
     4 |    hlat !s
       |    ^~~~
 a.s:4:4: help: did you mean halt?
 ",
     ),
     (
-        ".task A create=$8 targets=-\nA: addi $8,$8,1 !f\n   ble $8,$9,A\n   halt !s\n",
-        "a.s:2:4: error: there is no instruction or directive `addi` here [4 Mnemonic line 2]
-    2 | A: addi $8,$8,1 !f
+        ".task A create=$8 targets=-\nA: subi $8,$8,1 !f\n   mul $8,$8,$9\n   halt\n",
+        "a.s:2:4: error: `subi` is not in this profile [4 Mnemonic line 2]
+    2 | A: subi $8,$8,1 !f
       |    ^~~~
-a.s:2:4: help: write addiu rt,rs,n
-a.s:3:4: error: there is no instruction or directive `ble` here [4 Mnemonic line 3]
-    3 |    ble $8,$9,A
+a.s:2:4: help: write addiu rt,rs,-n
+a.s:3:4: error: `mul` is not in this profile [4 Mnemonic line 3]
+    3 |    mul $8,$8,$9
       |    ^~~
-a.s:3:4: help: write slt $1,rt,rs and beq $1,$0,T
+a.s:3:4: help: write mult rs,rt and mflo rd
 ",
     ),
     (
-        ".task A create=$8
-A: addu $8,$8 !f
-   release $8,
+        ".task A create=$8 targets=-
+A: addu $8,$8,1 !f
+   lw $9,$8
    halt $8
 ",
-        "a.s:1:18: error: the operands of `.task` end too early [5 Operand line 1]
-    1 | .task A create=$8
-      |                  ^
-a.s:1:18: help: the form is .task NAME create=REGS targets=TS
-a.s:2:14: error: the operands of `addu` end too early [5 Operand line 2]
-    2 | A: addu $8,$8 !f
-      |              ^
-a.s:2:14: help: the form is addu rd,rs,rt
-a.s:3:15: error: the operands of `release` end too early [5 Operand line 3]
-    3 |    release $8,
+        "a.s:2:15: error: `addu` cannot take `1` here [5 Operand line 2]
+    2 | A: addu $8,$8,1 !f
       |               ^
-a.s:3:15: help: the form is release r,r,..
+a.s:2:15: help: did you mean $1?
+a.s:3:10: error: `lw` cannot take `$8` here [5 Operand line 3]
+    3 |    lw $9,$8
+      |          ^~
+a.s:3:10: help: the form is lw rt,n(base)
 a.s:4:9: error: `halt` cannot take `$8` here [5 Operand line 4]
     4 |    halt $8
       |         ^~
@@ -231,27 +226,27 @@ a.s:4:9: help: the form is halt
 .text !f
 A: addiu $8,$8,1 !f !f
    beq $8,$9,A !st !sn
-   halt !s
+   halt
 ",
-        "a.s:2:7: error: the mark `!f` stands on a directive [7 Mark line 2]
+        "a.s:2:7: error: the mark `!f` cannot stand here [7 Mark line 2]
     2 | .text !f
       |       ^~
-a.s:2:7: help: an instruction may have !f, and one of !s, !st and !sn
-a.s:3:21: error: `!f` stands a second time [7 Mark line 3]
+a.s:2:7: help: remove it
+a.s:3:21: error: the mark `!f` cannot stand here [7 Mark line 3]
     3 | A: addiu $8,$8,1 !f !f
       |                     ^~
-a.s:3:21: help: an instruction may have !f, and one of !s, !st and !sn
-a.s:4:20: error: `!sn` is a second stop [7 Mark line 4]
+a.s:3:21: help: remove it
+a.s:4:20: error: the mark `!sn` cannot stand here [7 Mark line 4]
     4 |    beq $8,$9,A !st !sn
       |                    ^~~
-a.s:4:20: help: an instruction may have !f, and one of !s, !st and !sn
+a.s:4:20: help: remove it
 ",
     ),
     (
         ".task Loop create=$8 targets=Loop,Lop
 Loop: addiu $8,$8,1 !f !s
 ",
-        "a.s:1:35: error: `Lop` is no label [9 Unknown line 1]
+        "a.s:1:35: error: there is no label `Lop` [9 Unknown line 1]
     1 | .task Loop create=$8 targets=Loop,Lop
       |                                   ^~~
 a.s:1:35: help: did you mean Loop?
@@ -275,13 +270,13 @@ bne $9,$0,A !s
 B: out $8
 halt
 ",
-        "a.s:1:9: error: task A may write $9, which its create mask lacks [rule 5]
+        "a.s:1:9: error: the create mask of task A lacks $9 [rule 5]
     1 | .task A create=$8 targets=A,B
       |         ^~~~~~~~~
-a.s:4:1: note: written here, on the path 3 -> 4
+a.s:4:1: note: $9 is written here, on the path 3 -> 4
     4 | slti $9,$8,4
       | ^~~~~~~~~~~~
-a.s:1:9: help: add $9 to the create mask of task A: create=$8,$9
+a.s:1:9: help: write create=$8,$9
 ",
     ),
     (
@@ -296,10 +291,10 @@ halt
         "a.s:3:4: error: task A forwards $8 here and may write it again [rule 6]
     3 | A: addiu $8,$8,1 !f
       |    ^~~~~~~~~~~~~~~~
-a.s:4:1: note: written here, on the path 3 -> 4
+a.s:4:1: note: $8 is written again here, on the path 3 -> 4
     4 | slti $8,$8,4
       | ^~~~~~~~~~~~
-a.s:3:4: help: remove !f here and put it at the last instruction that writes $8
+a.s:3:17: help: remove !f here, and put !f on line 4
 ",
     ),
     (
@@ -314,10 +309,10 @@ halt
         "a.s:3:4: error: task A releases $9 here and may write it again [rule 7]
     3 | A: release $9
       |    ^~~~~~~~~~
-a.s:4:1: note: written here, on the path 3 -> 4
+a.s:4:1: note: $9 is written again here, on the path 3 -> 4
     4 | slti $9,$8,4
       | ^~~~~~~~~~~~
-a.s:3:4: help: remove $9 from this release, and release it behind the last instruction that writes it
+a.s:3:4: help: write nop here, and put !f on line 4
 ",
     ),
     (
@@ -329,13 +324,13 @@ bne $9,$0,A !s
 B: out $8
 halt
 ",
-        "a.s:3:4: error: task A sends $10 here, which its create mask lacks [rule 8]
+        "a.s:1:9: error: the create mask of task A lacks $10 [rule 8]
+    1 | .task A create=$8,$9 targets=A,B
+      |         ^~~~~~~~~~~~
+a.s:3:4: note: $10 is sent here, on the path 3
     3 | A: release $10
       |    ^~~~~~~~~~~
-a.s:3:4: note: reached from here, on the path 3
-    3 | A: release $10
-      |    ^~~~~~~~~~~
-a.s:3:4: help: add $10 to the create mask of task A: create=$8,$9,$10
+a.s:1:9: help: write create=$8,$9,$10
 ",
     ),
     (
@@ -347,13 +342,16 @@ bne $9,$0,A !s
 B: out $8
 halt
 ",
-        "a.s:5:1: error: task A can end here and go on to a place that is not one of its targets [rule 9]
+        "a.s:5:1: error: task A can end here and go on to B if the branch is not taken, which its targets lack [rule 9]
     5 | bne $9,$0,A !s
       | ^~~~~~~~~~~~~~
 a.s:3:4: note: reached from here, on the path 3 -> 4 -> 5
     3 | A: addiu $8,$8,1 !f
       |    ^~~~~~~~~~~~~~~~
-a.s:5:1: help: add the place to the targets of task A; if no task begins there, the control flow must change
+a.s:6:4: note: task B begins here
+    6 | B: out $8
+      |    ^~~~~~
+a.s:1:22: help: write targets=A,B
 ",
     ),
     (
@@ -364,13 +362,11 @@ slti $9,$8,4
 bne $9,$0,A !s
 B: out $8
 ",
-        "a.s:6:4: error: task B can go on from here to an index that has no instruction [rule 10]
+        "a.s:6:4: error: task B can go on from here to the end of the program, where no instruction is [rule 10]
     6 | B: out $8
       |    ^~~~~~
 a.s:6:4: note: reached from here, on the path 6
-    6 | B: out $8
-      |    ^~~~~~
-a.s:6:4: help: the control flow must change: put halt or a jump there
+a.s:6:4: help: let it go on to an instruction of the program, as a jump or a halt, or end the task here
 ",
     ),
     (
@@ -388,7 +384,7 @@ jr $31
 a.s:6:4: note: reached from here, on the path 6 -> 7
     6 | B: out $8
       |    ^~~~~~
-a.s:7:1: help: end the task here: add !s
+a.s:7:7: help: end the task here: add !s
 ",
     ),
     (
@@ -400,10 +396,13 @@ bne $9,$0,A !s
 B: out $8
 halt
 ",
-        "a.s:1:34: error: a target of task A is not where a task begins [rule 12]
+        "a.s:1:34: error: task A lists the target @1, where no task begins [rule 12]
     1 | .task A create=$8,$9 targets=A,B,@1
       |                                  ^~
-a.s:1:34: help: let a task begin there, or remove the target: targets=A,B
+a.s:4:1: note: no task begins here
+    4 | slti $9,$8,4
+      | ^~~~~~~~~~~~
+a.s:1:22: help: no exit leads there: write targets=A,B
 ",
     ),
 ];
@@ -414,30 +413,41 @@ fn explains_each_rule(rt: HostRuntime) {
 }
 
 // Certificates of `spin`, and what is said of them: the right one, one that is none from its first or from its
-// third line on, and one without a mask for the task's entry. A file that begins as no certificate does is not
-// named to be written.
-const CERTIFICATES: [(&str, &str, u8); 4] = [
+// third line on, one without a mask for the task's entry, and one with a mask that is too large.
+const CERTIFICATES: [(&str, &str, u8); 5] = [
     ("cert 2\ntask A\n0 0000000000000000\n", "", 0),
     (
         SPIN,
-        "a.cert:1: error: the first line is neither cert 2 nor cert 1 [1 Header]
-a.cert:1: help: a certificate begins with the line cert 2, or with cert 1 where its masks have 8 digits
-a.cert: help: make a certificate: multiscalar annotate --emit keep PROGRAM > CERT
+        "a.cert:1:1: error: the first line is neither cert 2 nor cert 1 [1 Header]
+    1 | .task A create=- targets=-
+      | ^~~~~~~~~~~~~~~~~~~~~~~~~~
+a.cert:1:1: help: begin with the line cert 2, or cert 1 if masks have 8 digits, and end it with LF
 ",
         1,
     ),
     (
         "cert 2\ntask A\n0 zz\n",
-        "a.cert:3: error: this is no line of a certificate [2 Line 3]
-a.cert:3: help: a line is task NAME, or an index of at most 5 digits, one blank and a mask: in cert 2 of 16 lower-case hexadecimal digits, in cert 1 of 8, with no bit above 33
-a.cert: help: make it anew: multiscalar annotate --emit keep a.s > a.cert
+        "a.cert:3:3: error: this is no mask of 16 digits [2 Line 3]
+    3 | 0 zz
+      |   ^~
+a.cert:3:3: help: write 16 digits, 0 to 9 and a to f in lower case, with zeros in front and no bit above 33
+",
+        1,
+    ),
+    (
+        "cert 2\ntask A\n0 0000000000000100\n",
+        "a.cert: error: this is not a certificate of the program as it stands; findings with it: 1, with the least certificate: 0
+a.cert: help: make it anew: multiscalar annotate --emit keep PROGRAM > CERT
 ",
         1,
     ),
     (
         "cert 2\ntask A\n",
-        "a.cert: error: this is not a certificate of a.s as it stands; findings with it: 1, with the least certificate: 0
-a.cert: help: make it anew: multiscalar annotate --emit keep a.s > a.cert
+        "a.cert:2:1: error: task A has no mask at its entry, index 0 [rule 1]
+    2 | task A
+      | ^~~~~~
+a.cert: note: index 0 is line 2 of the program: `j A`
+a.cert:2:1: help: make it anew: multiscalar annotate --emit keep PROGRAM > CERT
 ",
         1,
     ),
@@ -448,71 +458,5 @@ fn explains_certificates(rt: HostRuntime) {
     for &(certificate, expected, status) in &CERTIFICATES {
         let words = "explain --certificate a.cert a.s";
         expect_with(&rt, rt.alloc(), words, SPIN, certificate, expected, status);
-    }
-}
-
-// Names of a program and of a certificate that does not fit, and whether the command names both: a shell takes
-// them as they stand, and they are two.
-const NAMES: [(&str, &str, bool); 8] = [
-    ("a.s", "b/c-1_2.cert", true),
-    ("a.s", "a.s", false),
-    ("a.s", "-", false),
-    ("-", "a.cert", false),
-    ("a.s", "a\t.cert", false),
-    ("a.s", "a;.cert", false),
-    ("$a.s", "a.cert", false),
-    ("./-a.s", "a.cert", true),
-];
-
-// What is said of the certificate.
-fn said_of_names(
-    rt: &impl Abort,
-    alloc: Global,
-    program: &str,
-    certificate: &str,
-    named: bool,
-) -> String {
-    let mut text = String::new(alloc);
-    let error = "error: this is not a certificate of";
-    let found = "findings with it: 1, with the least certificate: 0";
-    assert!(rt;
-        writeln!(
-            text,
-            "{certificate}: {error} {program} as it stands; {found}"
-        )
-        .is_ok()
-    );
-    let command = "multiscalar annotate --emit keep";
-    let help = if named {
-        writeln!(
-            text,
-            "{certificate}: help: make it anew: {command} {program} > {certificate}"
-        )
-    } else {
-        writeln!(
-            text,
-            "{certificate}: help: make a certificate: {command} PROGRAM > CERT"
-        )
-    };
-    assert!(rt; help.is_ok());
-    text
-}
-
-#[test]
-fn names_files_that_a_shell_takes(rt: HostRuntime) {
-    for &(program, certificate, named) in &NAMES {
-        let mut words = String::new(rt.alloc());
-        assert!(rt; write!(words, "explain --certificate {certificate} {program}").is_ok());
-        let said = said_of_names(&rt, rt.alloc(), program, certificate, named);
-        let certificate = "cert 2\ntask A\n";
-        expect_with(
-            &rt,
-            rt.alloc(),
-            words.as_str(),
-            SPIN,
-            certificate,
-            said.as_str(),
-            1,
-        );
     }
 }

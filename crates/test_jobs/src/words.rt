@@ -366,7 +366,7 @@ fn expect_path(rt: &impl Abort, line: &str, path: &String, expected: &str) {
     assert!(rt; path.as_str() == expected, "{line}");
 }
 
-const NO_JOBS: [&str; 53] = [
+const NO_JOBS: [&str; 54] = [
     "seq",
     "seq a.s b.s",
     "seq a.s --budget 0",
@@ -416,6 +416,7 @@ const NO_JOBS: [&str; 53] = [
     "print a.s -o b.s -o c.s",
     "print a.s -o",
     "print --in-place a.s",
+    "print --report a.s",
     "annotate --in-place -",
     "annotate --in-place -o b.s a.s",
     "annotate --in-place --emit cert a.s",
@@ -434,6 +435,28 @@ const PLACES: [(&str, Option<&str>); 9] = [
     ("annotate --in-place a.s", Some("a.s")),
     ("annotate --in-place --emit text a.s", Some("a.s")),
 ];
+
+// Whether it is asked for that what is left to mend by hand is told.
+const REPORTS: [(&str, bool); 5] = [
+    ("annotate a.s", false),
+    ("annotate --report a.s", true),
+    ("annotate a.s --emit marks --report", true),
+    ("annotate --in-place --report a.s", true),
+    ("check --least a.s", false),
+];
+
+#[test]
+fn reads_whether_what_is_left_is_told(rt: HostRuntime) {
+    for &(line, report) in &REPORTS {
+        expect_report(&rt, rt.alloc(), line, report);
+    }
+}
+
+// Asserts whether it is told.
+fn expect_report(rt: &impl Abort, alloc: Global, line: &str, report: bool) {
+    let request = read(rt, alloc, line).ok().expect(rt, "a job");
+    assert!(rt; request.report == report, "{line}");
+}
 
 #[test]
 fn reads_where_the_result_goes(rt: HostRuntime) {

@@ -3,10 +3,10 @@
 //! bytes, where each of 48 tasks may write $8 and does not say so; the three files of `replay`; a program
 //! text on standard input; a missing file; wrong words; every help; what is said of a wrong value, of a file
 //! that the words lack or have too many, and of options of one program beside several; files that cannot take a
-//! result, a refused text that changes none, and what cannot be done in place; and what standard error gets if
-//! it is a terminal, beside refused texts, findings and a run that trapped. Last, the program does what its own
-//! words ask for, on the two streams of the process and with its status: a file is missing, so it writes nothing
-//! to standard output.
+//! result, a refused text that changes none, and what cannot be done in place; what `annotate --report` says is
+//! left to mend by hand; and what standard error gets if it is a terminal, beside refused texts, findings, a run
+//! that trapped and proposed marks that leave something. Last, the program does what its own words ask for, on the
+//! two streams of the process and with its status: a file is missing, so it writes nothing to standard output.
 #![tactic(auto)]
 
 use program_edge::answer::answer_reader;
@@ -23,7 +23,7 @@ use std::sync::Wait;
 use std::thread::Threads;
 use whole_file::system::SystemFolder;
 
-const LINES: [&str; 45] = [
+const LINES: [&str; 49] = [
     "check five-findings.s five-findings.cert2",
     "check --workers 3 large.s large.cert2",
     "replay --units 2 count.s count.cert2 count.events",
@@ -69,10 +69,14 @@ const LINES: [&str; 45] = [
     "explain --no-warnings count.s count.cert2 .",
     "explain .",
     "check --least - count.s -",
+    "annotate --emit marks --report five-findings.s",
+    "annotate --report --emit keep count.s",
+    "annotate --report --emit cert returns.s",
+    "annotate --report count.cert2",
 ];
 
 // Where standard error is a terminal.
-const ON_TERMINAL: [&str; 8] = [
+const ON_TERMINAL: [&str; 12] = [
     "print count.cert2",
     "annotate -o count.out count.cert2",
     "check --least five-findings.s",
@@ -81,6 +85,10 @@ const ON_TERMINAL: [&str; 8] = [
     "check count.s count.cert2",
     "explain missing.s",
     "check --least five-findings.s count.s",
+    "annotate five-findings.s",
+    "annotate --emit keep count.s",
+    "annotate --report --emit keep count.s",
+    "annotate --report count.cert2",
 ];
 
 // The number of the process, by which new files are named.

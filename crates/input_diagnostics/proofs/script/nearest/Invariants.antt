@@ -1,7 +1,7 @@
 -- A near task is sought among those that are left.
 use Rattle.std.proofs.Common.{◌≡◌, drop}
 use Rattle.event_script.specs.EventScript.{names_in}
-use Rattle.line_faults.specs.Near.{nearest}
+use Rattle.near_words.specs.Near.{nearest}
 use Rattle.input_diagnostics.proofs.script.nearest.Given as goal
 
 abbrev pub invariant-loop-task : goal.invariant-loop-task

@@ -1,20 +1,15 @@
--- What was shown is the report of the job, and its hint.
-use Rattle.std.proofs.Common.{◌∙◌, inr, refl}
-use Rattle.std.specs.String.{string_bytes}
+-- What was shown is the report of the job, and what is said beside it.
+use Rattle.std.proofs.Common.{inr, refl}
 use Rattle.report_texts.specs.OutputTexts.{Report}
-use Rattle.program_edge.specs.Hints.{hint_for}
-use Rattle.program_edge.proofs.ReportLemmas.{hint_named, not_done, shown}
+use Rattle.program_edge.proofs.ReportLemmas.{not_done, shown}
 use Rattle.program_edge.proofs.SeveralLemmas.{same_fault}
 use Rattle.program_edge.proofs.answer.show_hinted.Goals as goal
 
 pub returns-in-Ok : goal.returns-in-Ok
 returns-in-Ok g c = λ files.
     let report : Report = record { bytes = c.in-Ok.hinted.report.bytes.items; status = c.in-Ok.hinted.report.status } in
-    shown (λ report. hint_for c.args.reader.now.is_terminal c.args.job.now (string_bytes c.args.reader.now.name) report)
-    c.args.job.now c.args.texts.now _ c.as_slice.result.now _ _ _
-    (hint_named c.args.reader.now.is_terminal c.args.job.now c.as_str.result.now (string_bytes c.args.reader.now.name) report
-    c.as_slice.result.now c.as_str.ensures.value (c.as_slice.ensures.value ∙ c.in-Ok.ensures.hint))
-    c.in-Ok.ensures.report (c.show.ensures files)
+    shown c.args.reader.now c.args.job.now c.args.texts.now report c.as_slice.result.now c.show.result _ _
+    (rw c.as_slice.ensures.value c.in-Ok.ensures.hint) c.in-Ok.ensures.report (c.show.ensures files)
 
 pub returns-in-Err : goal.returns-in-Err
 returns-in-Err g c = λ files. inr (not_done c.args.job.now c.args.texts.now c.in-Err.lack c.tell.result _ _

@@ -1,3 +1,0 @@
-pub mod Sentences
-pub mod Lists
-pub mod Diagnostics

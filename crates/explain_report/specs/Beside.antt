@@ -1,0 +1,69 @@
+-- What `explain` says of a certificate that is given beside a program (own choice): what is wrong with it alone; or, where
+-- nothing is, that the checker finds more with it than with the least certificate.
+use Rattle.std.specs.Prelude.{◌≡◌, ℕ, Bool, true, false, nat_lt, if◌then◌else◌, List, [], ◌∷◌, ◌++◌, codes, length, Option, Some, None, Result, Ok, Err}
+use Rattle.std.specs.Fmt.{decimal}
+use Rattle.task_descriptor.specs.Listing.{Listing}
+use Rattle.program_tokens.specs.Lines.{lines}
+use Rattle.mask_certificate.specs.declared.fault.CertFault.{CertFault}
+use Rattle.mask_certificate.specs.CertificateReading.{cert_parse, names_of}
+use Rattle.mark_checker.specs.Rules.{all_rules}
+use Rattle.annotator.specs.Least.{IsLeast}
+use Rattle.diagnostics.specs.declared.code.Code.TheVariants.{Unfit}
+use Rattle.diagnostics.specs.declared.diagnostic.Diagnostic.{Diagnostic}
+use Rattle.diagnostics.specs.declared.diagnostic.Severity.TheVariants.{Error}
+use Rattle.diagnostics.specs.declared.diagnostic.Source.TheVariants.{Certificate}
+use Rattle.diagnostics.specs.declared.diagnostic.Span.{Span}
+use Rattle.diagnostics.specs.Helps.{in_words}
+use Rattle.input_diagnostics.specs.CertificateErrors.{certificate_errors}
+use Rattle.explain_report.specs.Inputs.{ArePlaces}
+
+-- nothing is said
+abbrev pub is_silent : List Diagnostic → Bool
+is_silent [] = true
+is_silent (d ∷ ds) = false
+
+-- the checker has so many findings with a certificate, and so many with the least one
+abbrev pub unfit_message : (found least : ℕ) → List ℕ
+unfit_message found least =
+    codes "this is not a certificate of the program as it stands; findings with it: "
+    ++ (decimal found ++ (codes ", with the least certificate: " ++ decimal least))
+
+abbrev pub unfit_error : (found least : ℕ) → Diagnostic
+unfit_error found least = record {
+  severity = Error;
+  code = Unfit;
+  source = Certificate;
+  span = None;
+  message = unfit_message found least;
+  notes = [];
+  help = Some (in_words (codes "make it anew: multiscalar annotate --emit keep PROGRAM > CERT"));
+}
+
+-- nothing where there are no more
+abbrev pub unfit_errors : (found least : ℕ) → List Diagnostic
+unfit_errors found least = if nat_lt least found then unfit_error found least ∷ [] else []
+
+abbrev pub IsFitSaid : Listing → Result (List (List (ℕ × ℕ))) CertFault → List Diagnostic → Type 0
+IsFitSaid p (Ok cert) said =
+    (least : List (List (ℕ × ℕ))) × IsLeast p least × (said ≡ unfit_errors (length (all_rules p cert)) (length (all_rules p least)))
+IsFitSaid p (Err fault) said = said ≡ []
+
+-- what is said of it beside the program's marks, where nothing is wrong with it alone
+abbrev pub IsFurtherSaid : (silent : Bool) → Listing → (certificate : List ℕ) → List Diagnostic → Type 0
+IsFurtherSaid false p certificate said = said ≡ []
+IsFurtherSaid true p certificate said = IsFitSaid p (cert_parse certificate (names_of p)) said
+
+-- what is said of the text of a certificate
+pub record IsFileSaid (text : List ℕ) (p : Listing) (certificate : List ℕ) (said : List Diagnostic) : Type 0 where
+  pub code : List Span
+  pub places : ArePlaces text code
+  pub alone : List Diagnostic
+  pub wrong : alone ≡ certificate_errors p (record { rows = lines text; code = code }) certificate
+  pub further : List Diagnostic
+  pub fits : IsFurtherSaid (is_silent alone) p certificate further
+  pub is : said ≡ alone ++ further
+
+-- and of one in a file of this name; nothing where there is none
+abbrev pub IsCertificateSaid : (file : Option (List ℕ)) → (text : List ℕ) → Listing → (certificate : List ℕ) → List Diagnostic → Type 0
+IsCertificateSaid None text p certificate said = said ≡ []
+IsCertificateSaid (Some name) text p certificate said = IsFileSaid text p certificate said

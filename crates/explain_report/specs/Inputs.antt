@@ -1,0 +1,26 @@
+-- The texts of `explain` as diagnostics see them.
+use Rattle.std.specs.Prelude.{◌≡◌, ℕ, List, [], map, Option, Some, None, Ok, unwrap_or}
+use Rattle.std.specs.List.{zip}
+use Rattle.program_tokens.specs.Lines.{lines}
+use Rattle.source_map.specs.declared.position.Position.{Position}
+use Rattle.source_map.specs.Sources.{Sources, sources_of}
+use Rattle.diagnostics.specs.declared.diagnostic.Span.{Span}
+
+-- where an instruction stands that begins at a place and has so many bytes
+abbrev pub span_of : Position × ℕ → Span
+span_of at = record { line = at.0.line; column = at.0.column; width = at.1 }
+
+abbrev pub code_spans : Sources → List Span
+code_spans s = map span_of (zip s.code s.widths)
+
+-- the instructions of the program that the text spells stand there
+abbrev pub ArePlaces : (text : List ℕ) → List Span → Type 0
+ArePlaces text spans = (s : Sources) × (sources_of text ≡ Ok s) × (spans ≡ code_spans s)
+
+-- the name and the lines of a text that stands in a file, if one is named
+abbrev pub file_name : Option (List ℕ) → List ℕ
+file_name file = unwrap_or file []
+
+abbrev pub file_lines : Option (List ℕ) → (text : List ℕ) → List (List ℕ)
+file_lines None text = []
+file_lines (Some name) text = lines text

@@ -1,0 +1,147 @@
+//! What `explain` says, as diagnostics, of which each form is made.
+ghost use Rattle.std.specs.Prelude.{◌≡◌, ◌&&◌, ◌++◌, Ok, true, IfOk};
+ghost use Rattle.std.specs.Option.{option_map};
+ghost use Rattle.std.specs.String.{string_bytes};
+ghost use Rattle.annotated_asm.specs.ProgramText.{parse};
+ghost use Rattle.annotator.specs.Least.{IsLeast};
+ghost use Rattle.explain_report.specs.Beside.{IsCertificateSaid, is_silent};
+ghost use Rattle.explain_report.specs.Explained.{AreWarned, IsExplained, IsProgramExplained, said_status};
+
+use crate::beside::{both, certificate_said, is_silent};
+use crate::explanation::Explanation;
+use annotated_asm::assembler::assemble;
+use annotated_asm::fault::AsmFault;
+use annotator::certify::certify;
+use diagnostics::diagnostic::Diagnostic;
+use diagnostics::listed::Listed;
+use mark_diagnostics::error::mark_errors;
+use mark_diagnostics::warning::mark_warnings;
+use mask_certificate::certificate::Cert;
+use std::alloc::{AllocError, Global};
+use task_descriptor::program::Program;
+use text_diagnostics::refusal::refusal;
+
+/// What is said of a program text, with warnings or without, and of the text of a certificate, if a file of one is named.
+///
+/// # Errors
+///
+/// `AllocError` where memory was refused.
+pub fn explained(
+    alloc: Global,
+    file: &Option<String>,
+    warnings: bool,
+    text: &[u8],
+    certificate: &[u8],
+) -> Result<Explanation, AllocError>
+    ensures { IfOk result (λ explained. IsExplained (option_map string_bytes file.now) warnings
+        text.now certificate.now explained) }
+{
+    match assemble(alloc, text) {
+        Ok(program) => program_explained(alloc, file, warnings, text, certificate, &program),
+        Err(AsmFault::OutOfMemory) => Err(AllocError),
+        Err(fault) => Ok(Explanation {
+            said: Listed::new(refusal(alloc, text, fault)?),
+            status: 1,
+        }),
+    }
+}
+
+// What is said of the program that a text spells: of its marks, and then of the certificate.
+fn program_explained(
+    alloc: Global,
+    file: &Option<String>,
+    warnings: bool,
+    text: &[u8],
+    certificate: &[u8],
+    program: &Program,
+) -> Result<Explanation, AllocError>
+    requires { parse text.now ≡ Ok program.now }
+    ensures { IfOk result (λ explained. IsProgramExplained (option_map string_bytes file.now) warnings
+        text.now certificate.now program.now explained) }
+{
+    let least = certify(alloc, program)?;
+    let errors = mark_errors(alloc, text, program, &least)?;
+    let asked = is_asked(warnings, &errors);
+    let warned = warned(alloc, text, program, &least, asked)?;
+    let beside = certificate_said(alloc, file, text, program, &least, certificate)?;
+    let explained = explained_by(errors, warned, beside)?;
+    Ok(explained)
+}
+
+// What is wrong with the marks, what could be better about them, and what is wrong with the certificate.
+fn explained_by(
+    errors: Vec<Diagnostic>,
+    warned: Vec<Diagnostic>,
+    beside: Vec<Diagnostic>,
+) -> Result<Explanation, AllocError>
+    ensures said { IfOk result (λ explained. explained.said ≡ errors.items ++ (warned.items ++ beside.items)) }
+    ensures status { IfOk result (λ explained. explained.status ≡ said_status (errors.items ++ beside.items)) }
+{
+    let status = status_of(&errors, &beside);
+    let said = both(errors, both(warned, beside)?)?;
+    Ok(Explanation {
+        said: Listed::new(said),
+        status,
+    })
+}
+
+// What could be better about the marks, where that is asked for.
+fn warned(
+    alloc: Global,
+    text: &[u8],
+    program: &Program,
+    least: &Cert,
+    asked: bool,
+) -> Result<Vec<Diagnostic>, AllocError>
+    requires spelled { parse text.now ≡ Ok program.now }
+    requires least { IsLeast program.now least.now }
+    ensures { IfOk result (λ list. AreWarned asked text.now program.now list.items) }
+{
+    if asked {
+        all_warnings(alloc, text, program, least)
+    } else {
+        Ok(Vec::new(alloc))
+    }
+}
+
+// What could be better about the marks.
+fn all_warnings(
+    alloc: Global,
+    text: &[u8],
+    program: &Program,
+    least: &Cert,
+) -> Result<Vec<Diagnostic>, AllocError>
+    requires spelled { parse text.now ≡ Ok program.now }
+    requires least { IsLeast program.now least.now }
+    ensures { IfOk result (λ list. AreWarned true text.now program.now list.items) }
+{
+    let list = mark_warnings(alloc, text, program, least, false)?;
+    Ok(list)
+}
+
+// Whether warnings are to be told: they are asked for, and nothing is wrong with the marks.
+fn is_asked(warnings: bool, errors: &[Diagnostic]) -> bool
+    ensures { result ≡ (warnings && is_silent errors.now) }
+{
+    warnings && is_silent(errors)
+}
+
+// The status of what is wrong with the marks and with the certificate: 0 where it is nothing.
+fn status_of(errors: &[Diagnostic], beside: &[Diagnostic]) -> u8
+    ensures { result ≡ said_status (errors.now ++ beside.now) }
+{
+    match errors {
+        [] => status_alone(beside),
+        [_, ..] => 1,
+    }
+}
+
+// The status of what is wrong: 0 where it is nothing.
+fn status_alone(list: &[Diagnostic]) -> u8
+    ensures { result ≡ said_status list.now }
+{
+    match list {
+        [] => 0,
+        _ => 1,
+    }
+}

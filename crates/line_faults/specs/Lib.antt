@@ -1,6 +1,0 @@
-pub mod Bytes
-pub mod Forms
-pub mod Meant
-pub mod Near
-pub mod OtherNames
-pub mod Shapes

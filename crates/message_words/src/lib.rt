@@ -1,4 +1,0 @@
-//! The words of a message.
-#![tactic(auto)]
-
-pub mod words;

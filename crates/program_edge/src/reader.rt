@@ -1,0 +1,97 @@
+//! Who reads standard error, and what is said there beside a report.
+ghost use Rattle.std.specs.Prelude.{◌≡◌, ◌≢◌, ◌||◌, Err, IfOk, OnErr};
+ghost use Rattle.verdict_report.specs.JobTexts.{IsReportOf};
+ghost use Rattle.program_edge.specs.Beside.{IsBeside, IsRest, rest_said};
+
+use crate::reports::{Hinted, Written, hinted_report};
+use jobs::job::{Job, Texts};
+use left_over::left::LeftOver;
+use left_over::proposal::left_over;
+use std::alloc::{AllocError, Global};
+use std::marker::Model;
+use std::sync::Wait;
+use std::thread::Threads;
+use verdict_report::fault::ServeFault;
+
+/// Who reads standard error.
+#[derive(Drop)]
+pub(crate) struct Reader {
+    /// Whether it is a terminal.
+    pub is_terminal: bool,
+    /// Whether what is left to mend by hand is asked for.
+    pub wants_rest: bool,
+    /// The name of the program's file.
+    pub name: String,
+}
+
+impl Model for Reader {
+    ghost use Rattle.std.specs.String.{string_bytes};
+    ghost use Rattle.program_edge.specs.Beside.{Audience};
+
+    ghost Value = { Audience };
+
+    ghost view = { λ r. record { is_terminal = r.is_terminal; wants_rest = r.wants_rest; name = string_bytes r.name } };
+}
+
+impl Reader {
+    ghost use Rattle.std.specs.Prelude.{◌≡◌, ◌||◌};
+
+    /// Whether anything may be said beside a report.
+    pub(crate) fn listens(&self) -> bool
+        ensures { result ≡ (self.now.is_terminal || self.now.wants_rest) }
+    {
+        self.is_terminal || self.wants_rest
+    }
+}
+
+/// What a job with its texts writes, and what is said beside it.
+pub(crate) fn told_report<R: Threads + Wait + Sync>(
+    rt: &R,
+    alloc: Global,
+    job: &Job,
+    texts: &Texts,
+    reader: &Reader,
+) -> Result<Hinted, ServeFault>
+    ensures report { IfOk result (λ h. IsReportOf job.now texts.now record { bytes = h.report.bytes.items; status = h.report.status }) }
+    ensures hint { IfOk result (λ h. IsBeside reader.now job.now texts.now.program.items
+        record { bytes = h.report.bytes.items; status = h.report.status } h.hint.items) }
+    ensures fault { result ≢ Err ServeFault.Write }
+    ensures memory { OnErr result (result ≡ Err ServeFault.OutOfMemory) }
+{
+    let name = reader.name.as_str();
+    let mut told = hinted_report(rt, alloc, job, texts, reader.is_terminal, name)?;
+    let rest = rest_of(alloc, job, texts, reader, &told.report)?;
+    told.hint.extend_from_slice(rest.as_slice())?;
+    Ok(told)
+}
+
+// What is said of what the job leaves that wrote this.
+fn rest_of(
+    alloc: Global,
+    job: &Job,
+    texts: &Texts,
+    reader: &Reader,
+    report: &Written,
+) -> Result<Vec<u8>, AllocError>
+    ensures { IfOk result (λ rest. IsRest (reader.now.is_terminal || reader.now.wants_rest) reader.now.wants_rest job.now
+        texts.now.program.items reader.now.name record { bytes = report.now.bytes.items; status = report.now.status } rest.items) }
+{
+    if !reader.listens() {
+        return Ok(Vec::new(alloc));
+    }
+    let program = texts.program.as_slice();
+    let name = reader.name.as_str();
+    let bytes = report.bytes.as_slice();
+    let left = left_over(alloc, job, program, name, report.status, bytes)?;
+    Ok(rest_said(alloc, reader.wants_rest, left))
+}
+
+// What is said of what is left; nothing, where that is nothing and was not asked for.
+fn rest_said(alloc: Global, asked: bool, left: Option<LeftOver>) -> Vec<u8>
+    ensures { result.items ≡ rest_said asked left }
+{
+    match left {
+        Some(left) if asked || left.count > 0 => left.said,
+        _ => Vec::new(alloc),
+    }
+}

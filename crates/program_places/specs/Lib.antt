@@ -1,3 +1,0 @@
-pub mod PlacedItems
-pub mod FaultPlaces
-pub mod Examples

@@ -1,8 +1,0 @@
--- What is written piece by piece stands behind what there was.
-use Rattle.std.proofs.Common.{append_assoc}
-use Rattle.sarif_log.specs.Log.{tool_json}
-use Rattle.sarif_log.proofs.log.write_tool.Goals as goal
-
-pub returns : goal.returns
-unfolding tool_json
-returns c = simp (c.in_ok-write_driver.ensures, c.in_ok-key.ensures, c.in_ok-begin_object.ensures, append_assoc) at c.end_object.ensures

@@ -1,4 +1,0 @@
-pub mod Rules
-pub mod Uris
-pub mod Log
-pub mod Examples

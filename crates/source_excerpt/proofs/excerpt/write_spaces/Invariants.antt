@@ -1,8 +1,0 @@
--- The spaces so far are written.
-use Rattle.std.proofs.Common.{◌≡◌, ◌++◌}
-use Rattle.std.specs.Prelude.{replicate}
-use Rattle.std.specs.String.{string_bytes}
-use Rattle.source_excerpt.proofs.excerpt.write_spaces.Given as goal
-
-abbrev pub invariant-loop-place : goal.invariant-loop-place
-invariant-loop-place l = string_bytes l.text ≡ string_bytes l.initial.text ++ replicate l.place 32

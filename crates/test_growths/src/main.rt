@@ -1,0 +1,94 @@
+//! Public calls of the libraries, each made again where memory was refused.
+//!
+//! `CALL PROGRAM CERTIFICATE SCRIPT UNITS WORKERS` makes one call, named CALL, on the texts of three files.
+//! `begin` is written before the call, and `end` after it, each as one write, so that another process can refuse
+//! growths in between. Then a line says `refused: unchanged`, `refused: changed`, or that there was another fault;
+//! the call is made again until it is not refused. After the line `answer` comes what it answered, with the state
+//! that it left. Lines that begin with `note` tell what differs from run to run.
+#![tactic(auto)]
+
+mod bursts;
+mod checks;
+mod files;
+mod given;
+mod machines;
+mod plain;
+mod programs;
+mod runs;
+mod units;
+
+use crate::bursts::bursts;
+use crate::given::{Given, Runtime};
+use std::io::Read;
+use std::process::ExitCode;
+use std::{env, fs};
+
+fn made(given: &Given<'_>, rt: &impl Runtime, call: &str) -> Option<()> {
+    match call {
+        "Memory::new" => plain::makes_memory(given),
+        "Plain::new" => plain::makes_plain_of_code(given),
+        "Plain::step" => plain::steps_plain(given),
+        "Plain::run" => plain::runs_plain(given),
+        "Program::plain" => plain::makes_plain(given),
+        "assemble" => programs::assembles(given),
+        "print" => programs::prints(given),
+        "members" => programs::finds_members(given),
+        "propose" => programs::proposes(given),
+        "certify" => programs::certifies(given),
+        "certificate read" => checks::reads_certificate(given),
+        "certificate write" => checks::writes_certificate(given),
+        "check_task" => checks::checks_task(given),
+        "verdict" => checks::checks(given),
+        "verdict_shared" => checks::checks_shared(given, rt),
+        "accepts_shared" => checks::accepts_by_several(given, rt),
+        _ => made_above(given, rt, call),
+    }
+}
+
+fn made_above(given: &Given<'_>, rt: &impl Runtime, call: &str) -> Option<()> {
+    match call {
+        "Unit::exec" => units::executes(given, true),
+        "Unit::exec_ahead" => units::executes(given, false),
+        "Unit::take" => units::takes(given),
+        "Machine::new" => machines::makes_machine(given),
+        "apply" => machines::applies(given),
+        "finish" => machines::finishes(given),
+        "Burst::run" => bursts(given, false),
+        "apply_burst" => bursts(given, true),
+        "run_threads" => runs::runs_threads(given, rt),
+        "fetch" => files::fetches(given),
+        _ => None,
+    }
+}
+
+fn file(rt: &HostRuntime, path: &str) -> Option<Vec<u8>> {
+    let mut text = Vec::new(rt.alloc());
+    fs::open(rt, path).ok()?.read_to_end(&mut text).ok()?;
+    Some(text)
+}
+
+fn work(host: &HostRuntime, rt: &impl Runtime) -> Option<()> {
+    let words = env::args(host)
+        .ok()?
+        .collect::<Vec<String>>(host.alloc())
+        .ok()?;
+    if words.len() < 7 {
+        return None;
+    }
+    let given = Given {
+        rt: host,
+        program: file(host, words[2].as_str())?,
+        certificate: file(host, words[3].as_str())?,
+        script: file(host, words[4].as_str())?,
+        units: words[5].parse().ok()?,
+        workers: words[6].parse().ok()?,
+    };
+    made(&given, rt, words[1].as_str())
+}
+
+fn main(rt: HostRuntime) -> ExitCode {
+    match work(&rt, &rt) {
+        Some(()) => ExitCode::SUCCESS,
+        None => ExitCode::from(2),
+    }
+}

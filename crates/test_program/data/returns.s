@@ -1,0 +1,3 @@
+.task A create=- targets=-
+A: out $8
+jr $31

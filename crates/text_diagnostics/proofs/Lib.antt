@@ -1,0 +1,2 @@
+mod ToldFaults
+pub mod Refused

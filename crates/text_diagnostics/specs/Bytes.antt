@@ -1,0 +1,51 @@
+-- Bytes of a line (own choice): those of a place, the first that no text has, and the first that form no token.
+use Rattle.std.specs.Prelude.{ℕ, ◌+◌, ◌-◌, ◌^◌, min, List, [], ◌∷◌, Bool, not, take, drop, slice_get, codes, Option, Some, None, unwrap_or, is_ok, if◌then◌else◌, ◌==◌, ◌||◌}
+use Rattle.std.specs.List.{position}
+use Rattle.std.specs.Str.{byte}
+use Rattle.std.specs.Str.Lines.{strip_carriage_return}
+use Rattle.std.specs.Char.{is_ascii_digit, is_ascii_alphabetic}
+use Rattle.program_tokens.specs.Grammar.{is_text_byte, line_tokens}
+use Rattle.program_tokens.specs.Spans.{line_spans}
+use Rattle.program_tokens.specs.declared.span.Span.{Span}
+
+abbrev pub span : (column len : ℕ) → Span
+span column len = record { column = column; len = len }
+
+-- the bytes of a place of a line
+abbrev pub bytes_at : (line : List ℕ) → Span → List ℕ
+bytes_at line at = take at.len (drop (at.column - 1) line)
+
+-- the byte where a place begins
+abbrev pub byte_at : (line : List ℕ) → Span → ℕ
+byte_at line at = unwrap_or (slice_get line (at.column - 1)) 0
+
+-- what no line may have
+abbrev pub is_bad_byte : ℕ → Bool
+is_bad_byte b = not (is_text_byte b)
+
+-- the place of the byte with this index; where there is none, the line's first
+abbrev pub byte_place : Option ℕ → Span
+byte_place None = span 1 1
+byte_place (Some index) = span (min (index + 1) (2 ^ 64 - 1)) 1
+
+-- the first byte of a line that no text has
+unfoldable pub byte_span : (line : List ℕ) → Span
+byte_span line = byte_place (position is_bad_byte (strip_carriage_return line))
+
+-- the first of these places whose bytes, as a line of their own, cannot be read
+abbrev pub token_from : (line : List ℕ) → List Span → Span
+token_from line [] = span 1 1
+token_from line (at ∷ places) = if is_ok (line_tokens (bytes_at line at)) then token_from line places else at
+
+-- the first bytes of a line that form no token
+unfoldable pub token_span : (line : List ℕ) → Span
+token_span line = token_from line (line_spans line)
+
+-- what tokens that begin with this byte are
+abbrev pub token_help : (first : ℕ) → List ℕ
+token_help first =
+    if first == byte "$" then codes "a register is $0 to $33 or has a name, such as $sp, $t0 or $hi"
+    else (if first == byte "@" then codes "a place is @ and decimal digits, such as @7"
+    else (if first == byte "-" || is_ascii_digit first then codes "a number is decimal digits, or 0x and hexadecimal digits, such as -4 or 0x1f"
+    else (if first == byte "_" || is_ascii_alphabetic first then codes "a name has at most 32 letters, digits and _"
+    else codes "tokens are names, registers, numbers, places, directives, marks and , : = ( ) -")))

@@ -1,0 +1,26 @@
+-- What has to be known of a whole text to judge one of its items (own choice).
+use Rattle.std.specs.Prelude.{Bool, not, List, take, length}
+use Rattle.std.specs.List.{list_any}
+use Rattle.syntax_tree.specs.declared.item.Item.{Item}
+use Rattle.syntax_tree.specs.ProgramItems.{code_items, is_task as is_task_said, is_fault as is_fault_said}
+use Rattle.syntax_tree.specs.Repeats.{defined_in}
+use Rattle.syntax_tree.specs.Amounts.{amounts}
+use Rattle.syntax_tree.specs.WholeFaults.{task_entries}
+use Rattle.text_diagnostics.specs.declared.known.Known.{Known}
+
+abbrev pub is_task : Item → Bool
+is_task item = is_task_said item.said
+
+abbrev pub is_fault : Item → Bool
+is_fault item = is_fault_said item.said
+
+-- where a task begins is judged of as many tasks as a program may have
+unfoldable pub known_in : List Item → Known
+known_in items = record {
+  defined = defined_in items;
+  amounts = amounts items;
+  entries = take 1024 (task_entries items);
+  code = length (code_items items);
+  has_task = list_any is_task items;
+  is_read = not (list_any is_fault items);
+}

@@ -1,0 +1,15 @@
+pub mod Knowledge
+pub mod Mistakes
+pub mod Rows
+pub mod Bytes
+pub mod Shapes
+pub mod Forms
+pub mod Meant
+pub mod LinePlaces
+pub mod Candidates
+pub mod Mending
+pub mod Messages
+pub mod Places
+pub mod Helps
+pub mod Refusals
+pub mod Examples

@@ -1,0 +1,47 @@
+-- Which bytes of an item are meant by what is wrong with it (own choice): a name, a list, or all of it.
+use Rattle.std.specs.Prelude.{ℕ, ◌-◌, List, length, slice_get, unwrap_or}
+use Rattle.program_tokens.specs.declared.span.Span.{Span as Place}
+use Rattle.syntax_tree.specs.declared.item.Span.{Span as TreeSpan}
+use Rattle.syntax_tree.specs.declared.item.Item.{Item}
+use Rattle.syntax_tree.specs.declared.unknown_names.UsedAs.{UsedAs}
+use Rattle.syntax_tree.specs.declared.unknown_names.UsedAs.TheVariants as used
+use Rattle.syntax_tree.specs.declared.whole_faults.Limit.TheVariants.{Targets}
+use Rattle.syntax_tree.specs.Trees.{span_of}
+use Rattle.syntax_tree.specs.Details.{Parts, between, operand_spans, create_span, targets_span, target_spans}
+use Rattle.diagnostics.specs.declared.diagnostic.Span.{Span}
+use Rattle.text_diagnostics.specs.declared.mistake.Kind.{Kind}
+use Rattle.text_diagnostics.specs.declared.mistake.Kind.TheVariants.{TaskTwice, NoLabel, DataLabel, Passes, CreatesZero, NoInstruction, SameEntry}
+
+-- a part of a text as a diagnostic has it, and as a line has it
+abbrev pub shown_span : TreeSpan → Span
+shown_span span = record { line = span.line; column = span.column; width = span.width }
+
+abbrev pub span_in : (n : ℕ) → Place → Span
+span_in n at = record { line = n; column = at.column; width = at.len }
+
+abbrev pub place_in : Span → Place
+place_in span = record { column = span.column; len = span.width }
+
+-- the name of a task stands after its directive
+abbrev pub name_span : Parts → TreeSpan
+name_span d = between d 1 1
+
+-- the place of a number; of none, another
+abbrev pub span_or : TreeSpan → List TreeSpan → (k : ℕ) → TreeSpan
+span_or other spans k = unwrap_or (slice_get spans k) other
+
+abbrev pub used_span : Item → UsedAs → Parts → TreeSpan
+used_span item used.Start d = name_span d
+used_span item used.Task d = name_span d
+used_span item (used.Target j) d = span_or (span_of item) (target_spans d) j
+used_span item used.Operand d = span_or (span_of item) (operand_spans d) (length (operand_spans d) - 1)
+
+unfoldable pub item_span : Kind → Item → Parts → TreeSpan
+item_span TaskTwice item d = name_span d
+item_span (NoLabel as_what) item d = used_span item as_what d
+item_span (DataLabel as_what) item d = used_span item as_what d
+item_span (Passes Targets) item d = targets_span d
+item_span CreatesZero item d = create_span d
+item_span NoInstruction item d = name_span d
+item_span SameEntry item d = name_span d
+item_span kind item d = span_of item

@@ -1,0 +1,21 @@
+//! What is wrong with a text that spells no program, as diagnostics: all of it, each with its place, what else shows it,
+//! and what to do.
+#![tactic(auto)]
+
+mod bytes;
+mod candidates;
+mod form;
+mod help;
+mod known;
+pub mod laws;
+mod line_place;
+mod meant;
+mod mending;
+mod message;
+mod mistake;
+mod mistakes;
+mod place;
+pub mod refusal;
+mod rows;
+mod shape;
+mod slices;

@@ -1,0 +1,51 @@
+//! What is wrong with an item of a text.
+
+use syntax_tree::item::LineFaultKind;
+use syntax_tree::unknown_names::UsedAs;
+use syntax_tree::whole_faults::Limit;
+
+/// What is wrong with an item of a text.
+#[derive(Clone, Copy, Debug, PartialEq, Eq)]
+pub(crate) enum Kind {
+    /// Its line cannot be read.
+    Line(LineFaultKind),
+    /// It is a label of a name that another has.
+    LabelTwice,
+    /// It is a task of a name that another has.
+    TaskTwice,
+    /// It is a second `.start`.
+    StartTwice,
+    /// It uses a name that is no label.
+    NoLabel(UsedAs),
+    /// It uses a label of data where one of code is wanted.
+    DataLabel(UsedAs),
+    /// It passes a limit of a program.
+    Passes(Limit),
+    /// It is a task whose create mask has `$0`.
+    CreatesZero,
+    /// `!f` stands on an instruction that writes no register.
+    UnfitForward,
+    /// A stop stands on `halt`.
+    StopOnHalt,
+    /// `!st` or `!sn` stands on what is no conditional branch.
+    OneSidedStop,
+    /// It is a `release` of `$0`.
+    ReleasesZero,
+    /// It is a task whose label has no instruction after it.
+    NoInstruction,
+    /// It is a task that begins where another begins.
+    SameEntry,
+    /// It says that the program starts where no task begins.
+    NoTaskThere,
+}
+
+/// A mistake. Items are given by their numbers, from 0 on.
+#[derive(Clone, Copy, Debug, PartialEq, Eq)]
+pub(crate) struct Mistake {
+    /// The item.
+    pub(crate) item: usize,
+    /// What is wrong with it.
+    pub(crate) kind: Kind,
+    /// Another item that shows it.
+    pub(crate) other: Option<usize>,
+}

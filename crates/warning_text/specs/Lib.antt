@@ -1,2 +1,0 @@
-pub mod WarningText
-pub mod Examples
