@@ -3,6 +3,7 @@
 import { find } from './elements.js';
 import { stepsOf, tasksOf } from './asking.js';
 import { historyOf, readLines, scriptLine } from './history.js';
+import { endSentence } from './sentences.js';
 
 // The settings of the form, each within its range.
 export function readSettings() {
@@ -24,9 +25,11 @@ export function writeSettings({ units, budget, predict }) {
   if (!isNamed) find('predict-list').value = predict;
 }
 
-function endingOf(report) {
-  const lines = report.trimEnd().split('\n');
-  return lines.at(-1) === 'out of budget' ? 'out of budget: the run would go on' : null;
+// How a run ended, from its report: the last line, and what retired.
+function endingOf(report, end) {
+  if (report.trimEnd().endsWith('out of budget')) return 'out of budget: the run would go on';
+  const retired = /^retired .*$/m.exec(report);
+  return retired ? `${endSentence(end)}; ${retired[0]}` : endSentence(end);
 }
 
 // What a text that does not run is told.
@@ -47,8 +50,7 @@ export function makeRun(jobs, program, settings) {
     units: settings.units,
     script: told.events.map(scriptLine),
     history: historyOf(told.events, settings.units),
-    end: told.end,
-    ending: endingOf(jobs.run(program, settings, 'report').text),
+    ending: endingOf(jobs.run(program, settings, 'report').text, told.end),
     tasks: tasksOf(jobs, program),
     steps: null,
   };
@@ -61,7 +63,7 @@ export function makeReplay(jobs, program, script, units) {
   const told = readLines(text);
   if (!told && text.startsWith('script refused')) return { scriptFault: `The script cannot be read: ${text.trim().replace('script refused: ', '')}.` };
   if (!told) return { reason: whyNoRun(text) };
-  return { program, units, script, history: historyOf(told.events, units), end: told.end, tasks: tasksOf(jobs, program), steps: null };
+  return { program, units, script, history: historyOf(told.events, units), ending: endSentence(told.end), tasks: tasksOf(jobs, program), steps: null };
 }
 
 // Asks for the steps of a run, and hands them to the stage if it still shows that run.

@@ -5,7 +5,7 @@ import { answerTo, endAfter, reasonOf, registerName } from './asking.js';
 import { makeCards } from './cards.js';
 import { drawLanes, offsetOf } from './lanes.js';
 import { drawRing } from './ring.js';
-import { endSentence, eventSentence, hexadecimal, squashSentence } from './sentences.js';
+import { eventSentence, hexadecimal, squashSentence } from './sentences.js';
 
 const PLAY_EVERY = 700;
 
@@ -42,7 +42,7 @@ export class Stage {
     return this.run.history.states[this.position];
   }
 
-  // Takes a run: program, units, script, history, end, tasks, and the steps of its events, if they are known.
+  // Takes a run: program, units, script, history, ending, tasks, and the steps of its events, if they are known.
   load(run, position) {
     this.stop();
     this.run = run;
@@ -111,7 +111,7 @@ export class Stage {
     find('output').textContent = this.state.output.length ? this.state.output.join(' ') : 'nothing yet';
     find('memory').textContent = memoryText(after.memory ?? []);
     find('registers').textContent = (after.registers ?? []).map(it => `${registerName(it.register)} = ${it.word}`).join('  ') || 'all 0';
-    find('standing').textContent = this.position === this.last ? this.run.ending ?? endSentence(this.run.end) : 'goes on';
+    find('standing').textContent = this.position === this.last ? this.run.ending : 'goes on';
   }
 
   showLanes() {
