@@ -1,13 +1,15 @@
 #!/usr/bin/env python3
 """Keeps the LLVM module that the core is compiled from. `rt lib` proves the core and builds it as it always does (it
-builds only what is proved), with a copy of the toolchain, made of links, whose clang keeps the module it is given.
+builds only what is proved), with a copy of the toolchain, made of links, whose clang keeps the largest module it gets.
 
     capture.py CRATE_FOLDER CORE.bc
 """
 import os, pathlib, runpy, shutil, subprocess, sys, tempfile
 
 KEEPS = '''#!/bin/bash
-for word in "$@"; do case $word in *.bc) cp "$word" {room}/core.bc ;; esac; done
+for word in "$@"; do
+    case $word in *.bc) [ "$(stat -c %s "$word")" -lt "$(stat -c %s {room}/core.bc 2>/dev/null || echo 0)" ] || cp "$word" {room}/core.bc ;; esac
+done
 exec {tools}/"$(basename "$0")" "$@"
 '''
 
