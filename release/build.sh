@@ -51,6 +51,10 @@ mv "$root/library/example.c" "$root/examples/example.c"
 rmdir "$root/library"
 library/build.sh "$root/lib"
 
+# The page, where it has been built from this core.
+page=web/out/multiscalar.html
+if [ -f "$page" ] && [ "$page" -nt "$core" ]; then cp "$page" "$root/multiscalar.html"; fi
+
 sum_of() { sha256sum "$1" | cut -d' ' -f1; }
 
 {
@@ -61,6 +65,7 @@ sum_of() { sha256sum "$1" | cut -d' ' -f1; }
     printf 'program as built, with its symbols, sha256 %s\n' "$(sum_of "$program")"
     printf 'library sha256 %s\n' "$(sum_of "$root/lib/libmultiscalar.so.0")"
     printf 'its proved core as built, sha256 %s\n' "$(sum_of "$core")"
+    if [ -f "$root/multiscalar.html" ]; then printf 'page sha256 %s\n' "$(sum_of "$root/multiscalar.html")"; fi
 } > "$root/MANIFEST"
 
 # The tarball.

@@ -26,4 +26,5 @@ place lib/pkgconfig "$from/lib/multiscalar.pc"
 place share/multiscalar "$from/syntax" "$from/compiler" "$from/python"
 place share/doc/multiscalar "$from/README.md" "$from/CHANGELOG.md" "$from/LICENSE-APACHE" "$from/LICENSE-MIT" \
     "$from/MANIFEST" "$from/docs" "$from/examples"
+if [ -f "$from/multiscalar.html" ]; then place share/doc/multiscalar "$from/multiscalar.html"; fi
 echo "multiscalar is in $to/bin; its documents and examples are in $to/share/doc/multiscalar, c2ms.py, multiscalar.py and syntax files in $to/share/multiscalar, the library in $to/lib"

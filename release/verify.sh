@@ -26,6 +26,7 @@ cd "$work/clone"
 # It also builds the program.
 rt ci > "$work/proof.log" 2>&1 || { tail -n 20 "$work/proof.log" >&2; fail "rt ci fails at $commit"; }
 tail -n 1 "$work/proof.log"
+if [ -f "$(dirname "$manifest")/multiscalar.html" ]; then web/build.sh > /dev/null; fi
 release/build.sh "$work/again" > /dev/null
 cmp "$tarball" "$work/again/$(basename "$tarball")" || fail "the release differs from what $commit gives"
 echo "the release is what $commit gives, byte for byte"

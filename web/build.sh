@@ -1,0 +1,22 @@
+#!/usr/bin/env bash
+# Makes the page, one HTML file that opens without a server, from the proved core.
+#
+#     web/build.sh [FOLDER]          FOLDER: where multiscalar.html and multiscalar.wasm go, web/out if it is left out
+#
+# The WebAssembly module is compiled from the proved program and compared with it (web/compare); it is not proved:
+# the core's LLVM module, which is one for x86-64, is compiled anew for wasm64, with a heap of its own. `rt lib` proves
+# and builds the core first, if it is not built. It needs rt and python3.
+set -eu
+here=$(cd "$(dirname "$(readlink -f "${BASH_SOURCE[0]}")")" && pwd)
+top=$(dirname "$here")
+into=${1:-$here/out}
+mkdir -p "$into" "$here/out"
+into=$(readlink -f "$into")
+core=$top/crates/multiscalar_c/out/libmultiscalar_c.a
+kept=$here/out/core.bc
+
+[ -f "$core" ] || (cd "$top/crates/multiscalar_c" && rt lib --jobs 1)
+[ "$kept" -nt "$core" ] || python3 "$here/module/capture.py" "$top/crates/multiscalar_c" "$kept"
+touch "$kept"
+"$here/module/retarget.sh" "$kept" "$into/multiscalar.wasm"
+python3 "$here/bundle.py" "$into/multiscalar.wasm" "$into/multiscalar.html"

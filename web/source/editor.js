@@ -1,0 +1,170 @@
+// The program text: a text area over a copy of it in which findings and places are marked.
+
+import { find, make, put, plural } from './elements.js';
+import { applyEdits, nameOf } from './findings.js';
+
+function rangesOf(finding, kind) {
+  return finding.place ? [{ ...finding.place, kind, number: finding.number }] : [];
+}
+
+function noteRanges(chosen) {
+  if (!chosen) return [];
+  const places = [...chosen.notes.map(it => it.place), ...chosen.path].filter(it => it !== null);
+  return places.map(place => ({ ...place, kind: 'path' }));
+}
+
+function stretchesOf(line, ranges) {
+  const cuts = new Set([0, line.length]);
+  const inside = ranges.map(it => {
+    const from = Math.min(it.column - 1, line.length);
+    const to = it.endColumn === null ? line.length : Math.min(Math.max(it.endColumn - 1, from), line.length);
+    cuts.add(from).add(to);
+    return { ...it, from, to };
+  });
+  const points = [...cuts].sort((one, other) => one - other);
+  return points.slice(1).map((to, at) => {
+    const from = points[at];
+    const over = inside.filter(it => it.from <= from && it.to >= to && it.to > it.from);
+    return { text: line.slice(from, to), kinds: over.map(it => `mark-${it.kind}`).join(' ') };
+  });
+}
+
+function markedLine(line, ranges, units) {
+  const parts = stretchesOf(line, ranges).map(it => it.kinds ? make('span', { class: it.kinds }, it.text) : it.text);
+  if (ranges.some(it => it.endColumn !== null && it.endColumn <= it.column)) parts.push(make('span', { class: 'mark-error' }, ' '));
+  return make('span', { class: units.length ? 'line is-here' : 'line' }, parts, '\n');
+}
+
+function gutterLine(number, units, hasHead) {
+  const badges = units.map(seat => make('span', { class: `seat-badge ${seat === hasHead ? 'is-head' : ''}` }, String(seat)));
+  return make('div', { class: 'gutter-line' }, badges, make('span', {}, String(number)));
+}
+
+export class Editor {
+  constructor(changed) {
+    this.area = find('program');
+    this.findings = [];
+    this.chosen = null;
+    this.units = new Map();
+    this.head = null;
+    let waiting;
+    this.area.addEventListener('input', () => {
+      this.hideBubble();
+      this.paint();
+      clearTimeout(waiting);
+      waiting = setTimeout(changed, 120);
+    });
+    this.area.addEventListener('click', () => this.showAtCaret());
+    this.area.addEventListener('keydown', event => { if (event.key === 'Escape') this.hideBubble(); });
+  }
+
+  get text() {
+    return this.area.value;
+  }
+
+  load(text) {
+    this.area.value = text.replaceAll('\r\n', '\n');
+    this.chosen = null;
+    this.hideBubble();
+  }
+
+  // Puts another text in the place of the old one as typed, so that the browser can undo it.
+  retype(text) {
+    this.area.focus();
+    this.area.setSelectionRange(0, this.area.value.length);
+    if (!document.execCommand('insertText', false, text)) {
+      this.area.value = text;
+      this.area.dispatchEvent(new Event('input'));
+    }
+  }
+
+  show({ findings = this.findings, units = this.units, head = this.head }) {
+    this.findings = findings;
+    this.units = units;
+    this.head = head;
+    if (this.chosen) this.chosen = findings.find(it => it.code === this.chosen.code && it.sentence === this.chosen.sentence) ?? null;
+    this.paint();
+  }
+
+  paint() {
+    const lines = this.text.split('\n');
+    const ranges = [...noteRanges(this.chosen), ...this.findings.flatMap(it => rangesOf(it, it.level === 'warning' ? 'warning' : 'error'))];
+    const seats = number => this.units.get(number) ?? [];
+    put(find('marked'), lines.map((line, at) => markedLine(line, ranges.filter(it => it.line === at + 1), seats(at + 1))));
+    put(find('gutter'), lines.map((_, at) => gutterLine(at + 1, seats(at + 1), this.head)));
+  }
+
+  choose(finding) {
+    this.chosen = finding;
+    this.paint();
+    this.showBubble();
+  }
+
+  showAtCaret() {
+    const before = this.text.slice(0, this.area.selectionStart).split('\n');
+    const finding = this.findings.find(it => it.place?.line === before.length);
+    if (finding) this.choose(finding);
+    else this.hideBubble();
+  }
+
+  hideBubble() {
+    find('bubble').hidden = true;
+  }
+
+  showBubble() {
+    const bubble = find('bubble');
+    const { chosen } = this;
+    if (!chosen?.place) return;
+    const close = make('button', { class: 'close', 'aria-label': 'Close', onclick: () => this.hideBubble() }, '×');
+    put(bubble, findingBody(chosen, () => this.applyFix(chosen)), close);
+    bubble.hidden = false;
+    bubble.style.left = `${find('editor').scrollLeft + 8}px`;
+    bubble.style.width = `${Math.min(540, find('editor').clientWidth - find('gutter').offsetWidth - 16)}px`;
+    const line = find('marked').children[chosen.place.line - 1];
+    bubble.style.top = `${line.offsetTop + line.offsetHeight + 4}px`;
+    find('editor').scrollTop = Math.max(find('editor').scrollTop, line.offsetTop + line.offsetHeight + bubble.offsetHeight + 12 - find('editor').clientHeight);
+  }
+
+  applyFix(finding) {
+    this.retype(applyEdits(this.text, finding.edits));
+    this.hideBubble();
+  }
+}
+
+// A finding in words: the sentence, its notes, the help, and a button where the help is exact.
+export function findingBody(finding, apply) {
+  const where = finding.place ? `Line ${finding.place.line}: ` : '';
+  const notes = finding.notes.map(it => make('p', { class: 'note' }, it.place ? `Line ${it.place.line}: ${it.sentence}` : it.sentence));
+  const path = finding.path.length > 1 ? make('p', { class: 'note' }, `Path: ${finding.path.map(it => it.line).join(' → ')}`) : null;
+  const button = finding.edits.length ? make('button', { class: 'apply', 'data-key': `apply-${finding.number}`, onclick: apply }, 'Do so') : null;
+  return make('div', {},
+    make('p', {}, make('b', {}, where), finding.sentence, ' ', make('span', { class: 'quiet' }, nameOf(finding.code))),
+    notes,
+    path,
+    finding.help ? make('p', { class: 'help' }, finding.help, ' ', button) : button);
+}
+
+// The list of all findings below the text.
+export function showFindings(place, findings, editor) {
+  if (!findings.length) {
+    put(place, make('li', { class: 'is-fine' }, 'The marks are right on every path, and none costs speed.'));
+    return;
+  }
+  const showButton = it => make('button', {
+    class: 'show',
+    'data-key': `show-${it.number}`,
+    'aria-label': `Show finding ${it.number + 1} in the text`,
+    onclick: () => editor.choose(it),
+  }, 'Show');
+  put(place, findings.map(it => make('li', { class: `is-${it.level}` },
+    findingBody(it, () => editor.applyFix(it)), it.place ? showButton(it) : null)));
+}
+
+// One line on what was found.
+export function verdictOf(findings) {
+  const errors = findings.filter(it => it.level === 'error').length;
+  const warnings = findings.filter(it => it.level === 'warning').length;
+  if (errors) return { kind: 'error', sentence: `${plural(errors, 'error')}` };
+  if (warnings) return { kind: 'warning', sentence: `right, with ${plural(warnings, 'warning')}` };
+  return { kind: 'fine', sentence: 'the marks are right' };
+}

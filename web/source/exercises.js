@@ -1,0 +1,132 @@
+// The exercises: what is to be done, what is reached, and the work on each, which goes into the link.
+
+import { announce, copy, find, make, plural, put } from './elements.js';
+import { EXERCISES } from './exercise_texts.js';
+import { isReached } from './goals.js';
+
+function goalRow(goal, isReachedNow) {
+  return make('li', { class: `${isReachedNow ? 'is-reached' : 'is-open'} ${goal.isFurther ? 'is-further' : ''}` },
+    make('span', { 'aria-hidden': 'true' }, isReachedNow ? '✓ ' : '○ '), goal.text,
+    make('span', { class: 'unseen' }, isReachedNow ? ' Reached.' : ' Open.'));
+}
+
+export class Exercises {
+  // `opened` is called with an exercise and the work on it.
+  constructor(jobs, opened) {
+    this.jobs = jobs;
+    this.opened = opened;
+    this.number = null;
+    this.works = EXERCISES.map(it => ({ text: it.program, script: [], answers: {}, isTouched: false }));
+    const choice = find('exercise-choice');
+    EXERCISES.forEach((it, at) => choice.append(make('option', { value: at + 1 }, `${at + 1}. ${it.title}`)));
+    choice.addEventListener('change', () => this.open(Number(choice.value) || null));
+    find('exercise-again').addEventListener('click', () => this.startAgain());
+    find('exercise-link').addEventListener('click', event => copy(location.href, event.target));
+    find('exercise-next').addEventListener('click', () => this.open(this.number + 1));
+    this.markChoices();
+  }
+
+  get exercise() {
+    return this.number ? EXERCISES[this.number - 1] : null;
+  }
+
+  get work() {
+    return this.works[this.number - 1];
+  }
+
+  open(number) {
+    this.number = number && EXERCISES[number - 1] ? number : null;
+    find('exercise-choice').value = this.number ?? '';
+    find('exercise').hidden = this.number === null;
+    if (this.number) this.showText();
+    this.opened(this.exercise, this.number ? this.work : null);
+  }
+
+  startAgain() {
+    this.works[this.number - 1] = { text: this.exercise.program, script: [], answers: {}, isTouched: false };
+    this.open(this.number);
+  }
+
+  showText() {
+    const { exercise } = this;
+    find('exercise-title').textContent = `Exercise ${this.number} of ${EXERCISES.length}: ${exercise.title}`;
+    put(find('exercise-text'), exercise.text.map(it => make('p', {}, it)));
+    put(find('exercise-fields'), (exercise.fields ?? []).map(it => this.field(it)));
+    find('exercise-next').hidden = this.number === EXERCISES.length;
+  }
+
+  field({ name, label }) {
+    const value = this.work.answers[name] ?? '';
+    const input = make('input', { type: 'text', inputmode: 'numeric', size: 8, value, oninput: () => this.answer(name, input.value) });
+    return make('label', {}, `${label} `, input);
+  }
+
+  answer(name, value) {
+    this.work.answers[name] = value;
+    this.work.isTouched = true;
+    this.check();
+    this.answered?.();
+  }
+
+  // Takes the text and the script as they now are, and checks the goals.
+  take(text, script) {
+    if (!this.number) return;
+    const { work } = this;
+    if (text !== work.text || script.join() !== work.script.join()) work.isTouched = true;
+    Object.assign(work, { text, script });
+    this.check();
+  }
+
+  reachedOf(number) {
+    const exercise = EXERCISES[number - 1];
+    const work = { ...this.works[number - 1], jobs: this.jobs, start: exercise.program, fields: exercise.fields };
+    return exercise.goals.map(goal => isReached(goal, work));
+  }
+
+  check() {
+    const reached = this.reachedOf(this.number);
+    put(find('goals'), this.exercise.goals.map((goal, at) => goalRow(goal, reached[at])));
+    const isSolved = this.exercise.goals.every((goal, at) => goal.isFurther || reached[at]);
+    find('solved').hidden = !isSolved;
+    if (isSolved && !this.work.wasSolved) announce(`Exercise ${this.number} is solved.`);
+    this.work.wasSolved = isSolved;
+    this.markChoices();
+  }
+
+  // Says in the list of exercises which are solved, by checking all that were worked on.
+  markChoices() {
+    const solved = this.works.map((work, at) => work.isTouched && (this.number === at + 1 ? work.wasSolved : this.isSolved(at + 1)));
+    EXERCISES.forEach((it, at) => { find('exercise-choice').options[at + 1].textContent = `${solved[at] ? '✓ ' : ''}${at + 1}. ${it.title}`; });
+    find('exercise-count').textContent = `${solved.filter(Boolean).length} of ${plural(EXERCISES.length, 'exercise')} solved`;
+  }
+
+  isSolved(number) {
+    const reached = this.reachedOf(number);
+    return EXERCISES[number - 1].goals.every((goal, at) => goal.isFurther || reached[at]);
+  }
+
+  // What goes into the link: the work on each exercise that was touched.
+  toLink() {
+    const words = {};
+    this.works.forEach((work, at) => {
+      if (!work.isTouched) return;
+      if (work.text !== EXERCISES[at].program) words[`text${at + 1}`] = work.text;
+      if (work.script.length) words[`script${at + 1}`] = work.script.join('\n');
+      for (const [name, value] of Object.entries(work.answers)) if (value) words[`answer${at + 1}.${name}`] = value;
+    });
+    return words;
+  }
+
+  fromLink(words) {
+    for (const [word, value] of Object.entries(words)) {
+      const [, kind, number, name] = /^(text|script|answer)(\d)(?:\.(\w+))?$/.exec(word) ?? [];
+      const work = this.works[number - 1];
+      if (!work) continue;
+      work.isTouched = true;
+      if (kind === 'text') work.text = value;
+      if (kind === 'script') work.script = value.split('\n');
+      if (kind === 'answer') work.answers[name] = value;
+    }
+    this.markChoices();
+  }
+}

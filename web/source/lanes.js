@@ -1,0 +1,79 @@
+// The run as lanes: a row for each unit, a column for each step (or for each event, where steps are not known).
+
+import { draw } from './elements.js';
+
+const COLUMN = 21;
+const ROW = 30;
+const LEFT = 48;
+const TOP = 20;
+const MOST_COLUMNS = 260;
+
+const SIGNS = { assign: '▸', exec: '•', transfer: '↓', drain: '↑', squash: '✕', retire: '✓', drop: '–', fault: '!' };
+
+// The columns that are shown: all, or those around the one that is meant.
+export function windowOf(count, current) {
+  if (count <= MOST_COLUMNS) return { first: 1, last: count };
+  const first = Math.max(1, Math.min(current - (MOST_COLUMNS >> 1), count - MOST_COLUMNS + 1));
+  return { first, last: first + MOST_COLUMNS - 1 };
+}
+
+function bar(life, from, to, shown) {
+  const start = Math.max(from, shown.first);
+  const end = Math.min(to, shown.last);
+  if (start > end) return null;
+  const x = LEFT + (start - shown.first) * COLUMN;
+  const y = TOP + life.seat * ROW;
+  const width = (end - start + 1) * COLUMN - 2;
+  const most = Math.floor(width / 7.5);
+  const name = life.task.length > most ? life.task.slice(0, Math.max(0, most)) : life.task;
+  const said = `${life.task} on unit ${life.seat}: ${life.fate}`;
+  return draw('g', { class: `life is-${life.fate}` }, draw('title', {}, said),
+    draw('rect', { x, y: y + 2, width, height: ROW - 5, rx: 4 }),
+    draw('text', { x: x + 4, y: y + 13, class: 'life-name' }, name));
+}
+
+function signsOf(life, columnOf, shown, choose) {
+  return life.acts.filter(act => columnOf(act.event) >= shown.first && columnOf(act.event) <= shown.last).map(act => {
+    const x = LEFT + (columnOf(act.event) - shown.first) * COLUMN + COLUMN / 2 - 1;
+    const y = TOP + life.seat * ROW + ROW - 7;
+    return draw('text', { x, y, class: `sign is-${act.kind} ${act.isRefused ? 'is-refused' : ''}`, 'text-anchor': 'middle', onclick: () => choose(act.event) },
+      draw('title', {}, `event ${act.event}: ${act.kind}`), act.isRefused ? '×' : SIGNS[act.kind]);
+  });
+}
+
+function ruler(shown, units) {
+  const marks = [];
+  for (let column = shown.first; column <= shown.last; column += 1)
+    if (column % 5 === 0 || column === shown.first) {
+      const x = LEFT + (column - shown.first) * COLUMN + COLUMN / 2 - 1;
+      marks.push(draw('text', { x, y: 13, class: 'ruler', 'text-anchor': 'middle' }, String(column)));
+    }
+  for (let unit = 0; unit < units; unit += 1) marks.push(draw('text', { x: 4, y: TOP + unit * ROW + 19, class: 'lane-name' }, `unit ${unit}`));
+  return marks;
+}
+
+function cursor(column, shown, units) {
+  if (column < shown.first || column > shown.last) return null;
+  return draw('rect', { x: LEFT + (column - shown.first) * COLUMN - 1, y: 2, width: COLUMN, height: TOP + units * ROW, class: 'cursor' });
+}
+
+// Draws the lanes of a history. `columnOf` is the step of an event, or its number.
+export function drawLanes({ states, lives }, columnOf, current, choose) {
+  const count = states.length - 1;
+  const { units } = states[0];
+  const columns = count ? columnOf(count) : 0;
+  const shown = windowOf(columns, current ? columnOf(current) : 0);
+  const width = LEFT + Math.max(4, shown.last - shown.first + 1) * COLUMN + 8;
+  const height = TOP + units * ROW + 6;
+  const bars = lives.map(life => bar(life, columnOf(life.from), columnOf(life.to ?? count), shown));
+  const signs = lives.flatMap(life => signsOf(life, columnOf, shown, choose));
+  const parts = [current ? cursor(columnOf(current), shown, units) : null, ...bars, ...signs, ...ruler(shown, units)];
+  const label = 'Lanes: what each unit does over time. The list of events has it in words.';
+  return draw('svg', { width, height, viewBox: `0 0 ${width} ${height}`, role: 'img', 'aria-label': label }, parts);
+}
+
+// Where the column of an event begins in the picture.
+export function offsetOf(history, columnOf, event) {
+  const shown = windowOf(columnOf(history.states.length - 1), event ? columnOf(event) : 0);
+  return LEFT + ((event ? columnOf(event) : 1) - shown.first) * COLUMN;
+}

@@ -1,0 +1,260 @@
+// The page: what happens when the text, the settings, the position or the view changes.
+
+import { Compare } from './compare.js';
+import { Editor, showFindings, verdictOf } from './editor.js';
+import { copy, download, find, make } from './elements.js';
+import { EXAMPLES, moduleBytes } from './embedded.js';
+import { Exercises } from './exercises.js';
+import { readFindings } from './findings.js';
+import { Hand } from './hand.js';
+import { Jobs } from './jobs.js';
+import { readLink, writeLink } from './link.js';
+import { startModule } from './module.js';
+import { Proposal } from './proposal.js';
+import { addSteps, makeReplay, makeRun, readSettings, writeSettings } from './runner.js';
+import { seatsByLine, Stage } from './stage.js';
+import { Tabs } from './tabs.js';
+
+class Page {
+  constructor(jobs) {
+    this.jobs = jobs;
+    this.kept = null;
+    this.editor = new Editor(() => this.textChanged());
+    this.proposal = new Proposal(jobs, this.editor);
+    this.stage = new Stage(jobs, (state, ask) => this.moved(state, ask));
+    this.hand = new Hand(() => this.playHand(Infinity));
+    this.compare = new Compare(jobs, () => this.otherText());
+    this.tabs = new Tabs(['run', 'hand', 'compare'], () => this.viewChanged());
+    this.exercises = new Exercises(jobs, (exercise, work) => this.exerciseOpened(exercise, work));
+    this.exercises.answered = () => this.saveLink();
+    this.listen();
+  }
+
+  listen() {
+    for (const id of ['units', 'predict', 'predict-list', 'budget']) find(id).addEventListener('change', () => this.settingsChanged());
+    find('example-choice').addEventListener('change', event => this.openExample(event.target.value));
+    find('by-hand-from-here').addEventListener('click', () => this.goOnByHand());
+    find('keep').addEventListener('click', () => this.keepText());
+    find('save-text').addEventListener('click', () => download('program.s', this.editor.text));
+    find('copy-link').addEventListener('click', event => copy(location.href, event.target));
+    find('compare-choice').addEventListener('change', () => this.showCompare());
+    find('script-choice').addEventListener('change', event => this.openScript(event.target));
+    document.addEventListener('keydown', event => this.key(event));
+  }
+
+  key(event) {
+    const isControl = event.target.closest('input, textarea, select, [role=tab], .scroll');
+    if (isControl || event.ctrlKey || event.altKey || event.metaKey || this.tabs.view === 'compare') return;
+    this.stage.key(event);
+  }
+
+  openExample(name) {
+    this.example = name;
+    find('example-choice').value = name;
+    this.exercises.open(null);
+    this.editor.load(EXAMPLES[name].text);
+    this.hand.load([]);
+    this.listScripts();
+    this.wantedPosition = 0;
+    this.textChanged();
+  }
+
+  listScripts() {
+    const scripts = Object.keys(EXAMPLES[this.example]?.scripts ?? {});
+    find('script-choice').replaceChildren(make('option', { value: '' }, 'choose'), ...scripts.map(it => make('option', { value: it }, it)));
+    find('script-choice').parentElement.hidden = scripts.length === 0 || this.exercises.number !== null;
+  }
+
+  openScript(choice) {
+    const script = EXAMPLES[this.example]?.scripts[choice.value];
+    choice.value = '';
+    if (script) this.hand.take(script.trimEnd().split('\n'));
+  }
+
+  exerciseOpened(exercise, work) {
+    this.listScripts();
+    find('proposal-section').hidden = exercise !== null;
+    if (!exercise) return this.saveLink();
+    find('example-choice').value = '';
+    writeSettings({ units: exercise.units, predict: 'first' });
+    this.editor.load(work.text);
+    this.hand.load(work.script);
+    this.tabs.choose(exercise.view);
+    this.wantedPosition = 0;
+    this.textChanged();
+  }
+
+  textChanged() {
+    const findings = readFindings(this.jobs.explain(this.editor.text).text);
+    const verdict = verdictOf(findings);
+    find('verdict').textContent = verdict.sentence;
+    find('verdict').className = `is-${verdict.kind}`;
+    this.editor.show({ findings });
+    showFindings(find('findings'), findings, this.editor);
+    this.proposal.show(this.editor.text);
+    this.listOthers();
+    this.viewChanged();
+    this.exercises.take(this.editor.text, this.hand.script);
+  }
+
+  settingsChanged() {
+    writeSettings(readSettings());
+    this.viewChanged();
+  }
+
+  viewChanged() {
+    find('stage').hidden = this.tabs.view === 'compare';
+    find('stage').classList.toggle('is-hand', this.tabs.view === 'hand');
+    find('hand-panel').hidden = this.tabs.view !== 'hand';
+    find('run-settings').hidden = this.tabs.view === 'hand';
+    if (this.tabs.view === 'run') this.playRun();
+    if (this.tabs.view === 'hand') this.playHand(Infinity);
+    if (this.tabs.view === 'compare') this.showCompare();
+    this.saveLink();
+  }
+
+  playRun() {
+    const settings = readSettings();
+    const run = makeRun(this.jobs, this.editor.text, settings);
+    if (run.reason) return this.stage.clear(run.reason);
+    const at = this.wantedPosition ?? this.stage.position ?? 0;
+    this.wantedPosition = null;
+    this.stage.load(run, at);
+    addSteps(this.jobs, this.stage, run, settings);
+  }
+
+  playHand(position) {
+    const { units } = readSettings();
+    const run = makeReplay(this.jobs, this.editor.text, this.hand.script, units);
+    if (run.reason) this.stage.clear(run.reason);
+    else this.stage.load(run.scriptFault ? makeReplay(this.jobs, this.editor.text, [], units) : run, position);
+    if (run.scriptFault) this.hand.sayFault(run.scriptFault);
+    this.exercises.take(this.editor.text, this.hand.script);
+    this.saveLink();
+  }
+
+  goOnByHand() {
+    if (!this.stage.run) return;
+    this.hand.load(this.stage.run.script.slice(0, this.stage.position));
+    this.tabs.choose('hand');
+    this.viewChanged();
+  }
+
+  moved(state, ask) {
+    this.editor.show(seatsByLine(state));
+    if (state && this.tabs.view === 'hand') this.hand.show(state, ask, this.stage.position, this.stage.run.tasks);
+    this.saveLink();
+  }
+
+  keepText() {
+    this.kept = this.editor.text;
+    this.listOthers();
+    find('compare-choice').value = 'kept';
+    this.viewChanged();
+  }
+
+  listOthers() {
+    const choice = find('compare-choice');
+    const before = choice.value || 'proposed';
+    const kept = this.kept === null ? [] : [['kept', 'the text that you kept']];
+    const examples = Object.keys(EXAMPLES).map(it => [`example ${it}`, `example ${it}`]);
+    const others = [['proposed', 'the proposed marks'], ...kept, ...examples];
+    choice.replaceChildren(...others.map(([value, name]) => make('option', { value }, name)));
+    choice.value = before;
+  }
+
+  otherText() {
+    const choice = find('compare-choice').value;
+    if (choice === 'kept') return this.kept;
+    if (choice === 'proposed') return this.proposal.proposed ?? this.editor.text;
+    return EXAMPLES[choice.replace('example ', '')].text;
+  }
+
+  showCompare() {
+    this.compare.show(this.editor.text, readSettings());
+    this.saveLink();
+  }
+
+  linkState() {
+    const { number } = this.exercises;
+    const isExample = EXAMPLES[this.example]?.text === this.editor.text;
+    return {
+      exercise: number,
+      example: number ? null : this.example,
+      text: number || isExample ? null : this.editor.text,
+      script: number ? null : this.hand.text.trimEnd(),
+      view: this.tabs.view,
+      ...readSettings(),
+      at: this.tabs.view === 'run' && this.stage.run ? this.stage.position : null,
+      with: this.tabs.view === 'compare' ? find('compare-choice').value : null,
+      kept: this.tabs.view === 'compare' && find('compare-choice').value === 'kept' ? this.kept : null,
+      ...this.exercises.toLink(),
+    };
+  }
+
+  saveLink() {
+    clearTimeout(this.saving);
+    if (!this.isOpen) return;
+    this.saving = setTimeout(async () => {
+      const hash = await writeLink(this.linkState());
+      this.written = hash;
+      history.replaceState(null, '', hash);
+    }, 250);
+  }
+
+  // Opens what a link says: an exercise with the work on it, an example, or a text.
+  async openLink(hash) {
+    const state = await readLink(hash);
+    this.isOpen = false;
+    this.exercises.fromLink(state);
+    this.kept = state.kept ?? null;
+    this.tabs.choose(state.view ?? 'run');
+    if (state.exercise) this.exercises.open(Number(state.exercise));
+    else this.openExample(state.example in EXAMPLES ? state.example : Object.keys(EXAMPLES)[0]);
+    if (state.exercise && state.view) this.tabs.choose(state.view);
+    writeSettings({ units: Number(state.units), budget: Number(state.budget), predict: state.predict });
+    if (state.text) this.editor.load(state.text);
+    if (state.script) this.hand.load(state.script.split('\n'));
+    this.wantedPosition = Number(state.at) || 0;
+    this.textChanged();
+    if (state.with) this.chooseOther(state.with);
+    this.isOpen = true;
+    this.saveLink();
+  }
+
+  chooseOther(name) {
+    find('compare-choice').value = name;
+    this.showCompare();
+  }
+}
+
+function fillExamples() {
+  for (const [name, { title }] of Object.entries(EXAMPLES)) find('example-choice').append(make('option', { value: name }, title ? `${name}: ${title}` : name));
+}
+
+function sayNoModule(error) {
+  find('loading').hidden = false;
+  const needs = 'It needs WebAssembly with a memory of 64 bits, which Chromium and Chrome have from 133 on, and Firefox from 134 on.';
+  find('loading').textContent = `This browser cannot run the module. ${needs} (${error})`;
+  find('loading').className = 'is-error';
+}
+
+async function open() {
+  try {
+    const jobs = new Jobs(await startModule(await moduleBytes()));
+    globalThis.multiscalar = jobs; // for web/compare, and for the console
+    fillExamples();
+    const page = new Page(jobs);
+    await page.openLink(location.hash);
+    addEventListener('hashchange', () => { if (location.hash !== page.written) page.openLink(location.hash); });
+    find('loading').hidden = true;
+    find('content').hidden = false;
+    page.settingsChanged();
+    document.documentElement.dataset.ready = 'yes';
+  } catch (error) {
+    console.error(error);
+    sayNoModule(error);
+  }
+}
+
+open();

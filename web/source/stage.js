@@ -1,0 +1,193 @@
+// The machine at one position of its history: ring, cards, lanes, list of events, output and memory.
+
+import { find, make, put } from './elements.js';
+import { answerTo, endAfter, reasonOf, registerName } from './asking.js';
+import { makeCards } from './cards.js';
+import { drawLanes, offsetOf } from './lanes.js';
+import { drawRing } from './ring.js';
+import { eventSentence, hexadecimal, squashSentence } from './sentences.js';
+
+const PLAY_EVERY = 700;
+
+function memoryText(words) {
+  if (!words.length) return 'as at the start';
+  return words.map(it => `${hexadecimal(it.address)}: ${it.word}`).join('\n');
+}
+
+export class Stage {
+  // `moved` is called with the state that is shown, after each move.
+  constructor(jobs, moved) {
+    this.jobs = jobs;
+    this.moved = moved;
+    this.playing = null;
+    this.run = null;
+    find('slider').addEventListener('input', event => this.go(Number(event.target.value)));
+    const buttons = {
+      'to-start': () => 0,
+      'step-back': () => this.stepFrom(-1),
+      back: () => this.position - 1,
+      forward: () => this.position + 1,
+      'step-forward': () => this.stepFrom(1),
+      'to-end': () => this.last,
+    };
+    for (const [id, target] of Object.entries(buttons)) find(id).addEventListener('click', () => this.go(target()));
+    find('play').addEventListener('click', () => this.togglePlay());
+  }
+
+  get last() {
+    return this.run ? this.run.history.states.length - 1 : 0;
+  }
+
+  get state() {
+    return this.run.history.states[this.position];
+  }
+
+  // Takes a run: program, units, script, history, ending, tasks, and the steps of its events, if they are known.
+  load(run, position) {
+    this.stop();
+    this.run = run;
+    this.lines = run.program.split('\n');
+    find('no-run').hidden = true;
+    find('stage-body').hidden = false;
+    find('slider').max = this.last;
+    this.showEvents();
+    this.go(position);
+  }
+
+  // Says why there is no run.
+  clear(sentence) {
+    this.stop();
+    this.run = null;
+    find('no-run').textContent = sentence;
+    find('no-run').hidden = false;
+    find('stage-body').hidden = true;
+    this.moved(null);
+  }
+
+  // Takes the steps of the events, which come later than the run.
+  takeSteps(steps) {
+    this.run.steps = steps;
+    this.showEvents();
+    this.go(this.position);
+  }
+
+  columnOf(event) {
+    return this.run.steps ? this.run.steps[event] : event;
+  }
+
+  go(position) {
+    if (!this.run) return;
+    this.position = Math.max(0, Math.min(this.last, Math.round(position)));
+    const script = this.run.script.slice(0, this.position);
+    const ask = line => answerTo(this.jobs, this.run.program, this.run.units, script, line);
+    const isOver = this.state.standing !== 'running';
+    const reasons = this.state.queue.map((unit, at) => reasonOf(ask, unit, at, isOver));
+    this.showWhere();
+    put(find('ring'), drawRing(this.state, reasons));
+    put(find('cards'), makeCards(this.state, this.run.tasks, this.lines, reasons));
+    this.showFacts(script);
+    this.showLanes();
+    this.markEvent();
+    this.moved(this.state, ask);
+  }
+
+  showWhere() {
+    const slider = find('slider');
+    const step = this.run.steps && this.position ? `, step ${this.columnOf(this.position)} of ${this.columnOf(this.last)}` : '';
+    slider.value = this.position;
+    slider.setAttribute('aria-valuetext', `event ${this.position} of ${this.last}${step}`);
+    find('where').textContent = `event ${this.position} of ${this.last}${step}`;
+    find('step-back').hidden = find('step-forward').hidden = !this.run.steps;
+    for (const id of ['to-start', 'back', 'step-back']) find(id).disabled = this.position === 0;
+    for (const id of ['to-end', 'forward', 'step-forward']) find(id).disabled = this.position === this.last;
+  }
+
+  showFacts(script) {
+    find('event-sentence').textContent = eventSentence(this.state);
+    const squash = squashSentence(this.state);
+    find('squash').hidden = squash === null;
+    find('squash').textContent = squash ?? '';
+    const after = endAfter(this.jobs, this.run.program, this.run.units, script);
+    find('output').textContent = this.state.output.length ? this.state.output.join(' ') : 'nothing yet';
+    find('memory').textContent = memoryText(after.memory ?? []);
+    find('registers').textContent = (after.registers ?? []).map(it => `${registerName(it.register)} = ${it.word}`).join('  ') || 'all 0';
+    find('standing').textContent = this.position === this.last ? this.run.ending : 'goes on';
+  }
+
+  showLanes() {
+    const columnOf = event => this.columnOf(event);
+    find('lanes-title').textContent = this.run.steps ? 'Lanes: one column for each step' : 'Lanes: one column for each event';
+    put(find('lanes'), drawLanes(this.run.history, columnOf, this.position, event => this.go(event)));
+    const offset = offsetOf(this.run.history, columnOf, this.position);
+    const place = find('lanes');
+    if (offset < place.scrollLeft + 60 || offset > place.scrollLeft + place.clientWidth - 60) place.scrollLeft = offset - place.clientWidth / 2;
+  }
+
+  showEvents() {
+    const rows = this.run.history.states.slice(1).map((state, at) => this.eventRow(state, at + 1));
+    put(find('events'), rows);
+  }
+
+  eventRow(state, number) {
+    const kinds = `event is-${state.event.kind} ${state.event.answer === 'refused' ? 'is-refused' : ''}`;
+    const step = this.run.steps ? make('span', { class: 'event-step' }, `step ${this.columnOf(number)}`) : null;
+    return make('li', {}, make('button', { class: kinds, 'data-key': `event-${number}`, onclick: () => this.go(number) },
+      make('span', { class: 'event-number' }, String(number)), step,
+      make('code', {}, this.run.script[number - 1]), make('span', {}, eventSentence(state))));
+  }
+
+  markEvent() {
+    find('events').querySelector('[aria-current]')?.removeAttribute('aria-current');
+    const row = find('events').children[this.position - 1]?.firstChild;
+    if (!row) return;
+    row.setAttribute('aria-current', 'step');
+    const list = find('events');
+    const isAbove = row.offsetTop < list.scrollTop;
+    const isBelow = row.offsetTop + row.offsetHeight > list.scrollTop + list.clientHeight;
+    if (isAbove || isBelow) list.scrollTop = row.offsetTop - list.clientHeight / 2;
+  }
+
+  // The last event of the step before or after the one that is shown.
+  stepFrom(direction) {
+    const { steps } = this.run;
+    if (!steps) return this.position + direction;
+    const step = this.position ? steps[this.position] : 0;
+    if (direction > 0) return steps.lastIndexOf(Math.min(step + 1, steps[this.last]));
+    return step <= 1 ? 0 : Math.max(0, steps.lastIndexOf(step - 1));
+  }
+
+  togglePlay() {
+    if (this.playing) return this.stop();
+    if (this.position === this.last) this.go(0);
+    this.playing = setInterval(() => {
+      this.go(this.run.steps ? this.stepFrom(1) : this.position + 1);
+      if (this.position === this.last) this.stop();
+    }, PLAY_EVERY);
+    find('play').textContent = 'Pause';
+  }
+
+  stop() {
+    clearInterval(this.playing);
+    this.playing = null;
+    find('play').textContent = 'Play';
+  }
+
+  // Keys that move, where no control takes them itself.
+  key(event) {
+    const steps = event.shiftKey ? direction => this.stepFrom(direction) : direction => this.position + direction;
+    const targets = { ArrowRight: () => steps(1), ArrowLeft: () => steps(-1) };
+    if (!this.run || !targets[event.key]) return;
+    event.preventDefault();
+    this.go(targets[event.key]());
+  }
+}
+
+// The lines at which units are, each with the seats there, and the seat of the head.
+export function seatsByLine(state) {
+  const units = new Map();
+  for (const unit of state?.queue ?? []) {
+    const line = unit.hasStopped ? unit.last : unit.line;
+    if (line) units.set(line, [...units.get(line) ?? [], unit.seat]);
+  }
+  return { units, head: state?.queue[0]?.seat ?? null };
+}
