@@ -25,7 +25,7 @@ const REPORTS: [(&str, &str); 8] = [
         "a.s:7:1: warning: this is a last update without !f: later tasks wait for what it writes
     7 | slti $10,$8,4
       | ^~~~~~~~~~~~~
-a.s:7:1: help: add !f here
+a.s:7:14: help: add !f here
 ",
     ),
     ("check a.s a.cert", "accepted 2 tasks 6 instructions\n"),
