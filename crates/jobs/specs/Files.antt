@@ -4,7 +4,7 @@ use Rattle.std.specs.String.{string_bytes}
 use Rattle.jobs.specs.declared.job.CertificateSource.{CertificateSource}
 use Rattle.jobs.specs.declared.job.CertificateSource.TheVariants.{File, Least}
 use Rattle.jobs.specs.declared.job.Job.{Job}
-use Rattle.jobs.specs.declared.job.Job.TheVariants.{Explain, Check, Replay, Run, Curve}
+use Rattle.jobs.specs.declared.job.Job.TheVariants.{Explain, Check, Replay, ReplayStrictly, Run, Curve}
 use Rattle.jobs.specs.declared.job.Paths.{Paths}
 
 -- the certificate is in a file
@@ -17,6 +17,7 @@ abbrev pub has_certificate : Job → Bool
 has_certificate (Explain name certificate warnings format) = is_some certificate
 has_certificate (Check source workers) = is_in_file source
 has_certificate (Replay source units emit) = is_in_file source
+has_certificate (ReplayStrictly source units) = is_in_file source
 has_certificate (Run source schedule units workers budget predict emit) = is_in_file source
 has_certificate (Curve source units budget predict emit) = is_in_file source
 has_certificate _ = false
@@ -24,6 +25,7 @@ has_certificate _ = false
 -- the job has an event script
 abbrev pub has_script : Job → Bool
 has_script (Replay source units emit) = true
+has_script (ReplayStrictly source units) = true
 has_script _ = false
 
 -- a file that the job does not have has no name

@@ -41,6 +41,8 @@ pub enum RunEmit {
     Report,
     /// The history, as an event script that `replay` reads.
     Script,
+    /// The same with what each event did, as a script that `replay --strict` judges.
+    ScriptWithValues,
     /// How often each task was assigned, how that ended, and how much of its work was of use.
     Summary,
     /// The run as a picture, in SVG.
@@ -130,6 +132,12 @@ pub enum Job {
         units: Units,
         emit: ReplayEmit,
     },
+    /// Applies the events of a script with expectations to a machine of this many units, up to the first that is not allowed
+    /// or does not do what is expected.
+    ReplayStrictly {
+        certificate: CertificateSource,
+        units: Units,
+    },
     /// Runs the program on a machine of this many units, which this many threads serve, up to this many
     /// events. More threads than units are as many as units; a run in steps has one thread.
     Run {
@@ -164,6 +172,9 @@ impl Job {
             Job::Explain { certificate, .. } => certificate.is_some(),
             Job::Check { certificate, .. } => matches!(certificate, CertificateSource::File),
             Job::Replay { certificate, .. } => matches!(certificate, CertificateSource::File),
+            Job::ReplayStrictly { certificate, .. } => {
+                matches!(certificate, CertificateSource::File)
+            }
             Job::Run { certificate, .. } => matches!(certificate, CertificateSource::File),
             Job::Curve { certificate, .. } => matches!(certificate, CertificateSource::File),
             _ => false,
@@ -174,7 +185,7 @@ impl Job {
     pub fn has_script(&self) -> bool
         ensures { result ≡ has_script self.now }
     {
-        matches!(self, Job::Replay { .. })
+        matches!(self, Job::Replay { .. } | Job::ReplayStrictly { .. })
     }
 }
 
