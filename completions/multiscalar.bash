@@ -7,8 +7,8 @@ _multiscalar_options() {
         annotate) echo "--emit --in-place --report --output --help" ;;
         explain) echo "--certificate --format --no-warnings --output --help" ;;
         check) echo "--workers --least --output --help" ;;
-        replay) echo "--units --emit --least --output --help" ;;
-        run) echo "--units --budget --predict --workers --schedule --emit --least --output --help" ;;
+        replay) echo "--units --emit --strict --least --output --help" ;;
+        run) echo "--with-values --units --budget --predict --workers --schedule --emit --least --output --help" ;;
         curve) echo "--units --budget --predict --emit --least --output --help" ;;
     esac
 }

@@ -27,7 +27,7 @@ from urllib.parse import unquote
 
 __all__ = [
     "AnnotateEmit", "CurveEmit", "Diagnostic", "FIRST", "Finding", "LAST", "ReplayEmit", "Report", "RunEmit", "Verdict",
-    "annotate", "check", "curve", "explain", "explain_text", "print_program", "replay", "run_in_steps", "seq", "version",
+    "annotate", "check", "curve", "explain", "explain_text", "print_program", "replay", "replay_strictly", "run_in_steps", "seq", "version",
 ]
 
 Text = Union[str, bytes]
@@ -63,6 +63,7 @@ class RunEmit(IntEnum):
     SVG = 3
     TRACE = 4
     JSON = 5
+    SCRIPT_WITH_VALUES = 6
 
 
 class CurveEmit(IntEnum):
@@ -253,6 +254,11 @@ def run_in_steps(program: Text, certificate: Text | None = None, units: int = 4,
 def replay(program: Text, script: Text, certificate: Text | None = None, units: int = 4, emit: ReplayEmit = ReplayEmit.ANSWERS) -> Report:
     """Plays a script of events on a machine of 1 to 16 units."""
     return Report(*_call("replay", certificate is None, units, int(emit), _bytes(program), _bytes(certificate), _bytes(script), room=65536))
+
+
+def replay_strictly(program: Text, script: Text, certificate: Text | None = None, units: int = 4) -> Report:
+    """Judges a script with expectations: status 0 exactly where each event is allowed and does what is expected."""
+    return Report(*_call("replay_strictly", certificate is None, units, _bytes(program), _bytes(certificate), _bytes(script)))
 
 
 def curve(program: Text, certificate: Text | None = None, units: int = 16, budget: int = 1_000_000, prediction: Prediction = FIRST,

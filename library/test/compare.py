@@ -16,7 +16,7 @@ PROGRAM, TEXTS = sys.argv[1], int(sys.argv[2])
 EMITS = {
     "annotate": (multiscalar.AnnotateEmit, ["text", "cert", "keep", "marks"]),
     "replay": (multiscalar.ReplayEmit, ["answers", "summary", "svg", "trace", "json"]),
-    "run": (multiscalar.RunEmit, ["report", "script", "summary", "svg", "trace", "json"]),
+    "run": (multiscalar.RunEmit, ["report", "script", "summary", "svg", "trace", "json", "script --with-values"]),
     "curve": (multiscalar.CurveEmit, ["table", "svg"]),
 }
 PREDICTIONS = {"first": multiscalar.FIRST, "last": multiscalar.LAST, "1,0": [1, 0]}
@@ -55,7 +55,7 @@ class Comparison:
         for units in (1, 3, 16):
             for word, prediction in PREDICTIONS.items():
                 for emit, name in emits("run"):
-                    words = ["run", "--least", "--schedule", "steps", "--units", units, "--predict", word, "--budget", 2000, "--emit", name, file]
+                    words = ["run", "--least", "--schedule", "steps", "--units", units, "--predict", word, "--budget", 2000, "--emit", *name.split(), file]
                     self.compare(words, multiscalar.run_in_steps(text, units=units, budget=2000, prediction=prediction, emit=emit))
         for emit, name in emits("curve"):
             self.compare(["curve", "--least", "--units", 6, "--budget", 2000, "--emit", name, file], multiscalar.curve(text, units=6, budget=2000, emit=emit))
@@ -64,6 +64,8 @@ class Comparison:
         for emit, name in emits("replay"):
             report = multiscalar.replay(file.read_bytes(), script.read_bytes(), certificate.read_bytes(), emit=emit)
             self.compare(["replay", "--units", 4, "--emit", name, file, certificate, script], report)
+        self.compare(["replay", "--strict", file, certificate, script],
+                     multiscalar.replay_strictly(file.read_bytes(), script.read_bytes(), certificate.read_bytes()))
 
     def certify(self, file, certificate):
         self.compare(["check", file, certificate], multiscalar.check(file.read_bytes(), certificate.read_bytes()))

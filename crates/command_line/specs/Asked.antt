@@ -24,12 +24,14 @@ use Rattle.jobs.specs.declared.job.Emit.TheVariants as emit
 use Rattle.jobs.specs.declared.job.Format.{Format}
 use Rattle.jobs.specs.declared.job.Format.TheVariants as form
 use Rattle.jobs.specs.declared.job.ReplayEmit.{ReplayEmit}
+use Rattle.jobs.specs.declared.job.ReplayEmit.TheVariants.{Answers}
 use Rattle.jobs.specs.declared.job.RunEmit.{RunEmit}
+use Rattle.jobs.specs.declared.job.RunEmit.TheVariants.{Script, ScriptWithValues}
 use Rattle.jobs.specs.declared.job.CurveEmit.{CurveEmit}
 use Rattle.jobs.specs.declared.job.Schedule.{Schedule}
 use Rattle.jobs.specs.declared.job.Prediction.{Prediction}
 use Rattle.jobs.specs.declared.job.Job.{Job}
-use Rattle.jobs.specs.declared.job.Job.TheVariants.{Seq, Print, Annotate, Explain, Check, Replay, Run, Curve}
+use Rattle.jobs.specs.declared.job.Job.TheVariants.{Seq, Print, Annotate, Explain, Check, Replay, ReplayStrictly, Run, Curve}
 use Rattle.jobs.specs.declared.job.Paths.{Paths}
 use Rattle.command_line.specs.Words.{curve_emit_of, emit_of, format_of, prediction_of, replay_emit_of, run_emit_of, schedule_of}
 use Rattle.command_line.specs.CommandLine.{command_line}
@@ -63,9 +65,6 @@ schedule_in values = option_and_then schedule_of (first_of (codes "schedule") va
 abbrev pub format_in : List Row → Option Format
 format_in values = option_and_then format_of (first_of (codes "format") values)
 
-abbrev pub run_emit_in : List Row → Option RunEmit
-run_emit_in values = option_and_then run_emit_of (first_of (codes "emit") values)
-
 abbrev pub replay_emit_in : List Row → Option ReplayEmit
 replay_emit_in values = option_and_then replay_emit_of (first_of (codes "emit") values)
 
@@ -75,6 +74,15 @@ curve_emit_in values = option_and_then curve_emit_of (first_of (codes "emit") va
 -- an option without a value is given
 abbrev pub is_given : Text → List Row → Bool
 is_given id values = option_map_or (λ word. bytes_eq word (codes "true")) (first_of id values) false
+
+-- `--with-values` goes with a script alone
+abbrev pub with_values : (given : Bool) → Option RunEmit → Option RunEmit
+with_values false emit = emit
+with_values true (Some Script) = Some ScriptWithValues
+with_values true other = None
+
+abbrev pub run_emit_in : List Row → Option RunEmit
+run_emit_in values = with_values (is_given (codes "with-values") values) (option_and_then run_emit_of (first_of (codes "emit") values))
 
 -- the result takes the place of the program text
 abbrev pub is_in_place : List Row → Bool
@@ -88,6 +96,10 @@ emit_in values =
 -- `--least` is given
 abbrev pub is_least : List Row → Bool
 is_least values = is_given (codes "least") values
+
+-- `--strict` is given
+abbrev pub is_strict : List Row → Bool
+is_strict values = is_given (codes "strict") values
 
 -- where the certificate comes from, of a subcommand whose last file is this one: with `--least` there is a
 -- file less, and so no last one
@@ -122,6 +134,11 @@ IsCheckMisfit values fault =
 abbrev pub IsNoValue : {V : Type 0} → Option V → UsageFault → Type 0
 IsNoValue value fault = IsOfKind kind.InvalidValue fault × (value ≡ None)
 
+-- `--strict` is given, and something else is to be written, too
+abbrev pub IsStrictMisfit : List Row → UsageFault → Type 0
+IsStrictMisfit values fault = IsOfKind kind.ArgumentConflict fault × (is_strict values ≡ true)
+    × IsSomeAnd (replay_emit_in values) (λ emit. emit ≢ Answers)
+
 -- a subcommand of this name with these values gives the job
 abbrev pub Gives : Text → List Row → Job → Type 0
 Gives name values (Seq budget) =
@@ -136,6 +153,9 @@ Gives name values (Check source workers) = (name ≡ codes "check")
     × IsCheckSource values source × (number_at (codes "workers") values ≡ Some workers)
 Gives name values (Replay source units emit) = (name ≡ codes "replay") × IsSource (codes "script") values source
     × (number_at (codes "units") values ≡ Some units) × (replay_emit_in values ≡ Some emit)
+    × (is_strict values ≡ false)
+Gives name values (ReplayStrictly source units) = (name ≡ codes "replay") × IsSource (codes "script") values source
+    × (number_at (codes "units") values ≡ Some units) × (replay_emit_in values ≡ Some Answers) × (is_strict values ≡ true)
 Gives name values (Run source schedule units workers budget predict emit) = (name ≡ codes "run")
     × IsSource (codes "certificate") values source × (schedule_in values ≡ Some schedule)
     × (number_at (codes "units") values ≡ Some units)
@@ -260,6 +280,7 @@ Refuses name values fault = IsLack (Lacks name values) fault
     ⊎ ((name ≡ codes "check") × IsCheckMisfit values fault)
     ⊎ ((name ≡ codes "replay") × IsMisfit (codes "script") values fault)
     ⊎ ((name ≡ codes "replay") × Fits (codes "script") values × IsNoValue (replay_emit_in values) fault)
+    ⊎ ((name ≡ codes "replay") × Fits (codes "script") values × IsStrictMisfit values fault)
     ⊎ ((name ≡ codes "run") × IsMisfit (codes "certificate") values fault)
     ⊎ ((name ≡ codes "run") × Fits (codes "certificate") values × IsNoValue (schedule_in values) fault)
     ⊎ ((name ≡ codes "run") × Fits (codes "certificate") values × IsSome (schedule_in values) × IsNoValue (run_emit_in values) fault)

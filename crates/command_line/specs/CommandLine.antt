@@ -86,6 +86,14 @@ output = file_option (codes "output") 111
 abbrev pub in_place : Rule
 in_place = flag (codes "in-place")
 
+-- a script says what its events did
+abbrev pub valued : Rule
+valued = flag (codes "with-values")
+
+-- a script with expectations is judged
+abbrev pub strict : Rule
+strict = flag (codes "strict")
+
 -- what is left to mend by hand is told
 abbrev pub report : Rule
 report = flag (codes "report")
@@ -139,11 +147,11 @@ check = subcommand (codes "check") (program ∷ certificate_or_programs ∷ leas
 
 abbrev pub replay : Shape
 replay = subcommand (codes "replay") (program ∷ certificate ∷ free_script ∷ least ∷ units
-    ∷ word (codes "emit") (codes "answers") ∷ output ∷ [])
+    ∷ word (codes "emit") (codes "answers") ∷ strict ∷ output ∷ [])
 
 abbrev pub run : Shape
 run = subcommand (codes "run") (program ∷ free_certificate ∷ least ∷ schedule ∷ units ∷ workers ∷ budget
-    ∷ word (codes "predict") (codes "first") ∷ word (codes "emit") (codes "report") ∷ output ∷ [])
+    ∷ word (codes "predict") (codes "first") ∷ word (codes "emit") (codes "report") ∷ valued ∷ output ∷ [])
 
 abbrev pub curve : Shape
 curve = subcommand (codes "curve") (program ∷ free_certificate ∷ least ∷ most_units ∷ budget

@@ -186,6 +186,13 @@ stands: running, halted, trapped K Name or unlisted ADDRESS. Of a text that is n
 first fault and its line:
   script refused: K Name LINE
 
+With `--strict` it judges the script instead, as a log of another simulator. After an event a colon may stand,
+and what the event must have done, parted by commas: `$9=7` (the register comes to have this word),
+`[0x10010000]=5` (this word is loaded from there or stored there), `out=10`, `stops 0x00400010`. Empty lines,
+comments from `#` on and lines such as `step 3` are skipped. It writes the first line that departs from the
+machine, with what the event did and how each unit then stands, with status 1; or, with status 0,
+  as expected: N events; HOW THE RUN STANDS
+
 With `--emit summary` it writes a table instead of the answers and of how the run stands: that of
 `run --emit summary`, of the events that were allowed. With `--emit trace` it writes below each answer what
 the event changed, and with `--emit json` the same for machines, an object of JSON on each line. With
@@ -219,6 +226,7 @@ With `--emit script` it writes what the machine did instead, one event on each l
 as many units:
   ./multiscalar run --least --units 2 --emit script examples/count/program.s > count.events
   ./multiscalar replay --least --units 2 examples/count/program.s count.events
+With `--with-values`, too, it says of each event what it did, for `replay --strict` and other simulators.
 
 With `--emit summary` it writes a table instead, with a row for each task and one for all of them:
   assigned  retired  squashed  dropped  unfinished  useful  wasted  task
@@ -371,11 +379,20 @@ pub const NO_FORMAT: &str = "the value of --format is text or sarif";
 /// Why another value of `--schedule` gives no job.
 pub const NO_SCHEDULE: &str = "the value of --schedule is threads or steps";
 
+/// `--with-values`.
+pub const WITH_VALUES: &str = "With --emit script: says of each event what it did, for replay --strict";
+
+/// `--strict`.
+pub const STRICT: &str = "Judges a script that says what its events must have done";
+
+/// Why `--strict` with another `--emit` gives no job.
+pub const STRICT_EMITS: &str = "with --strict there is no other --emit";
+
 /// Why another value of `--emit` of `replay` gives no job.
 pub const NO_REPLAY_EMIT: &str = "the value of --emit is answers, summary, svg, trace or json";
 
 /// Why another value of `--emit` of `run` gives no job.
-pub const NO_RUN_EMIT: &str = "the value of --emit is report, script, summary, svg, trace or json";
+pub const NO_RUN_EMIT: &str = "the value of --emit is report, script, summary, svg, trace or json; --with-values goes with script";
 
 /// Why another value of `--emit` of `curve` gives no job.
 pub const NO_CURVE_EMIT: &str = "the value of --emit is table or svg";

@@ -1,12 +1,14 @@
 //! From the words of a command line to a job.
-ghost use Rattle.std.specs.Prelude.{◌≡◌, ◌≤◌, ◌==◌, ◌&&◌, ◌⊎◌, IfErr, IfOk, IfSome, MatchOption, MatchResult, All, Some, None, true, false, if◌then◌else◌, map, length, option_map, option_and_then, is_none, unwrap_or, vec_len, [], codes};
+ghost use Rattle.std.specs.Prelude.{◌≡◌, ◌≢◌, ◌≤◌, ◌==◌, ◌&&◌, ◌⊎◌, IfErr, IfOk, IfSome, MatchOption, MatchResult, All, Some, None, true, false, if◌then◌else◌, map, length, option_map, option_and_then, is_none, unwrap_or, vec_len, [], codes};
 ghost use Rattle.std.specs.String.{string_bytes};
 ghost use Rattle.std.specs.List.{slice_split};
 ghost use Rattle.clap.specs.Words.{first_of};
 ghost use Rattle.clap.specs.declared.error.kind.ErrorKind.TheVariants.{ArgumentConflict, InvalidValue, MissingSubcommand};
-ghost use Rattle.command_line.specs.Asked.{AskFor, IsCheckMisfit, IsCheckSource, IsFaultOf, IsFrom, IsLack, IsMisfit, IsNoNumber, IsNoValue, IsOutside, IsOfKind, IsSource, Reads, ReadsRequest, IsDestination, destination_in, is_in_place, is_given, curve_emit_in, fits_in_place, further_in, goes_together, emit_in, format_in, number_at, predict_in, repeats, replay_emit_in, run_emit_in, schedule_in, values_at, values_in};
+ghost use Rattle.command_line.specs.Asked.{AskFor, IsCheckMisfit, IsCheckSource, IsFaultOf, IsFrom, IsLack, IsMisfit, IsNoNumber, IsNoValue, IsOutside, IsOfKind, IsSource, Reads, ReadsRequest, IsDestination, destination_in, is_in_place, is_given, is_strict, curve_emit_in, fits_in_place, further_in, goes_together, emit_in, format_in, number_at, predict_in, repeats, replay_emit_in, run_emit_in, schedule_in, values_at, values_in, with_values};
 ghost use Rattle.command_line.specs.Words.{listed_number, listed_numbers, all_there, curve_emit_of, emit_of, format_of, prediction_of, replay_emit_of, run_emit_of, schedule_of};
 ghost use Rattle.jobs.specs.Files.{HasFilesOf, is_in_file};
+ghost use Rattle.jobs.specs.declared.job.Job.TheVariants.{Replay, ReplayStrictly};
+ghost use Rattle.jobs.specs.declared.job.ReplayEmit.TheVariants.{Answers};
 ghost use Rattle.command_line.specs.declared.words.UsageFault.TheVariants.{OutOfMemory, Predict, Emit as EmitFault};
 
 use crate::help;
@@ -562,12 +564,39 @@ fn read_replay(alloc: Global, values: &ArgMatches<'_>) -> Result<(Job, Paths), U
     let certificate = read_source(alloc, "replay", values, "script")?;
     let units = read_units(alloc, values)?;
     let emit = replay_emit(alloc, values)?;
-    let job = Job::Replay {
-        certificate,
-        units,
-        emit,
-    };
+    let job = replay_of(alloc, values, certificate, units, emit)?;
     Ok((job, replayed_paths(alloc, values, certificate)?))
+}
+
+// The job of `replay`: with `--strict` nothing but the verdict is written.
+fn replay_of(
+    alloc: Global,
+    values: &ArgMatches<'_>,
+    certificate: CertificateSource,
+    units: Units,
+    emit: ReplayEmit,
+) -> Result<Job, UsageFault>
+    ensures { MatchResult result
+        (λ job. ((is_strict (values_in values.now) ≡ false) × (job ≡ Replay certificate units emit))
+        ⊎ ((is_strict (values_in values.now) ≡ true) × (emit ≡ Answers) × (job ≡ ReplayStrictly certificate units)))
+        (λ fault. IsOfKind ArgumentConflict fault × (is_strict (values_in values.now) ≡ true) × (emit ≢ Answers)) }
+{
+    if !is_given(values, "strict") {
+        return Ok(Job::Replay {
+            certificate,
+            units,
+            emit,
+        });
+    }
+    match emit {
+        ReplayEmit::Answers => Ok(Job::ReplayStrictly { certificate, units }),
+        _ => Err(fault_of_kind(
+            alloc,
+            "replay",
+            ErrorKind::ArgumentConflict,
+            help::STRICT_EMITS,
+        )),
+    }
 }
 
 fn read_run(alloc: Global, values: &ArgMatches<'_>) -> Result<(Job, Paths), UsageFault>
@@ -666,9 +695,21 @@ fn replay_emit(alloc: Global, values: &ArgMatches<'_>) -> Result<ReplayEmit, Usa
 fn run_emit(alloc: Global, values: &ArgMatches<'_>) -> Result<RunEmit, UsageFault>
     ensures { MatchResult result (λ e. run_emit_in (values_in values.now) ≡ Some e) (IsNoValue (run_emit_in (values_in values.now))) }
 {
-    match text(values, "emit").and_then(read_run_emit) {
+    let emit = text(values, "emit").and_then(read_run_emit);
+    match with_values(is_given(values, "with-values"), emit) {
         Some(emit) => Ok(emit),
         None => Err(no_value(alloc, "run", help::NO_RUN_EMIT)),
+    }
+}
+
+// What is written where `--with-values` is given, or is not: it goes with a script alone.
+fn with_values(given: bool, emit: Option<RunEmit>) -> Option<RunEmit>
+    ensures { result ≡ with_values given emit }
+{
+    match emit {
+        Some(RunEmit::Script) if given => Some(RunEmit::ScriptWithValues),
+        _ if given => None,
+        _ => emit,
     }
 }
 

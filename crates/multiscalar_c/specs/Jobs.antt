@@ -8,6 +8,7 @@ use Rattle.report_texts.specs.CertificateTexts.{OfCertificate}
 use Rattle.report_texts.specs.CheckText.{check_text}
 use Rattle.verdict_report.specs.CurveText.{IsCurveText}
 use Rattle.verdict_report.specs.JobTexts.{IsExplainedIn}
+use Rattle.strict_replay.specs.StrictReplay.{strict_text}
 use Rattle.verdict_report.specs.ReplayText.{replay_text}
 use Rattle.verdict_report.specs.RunText.{IsRunText}
 use Rattle.multiscalar_c.specs.Codes.{IsBudget, IsUnits, curve_emits, emits, formats, prediction_of, replay_emits, run_emits, source_of}
@@ -46,6 +47,11 @@ abbrev pub IsReplayed : (is_least : Bool) → (units emit : ℕ) → (program ce
 IsReplayed is_least units emit program certificate script report =
     IfSome (slice_get replay_emits emit) (λ emit. OfCertificate (source_of is_least) program certificate (λ certificate.
     report ≡ replay_text emit units program certificate script))
+
+-- what `replay --strict` writes
+abbrev pub IsReplayedStrictly : (is_least : Bool) → (units : ℕ) → (program certificate script : List ℕ) → Report → Type 0
+IsReplayedStrictly is_least units program certificate script report =
+    OfCertificate (source_of is_least) program certificate (λ certificate. report ≡ strict_text units program certificate script)
 
 -- what a run takes that may write one of these
 pub record RunTakes {Emit : Type 0} (emits : List Emit) (units budget predict : ℕ) (list : List ℕ) (emit : ℕ) : Type 0 where

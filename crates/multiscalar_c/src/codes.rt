@@ -54,6 +54,7 @@ pub(crate) fn run_emit(code: u32) -> Option<RunEmit>
         3 => Some(RunEmit::Picture),
         4 => Some(RunEmit::Trace),
         5 => Some(RunEmit::Json),
+        6 => Some(RunEmit::ScriptWithValues),
         _ => None,
     }
 }

@@ -1,8 +1,8 @@
 //! The calls.
 ghost use Rattle.std.specs.Prelude.{◌≡◌, ⊤, IsSome, slice_get};
 ghost use Rattle.multiscalar_c.specs.Answers.{Answers, Made};
-ghost use Rattle.multiscalar_c.specs.Codes.{IsBudget, curve_emits, emits, run_emits};
-ghost use Rattle.multiscalar_c.specs.Jobs.{ExplainTakes, IsAnnotated, IsChecked, IsCurve, IsExplained, IsReplayed, IsRun, ReplayTakes, RunTakes, file_of};
+ghost use Rattle.multiscalar_c.specs.Codes.{IsBudget, IsUnits, curve_emits, emits, run_emits};
+ghost use Rattle.multiscalar_c.specs.Jobs.{ExplainTakes, IsAnnotated, IsChecked, IsCurve, IsExplained, IsReplayed, IsReplayedStrictly, IsRun, ReplayTakes, RunTakes, file_of};
 ghost use Rattle.report_texts.specs.PrintText.{print_text};
 ghost use Rattle.report_texts.specs.SeqText.{seq_text};
 
@@ -18,6 +18,7 @@ use report_texts::printing::print;
 use report_texts::report::Report;
 use report_texts::sequential::seq;
 use std::alloc::Global;
+use strict_replay::replaying::replay_strictly;
 use verdict_report::alone::{StepsRun, check_alone, run_alone};
 use verdict_report::curving::curve;
 use verdict_report::replaying::replay;
@@ -206,6 +207,39 @@ fn replay_of(
     let emit = codes::replay_emit(emit).ok_or(Fault::Range)?;
     let texts = texts(alloc, program, certificate, script)?;
     Ok(replay(alloc, codes::source(is_least), units, emit, &texts)?)
+}
+
+/// `replay --strict`: judges a script with expectations on a machine of this many units, 1..=16.
+#[unsafe(no_mangle)]
+pub extern "C" fn multiscalar_c_replay_strictly(
+    alloc: Global,
+    is_least: bool,
+    units: u32,
+    program: &[u8],
+    certificate: &[u8],
+    script: &[u8],
+    out: &mut [u8],
+    len: &mut usize,
+) -> u32
+    ensures { Answers (IsUnits units) (IsReplayedStrictly is_least units program.now certificate.now script.now) result out.old out.new len.new }
+{
+    let report = replay_strictly_of(alloc, is_least, units, program, certificate, script);
+    hand_out(report, out, len)
+}
+
+fn replay_strictly_of(
+    alloc: Global,
+    is_least: bool,
+    units: u32,
+    program: &[u8],
+    certificate: &[u8],
+    script: &[u8],
+) -> Result<Report, Fault>
+    ensures { Made (IsUnits units) (IsReplayedStrictly is_least units program.now certificate.now script.now) result }
+{
+    let units = Units::new(units).ok_or(Fault::Range)?;
+    let texts = texts(alloc, program, certificate, script)?;
+    Ok(replay_strictly(alloc, codes::source(is_least), units, &texts)?)
 }
 
 /// `run --schedule steps`: runs the program in steps on this many units, 1..=16, until it ends or `budget` events,

@@ -5,7 +5,7 @@ use Rattle.std.specs.declared.alloc.Global.{Global}
 use Rattle.std.specs.declared.string.String.{String}
 use Rattle.jobs.specs.declared.job.Format.{Format}
 use Rattle.jobs.specs.declared.job.Job.{Job}
-use Rattle.jobs.specs.declared.job.Job.TheVariants.{Annotate, Check, Curve, Explain, Print, Replay, Run, Seq}
+use Rattle.jobs.specs.declared.job.Job.TheVariants.{Annotate, Check, Curve, Explain, Print, Replay, ReplayStrictly, Run, Seq}
 use Rattle.jobs.specs.declared.job.Texts.{Texts}
 use Rattle.report_texts.specs.OutputTexts.{Report}
 use Rattle.verdict_report.specs.JobTexts.{IsReportOf}
@@ -62,6 +62,7 @@ job_itself Print name other = refl
 job_itself (Annotate emit) name other = refl
 job_itself (Check source workers) name other = refl
 job_itself (Replay source units emit) name other = refl
+job_itself (ReplayStrictly source units) name other = refl
 job_itself (Run source schedule units workers budget predict emit) name other = refl
 job_itself (Curve source units budget predict emit) name other = refl
 

@@ -18,6 +18,7 @@ enum Wanted {
     Explain(WantedExplain),
     Check(CertificateSource, u32),
     Replay(CertificateSource, u32, ReplayEmit),
+    ReplayStrictly(CertificateSource, u32),
     Run(WantedRun),
     Curve(CertificateSource, u32, u32, Wanting, CurveEmit),
 }
@@ -110,6 +111,9 @@ impl Wanted {
                 units,
                 emit,
             } => Wanted::Replay(*certificate, units.get(), *emit),
+            Job::ReplayStrictly { certificate, units } => {
+                Wanted::ReplayStrictly(*certificate, units.get())
+            }
             Job::Run {
                 certificate,
                 schedule,
@@ -166,7 +170,7 @@ fn is_named(file: &Option<String>, name: &str) -> bool {
 }
 
 // Words that give a job of the program `a.s`.
-const JOBS: [(&str, Wanted); 27] = [
+const JOBS: [(&str, Wanted); 29] = [
     ("seq a.s", Wanted::Seq(1_000_000)),
     ("seq --budget 17 a.s", Wanted::Seq(17)),
     ("print a.s", Wanted::Print),
@@ -219,6 +223,14 @@ const JOBS: [(&str, Wanted); 27] = [
         Wanted::Replay(Least, 3, ReplayEmit::Summary),
     ),
     (
+        "replay --strict a.s a.cert a.events",
+        Wanted::ReplayStrictly(File, 4),
+    ),
+    (
+        "replay a.s --emit answers --units 2 --least --strict a.events",
+        Wanted::ReplayStrictly(Least, 2),
+    ),
+    (
         "replay a.s a.cert a.events --emit json",
         Wanted::Replay(File, 4, ReplayEmit::Json),
     ),
@@ -245,7 +257,7 @@ const JOBS: [(&str, Wanted); 27] = [
 ];
 
 // Words of `run`.
-const RUNS: [(&str, WantedRun); 13] = [
+const RUNS: [(&str, WantedRun); 14] = [
     ("run a.s a.cert", PLAIN_RUN),
     (
         "run --least a.s",
@@ -259,6 +271,13 @@ const RUNS: [(&str, WantedRun); 13] = [
         WantedRun {
             certificate: Least,
             emit: RunEmit::Script,
+            ..PLAIN_RUN
+        },
+    ),
+    (
+        "run --with-values a.s a.cert --emit script",
+        WantedRun {
+            emit: RunEmit::ScriptWithValues,
             ..PLAIN_RUN
         },
     ),
@@ -366,7 +385,7 @@ fn expect_path(rt: &impl Abort, line: &str, path: &String, expected: &str) {
     assert!(rt; path.as_str() == expected, "{line}");
 }
 
-const NO_JOBS: [&str; 54] = [
+const NO_JOBS: [&str; 57] = [
     "seq",
     "seq a.s b.s",
     "seq a.s --budget 0",
@@ -406,7 +425,10 @@ const NO_JOBS: [&str; 54] = [
     "curve a.s a.cert --workers 2",
     "replay a.s a.cert a.events --emit report",
     "replay a.s a.cert a.events --emit Summary",
+    "replay a.s a.cert a.events --strict --emit trace",
     "run a.s a.cert --emit xml",
+    "run a.s a.cert --with-values",
+    "run a.s a.cert --with-values --emit trace",
     "run a.s a.cert --emit text",
     "curve a.s a.cert --emit json",
     "curve --least a.s --emit Table",

@@ -4,7 +4,7 @@
 //! text on standard input; a missing file; wrong words; every help; what is said of a wrong value, of a file
 //! that the words lack or have too many, and of options of one program beside several; files that cannot take a
 //! result, a refused text that changes none, and what cannot be done in place; what `annotate --report` says is
-//! left to mend by hand; and what standard error gets if it is a terminal, beside refused texts, findings, a run
+//! left to mend by hand; scripts with expectations; and what standard error gets if it is a terminal, beside refused texts, findings, a run
 //! that trapped and proposed marks that leave something. Last, the program does what its own words ask for, on the
 //! two streams of the process and with its status: a file is missing, so it writes nothing to standard output.
 #![tactic(auto)]
@@ -23,7 +23,7 @@ use std::sync::Wait;
 use std::thread::Threads;
 use whole_file::system::SystemFolder;
 
-const LINES: [&str; 49] = [
+const LINES: [&str; 53] = [
     "check five-findings.s five-findings.cert2",
     "check --workers 3 large.s large.cert2",
     "replay --units 2 count.s count.cert2 count.events",
@@ -73,6 +73,10 @@ const LINES: [&str; 49] = [
     "annotate --report --emit keep count.s",
     "annotate --report --emit cert returns.s",
     "annotate --report count.cert2",
+    "replay --least --strict --units 2 count.s strict.events",
+    "replay --least --strict --units 2 count.s departs.events",
+    "replay --least --strict --emit trace count.s strict.events",
+    "run --least --schedule steps --units 1 --emit script --with-values count.s",
 ];
 
 // Where standard error is a terminal.

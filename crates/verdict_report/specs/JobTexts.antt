@@ -14,11 +14,12 @@ use Rattle.verdict_report.specs.Writing.{Begins}
 use Rattle.report_texts.specs.AnnotateText.{IsAnnotateReport}
 use Rattle.report_texts.specs.CertificateTexts.{OfCertificate}
 use Rattle.explain_report.specs.ExplainText.{IsExplainReport}
+use Rattle.strict_replay.specs.StrictReplay.{strict_text}
 use Rattle.explain_report.specs.LogText.{IsLogReport}
 use Rattle.jobs.specs.declared.job.Format.{Format}
 use Rattle.jobs.specs.declared.job.Format.TheVariants.{Text, Sarif}
 use Rattle.jobs.specs.declared.job.Job.{Job}
-use Rattle.jobs.specs.declared.job.Job.TheVariants.{Seq, Print, Annotate, Explain, Check, Replay, Run, Curve}
+use Rattle.jobs.specs.declared.job.Job.TheVariants.{Seq, Print, Annotate, Explain, Check, Replay, ReplayStrictly, Run, Curve}
 use Rattle.jobs.specs.declared.job.Texts.{Texts}
 
 -- what `explain` writes in a format
@@ -38,6 +39,8 @@ IsReportOf (Check source workers) texts report =
     OfCertificate source texts.program.items texts.certificate (λ certificate. report ≡ check_text texts.program.items certificate)
 IsReportOf (Replay source units emit) texts report =
     OfCertificate source texts.program.items texts.certificate (λ certificate. report ≡ replay_text emit units texts.program.items certificate texts.script.items)
+IsReportOf (ReplayStrictly source units) texts report =
+    OfCertificate source texts.program.items texts.certificate (λ certificate. report ≡ strict_text units texts.program.items certificate texts.script.items)
 IsReportOf (Run source schedule units workers budget predict emit) texts report =
     OfCertificate source texts.program.items texts.certificate (λ certificate.
     IsRunText schedule units budget predict emit texts.program.items certificate report)

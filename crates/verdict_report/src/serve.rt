@@ -24,6 +24,7 @@ use std::alloc::{AllocError, Global};
 use std::io::Write;
 use std::sync::Wait;
 use std::thread::Threads;
+use strict_replay::replaying::replay_strictly;
 
 /// Does a job: builds its text whole, writes it, and answers the status of the program, 0 to 3. Want of
 /// memory may come at any point; nothing is written then. Where the writer fails, what went out is a
@@ -79,6 +80,9 @@ fn report_of<R: Threads + Wait + Sync>(
             units,
             emit,
         } => Ok(replay(alloc, *certificate, *units, *emit, texts)?),
+        Job::ReplayStrictly { certificate, units } => {
+            Ok(replay_strictly(alloc, *certificate, *units, texts)?)
+        }
         Job::Run {
             certificate,
             schedule,

@@ -1,0 +1,11 @@
+//! A strict replay: the events of a script on a machine, and whether each is allowed and does what the script expects.
+#![tactic(auto)]
+
+pub mod expectation;
+pub mod judging;
+pub mod laws;
+mod reading;
+pub mod replaying;
+mod text;
+pub mod unmet;
+pub mod writing;

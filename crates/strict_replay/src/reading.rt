@@ -1,0 +1,186 @@
+//! Reading the lines of a script with expectations.
+
+ghost use Rattle.std.specs.Prelude.{◌≡◌, ◌^◌, ◌≤◌, ◌<◌, length, min, position, take, drop};
+ghost use Rattle.std.specs.Option.{option_map};
+ghost use Rattle.event_script.specs.EventScript.{behind, in_front_of};
+ghost use Rattle.program_tokens.specs.Numbers.{magnitude_of, number_in};
+ghost use Rattle.strict_replay.specs.StrictScript.{address_in, content, event_text, expectation_in, expectation_of, is_colon, is_comma, is_equals, is_hash, is_silent, is_step_mark, length_without_spaces, trimmed, with_word, without_first_spaces, without_last_spaces, word_in};
+
+use crate::expectation::Expectation;
+use event_script::reading::register_of;
+
+/// Where a comment begins.
+fn hash_in(text: &[u8]) -> Option<usize>
+    ensures { result ≡ position is_hash text.now }
+{
+    text.iter().position(|byte| *byte == b'#')
+}
+
+/// Where the colon is.
+pub(crate) fn colon_in(text: &[u8]) -> Option<usize>
+    ensures { result ≡ position is_colon text.now }
+{
+    text.iter().position(|byte| *byte == b':')
+}
+
+/// Where the equals sign is.
+fn equals_in(text: &[u8]) -> Option<usize>
+    ensures { result ≡ position is_equals text.now }
+{
+    text.iter().position(|byte| *byte == b'=')
+}
+
+/// The text without the spaces at its beginning.
+fn without_first_spaces(text: &[u8]) -> &[u8]
+    ensures { result.now ≡ without_first_spaces text.now }
+{
+    let mut rest = text;
+    while !rest.is_empty() && rest[0] == b' ' {
+        rest = &rest[1..];
+    }
+    rest
+}
+
+/// The text without the spaces at its end.
+fn without_last_spaces(text: &[u8]) -> &[u8]
+    ensures { result.now ≡ without_last_spaces text.now }
+{
+    let mut end = text.len();
+    while end > 0 && text[end - 1] == b' ' {
+        end -= 1;
+    }
+    &text[..end]
+}
+
+/// The text without the spaces at its ends.
+pub(crate) fn trimmed(text: &[u8]) -> &[u8]
+    ensures { result.now ≡ trimmed text.now }
+{
+    without_last_spaces(without_first_spaces(text))
+}
+
+/// A line without its comment.
+pub(crate) fn content(line: &[u8]) -> &[u8]
+    ensures { result.now ≡ content line.now }
+{
+    match hash_in(line) {
+        Some(end) => trimmed(&line[..end]),
+        None => trimmed(line),
+    }
+}
+
+/// Whether a line marks where a step begins.
+fn is_step_mark(text: &[u8]) -> bool
+    ensures { result ≡ is_step_mark text.now }
+{
+    text.starts_with(b"step ".as_slice())
+        && without_first_spaces(&text[5..])
+            .iter()
+            .all(|byte| byte.is_ascii_digit())
+}
+
+/// Whether a line says nothing of an event.
+pub(crate) fn is_silent(content: &[u8]) -> bool
+    ensures { result ≡ is_silent content.now }
+{
+    content.is_empty() || is_step_mark(content)
+}
+
+/// What stands before the colon, where the event is.
+pub(crate) fn event_text(content: &[u8]) -> &[u8]
+    ensures { result.now ≡ event_text content.now }
+{
+    match colon_in(content) {
+        Some(end) => without_last_spaces(&content[..end]),
+        None => without_last_spaces(content),
+    }
+}
+
+/// The word that digits of a radix spell, with 2^32 for a larger one.
+#[tactic(auto, unfolding(program_tokens::specs::Numbers::number_in))]
+fn number_in(radix: u32, text: &[u8]) -> Option<u64>
+    requires small { radix ≤ 16 }
+    requires large { 2 ≤ radix }
+    ensures { result ≡ option_map (λ n. min n (2 ^ 32)) (number_in radix text.now) }
+{
+    if text.is_empty() {
+        return None;
+    }
+    let mut value: u64 = 0;
+    for byte in text {
+        let digit = char::from(*byte).to_digit(radix)?;
+        value = (value * u64::from(radix) + u64::from(digit)).min(1 << 32);
+    }
+    Some(value)
+}
+
+/// The number that `0x` and hexadecimal digits or decimal digits spell, with 2^32 for a larger one.
+#[tactic(auto, unfolding(program_tokens::specs::Numbers::magnitude_of))]
+fn magnitude_of(text: &[u8]) -> Option<u64>
+    ensures { result ≡ option_map (λ n. min n (2 ^ 32)) (magnitude_of text.now) }
+{
+    if text.starts_with(b"0x".as_slice()) {
+        number_in(16, &text[2..])
+    } else {
+        number_in(10, text)
+    }
+}
+
+/// The word that a number spells.
+fn word_in(text: &[u8]) -> Option<u32>
+    ensures { result ≡ word_in text.now }
+{
+    let number = magnitude_of(text)?;
+    u32::try_from(number).ok()
+}
+
+/// The address between brackets.
+fn address_in(name: &[u8]) -> Option<u32>
+    ensures { result ≡ address_in name.now }
+{
+    if name.len() > 1 && name[0] == b'[' && name[name.len() - 1] == b']' {
+        word_in(&name[1..name.len() - 1])
+    } else {
+        None
+    }
+}
+
+/// That what has this name came to a word.
+fn expectation_of(name: &[u8], word: u32) -> Option<Expectation>
+    ensures { result ≡ expectation_of name.now word }
+{
+    if name == b"out".as_slice() {
+        return Some(Expectation::Output { word });
+    }
+    match address_in(name) {
+        Some(address) => Some(Expectation::Memory { address, word }),
+        None => Some(Expectation::Register {
+            register: register_of(name)?,
+            word,
+        }),
+    }
+}
+
+/// What stands before the equals sign, and after it; nothing where there is none.
+fn equated(part: &[u8]) -> (&[u8], &[u8])
+    ensures before { result.0.now ≡ in_front_of (position is_equals part.now) part.now }
+    ensures after { result.1.now ≡ behind (position is_equals part.now) part.now }
+{
+    match equals_in(part) {
+        Some(end) => (&part[..end], &part[end + 1..]),
+        None => (part, &part[part.len()..]),
+    }
+}
+
+/// The expectation that a part spells.
+pub(crate) fn expectation_in(part: &[u8]) -> Option<Expectation>
+    ensures { result ≡ expectation_in part.now }
+{
+    if part.starts_with(b"stops ".as_slice()) {
+        let address = word_in(without_first_spaces(&part[6..]))?;
+        return Some(Expectation::Stops { address });
+    }
+    let (name, text) = equated(part);
+    let word = word_in(text)?;
+    expectation_of(name, word)
+}
