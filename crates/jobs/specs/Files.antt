@@ -1,4 +1,4 @@
--- Which files a job has (own choice).
+-- Which files a job has: its program, then its certificate if it has one, then its script if it has one (own choice).
 use Rattle.std.specs.Prelude.{◌≡◌, Bool, true, false, [], is_some}
 use Rattle.std.specs.String.{string_bytes}
 use Rattle.jobs.specs.declared.job.CertificateSource.{CertificateSource}
@@ -14,7 +14,7 @@ is_in_file Least = false
 
 -- the job has a file with a certificate beside its program
 abbrev pub has_certificate : Job → Bool
-has_certificate (Explain name certificate warnings format) = is_some certificate
+has_certificate (Explain name certificate script warnings format colors) = is_some certificate
 has_certificate (Check source workers) = is_in_file source
 has_certificate (Replay source units emit) = is_in_file source
 has_certificate (ReplayStrictly source units) = is_in_file source
@@ -24,6 +24,7 @@ has_certificate _ = false
 
 -- the job has an event script
 abbrev pub has_script : Job → Bool
+has_script (Explain name certificate script warnings format colors) = is_some script
 has_script (Replay source units emit) = true
 has_script (ReplayStrictly source units) = true
 has_script _ = false

@@ -32,6 +32,19 @@ pub enum Format {
     Text,
     /// A log in SARIF 2.1.0, for machines.
     Sarif,
+    /// An object in JSON on each line, for machines.
+    Json,
+}
+
+/// Whether the lines that `explain` writes for a person have colours.
+#[derive(Clone, Copy, Debug, PartialEq, Eq)]
+pub enum Colors {
+    /// Where a person sees them: on a terminal, and only if the environment does not ask for none.
+    Auto,
+    /// Wherever they go.
+    Always,
+    /// Nowhere.
+    Never,
 }
 
 /// What `run` writes of a run.
@@ -116,10 +129,14 @@ pub enum Job {
         name: String,
         /// The certificate's file as the words have it, where one is to be explained, too.
         certificate: Option<String>,
+        /// The event script's file as the words have it, where one is to be explained, too.
+        script: Option<String>,
         /// Whether marks that are right but cost speed are told, too.
         warnings: bool,
         /// How what is said is laid out.
         format: Format,
+        /// Whether the lines for a person have colours.
+        colors: Colors,
     },
     /// Checks the program against its certificate.
     Check {
@@ -185,7 +202,12 @@ impl Job {
     pub fn has_script(&self) -> bool
         ensures { result ≡ has_script self.now }
     {
-        matches!(self, Job::Replay { .. } | Job::ReplayStrictly { .. })
+        match self {
+            Job::Explain { script, .. } => script.is_some(),
+            Job::Replay { .. } => true,
+            Job::ReplayStrictly { .. } => true,
+            _ => false,
+        }
     }
 }
 
@@ -196,7 +218,7 @@ pub struct Paths {
     pub program: String,
     /// The certificate: of `explain`, `check`, `replay`, `run` and `curve`, where it is in a file.
     pub certificate: String,
-    /// The event script: of `replay`.
+    /// The event script: of `replay`, and of `explain` where it is to explain one.
     pub script: String,
 }
 
@@ -207,6 +229,6 @@ pub struct Texts {
     pub program: Vec<u8>,
     /// The certificate: of `explain`, `check`, `replay`, `run` and `curve`, where it is in a file.
     pub certificate: Text,
-    /// The event script: of `replay`.
+    /// The event script: of `replay`, and of `explain` where it is to explain one.
     pub script: Vec<u8>,
 }
