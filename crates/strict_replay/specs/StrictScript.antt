@@ -93,11 +93,15 @@ address_in name =
 abbrev pub place_of : (name : List ℕ) → (word : ℕ) → Option Expectation
 place_of name word = option_or (option_map (λ address. Memory address word) (address_in name)) (option_map (λ r. Register r word) (register_in name))
 
--- or `out`, or what was sent: `sends $R`
+-- what was sent, by what stands after `sends`
+abbrev pub sending_in : (after : List ℕ) → (word : ℕ) → Option Expectation
+sending_in after word = option_map (λ r. Sends r word) (register_in (without_first_spaces after))
+
+-- one of these, or `out`
 abbrev pub expectation_of : (name : List ℕ) → (word : ℕ) → Option Expectation
 expectation_of name word =
     if bytes_eq name (codes "out") then Some (Output word)
-    else (if starts_with nat_eq name (codes "sends ") then option_map (λ r. Sends r word) (register_in (without_first_spaces (drop 6 name)))
+    else (if starts_with nat_eq name (codes "sends ") then sending_in (drop 6 name) word
     else place_of name word)
 
 abbrev pub with_word : (name : List ℕ) → Option ℕ → Option Expectation
@@ -106,7 +110,7 @@ with_word name (Some word) = expectation_of name word
 
 -- `$R=W`, `sends $R=W`, `[A]=W` or `out=W`
 abbrev pub equation_in : (part : List ℕ) → Option Expectation
-equation_in part = with_word (in_front_of (position is_equals part) part) (word_in (behind (position is_equals part) part))
+equation_in part = with_word (trimmed (in_front_of (position is_equals part) part)) (word_in (trimmed (behind (position is_equals part) part)))
 
 -- a trap, by its number and its name
 abbrev pub trap_in : List ℕ → Option Trap
@@ -117,18 +121,30 @@ trap_in text =
     else (if bytes_eq text (trap_text ReadOnly) then Some ReadOnly
     else None)))
 
+abbrev pub trapped_in : (after : List ℕ) → Option Standing
+trapped_in after = option_map (λ trap. Trapped trap) (trap_in (without_first_spaces after))
+
+abbrev pub unlisted_in : (after : List ℕ) → Option Standing
+unlisted_in after = option_map (λ address. Unlisted address) (word_in (without_first_spaces after))
+
 -- how a run ends: `halted`, `trapped K Name` or `unlisted A`; `running` is how none ends
 abbrev pub ending_in : List ℕ → Option Standing
 ending_in text =
     if bytes_eq text (codes "running") then Some Running
     else (if bytes_eq text (codes "halted") then Some Halted
-    else (if starts_with nat_eq text (codes "trapped ") then option_map (λ trap. Trapped trap) (trap_in (without_first_spaces (drop 8 text)))
-    else (if starts_with nat_eq text (codes "unlisted ") then option_map (λ address. Unlisted address) (word_in (without_first_spaces (drop 9 text)))
+    else (if starts_with nat_eq text (codes "trapped ") then trapped_in (drop 8 text)
+    else (if starts_with nat_eq text (codes "unlisted ") then unlisted_in (drop 9 text)
     else None)))
+
+abbrev pub stop_in : (after : List ℕ) → Option Expectation
+stop_in after = option_map (λ address. Stops address) (word_in (without_first_spaces after))
+
+abbrev pub end_in : (after : List ℕ) → Option Expectation
+end_in after = option_map (λ standing. Ends standing) (ending_in (without_first_spaces after))
 
 -- one of these, `stops A`, or `ends` and how the run ends
 abbrev pub expectation_in : (part : List ℕ) → Option Expectation
 expectation_in part =
-    if starts_with nat_eq part (codes "stops ") then option_map (λ address. Stops address) (word_in (without_first_spaces (drop 6 part)))
-    else (if starts_with nat_eq part (codes "ends ") then option_map (λ standing. Ends standing) (ending_in (without_first_spaces (drop 5 part)))
+    if starts_with nat_eq part (codes "stops ") then stop_in (drop 6 part)
+    else (if starts_with nat_eq part (codes "ends ") then end_in (drop 5 part)
     else equation_in part)

@@ -6,7 +6,7 @@ ghost use Rattle.std.specs.List.{list_all};
 ghost use Rattle.std.specs.Option.{option_map};
 ghost use Rattle.event_script.specs.EventScript.{behind, in_front_of};
 ghost use Rattle.program_tokens.specs.Numbers.{magnitude_of, number_in};
-ghost use Rattle.strict_replay.specs.StrictScript.{address_in, content, ending_in, equation_in, event_text, expectation_in, expectation_of, is_colon, is_comma, is_equals, is_hash, is_silent, is_step_mark, place_of, trap_in, trimmed, with_word, without_first_spaces, without_last_spaces, word_in};
+ghost use Rattle.strict_replay.specs.StrictScript.{address_in, content, end_in, ending_in, equation_in, event_text, expectation_in, expectation_of, is_colon, is_comma, is_equals, is_hash, is_silent, is_step_mark, place_of, sending_in, stop_in, trap_in, trapped_in, trimmed, unlisted_in, with_word, without_first_spaces, without_last_spaces, word_in};
 
 use crate::expectation::Expectation;
 use event_script::reading::register_of;
@@ -170,6 +170,14 @@ fn place_of(name: &[u8], word: u32) -> Option<Expectation>
     }
 }
 
+/// That the register after `sends` was sent with a word.
+fn sending_in(after: &[u8], word: u32) -> Option<Expectation>
+    ensures { result ≡ sending_in after.now word }
+{
+    let register = register_of(without_first_spaces(after))?;
+    Some(Expectation::Sends { register, word })
+}
+
 /// That what has this name came to a word, or was sent or put out.
 fn expectation_of(name: &[u8], word: u32) -> Option<Expectation>
     ensures { result ≡ expectation_of name.now word }
@@ -178,8 +186,7 @@ fn expectation_of(name: &[u8], word: u32) -> Option<Expectation>
         return Some(Expectation::Output { word });
     }
     if name.starts_with(b"sends ".as_slice()) {
-        let register = register_of(without_first_spaces(&name[6..]))?;
-        return Some(Expectation::Sends { register, word });
+        return sending_in(&name[6..], word);
     }
     place_of(name, word)
 }
@@ -200,8 +207,8 @@ fn equation_in(part: &[u8]) -> Option<Expectation>
     ensures { result ≡ equation_in part.now }
 {
     let (name, text) = equated(part);
-    let word = word_in(text)?;
-    expectation_of(name, word)
+    let word = word_in(trimmed(text))?;
+    expectation_of(trimmed(name), word)
 }
 
 /// The trap of a number and a name.
@@ -221,6 +228,22 @@ fn trap_in(text: &[u8]) -> Option<Trap>
     }
 }
 
+/// The trap after `trapped`.
+fn trapped_in(after: &[u8]) -> Option<Standing>
+    ensures { result ≡ trapped_in after.now }
+{
+    let trap = trap_in(without_first_spaces(after))?;
+    Some(Standing::Trapped(trap))
+}
+
+/// The address after `unlisted`.
+fn unlisted_in(after: &[u8]) -> Option<Standing>
+    ensures { result ≡ unlisted_in after.now }
+{
+    let address = word_in(without_first_spaces(after))?;
+    Some(Standing::Unlisted(address))
+}
+
 /// How a run stands, as words spell it.
 fn ending_in(text: &[u8]) -> Option<Standing>
     ensures { result ≡ ending_in text.now }
@@ -230,14 +253,28 @@ fn ending_in(text: &[u8]) -> Option<Standing>
     } else if text == b"halted".as_slice() {
         Some(Standing::Halted)
     } else if text.starts_with(b"trapped ".as_slice()) {
-        let trap = trap_in(without_first_spaces(&text[8..]))?;
-        Some(Standing::Trapped(trap))
+        trapped_in(&text[8..])
     } else if text.starts_with(b"unlisted ".as_slice()) {
-        let address = word_in(without_first_spaces(&text[9..]))?;
-        Some(Standing::Unlisted(address))
+        unlisted_in(&text[9..])
     } else {
         None
     }
+}
+
+/// The stop that leads to the address after `stops`.
+fn stop_in(after: &[u8]) -> Option<Expectation>
+    ensures { result ≡ stop_in after.now }
+{
+    let address = word_in(without_first_spaces(after))?;
+    Some(Expectation::Stops { address })
+}
+
+/// The end of the run after `ends`.
+fn end_in(after: &[u8]) -> Option<Expectation>
+    ensures { result ≡ end_in after.now }
+{
+    let standing = ending_in(without_first_spaces(after))?;
+    Some(Expectation::Ends { standing })
 }
 
 /// The expectation that a part spells.
@@ -245,12 +282,10 @@ pub(crate) fn expectation_in(part: &[u8]) -> Option<Expectation>
     ensures { result ≡ expectation_in part.now }
 {
     if part.starts_with(b"stops ".as_slice()) {
-        let address = word_in(without_first_spaces(&part[6..]))?;
-        return Some(Expectation::Stops { address });
+        return stop_in(&part[6..]);
     }
     if part.starts_with(b"ends ".as_slice()) {
-        let standing = ending_in(without_first_spaces(&part[5..]))?;
-        return Some(Expectation::Ends { standing });
+        return end_in(&part[5..]);
     }
     equation_in(part)
 }
