@@ -54,7 +54,7 @@ def last_update(program, i, reached):
 
 
 def warnings(program):
-    """The marks that cost speed: (kind, task or index, register), in the order in which they are told."""
+    """The marks that cost speed: (kind, task or index, register), before they are put in the order of places."""
     entries = [entry for _, entry, _, _ in program.tasks]
     reached = [walk(program, [entry]) for entry in entries]
     unsent = {r: walk(program, entries, lambda i: not sends(program, i, r)) for r in range(34)}
@@ -107,7 +107,8 @@ def meant(text, warning):
 def told(program, text):
     """All that is said of right marks: code, place and sentence of each."""
     found = [("stop", number, None) for number in unended(program)] + warnings(program)
-    return [(f"warning-{CODES[it[0]]}", tuple(meant(text, it)), sentence(program, it)) for it in found[:MOST_SHOWN]]
+    rows = [(f"warning-{CODES[it[0]]}", tuple(meant(text, it)), sentence(program, it)) for it in found[:MOST_SHOWN]]
+    return sorted(rows, key=lambda row: row[1][:2])
 
 
 def said_of(results):

@@ -7,6 +7,7 @@
 
 pub mod answer;
 pub mod asked;
+pub mod coloring;
 mod each;
 pub mod fault;
 pub mod hint;
