@@ -1,5 +1,5 @@
 -- How an event departs, by what a walk tells of it; and how a line passes on to those after it.
-use Rattle.std.proofs.Common.{◌≡◌, ℕ, suc, ◌+◌, Bool, true, false, List, [], ◌∷◌, ◌++◌, length, Option, None, Some, Result, Ok, Err, refl, sym, ap, subst, ◌∙◌, add-one}
+use Rattle.std.proofs.Common.{◌≡◌, ℕ, suc, ◌+◌, Bool, true, false, List, [], ◌∷◌, ◌++◌, length, Option, None, Some, Result, Ok, Err, refl, sym, ap, subst, ◌∙◌, add-one, append_assoc}
 use Rattle.std.specs.Prelude.{codes}
 use Rattle.std.specs.declared.alloc.Global.{Global}
 use Rattle.std.specs.declared.vec.Vec.{Vec}
@@ -108,3 +108,11 @@ line_departs p places units number n s names line told all more begins named som
     ∙ ap (λ (ns : List (List ℕ)). unless_departed (departure_of p places units number n parts s (meaning_of ns (content line)))
     (report_from p places units (suc number) (count_after p units n s (meaning_of ns (content line))) (state_after p units n s (meaning_of ns (content line))) more)) (sym named)
     ∙ ap (λ (d : Option (List ℕ)). unless_departed d further) some
+
+-- ---- texts
+
+-- three parts, written one after the other on an empty text
+pub three_told : (empty one two three p q r : List ℕ) → empty ≡ [] → one ≡ empty ++ p → two ≡ one ++ q → three ≡ two ++ r → three ≡ p ++ (q ++ r)
+three_told empty one two three p q r nothing first second third =
+    third ∙ ap (λ (front : List ℕ). front ++ r) (second ∙ ap (λ (front : List ℕ). front ++ q) (first ∙ ap (λ (front : List ℕ). front ++ p) nothing))
+    ∙ append_assoc p q r
