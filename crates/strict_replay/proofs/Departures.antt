@@ -48,7 +48,7 @@ pub taken_departs : (p : Listing) (places : List Position) (number : ℕ) (parts
 taken_departs p places number parts m m' e changes u over on tells is =
     let q = m.accepted.program in
     let own : event_departure q places (units_of m) number (length m.history) parts (state m) e
-        ≡ unmet_departure number (taken_text q places number e changes.items ++ stand_text q places (state m')) u =
+    ≡ unmet_departure number (taken_text q places number e changes.items ++ stand_text q places (state m')) u =
     taken_by q places number parts (state m) e (answer_to m e) changes u tells is
     ∙ ap (λ (t : State). unmet_departure number (taken_text q places number e changes.items ++ stand_text q places t) u) (sym on.state) in
     subst (λ (r : Listing). event_departure r places (units_of m) number (length m.history) parts (state m) e
@@ -63,7 +63,7 @@ refused_departs p places number parts m m' e refusal over on tells =
     let q = m.accepted.program in
     let said = at_line number (codes "this event is not allowed") in
     let own : event_departure q places (units_of m) number (length m.history) parts (state m) e
-        ≡ Some (said ++ (refused_text q number e refusal ++ stand_text q places (state m'))) =
+    ≡ Some (said ++ (refused_text q number e refusal ++ stand_text q places (state m'))) =
     refused_by q places number parts (state m) e (answer_to m e) refusal tells
     ∙ ap (λ (t : State). Some (said ++ (refused_text q number e refusal ++ stand_text q places t))) (sym on.state) in
     subst (λ (r : Listing). event_departure r places (units_of m) number (length m.history) parts (state m) e
