@@ -1,5 +1,5 @@
 -- How an event departs, by what a walk tells of it; and how a line passes on to those after it.
-use Rattle.std.proofs.Common.{◌≡◌, ℕ, suc, ◌+◌, Bool, true, false, List, [], ◌∷◌, ◌++◌, length, Option, None, Some, Result, Ok, Err, refl, sym, ap, subst, ◌∙◌, add-one}
+use Rattle.std.proofs.Common.{◌≡◌, ℕ, suc, ◌+◌, Bool, true, false, List, [], ◌∷◌, ◌++◌, length, Option, None, Some, Result, Ok, Err, refl, sym, ap, subst, ◌∙◌, add-one, append_assoc}
 use Rattle.std.specs.Prelude.{codes}
 use Rattle.std.specs.declared.alloc.Global.{Global}
 use Rattle.std.specs.declared.vec.Vec.{Vec}
@@ -48,7 +48,7 @@ pub taken_departs : (p : Listing) (places : List Position) (number : ℕ) (parts
 taken_departs p places number parts m m' e changes u over on tells is =
     let q = m.accepted.program in
     let own : event_departure q places (units_of m) number (length m.history) parts (state m) e
-        ≡ unmet_departure number (taken_text q places number e changes.items ++ stand_text q places (state m')) u =
+    ≡ unmet_departure number (taken_text q places number e changes.items ++ stand_text q places (state m')) u =
     taken_by q places number parts (state m) e (answer_to m e) changes u tells is
     ∙ ap (λ (t : State). unmet_departure number (taken_text q places number e changes.items ++ stand_text q places t) u) (sym on.state) in
     subst (λ (r : Listing). event_departure r places (units_of m) number (length m.history) parts (state m) e
@@ -63,7 +63,7 @@ refused_departs p places number parts m m' e refusal over on tells =
     let q = m.accepted.program in
     let said = at_line number (codes "this event is not allowed") in
     let own : event_departure q places (units_of m) number (length m.history) parts (state m) e
-        ≡ Some (said ++ (refused_text q number e refusal ++ stand_text q places (state m'))) =
+    ≡ Some (said ++ (refused_text q number e refusal ++ stand_text q places (state m'))) =
     refused_by q places number parts (state m) e (answer_to m e) refusal tells
     ∙ ap (λ (t : State). Some (said ++ (refused_text q number e refusal ++ stand_text q places t))) (sym on.state) in
     subst (λ (r : Listing). event_departure r places (units_of m) number (length m.history) parts (state m) e
@@ -108,3 +108,11 @@ line_departs p places units number n s names line told all more begins named som
     ∙ ap (λ (ns : List (List ℕ)). unless_departed (departure_of p places units number n parts s (meaning_of ns (content line)))
     (report_from p places units (suc number) (count_after p units n s (meaning_of ns (content line))) (state_after p units n s (meaning_of ns (content line))) more)) (sym named)
     ∙ ap (λ (d : Option (List ℕ)). unless_departed d further) some
+
+-- ---- texts
+
+-- three parts, written one after the other on an empty text
+pub three_told : (empty one two three p q r : List ℕ) → empty ≡ [] → one ≡ empty ++ p → two ≡ one ++ q → three ≡ two ++ r → three ≡ p ++ (q ++ r)
+three_told empty one two three p q r nothing first second third =
+    third ∙ ap (λ (front : List ℕ). front ++ r) (second ∙ ap (λ (front : List ℕ). front ++ q) (first ∙ ap (λ (front : List ℕ). front ++ p) nothing))
+    ∙ append_assoc p q r

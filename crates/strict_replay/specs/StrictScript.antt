@@ -127,14 +127,19 @@ trapped_in after = option_map (λ trap. Trapped trap) (trap_in (without_first_sp
 abbrev pub unlisted_in : (after : List ℕ) → Option Standing
 unlisted_in after = option_map (λ address. Unlisted address) (word_in (without_first_spaces after))
 
--- how a run ends: `halted`, `trapped K Name` or `unlisted A`; `running` is how none ends
+-- `trapped K Name` or `unlisted A`
+abbrev pub other_ending_in : List ℕ → Option Standing
+other_ending_in text =
+    if starts_with nat_eq text (codes "trapped ") then trapped_in (drop 8 text)
+    else (if starts_with nat_eq text (codes "unlisted ") then unlisted_in (drop 9 text)
+    else None)
+
+-- how a run ends: `halted`, or one of these; `running` is how none ends
 abbrev pub ending_in : List ℕ → Option Standing
 ending_in text =
     if bytes_eq text (codes "running") then Some Running
     else (if bytes_eq text (codes "halted") then Some Halted
-    else (if starts_with nat_eq text (codes "trapped ") then trapped_in (drop 8 text)
-    else (if starts_with nat_eq text (codes "unlisted ") then unlisted_in (drop 9 text)
-    else None)))
+    else other_ending_in text)
 
 abbrev pub stop_in : (after : List ℕ) → Option Expectation
 stop_in after = option_map (λ address. Stops address) (word_in (without_first_spaces after))

@@ -3,6 +3,7 @@
 ghost use Rattle.std.specs.Prelude.{◌≡◌, ◌<◌, ◌≤◌, codes, length, IfOk};
 ghost use Rattle.std.specs.String.{string_bytes};
 ghost use Rattle.sequencer.specs.Machines.{state};
+ghost use Rattle.event_script.specs.EventScript.{names_in};
 ghost use Rattle.event_trace.specs.Entries.{places_of};
 ghost use Rattle.strict_replay.specs.StrictReplay.{as_expected, at_line, strict_report};
 
@@ -35,7 +36,7 @@ struct Referee<'p, 't> {
 impl Referee<'_, '_> {
     ghost use Rattle.std.specs.Prelude.{◌≡◌, ◌++◌, ◌≤◌, codes, length, None, Some, MatchResult, OnOk, IfOk};
     ghost use Rattle.std.specs.String.{string_bytes};
-    ghost use Rattle.event_script.specs.EventScript.{lines as lines_of, names_in};
+    ghost use Rattle.event_script.specs.EventScript.{lines as lines_of};
     ghost use Rattle.event_trace.specs.Following.{GoesOn};
     ghost use Rattle.event_trace.specs.TraceText.{refused_text, taken_text};
     ghost use Rattle.sequencer.specs.Machines.{SameRing, state, units_of};
@@ -191,6 +192,14 @@ fn as_expected(alloc: Global, walk: Walk<'_>) -> Result<Report, AllocError>
     Ok(Report::new(text.into_bytes(), 0))
 }
 
+/// The names of a program's tasks.
+fn names_of(alloc: Global, program: &Program) -> Result<TaskNames, AllocError>
+    ensures names { IfOk result (λ names. names ≡ names_in program.now.tasks) }
+    ensures few { IfOk result (λ names. length names ≤ 1024) }
+{
+    TaskNames::of(alloc, program.tasks())
+}
+
 /// Judges a script with expectations on a machine of so many units at the start of an accepted program, whose text is given:
 /// status 0 exactly where each of its events is allowed and has done what is expected (`laws::as_expected_where_all_hold`), and
 /// else 1, with the first line that departs.
@@ -211,7 +220,7 @@ pub fn judge(
 {
     let program = accepted.program();
     let places = places(alloc, program_text)?;
-    let names = TaskNames::of(alloc, program.tasks())?;
+    let names = names_of(alloc, program)?;
     let referee = Referee {
         program,
         places: &places,

@@ -211,16 +211,22 @@ pub(crate) fn unmet_in(changes: &[Change], content: &[u8]) -> Option<Unmet>
     first_unmet(changes, &content[colon + 1..])
 }
 
+/// Adds that a sending was expected.
+fn write_sending(text: &mut String, register: Reg, word: u32) -> Result<(), AllocError>
+    ensures { OnOk result (string_bytes text.new ≡ string_bytes text.old ++ expectation_text (Sends register word)) }
+{
+    write!(text, "that it sends ")?;
+    write_register(text, register, word)?;
+    Ok(())
+}
+
 /// Adds what was expected.
 fn write_expectation(text: &mut String, expected: Expectation) -> Result<(), AllocError>
     ensures { OnOk result (string_bytes text.new ≡ string_bytes text.old ++ expectation_text expected) }
 {
     match expected {
         Expectation::Register { register, word } => write_register(text, register, word),
-        Expectation::Sends { register, word } => {
-            write!(text, "that it sends ")?;
-            write_register(text, register, word)
-        }
+        Expectation::Sends { register, word } => write_sending(text, register, word),
         Expectation::Memory { address, word } => {
             write!(text, "{word} at ")?;
             write_address(text, address)

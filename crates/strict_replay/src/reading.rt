@@ -6,7 +6,7 @@ ghost use Rattle.std.specs.List.{list_all};
 ghost use Rattle.std.specs.Option.{option_map};
 ghost use Rattle.event_script.specs.EventScript.{behind, in_front_of};
 ghost use Rattle.program_tokens.specs.Numbers.{magnitude_of, number_in};
-ghost use Rattle.strict_replay.specs.StrictScript.{address_in, content, end_in, ending_in, equation_in, event_text, expectation_in, expectation_of, is_colon, is_comma, is_equals, is_hash, is_silent, is_step_mark, place_of, sending_in, stop_in, trap_in, trapped_in, trimmed, unlisted_in, with_word, without_first_spaces, without_last_spaces, word_in};
+ghost use Rattle.strict_replay.specs.StrictScript.{address_in, content, end_in, ending_in, equation_in, event_text, expectation_in, expectation_of, is_colon, is_comma, is_equals, is_hash, is_silent, is_step_mark, other_ending_in, place_of, sending_in, stop_in, trap_in, trapped_in, trimmed, unlisted_in, with_word, without_first_spaces, without_last_spaces, word_in};
 
 use crate::expectation::Expectation;
 use event_script::reading::register_of;
@@ -244,6 +244,19 @@ fn unlisted_in(after: &[u8]) -> Option<Standing>
     Some(Standing::Unlisted(address))
 }
 
+/// How a run has trapped or is unlisted, as words spell it.
+fn other_ending_in(text: &[u8]) -> Option<Standing>
+    ensures { result ≡ other_ending_in text.now }
+{
+    if text.starts_with(b"trapped ".as_slice()) {
+        trapped_in(&text[8..])
+    } else if text.starts_with(b"unlisted ".as_slice()) {
+        unlisted_in(&text[9..])
+    } else {
+        None
+    }
+}
+
 /// How a run stands, as words spell it.
 fn ending_in(text: &[u8]) -> Option<Standing>
     ensures { result ≡ ending_in text.now }
@@ -252,12 +265,8 @@ fn ending_in(text: &[u8]) -> Option<Standing>
         Some(Standing::Running)
     } else if text == b"halted".as_slice() {
         Some(Standing::Halted)
-    } else if text.starts_with(b"trapped ".as_slice()) {
-        trapped_in(&text[8..])
-    } else if text.starts_with(b"unlisted ".as_slice()) {
-        unlisted_in(&text[9..])
     } else {
-        None
+        other_ending_in(text)
     }
 }
 

@@ -86,12 +86,7 @@ fn label_of(held: &Held) -> &str
 }
 
 /// Adds the register of a number with a unit's word for it, unless that is 0.
-fn write_numbered(
-    text: &mut String,
-    unit: &Unit,
-    held: &Held,
-    number: u8,
-) -> Result<(), AllocError>
+fn write_numbered(text: &mut String, unit: &Unit, held: &Held, number: u8) -> Result<(), AllocError>
     requires { number < 34 }
     ensures { OnOk result (string_bytes text.new ≡ string_bytes text.old ++ word_text number (word_of held.now (active_of unit.now) number)) }
 {
@@ -113,12 +108,7 @@ fn words_of(alloc: Global, unit: &Unit, held: &Held) -> Result<String, AllocErro
 }
 
 /// Adds a unit's words for the registers, on a line.
-fn write_words(
-    alloc: Global,
-    text: &mut String,
-    unit: &Unit,
-    held: &Held,
-) -> Result<(), AllocError>
+fn write_words(alloc: Global, text: &mut String, unit: &Unit, held: &Held) -> Result<(), AllocError>
     ensures { OnOk result (string_bytes text.new ≡ string_bytes text.old ++ words_text held.now (active_of unit.now)) }
 {
     let list = words_of(alloc, unit, held)?;

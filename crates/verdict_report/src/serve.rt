@@ -170,8 +170,13 @@ fn report_of<R: Threads + Wait + Sync>(
     }
 }
 
-// What `explain` writes in this format.
-fn explain_in(
+/// What `explain` writes in this format of a program text, whose file has this name, and of the texts of a certificate
+/// and of an event script, if a file of one is named.
+///
+/// # Errors
+///
+/// `AllocError` where memory was refused.
+pub fn explain_in(
     alloc: Global,
     format: Format,
     name: &str,
