@@ -77,7 +77,7 @@ int multiscalar_check(multiscalar_text program, multiscalar_text certificate, ch
 
 /* Says what is wrong with a program and with a certificate, if there is one. Names stand in the messages; a
  * certificate has a name exactly where there is one. */
-typedef enum { MULTISCALAR_EXPLAIN_TEXT, MULTISCALAR_EXPLAIN_SARIF } multiscalar_explain_format;
+typedef enum { MULTISCALAR_EXPLAIN_TEXT, MULTISCALAR_EXPLAIN_SARIF, MULTISCALAR_EXPLAIN_JSON } multiscalar_explain_format;
 
 int multiscalar_explain(const char *name, multiscalar_text program, const char *certificate_name,
                         multiscalar_text certificate, bool warnings, multiscalar_explain_format format,

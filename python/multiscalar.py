@@ -26,7 +26,7 @@ from typing import Sequence, Union
 from urllib.parse import unquote
 
 __all__ = [
-    "AnnotateEmit", "CurveEmit", "Diagnostic", "FIRST", "Finding", "LAST", "ReplayEmit", "Report", "RunEmit", "Verdict",
+    "AnnotateEmit", "CurveEmit", "Diagnostic", "ExplainFormat", "FIRST", "Finding", "LAST", "ReplayEmit", "Report", "RunEmit", "Verdict",
     "annotate", "check", "curve", "explain", "explain_text", "print_program", "replay", "replay_strictly", "run_in_steps", "seq", "version",
 ]
 
@@ -42,6 +42,14 @@ class AnnotateEmit(IntEnum):
     CERTIFICATE = 1
     KEEP = 2
     MARKS = 3
+
+
+class ExplainFormat(IntEnum):
+    """How `explain_text` lays out what it says: for a person, as a log in SARIF, or as lines of JSON."""
+
+    TEXT = 0
+    SARIF = 1
+    JSON = 2
 
 
 class ReplayEmit(IntEnum):
@@ -200,15 +208,15 @@ def check(program: Text, certificate: Text | None = None) -> Verdict:
 
 
 def explain_text(program: Text, name: str = "program.s", certificate: Text | None = None, certificate_name: str = "program.cert2",
-                 warnings: bool = True) -> Report:
-    """What is wrong with a program, and with a certificate if there is one, as text for a person."""
-    return Report(*_call("explain", 0, warnings, certificate is not None, name.encode(), _bytes(program), certificate_name.encode(), _bytes(certificate)))
+                 warnings: bool = True, form: ExplainFormat = ExplainFormat.TEXT) -> Report:
+    """What is wrong with a program, and with a certificate if there is one, as text for a person or for other tools."""
+    return Report(*_call("explain", int(form), warnings, certificate is not None, name.encode(), _bytes(program), certificate_name.encode(), _bytes(certificate)))
 
 
 def explain(program: Text, name: str = "program.s", certificate: Text | None = None, certificate_name: str = "program.cert2",
             warnings: bool = True) -> list[Diagnostic]:
     """What is wrong with a program, and with a certificate if there is one; empty where nothing is."""
-    _, data = _call("explain", 1, warnings, certificate is not None, name.encode(), _bytes(program), certificate_name.encode(), _bytes(certificate))
+    _, data = _call("explain", int(ExplainFormat.SARIF), warnings, certificate is not None, name.encode(), _bytes(program), certificate_name.encode(), _bytes(certificate))
     return [_diagnostic(result) for result in json.loads(data)["runs"][0]["results"]]
 
 

@@ -47,6 +47,7 @@ class Comparison:
         self.compare(["check", "--least", file], multiscalar.check(text))
         self.compare(["explain", file], multiscalar.explain_text(text, name=str(file)))
         self.compare(["explain", "--no-warnings", file], multiscalar.explain_text(text, name=str(file), warnings=False))
+        self.compare(["explain", "--format", "json", file], multiscalar.explain_text(text, name=str(file), form=multiscalar.ExplainFormat.JSON))
         for emit, word in emits("annotate"):
             self.compare(["annotate", "--emit", word, file], multiscalar.annotate(text, emit))
 

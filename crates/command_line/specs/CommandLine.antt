@@ -71,6 +71,10 @@ further = free_files (codes "further")
 abbrev pub explained_certificate : Rule
 explained_certificate = free_word (codes "certificate")
 
+-- the script that is explained beside its program
+abbrev pub explained_script : Rule
+explained_script = free_word (codes "script")
+
 abbrev pub free_script : Rule
 free_script = free_file (codes "script")
 
@@ -123,6 +127,14 @@ workers = free_number (codes "workers") 16
 abbrev pub layout : Rule
 layout = word (codes "format") (codes "text")
 
+-- whether what is said of a program has colours
+abbrev pub colors : Rule
+colors = word (codes "color") (codes "auto")
+
+-- each of several runs is told when it is done
+abbrev pub progress : Rule
+progress = flag (codes "progress")
+
 -- how the units of a run take turns
 abbrev pub schedule : Rule
 schedule = word (codes "schedule") (codes "threads")
@@ -140,7 +152,8 @@ abbrev pub annotate : Shape
 annotate = subcommand (codes "annotate") (program ∷ free_word (codes "emit") ∷ output ∷ in_place ∷ report ∷ [])
 
 abbrev pub explain : Shape
-explain = subcommand (codes "explain") (program ∷ further ∷ explained_certificate ∷ no_warnings ∷ layout ∷ output ∷ [])
+explain = subcommand (codes "explain") (program ∷ further ∷ explained_certificate ∷ explained_script ∷ no_warnings ∷ layout ∷ colors
+    ∷ output ∷ [])
 
 abbrev pub check : Shape
 check = subcommand (codes "check") (program ∷ certificate_or_programs ∷ least ∷ checkers ∷ output ∷ [])
@@ -155,7 +168,7 @@ run = subcommand (codes "run") (program ∷ free_certificate ∷ least ∷ sched
 
 abbrev pub curve : Shape
 curve = subcommand (codes "curve") (program ∷ free_certificate ∷ least ∷ most_units ∷ budget
-    ∷ word (codes "predict") (codes "first") ∷ word (codes "emit") (codes "table") ∷ output ∷ [])
+    ∷ word (codes "predict") (codes "first") ∷ word (codes "emit") (codes "table") ∷ progress ∷ output ∷ [])
 
 -- the program, which has a version, and of which a subcommand is wanted
 abbrev pub program_name : Shape

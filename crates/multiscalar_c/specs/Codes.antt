@@ -27,7 +27,7 @@ emits = emit.Text ∷ emit.Cert ∷ emit.Keep ∷ emit.Marks ∷ []
 
 -- how `explain` lays out what it says, from 0 on
 abbrev pub formats : List Format
-formats = format.Text ∷ format.Sarif ∷ []
+formats = format.Text ∷ format.Sarif ∷ format.Json ∷ []
 
 -- what `run` writes, from 0 on
 abbrev pub run_emits : List RunEmit

@@ -1,6 +1,7 @@
 -- What each call takes, and what it hands out (own choice).
-use Rattle.std.specs.Prelude.{◌≡◌, ℕ, Bool, List, Option, Some, None, IsSome, IfSome, slice_get, if◌then◌else◌}
+use Rattle.std.specs.Prelude.{◌≡◌, ℕ, Bool, List, [], Option, Some, None, IsSome, IfSome, slice_get, if◌then◌else◌}
 use Rattle.std.specs.Str.{IsUtf8}
+use Rattle.jobs.specs.declared.job.Colors.TheVariants.{Never}
 use Rattle.jobs.specs.declared.job.Schedule.TheVariants.{Steps}
 use Rattle.report_texts.specs.OutputTexts.{Report}
 use Rattle.report_texts.specs.AnnotateText.{IsAnnotateReport}
@@ -32,10 +33,10 @@ pub record ExplainTakes (format : ℕ) (name : List ℕ) (file : Option (List �
   pub named : IsUtf8 name
   pub certified : IfSome file (λ name. IsUtf8 name)
 
--- what `explain` writes
+-- what `explain` writes, without colours and of no event script
 abbrev pub IsExplained : (format : ℕ) → (warnings : Bool) → (name : List ℕ) → (file : Option (List ℕ)) → (program certificate : List ℕ) → Report → Type 0
 IsExplained format warnings name file program certificate report =
-    IfSome (slice_get formats format) (λ format. IsExplainedIn format name file warnings program certificate report)
+    IfSome (slice_get formats format) (λ format. IsExplainedIn format name file None warnings Never program certificate [] report)
 
 -- what `replay` takes
 pub record ReplayTakes (units emit : ℕ) : Type 0 where

@@ -39,6 +39,7 @@ pub(crate) fn format(code: u32) -> Option<Format>
     match code {
         0 => Some(Format::Text),
         1 => Some(Format::Sarif),
+        2 => Some(Format::Json),
         _ => None,
     }
 }

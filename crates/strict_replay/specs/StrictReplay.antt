@@ -8,6 +8,10 @@ use Rattle.machine_model.specs.Machine.{State, opening}
 use Rattle.machine_model.specs.Answer.{after, answer}
 use Rattle.machine_events.specs.declared.event.Event.{Event}
 use Rattle.machine_events.specs.declared.event.Refused.{Refused}
+use Rattle.machine_events.specs.declared.event.Standing.{Standing}
+use Rattle.machine_events.specs.declared.event.Standing.TheVariants.{Running, Halted, Trapped, Unlisted}
+use Rattle.mips_plain.specs.declared.outcome.Trap.{Trap}
+use Rattle.mips_plain.specs.declared.outcome.Trap.TheVariants.{Unaligned, OutOfRange, BadPc, ReadOnly}
 use Rattle.source_map.specs.declared.position.Position.{Position}
 use Rattle.event_script.specs.EventScript.{event_in, lines, names_in}
 use Rattle.event_script.specs.declared.fault.LineFault.{LineFault}
@@ -23,7 +27,7 @@ use Rattle.event_trace.specs.declared.unit_change.UnitChange.{UnitChange}
 use Rattle.event_trace.specs.declared.unit_change.UnitChange.TheVariants as unit_change
 use Rattle.strict_replay.specs.StrictScript.{content, event_text, expectation_in, expected_parts, is_silent, trimmed}
 use Rattle.strict_replay.specs.declared.expectation.Expectation.{Expectation}
-use Rattle.strict_replay.specs.declared.expectation.Expectation.TheVariants.{Register, Memory, Output, Stops}
+use Rattle.strict_replay.specs.declared.expectation.Expectation.TheVariants.{Register, Sends, Memory, Output, Stops, Ends}
 use Rattle.strict_replay.specs.declared.unmet.Unmet.{Unmet}
 use Rattle.strict_replay.specs.declared.unmet.Unmet.TheVariants.{Unread, Missed}
 use Rattle.strict_replay.specs.StandText.{stand_text}
@@ -33,18 +37,38 @@ use Rattle.strict_replay.specs.StandText.{stand_text}
 -- whether a change at a unit brought this word into this register
 abbrev pub brings : (r word : ℕ) → UnitChange → Bool
 brings r word (unit_change.Arrived register w) = nat_eq register r && nat_eq w word
-brings r word (unit_change.Drained register w) = nat_eq register r && nat_eq w word
 brings r word other = false
+
+-- whether it sent this register with this word
+abbrev pub drains : (r word : ℕ) → UnitChange → Bool
+drains r word (unit_change.Drained register w) = nat_eq register r && nat_eq w word
+drains r word other = false
+
+abbrev pub same_trap : Trap → Trap → Bool
+same_trap Unaligned Unaligned = true
+same_trap OutOfRange OutOfRange = true
+same_trap BadPc BadPc = true
+same_trap ReadOnly ReadOnly = true
+same_trap trap other = false
+
+abbrev pub same_standing : Standing → Standing → Bool
+same_standing Running Running = true
+same_standing Halted Halted = true
+same_standing (Trapped trap) (Trapped other) = same_trap trap other
+same_standing (Unlisted at) (Unlisted other) = nat_eq other at
+same_standing standing other = false
 
 -- whether a change is what was expected
 abbrev pub shows : Expectation → Change → Bool
 shows (Register r word) (change.Wrote register w) = nat_eq register r && nat_eq w word
-shows (Register r word) (change.Sent register w) = nat_eq register r && nat_eq w word
 shows (Register r word) (change.AtUnit position task c) = brings r word c
+shows (Sends r word) (change.Sent register w) = nat_eq register r && nat_eq w word
+shows (Sends r word) (change.AtUnit position task c) = drains r word c
 shows (Memory address word) (change.Loaded at w) = nat_eq at address && nat_eq w word
 shows (Memory address word) (change.Stored at w) = nat_eq at address && nat_eq w word
 shows (Output word) (change.PutOut w) = nat_eq w word
 shows (Stops address) (change.StoppedAt at) = nat_eq at address
+shows (Ends standing) (change.Ended ending) = same_standing standing ending
 shows expected other = false
 
 -- whether one of the changes is; what cannot be read is not met
@@ -66,9 +90,11 @@ first_unmet changes number (part ∷ parts) =
 
 abbrev pub expectation_text : Expectation → List ℕ
 expectation_text (Register r word) = register_text r word
+expectation_text (Sends r word) = codes "that it sends " ++ register_text r word
 expectation_text (Memory address word) = decimal word ++ (codes " at " ++ address_text address)
 expectation_text (Output word) = codes "the output " ++ decimal word
 expectation_text (Stops address) = codes "a stop that leads to " ++ address_text address
+expectation_text (Ends standing) = codes "that " ++ ending_text standing
 
 abbrev pub unmet_said : Unmet → List ℕ
 unmet_said (Unread number) = codes "expectation " ++ (decimal number ++ codes " cannot be read")

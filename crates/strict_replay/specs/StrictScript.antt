@@ -7,9 +7,14 @@ use Rattle.std.specs.Option.{option_map, option_or}
 use Rattle.std.specs.Str.{bytes_eq}
 use Rattle.std.specs.Char.{is_ascii_digit}
 use Rattle.program_tokens.specs.Numbers.{magnitude_of}
+use Rattle.mips_plain.specs.TrapText.{trap_text}
+use Rattle.mips_plain.specs.declared.outcome.Trap.{Trap}
+use Rattle.mips_plain.specs.declared.outcome.Trap.TheVariants.{Unaligned, OutOfRange, BadPc, ReadOnly}
+use Rattle.machine_events.specs.declared.event.Standing.{Standing}
+use Rattle.machine_events.specs.declared.event.Standing.TheVariants.{Running, Halted, Trapped, Unlisted}
 use Rattle.event_script.specs.EventScript.{behind, in_front_of, register_in}
 use Rattle.strict_replay.specs.declared.expectation.Expectation.{Expectation}
-use Rattle.strict_replay.specs.declared.expectation.Expectation.TheVariants.{Register, Memory, Output, Stops}
+use Rattle.strict_replay.specs.declared.expectation.Expectation.TheVariants.{Register, Sends, Memory, Output, Stops, Ends}
 
 -- ---- parts of a line
 
@@ -84,18 +89,67 @@ address_in name =
     then word_in (take (length name - 2) (drop 1 name))
     else None
 
--- what must have come to this word: `out`, `[A]` or `$R`
+-- what must have come to this word: `[A]` or `$R`
+abbrev pub place_of : (name : List ℕ) → (word : ℕ) → Option Expectation
+place_of name word = option_or (option_map (λ address. Memory address word) (address_in name)) (option_map (λ r. Register r word) (register_in name))
+
+-- what was sent, by what stands after `sends`
+abbrev pub sending_in : (after : List ℕ) → (word : ℕ) → Option Expectation
+sending_in after word = option_map (λ r. Sends r word) (register_in (without_first_spaces after))
+
+-- one of these, or `out`
 abbrev pub expectation_of : (name : List ℕ) → (word : ℕ) → Option Expectation
 expectation_of name word =
     if bytes_eq name (codes "out") then Some (Output word)
-    else option_or (option_map (λ address. Memory address word) (address_in name)) (option_map (λ r. Register r word) (register_in name))
+    else (if starts_with nat_eq name (codes "sends ") then sending_in (drop 6 name) word
+    else place_of name word)
 
 abbrev pub with_word : (name : List ℕ) → Option ℕ → Option Expectation
 with_word name None = None
 with_word name (Some word) = expectation_of name word
 
--- `stops A`, `out=W`, `[A]=W` or `$R=W`
+-- `$R=W`, `sends $R=W`, `[A]=W` or `out=W`
+abbrev pub equation_in : (part : List ℕ) → Option Expectation
+equation_in part = with_word (trimmed (in_front_of (position is_equals part) part)) (word_in (trimmed (behind (position is_equals part) part)))
+
+-- a trap, by its number and its name
+abbrev pub trap_in : List ℕ → Option Trap
+trap_in text =
+    if bytes_eq text (trap_text Unaligned) then Some Unaligned
+    else (if bytes_eq text (trap_text OutOfRange) then Some OutOfRange
+    else (if bytes_eq text (trap_text BadPc) then Some BadPc
+    else (if bytes_eq text (trap_text ReadOnly) then Some ReadOnly
+    else None)))
+
+abbrev pub trapped_in : (after : List ℕ) → Option Standing
+trapped_in after = option_map (λ trap. Trapped trap) (trap_in (without_first_spaces after))
+
+abbrev pub unlisted_in : (after : List ℕ) → Option Standing
+unlisted_in after = option_map (λ address. Unlisted address) (word_in (without_first_spaces after))
+
+-- `trapped K Name` or `unlisted A`
+abbrev pub other_ending_in : List ℕ → Option Standing
+other_ending_in text =
+    if starts_with nat_eq text (codes "trapped ") then trapped_in (drop 8 text)
+    else (if starts_with nat_eq text (codes "unlisted ") then unlisted_in (drop 9 text)
+    else None)
+
+-- how a run ends: `halted`, or one of these; `running` is how none ends
+abbrev pub ending_in : List ℕ → Option Standing
+ending_in text =
+    if bytes_eq text (codes "running") then Some Running
+    else (if bytes_eq text (codes "halted") then Some Halted
+    else other_ending_in text)
+
+abbrev pub stop_in : (after : List ℕ) → Option Expectation
+stop_in after = option_map (λ address. Stops address) (word_in (without_first_spaces after))
+
+abbrev pub end_in : (after : List ℕ) → Option Expectation
+end_in after = option_map (λ standing. Ends standing) (ending_in (without_first_spaces after))
+
+-- one of these, `stops A`, or `ends` and how the run ends
 abbrev pub expectation_in : (part : List ℕ) → Option Expectation
 expectation_in part =
-    if starts_with nat_eq part (codes "stops ") then option_map (λ address. Stops address) (word_in (without_first_spaces (drop 6 part)))
-    else with_word (in_front_of (position is_equals part) part) (word_in (behind (position is_equals part) part))
+    if starts_with nat_eq part (codes "stops ") then stop_in (drop 6 part)
+    else (if starts_with nat_eq part (codes "ends ") then end_in (drop 5 part)
+    else equation_in part)

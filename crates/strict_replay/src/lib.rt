@@ -2,8 +2,10 @@
 #![tactic(auto)]
 
 pub mod expectation;
+mod held;
 pub mod judging;
 pub mod laws;
+mod meeting;
 mod reading;
 pub mod replaying;
 mod text;

@@ -1,13 +1,17 @@
 //! Reading the lines of a script with expectations.
 
 ghost use Rattle.std.specs.Prelude.{◌≡◌, ◌^◌, ◌≤◌, ◌<◌, length, min, position, take, drop};
+ghost use Rattle.std.specs.Char.{is_ascii_digit};
+ghost use Rattle.std.specs.List.{list_all};
 ghost use Rattle.std.specs.Option.{option_map};
 ghost use Rattle.event_script.specs.EventScript.{behind, in_front_of};
 ghost use Rattle.program_tokens.specs.Numbers.{magnitude_of, number_in};
-ghost use Rattle.strict_replay.specs.StrictScript.{address_in, content, event_text, expectation_in, expectation_of, is_colon, is_comma, is_equals, is_hash, is_silent, is_step_mark, length_without_spaces, trimmed, with_word, without_first_spaces, without_last_spaces, word_in};
+ghost use Rattle.strict_replay.specs.StrictScript.{address_in, content, end_in, ending_in, equation_in, event_text, expectation_in, expectation_of, is_colon, is_comma, is_equals, is_hash, is_silent, is_step_mark, other_ending_in, place_of, sending_in, stop_in, trap_in, trapped_in, trimmed, unlisted_in, with_word, without_first_spaces, without_last_spaces, word_in};
 
 use crate::expectation::Expectation;
 use event_script::reading::register_of;
+use machine_events::event::Standing;
+use mips_plain::outcome::Trap;
 
 /// Where a comment begins.
 fn hash_in(text: &[u8]) -> Option<usize>
@@ -69,14 +73,22 @@ pub(crate) fn content(line: &[u8]) -> &[u8]
     }
 }
 
+/// Whether these are decimal digits, or none.
+fn are_digits(text: &[u8]) -> bool
+    ensures { result ≡ list_all is_ascii_digit text.now }
+{
+    let mut all = true;
+    for byte in text {
+        all &= byte.is_ascii_digit();
+    }
+    all
+}
+
 /// Whether a line marks where a step begins.
 fn is_step_mark(text: &[u8]) -> bool
     ensures { result ≡ is_step_mark text.now }
 {
-    text.starts_with(b"step ".as_slice())
-        && without_first_spaces(&text[5..])
-            .iter()
-            .all(|byte| byte.is_ascii_digit())
+    text.starts_with(b"step ".as_slice()) && are_digits(without_first_spaces(&text[5..]))
 }
 
 /// Whether a line says nothing of an event.
@@ -145,13 +157,10 @@ fn address_in(name: &[u8]) -> Option<u32>
     }
 }
 
-/// That what has this name came to a word.
-fn expectation_of(name: &[u8], word: u32) -> Option<Expectation>
-    ensures { result ≡ expectation_of name.now word }
+/// That the register or the address of this name came to a word.
+fn place_of(name: &[u8], word: u32) -> Option<Expectation>
+    ensures { result ≡ place_of name.now word }
 {
-    if name == b"out".as_slice() {
-        return Some(Expectation::Output { word });
-    }
     match address_in(name) {
         Some(address) => Some(Expectation::Memory { address, word }),
         None => Some(Expectation::Register {
@@ -159,6 +168,27 @@ fn expectation_of(name: &[u8], word: u32) -> Option<Expectation>
             word,
         }),
     }
+}
+
+/// That the register after `sends` was sent with a word.
+fn sending_in(after: &[u8], word: u32) -> Option<Expectation>
+    ensures { result ≡ sending_in after.now word }
+{
+    let register = register_of(without_first_spaces(after))?;
+    Some(Expectation::Sends { register, word })
+}
+
+/// That what has this name came to a word, or was sent or put out.
+fn expectation_of(name: &[u8], word: u32) -> Option<Expectation>
+    ensures { result ≡ expectation_of name.now word }
+{
+    if name == b"out".as_slice() {
+        return Some(Expectation::Output { word });
+    }
+    if name.starts_with(b"sends ".as_slice()) {
+        return sending_in(&name[6..], word);
+    }
+    place_of(name, word)
 }
 
 /// What stands before the equals sign, and after it; nothing where there is none.
@@ -172,15 +202,99 @@ fn equated(part: &[u8]) -> (&[u8], &[u8])
     }
 }
 
+/// The expectation that a part with an equals sign spells.
+fn equation_in(part: &[u8]) -> Option<Expectation>
+    ensures { result ≡ equation_in part.now }
+{
+    let (name, text) = equated(part);
+    let word = word_in(trimmed(text))?;
+    expectation_of(trimmed(name), word)
+}
+
+/// The trap of a number and a name.
+fn trap_in(text: &[u8]) -> Option<Trap>
+    ensures { result ≡ trap_in text.now }
+{
+    if text == b"1 Unaligned".as_slice() {
+        Some(Trap::Unaligned)
+    } else if text == b"2 OutOfRange".as_slice() {
+        Some(Trap::OutOfRange)
+    } else if text == b"3 BadPc".as_slice() {
+        Some(Trap::BadPc)
+    } else if text == b"4 ReadOnly".as_slice() {
+        Some(Trap::ReadOnly)
+    } else {
+        None
+    }
+}
+
+/// The trap after `trapped`.
+fn trapped_in(after: &[u8]) -> Option<Standing>
+    ensures { result ≡ trapped_in after.now }
+{
+    let trap = trap_in(without_first_spaces(after))?;
+    Some(Standing::Trapped(trap))
+}
+
+/// The address after `unlisted`.
+fn unlisted_in(after: &[u8]) -> Option<Standing>
+    ensures { result ≡ unlisted_in after.now }
+{
+    let address = word_in(without_first_spaces(after))?;
+    Some(Standing::Unlisted(address))
+}
+
+/// How a run has trapped or is unlisted, as words spell it.
+fn other_ending_in(text: &[u8]) -> Option<Standing>
+    ensures { result ≡ other_ending_in text.now }
+{
+    if text.starts_with(b"trapped ".as_slice()) {
+        trapped_in(&text[8..])
+    } else if text.starts_with(b"unlisted ".as_slice()) {
+        unlisted_in(&text[9..])
+    } else {
+        None
+    }
+}
+
+/// How a run stands, as words spell it.
+fn ending_in(text: &[u8]) -> Option<Standing>
+    ensures { result ≡ ending_in text.now }
+{
+    if text == b"running".as_slice() {
+        Some(Standing::Running)
+    } else if text == b"halted".as_slice() {
+        Some(Standing::Halted)
+    } else {
+        other_ending_in(text)
+    }
+}
+
+/// The stop that leads to the address after `stops`.
+fn stop_in(after: &[u8]) -> Option<Expectation>
+    ensures { result ≡ stop_in after.now }
+{
+    let address = word_in(without_first_spaces(after))?;
+    Some(Expectation::Stops { address })
+}
+
+/// The end of the run after `ends`.
+fn end_in(after: &[u8]) -> Option<Expectation>
+    ensures { result ≡ end_in after.now }
+{
+    let standing = ending_in(without_first_spaces(after))?;
+    Some(Expectation::Ends { standing })
+}
+
 /// The expectation that a part spells.
 pub(crate) fn expectation_in(part: &[u8]) -> Option<Expectation>
     ensures { result ≡ expectation_in part.now }
 {
     if part.starts_with(b"stops ".as_slice()) {
-        let address = word_in(without_first_spaces(&part[6..]))?;
-        return Some(Expectation::Stops { address });
+        return stop_in(&part[6..]);
     }
-    let (name, text) = equated(part);
-    let word = word_in(text)?;
-    expectation_of(name, word)
+    if part.starts_with(b"ends ".as_slice()) {
+        return end_in(&part[5..]);
+    }
+    equation_in(part)
 }

@@ -2,14 +2,14 @@
 
 ghost use Rattle.std.specs.Prelude.{◌≡◌, ◌++◌, ◌<◌, ◌≤◌, true, OnOk, IfOk};
 ghost use Rattle.std.specs.String.{string_bytes};
-ghost use Rattle.strict_replay.specs.ValuedScript.{brought, expectation_of_change, part_written, parts_written, valued_script, written};
+ghost use Rattle.strict_replay.specs.ValuedScript.{brought, ending_words, expectation_of_change, part_written, parts_written, valued_script, written};
 
 use crate::expectation::Expectation;
 use event_script::writing::write_event;
 use event_trace::change::Change;
 use event_trace::telling::{Telling, entries};
 use event_trace::unit_change::UnitChange;
-use machine_events::event::{Event, Refused};
+use machine_events::event::{Event, Refused, Standing};
 use mark_checker::accept::Accepted;
 use std::alloc::{AllocError, Global};
 use task_descriptor::program::Program;
@@ -79,9 +79,8 @@ fn brought(change: UnitChange) -> Option<Expectation>
     ensures { result ≡ brought change }
 {
     match change {
-        UnitChange::Arrived { register, word } | UnitChange::Drained { register, word } => {
-            Some(Expectation::Register { register, word })
-        }
+        UnitChange::Arrived { register, word } => Some(Expectation::Register { register, word }),
+        UnitChange::Drained { register, word } => Some(Expectation::Sends { register, word }),
         _ => None,
     }
 }
@@ -93,12 +92,26 @@ fn expectation_of_change(change: Change) -> Option<Expectation>
     match change {
         Change::AtUnit { change, .. } => brought(change),
         Change::Wrote { register, word } => Some(Expectation::Register { register, word }),
+        Change::Sent { register, word } => Some(Expectation::Sends { register, word }),
         Change::Loaded { address, word } | Change::Stored { address, word } => {
             Some(Expectation::Memory { address, word })
         }
         Change::PutOut { word } => Some(Expectation::Output { word }),
         Change::StoppedAt { address } => Some(Expectation::Stops { address }),
+        Change::Ended { standing } => Some(Expectation::Ends { standing }),
         _ => None,
+    }
+}
+
+/// Adds how a run stands, as a script has it.
+fn write_ending_words(text: &mut String, standing: Standing) -> Result<(), AllocError>
+    ensures { OnOk result (string_bytes text.new ≡ string_bytes text.old ++ ending_words standing) }
+{
+    match standing {
+        Standing::Running => write!(text, "running"),
+        Standing::Halted => write!(text, "halted"),
+        Standing::Trapped(trap) => write!(text, "trapped {trap}"),
+        Standing::Unlisted(address) => write!(text, "unlisted 0x{address:x}"),
     }
 }
 
@@ -111,9 +124,17 @@ fn write_expectation(text: &mut String, expected: Expectation) -> Result<(), All
             let number = register.get();
             write!(text, "${number}={word}")
         }
+        Expectation::Sends { register, word } => {
+            let number = register.get();
+            write!(text, "sends ${number}={word}")
+        }
         Expectation::Memory { address, word } => write!(text, "[0x{address:x}]={word}"),
         Expectation::Output { word } => write!(text, "out={word}"),
         Expectation::Stops { address } => write!(text, "stops 0x{address:x}"),
+        Expectation::Ends { standing } => {
+            write!(text, "ends ")?;
+            write_ending_words(text, standing)
+        }
     }
 }
 

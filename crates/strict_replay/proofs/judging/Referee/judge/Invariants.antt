@@ -8,11 +8,12 @@ use Rattle.strict_replay.proofs.judging.Referee.judge.Given as goal
 abbrev pub invariant-loop-rest : goal.invariant-loop-rest
 invariant-loop-rest l =
     let m = l.initial.walk in
-    let p = l.self.program in
+    let p = l.self.program.now in
+    let places = l.self.places.now in
     record {
       kept : SameRing m l.walk;
-      report : report_from p l.self.places (units_of m) (l.number + 1) (length l.walk.history) (state l.walk) (lines l.rest)
-          ≡ report_from p l.self.places (units_of m) 1 (length m.history) (state m) (lines l.script);
+      report : report_from p places (units_of m) (l.number + 1) (length l.walk.history) (state l.walk) (lines l.rest)
+          ≡ report_from p places (units_of m) 1 (length m.history) (state m) (lines l.script);
       counted : l.number + length l.rest ≤ length l.script;
     }
 
