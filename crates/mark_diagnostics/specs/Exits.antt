@@ -100,10 +100,17 @@ targets_help s task targets =
 abbrev pub entries_listed : Judged → (task : ℕ) → List ℕ
 entries_listed s task = filter (is_entry s) (targets_of s task)
 
+-- where no task begins, one is to begin, and to be a target
+abbrev pub listed_too : (name : List ℕ) → List ℕ
+listed_too name = codes ", and make it a target of task " ++ name
+
+abbrev pub begin_help : Judged → (task index : ℕ) → Help
+begin_help s task j = in_words (task_to_begin s j (listed_too (task_name s task)))
+
 -- these places are no targets; at the first of them, where no task begins, one is to begin
 abbrev pub unlisted_help_by : Judged → (task : ℕ) → (places : List ℕ) → Option ℕ → Help
 unlisted_help_by s task places None = targets_help s task (entries_listed s task ++ places)
-unlisted_help_by s task places (Some j) = in_words (task_to_begin s j (codes ", and make it a target of task " ++ task_name s task))
+unlisted_help_by s task places (Some j) = begin_help s task j
 
 abbrev pub unlisted_help : Judged → (task : ℕ) → (places : List ℕ) → Help
 unlisted_help s task places = unlisted_help_by s task places (find (λ j. not (is_entry s j)) places)

@@ -4,7 +4,7 @@ ghost use Rattle.std.specs.Prelude.{◌≡◌, ◌++◌, ◌==◌, ◌&&◌, ◌
 ghost use Rattle.std.specs.List.{find, flat_map, list_any};
 ghost use Rattle.std.specs.Option.{option_copied};
 ghost use Rattle.mark_diagnostics.specs.Subjects.{task_name, place_text, targets_of, is_entry, exit_end};
-ghost use Rattle.mark_diagnostics.specs.Exits.{begins_text, place_note, labelled_text, unlabelled_text, begin_by, task_to_begin, unlisted, edge_text, exit_text, exits_text, exit_said, exit_message, both, lacking, exit_notes, targets_help, entries_listed, unlisted_help, exit_help, is_beyond, beyond, last_text, beyond_help, is_end, is_taken, wrong_number, wrong_target, wrong_but_taken, target_help};
+ghost use Rattle.mark_diagnostics.specs.Exits.{begins_text, place_note, labelled_text, unlabelled_text, begin_by, task_to_begin, unlisted, edge_text, exit_text, exits_text, exit_said, exit_message, both, lacking, exit_notes, targets_help, entries_listed, listed_too, begin_help, unlisted_help, exit_help, is_beyond, beyond, last_text, beyond_help, is_end, is_taken, wrong_number, wrong_target, wrong_but_taken, target_help};
 
 use crate::parts::{by_text, in_words, note_at, place_words, targets_words, way_notes, written};
 use crate::subject::{Made, Subject};
@@ -283,15 +283,28 @@ fn listing_help(subject: &Subject, task: u32, places: &[u32]) -> Made<Help>
     Ok(help)
 }
 
+/// What else is to be done where a task is to begin.
+fn listed_too(alloc: Global, name: &str) -> Made<Words>
+    ensures { IfOk result (λ words. words ≡ listed_too name.now) }
+{
+    words!(in alloc; ", and make it a target of task {name}")
+}
+
+/// What to do about an exit to a place where no task begins.
+fn begin_help(subject: &Subject, task: u32, index: u32) -> Made<Help>
+    ensures { IfOk result (λ help. help ≡ begin_help subject.now task index) }
+{
+    let besides = listed_too(subject.alloc(), subject.task(task))?;
+    let message = task_to_begin(subject, index, besides.as_str())?;
+    Ok(in_words(subject.alloc(), message))
+}
+
 /// What to do about an exit to these places, which are no targets.
 fn unlisted_help(subject: &Subject, task: u32, places: &[u32]) -> Made<Help>
     ensures { IfOk result (λ help. help ≡ unlisted_help subject.now task places.now) }
 {
     if let Some(index) = first_without(subject, places) {
-        let name = subject.task(task);
-        let besides = words!(in subject.alloc(); ", and make it a target of task {name}")?;
-        let message = task_to_begin(subject, *index, besides.as_str())?;
-        return Ok(in_words(subject.alloc(), message));
+        return begin_help(subject, task, *index);
     }
     listing_help(subject, task, places)
 }
