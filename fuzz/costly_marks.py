@@ -90,7 +90,7 @@ def sentence(program, warning):
     name = program.tasks[number][0] if kind in ("never", "stop") else None
     return {
         "stop": f"task {name} has targets, but comes to no stop.",
-        "never": f"no instruction of task {name} writes or releases ${register}, which its create mask has.",
+        "never": f"the create mask of task {name} has ${register}, which no instruction of the task writes or releases.",
         "last": "this is a last update without !f: later tasks wait for what it writes.",
         "sent": f"${register} was sent before on each path to this release.",
         "unreached": "no task reaches the code from here on.",

@@ -100,6 +100,11 @@ def instructions(head, starts):
     return 1 if value < 0x10000 or value >= 0xFFFF8000 else 2
 
 
+def subject(error):
+    """What an error is about: all that a create mask lacks is one, by whichever rule it is told."""
+    return (error[0], "mask") if error[2] in MASK else error
+
+
 def told(program):
     """What is told of a program, in the order of the checker: task, index, rule and registers. All that a create mask lacks is one error."""
     findings, errors = verdict(program, certify(program)), []
@@ -117,20 +122,49 @@ def shown(program, text):
     return sorted(told(program)[:MOST_SHOWN], key=lambda error: tuple(meant(program, text, error))[:2])
 
 
-def sentence(program, error):
-    """What an error says, as a pattern."""
-    number, _, rule, registers = error
+def label_of(text, index):
+    """The label of an instruction: at the front of its line, or alone in the line before; None where there is none."""
+    code, lines = places(text)[1], text.split("\n")
+    line = code[index][0]
+    if index and code[index - 1][0] == line:
+        return None
+    own, above = ([token for _, token in columns(it)] for it in (lines[line - 1], lines[line - 2] if line > 1 else ""))
+    if own[1:2] == [":"]:
+        return own[0]
+    return above[0] if above[1:] == [":"] else None
+
+
+def spot(program, text, index):
+    """How an instruction is named, as a pattern; without the text of the program any name will do."""
+    if text is None:
+        return r"(?:@\d+|\w+)"
+    return index < len(program.code) and label_of(text, index) or f"@{index}"
+
+
+def place_of(program, text, index):
+    """How a place is named, as a pattern."""
+    begins = {entry: name for name, entry, *_ in reversed(program.tasks)}
+    return begins.get(index) or ("the end of the program" if index == len(program.code) else spot(program, text, index))
+
+
+def sentence(program, error, text=None):
+    """What an error says of a program with this text, as a pattern."""
+    number, index, rule, registers = error
     task, listed = program.tasks[number][0], ",".join(f"\\${r}" for r in registers if r is not None)
-    place = r"(?:@\d+|\w+|the end of the program)"
+    targets, begins = program.tasks[number][3], {it[1] for it in program.tasks}
+    place = "(?:" + "|".join(place_of(program, text, j) for j in [*exits(program, index), *inner(program, index)]
+                             if (j not in targets if rule == 9 else j >= len(program.code))) + ")"
+    wrong = next((j for j in targets if j not in begins), 0)
     return {
         5: f"the create mask of task {task} lacks {listed}",
         8: f"the create mask of task {task} lacks {listed}",
         6: f"task {task} forwards {listed} here and may write it again",
         7: f"task {task} releases {listed} here and may write it again",
-        9: f"task {task} can end here and go on to {place}(?: if the branch is (?:not )?taken)?(?: and to {place} if it is)?, which its targets lack",
+        9: rf"(?:if the branch is (?:not )?taken, )?task {task} ends here and goes on to {place}"
+           rf"(?:, which is not one of its targets|, or to {place} if the branch is taken; neither is one of its targets)",
         10: f"task {task} can go on from here to {place}, where no instruction is",
-        11: f"task {task} goes on over a jump to an address in a register",
-        12: rf"task {task} lists the target @\d+, where no task begins",
+        11: f"this jump to an address in a register has to end task {task}",
+        12: f"task {task} lists the target {spot(program, text, wrong)}, where no task begins",
     }[rule]
 
 
@@ -165,7 +199,7 @@ def queries(program, error):
             yield (entry, writes, False) if first[2] == 5 else (entry, lambda i, at=first[1]: i == at, False)
     elif rule in (6, 7):
         yield index, lambda i: registers[0] in dests(program.code[i][0]), True
-    elif rule in (9, 10, 11):
+    elif rule in (9, 10, 11) and entry != index:
         yield entry, lambda i: i == index, False
 
 
@@ -197,7 +231,7 @@ def differs(program, text, results):
     for error, result in zip(shown(program, text), said):
         if result["ruleId"] != f"rule{error[2]}" or region_of(result["locations"][0]) != tuple(meant(program, text, error)):
             return f"the rule or the place of {error}"
-        if not re.fullmatch(sentence(program, error) + r"\.", result["message"]["text"]):
+        if not re.fullmatch(sentence(program, error, text) + r"\.", result["message"]["text"]):
             return f"the sentence of {error}"
         asked, paths = list(queries(program, error)), paths_of(result)
         if len(asked) != len(paths):
@@ -404,7 +438,7 @@ class Bench:
             if any(it[0] == error[0] and it[2] in MASK for it in left) if error[2] in MASK else error in left:
                 return f"{error} is there after its fix:\n{after}"
             self.counts["fixes that mend"] += 1
-            self.counts["fixes after which other errors are there"] += not set(left) <= set(told(program))
+            self.counts["fixes after which other errors are there"] += not {subject(it) for it in left} <= {subject(it) for it in told(program)}
         return None
 
 

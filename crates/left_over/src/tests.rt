@@ -10,14 +10,13 @@ use std::process::Abort;
 const ASTRAY: &str = ".task A create=$8 targets=-\nA: j B !s\nB: halt\n";
 
 const SAID_OF_ASTRAY: &str =
-    "p.s:2:4: error: task A can end here and go on to @1, which its targets lack [rule 9]
+    "p.s:2:4: error: task A ends here and goes on to B, which is not one of its targets [rule 9]
     2 | A: j B !s
       |    ^~~~~~
-p.s:2:4: note: reached from here, on the path 2
 p.s:3:4: note: no task begins here
     3 | B: halt
       |    ^~~~
-p.s:2:4: help: let a task begin at @1: give it a label and a line .task LABEL create=- targets=-, and make it a target of task A
+p.s:2:4: help: let a task begin at B: add a line .task B create=- targets=-, and make it a target of task A
 multiscalar: p.s: 1 left to mend by hand
 ";
 

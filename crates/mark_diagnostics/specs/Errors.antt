@@ -2,7 +2,6 @@
 -- find nothing with a least certificate.)
 use Rattle.std.specs.Prelude.{◌≡◌, ◌↔◌, ℕ, ◌-◌, List, [], ◌∷◌, ◌++◌, codes, map, take, length, slice_get, Option, Some, None}
 use Rattle.std.specs.List.{All, AllZip}
-use Rattle.std.specs.Fmt.{decimal}
 use Rattle.task_graph.specs.Soundness.{Sound}
 use Rattle.mark_checker.specs.declared.finding.Rule.{Rule}
 use Rattle.mark_checker.specs.declared.finding.Rule.TheVariants as rule
@@ -18,13 +17,13 @@ use Rattle.diagnostics.specs.declared.diagnostic.Source.TheVariants.{Program}
 use Rattle.diagnostics.specs.declared.diagnostic.Note.{Note}
 use Rattle.diagnostics.specs.declared.diagnostic.Help.{Help}
 use Rattle.diagnostics.specs.declared.diagnostic.Diagnostic.{Diagnostic}
-use Rattle.mark_diagnostics.specs.Subjects.{Judged, IsJudged, register_text, registers_text, task_name, place_text, instruction_span, create_span, target_span, after}
-use Rattle.mark_diagnostics.specs.Parts.{in_words, by_text, way_note}
+use Rattle.mark_diagnostics.specs.Subjects.{Judged, IsJudged, register_text, registers_text, task_name, spot_text, place_text, instruction_span, create_span, target_span, after}
+use Rattle.mark_diagnostics.specs.Parts.{by_text, way_notes}
 use Rattle.mark_diagnostics.specs.Told.{all_told, most_shown, about, register_in}
 use Rattle.mark_diagnostics.specs.Steps.{path_in}
 use Rattle.mark_diagnostics.specs.Masks.{missing, mask_notes, mask_help}
 use Rattle.mark_diagnostics.specs.Sending.{later, forward_help, release_help, early_notes}
-use Rattle.mark_diagnostics.specs.Exits.{exit_places, exit_notes, exit_help, beyond, wrong_number, wrong_target, place_note, target_help}
+use Rattle.mark_diagnostics.specs.Exits.{exit_message, exit_notes, exit_help, beyond, beyond_help, wrong_number, wrong_target, place_note, target_help}
 use Rattle.mark_diagnostics.specs.More.{more_note}
 
 abbrev pub code_of : Rule → Code
@@ -52,17 +51,14 @@ abbrev pub early_text : Judged → Finding → (sends : List ℕ) → List ℕ
 early_text s f sends =
     codes "task " ++ (task_name s f.task ++ (codes " " ++ (sends ++ (codes " " ++ (register_text s (register_in f.reg) ++ codes " here and may write it again")))))
 
-abbrev pub exit_text : (task places : List ℕ) → List ℕ
-exit_text task places = codes "task " ++ (task ++ (codes " can end here and go on to " ++ (places ++ codes ", which its targets lack")))
-
 abbrev pub beyond_text : (task place : List ℕ) → List ℕ
 beyond_text task place = codes "task " ++ (task ++ (codes " can go on from here to " ++ (place ++ codes ", where no instruction is")))
 
 abbrev pub indirect_text : Judged → (task : ℕ) → List ℕ
-indirect_text s task = codes "task " ++ (task_name s task ++ codes " goes on over a jump to an address in a register")
+indirect_text s task = codes "this jump to an address in a register has to end task " ++ task_name s task
 
-abbrev pub target_text : (task : List ℕ) → (to : ℕ) → List ℕ
-target_text task to = codes "task " ++ (task ++ (codes " lists the target @" ++ (decimal to ++ codes ", where no task begins")))
+abbrev pub target_text : (task place : List ℕ) → List ℕ
+target_text task place = codes "task " ++ (task ++ (codes " lists the target " ++ (place ++ codes ", where no task begins")))
 
 abbrev pub mask_text : Judged → (task : ℕ) → (about : List Finding) → List ℕ
 mask_text s task about = codes "the create mask of task " ++ (task_name s task ++ (codes " lacks " ++ registers_text s (missing about)))
@@ -70,18 +66,18 @@ mask_text s task about = codes "the create mask of task " ++ (task_name s task +
 abbrev pub message_by : Rule → Judged → Finding → (about : List Finding) → List ℕ
 message_by rule.ForwardedInNext s f about = early_text s f (codes "forwards")
 message_by rule.ReleasedInNext s f about = early_text s f (codes "releases")
-message_by rule.ExitNotListed s f about = exit_text (task_name s f.task) (exit_places s f)
+message_by rule.ExitNotListed s f about = exit_message s f
 message_by rule.FallsOff s f about = beyond_text (task_name s f.task) (place_text s (beyond s f.index))
 message_by rule.IndirectGoesOn s f about = indirect_text s f.task
-message_by rule.TargetNotEntry s f about = target_text (task_name s f.task) (wrong_target s f.task)
+message_by rule.TargetNotEntry s f about = target_text (task_name s f.task) (spot_text s (wrong_target s f.task))
 message_by _ s f about = mask_text s f.task about
 
 abbrev pub notes_by : Rule → Judged → Finding → (path : List ℕ) → (about : List Finding) → (shown : List ShownFinding) → List Note
 notes_by rule.ForwardedInNext s f path about shown = early_notes s f path
 notes_by rule.ReleasedInNext s f path about shown = early_notes s f path
 notes_by rule.ExitNotListed s f path about shown = exit_notes s f path
-notes_by rule.FallsOff s f path about shown = way_note s f.index path ∷ []
-notes_by rule.IndirectGoesOn s f path about shown = way_note s f.index path ∷ []
+notes_by rule.FallsOff s f path about shown = way_notes s f.index path
+notes_by rule.IndirectGoesOn s f path about shown = way_notes s f.index path
 notes_by rule.TargetNotEntry s f path about shown = place_note s (wrong_target s f.task)
 notes_by _ s f path about shown = mask_notes s f.task about shown
 
@@ -89,7 +85,7 @@ abbrev pub help_by : Rule → Judged → Finding → (path : List ℕ) → (abou
 help_by rule.ForwardedInNext s f path about = forward_help s f (later s f path)
 help_by rule.ReleasedInNext s f path about = release_help s f (later s f path)
 help_by rule.ExitNotListed s f path about = exit_help s f
-help_by rule.FallsOff s f path about = in_words (codes "let it go on to an instruction of the program, as a jump or a halt, or end the task here")
+help_by rule.FallsOff s f path about = beyond_help s f.index
 help_by rule.IndirectGoesOn s f path about =
     by_text (codes "end the task here: add !s") (after (instruction_span s f.index)) (codes " !s")
 help_by rule.TargetNotEntry s f path about = target_help s f.task

@@ -19,7 +19,7 @@ use Rattle.mark_diagnostics.specs.Told.{told, leaders}
 use Rattle.mark_diagnostics.specs.Steps.{entered}
 use Rattle.mark_diagnostics.specs.Masks.{widened}
 use Rattle.mark_diagnostics.specs.Sending.{later, first_left, advice, release_text}
-use Rattle.mark_diagnostics.specs.Exits.{places_said, both}
+use Rattle.mark_diagnostics.specs.Exits.{exit_said, both}
 use Rattle.mark_diagnostics.specs.Errors.{message_by}
 
 -- `count` without its stop, and with an empty create mask
@@ -35,7 +35,7 @@ unstopped = record {
 }
 
 abbrev pub judged : Judged
-judged = record { program = unstopped; rows = []; sources = no_sources; names = all_numbered; least = [] }
+judged = record { program = unstopped; rows = []; sources = no_sources; labels = []; names = all_numbered; least = [] }
 
 abbrev pub finding : (index register : ℕ) → Finding
 finding i r = record { task = 0; index = i; rule = ExceedsCreate; reg = Some r }
@@ -82,10 +82,11 @@ two_registers = refl
 
 -- An exit that is not listed, and one that both edges of a branch take.
 
-pub said_taken : places_said judged true None (Some 4) ≡ codes "B if the branch is taken"
+pub said_taken : exit_said judged (finding 3 0) None (Some 4)
+    ≡ codes "if the branch is taken, task A ends here and goes on to B, which is not one of its targets"
 said_taken = refl
 
-pub said_once : places_said judged true (Some 4) (Some 4) ≡ codes "B"
+pub said_once : exit_said judged (finding 3 0) (Some 4) (Some 4) ≡ codes "task A ends here and goes on to B, which is not one of its targets"
 said_once = refl
 
 pub listed_once : targets_text judged (0 ∷ both (Some 4) (Some 4)) ≡ codes "targets=A,B"

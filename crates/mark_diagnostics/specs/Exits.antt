@@ -1,13 +1,14 @@
 -- Where a task goes: exits that are not listed (rule 9), an inner edge that leads to no instruction (rule 10), and
 -- targets where no task begins (rule 12).
-use Rattle.std.specs.Prelude.{ℕ, Bool, true, false, not, ◌&&◌, ◌||◌, ◌==◌, nat_eq, nat_lt, nat_le, List, [], ◌∷◌, ◌++◌, codes, filter, flat_map, position, length, slice_index_or, is_some, unwrap_or, Option, Some, None, if◌then◌else◌}
+use Rattle.std.specs.Prelude.{ℕ, ◌-◌, Bool, true, false, not, ◌&&◌, ◌||◌, ◌==◌, nat_eq, nat_lt, nat_le, List, [], ◌∷◌, ◌++◌, codes, filter, flat_map, position, length, slice_index_or, is_some, unwrap_or, Option, Some, None, if◌then◌else◌}
 use Rattle.std.specs.Option.{option_or, option_to_list}
+use Rattle.std.specs.Fmt.{decimal}
 use Rattle.std.specs.List.{find, list_any}
 use Rattle.mark_checker.specs.declared.finding.Finding.{Finding}
 use Rattle.diagnostics.specs.declared.diagnostic.Note.{Note}
 use Rattle.diagnostics.specs.declared.diagnostic.Help.{Help}
-use Rattle.mark_diagnostics.specs.Subjects.{Judged, task_name, targets_of, entries_of, task_at, is_entry, place_text, targets_text, is_branch, exit_end, inner_end, targets_span}
-use Rattle.mark_diagnostics.specs.Parts.{in_words, by_text, written, note_at, way_note}
+use Rattle.mark_diagnostics.specs.Subjects.{Judged, task_name, targets_of, entries_of, task_at, is_entry, place_text, label_at, targets_text, is_branch, exit_end, inner_end, targets_span}
+use Rattle.mark_diagnostics.specs.Parts.{in_words, by_text, written, note_at, way_notes}
 
 -- a note on a place, if an instruction is there
 abbrev pub begins_text : Judged → Option ℕ → List ℕ
@@ -17,15 +18,30 @@ begins_text s (Some task) = codes "task " ++ (task_name s task ++ codes " begins
 abbrev pub place_note : Judged → (index : ℕ) → List Note
 place_note s j = if nat_lt j (length s.program.code) then note_at s j (begins_text s (task_at s j)) ∷ [] else []
 
--- what would let a task begin at a place, if an instruction is there
-abbrev pub begin_text : (place name : List ℕ) → List ℕ
-begin_text place name =
-    codes "let a task begin at " ++ (place ++ (codes ": give it a label and a line .task LABEL create=- targets=-, and make it a target of task " ++ name))
+-- what would let a task begin at a place that has this label, or at one that has none
+abbrev pub labelled_text : (label besides : List ℕ) → List ℕ
+labelled_text label besides =
+    codes "let a task begin at " ++ (label ++ (codes ": add a line .task " ++ (label ++ (codes " create=- targets=-" ++ besides))))
 
-abbrev pub task_to_begin : Judged → (task index : ℕ) → List ℕ
-task_to_begin s task j =
-    if nat_lt j (length s.program.code) then begin_text (place_text s j) (task_name s task)
-    else codes "no instruction is there: let the program go on to one where a task begins, or end with halt"
+abbrev pub unlabelled_text : (index : ℕ) → (besides : List ℕ) → List ℕ
+unlabelled_text j besides =
+    codes "let a task begin at @" ++ (decimal j ++ (codes ": give it a label and a line .task LABEL create=- targets=-" ++ besides))
+
+abbrev pub begin_by : Option (List ℕ) → (index : ℕ) → (besides : List ℕ) → List ℕ
+begin_by None j besides = unlabelled_text j besides
+begin_by (Some label) j besides = labelled_text label besides
+
+-- the last instruction, where an index is too great
+abbrev pub last_text : Judged → List ℕ
+last_text s = codes "let it go on to an instruction of the program, the last of which is @" ++ decimal (length s.program.code - 1)
+
+-- and what else is to be done; at the end of the program an instruction is to be added, too
+abbrev pub task_to_begin : Judged → (index : ℕ) → (besides : List ℕ) → List ℕ
+task_to_begin s j besides =
+    if nat_lt j (length s.program.code) then begin_by (label_at s j) j besides
+    else if nat_eq j (length s.program.code)
+    then codes "let a task begin there: add a line LABEL: halt at the end of the code and a line .task LABEL create=- targets=-" ++ besides
+    else last_text s
 
 -- Rule 9.
 
@@ -37,27 +53,31 @@ unless_in targets (Some j) = if list_any (λ t. t == j) targets then None else S
 abbrev pub unlisted : Judged → Finding → (taken : Bool) → Option ℕ
 unlisted s f taken = unless_in (targets_of s f.task) (exit_end s f.index taken)
 
--- these places, and which edge leads there
-abbrev pub onward_text : (place : List ℕ) → List ℕ
-onward_text place = place ++ codes " if the branch is not taken"
+-- the edge of a branch that leads there
+abbrev pub edge_text : (branch taken : Bool) → List ℕ
+edge_text false taken = []
+edge_text true false = codes "if the branch is not taken, "
+edge_text true true = codes "if the branch is taken, "
 
-abbrev pub taken_text : (place : List ℕ) → List ℕ
-taken_text place = place ++ codes " if the branch is taken"
+-- what is said of an exit to one place, and of exits to two
+abbrev pub exit_text : (edge task place : List ℕ) → List ℕ
+exit_text edge task place =
+    edge ++ (codes "task " ++ (task ++ (codes " ends here and goes on to " ++ (place ++ codes ", which is not one of its targets"))))
 
-abbrev pub both_text : (place second : List ℕ) → List ℕ
-both_text place second = place ++ (codes " if the branch is not taken and to " ++ (second ++ codes " if it is"))
+abbrev pub exits_text : (task place second : List ℕ) → List ℕ
+exits_text task place second =
+    codes "task " ++ (task ++ (codes " ends here and goes on to " ++ (place ++ (codes ", or to " ++ (second ++ codes " if the branch is taken; neither is one of its targets")))))
 
-abbrev pub places_said : Judged → (branch : Bool) → (onward taken : Option ℕ) → List ℕ
-places_said s b (Some j) (Some k) =
-    if nat_eq j k then place_text s j
-    else both_text (place_text s j) (place_text s k)
-places_said s true (Some j) None = onward_text (place_text s j)
-places_said s false (Some j) None = place_text s j
-places_said s b None (Some k) = taken_text (place_text s k)
-places_said s b None None = []
+abbrev pub exit_said : Judged → Finding → (onward taken : Option ℕ) → List ℕ
+exit_said s f (Some j) (Some k) =
+    if nat_eq j k then exit_text [] (task_name s f.task) (place_text s j)
+    else exits_text (task_name s f.task) (place_text s j) (place_text s k)
+exit_said s f (Some j) None = exit_text (edge_text (is_branch s f.index) false) (task_name s f.task) (place_text s j)
+exit_said s f None (Some k) = exit_text (edge_text (is_branch s f.index) true) (task_name s f.task) (place_text s k)
+exit_said s f None None = []
 
-abbrev pub exit_places : Judged → Finding → List ℕ
-exit_places s f = places_said s (is_branch s f.index) (unlisted s f false) (unlisted s f true)
+abbrev pub exit_message : Judged → Finding → List ℕ
+exit_message s f = exit_said s f (unlisted s f false) (unlisted s f true)
 
 -- these places; one to which both edges lead stands once
 abbrev pub both : (onward taken : Option ℕ) → List ℕ
@@ -68,7 +88,7 @@ abbrev pub lacking : Judged → Finding → List ℕ
 lacking s f = both (unlisted s f false) (unlisted s f true)
 
 abbrev pub exit_notes : Judged → Finding → (path : List ℕ) → List Note
-exit_notes s f path = way_note s f.index path ∷ [] ++ flat_map (place_note s) (lacking s f)
+exit_notes s f path = way_notes s f.index path ++ flat_map (place_note s) (lacking s f)
 
 -- at most sixteen targets can be listed
 abbrev pub targets_help : Judged → (task : ℕ) → (targets : List ℕ) → Help
@@ -80,10 +100,17 @@ targets_help s task targets =
 abbrev pub entries_listed : Judged → (task : ℕ) → List ℕ
 entries_listed s task = filter (is_entry s) (targets_of s task)
 
+-- where no task begins, one is to begin, and to be a target
+abbrev pub listed_too : (name : List ℕ) → List ℕ
+listed_too name = codes ", and make it a target of task " ++ name
+
+abbrev pub begin_help : Judged → (task index : ℕ) → Help
+begin_help s task j = in_words (task_to_begin s j (listed_too (task_name s task)))
+
 -- these places are no targets; at the first of them, where no task begins, one is to begin
 abbrev pub unlisted_help_by : Judged → (task : ℕ) → (places : List ℕ) → Option ℕ → Help
 unlisted_help_by s task places None = targets_help s task (entries_listed s task ++ places)
-unlisted_help_by s task places (Some j) = in_words (task_to_begin s task j)
+unlisted_help_by s task places (Some j) = begin_help s task j
 
 abbrev pub unlisted_help : Judged → (task : ℕ) → (places : List ℕ) → Help
 unlisted_help s task places = unlisted_help_by s task places (find (λ j. not (is_entry s j)) places)
@@ -99,6 +126,11 @@ is_beyond s (Some j) = nat_le (length s.program.code) j
 
 abbrev pub beyond : Judged → (index : ℕ) → ℕ
 beyond s i = unwrap_or (if is_beyond s (inner_end s i false) then inner_end s i false else inner_end s i true) 0
+
+-- what is missing there: a halt at the end of the program
+abbrev pub beyond_help : Judged → (index : ℕ) → Help
+beyond_help s i =
+    in_words (if nat_eq (beyond s i) (length s.program.code) then codes "add halt at the end of the code" else last_text s)
 
 -- Rule 12.
 
@@ -124,7 +156,7 @@ wrong_but_taken s task = find (λ j. not (is_entry s j) && is_taken s task j) (t
 abbrev pub target_help_by : Judged → (task : ℕ) → Option ℕ → Help
 target_help_by s task None =
     let text = targets_text s (entries_listed s task) in by_text (codes "no exit leads there: write " ++ text) (targets_span s task) text
-target_help_by s task (Some j) = in_words (task_to_begin s task j)
+target_help_by s task (Some j) = in_words (task_to_begin s j [])
 
 abbrev pub target_help : Judged → (task : ℕ) → Help
 target_help s task = target_help_by s task (wrong_but_taken s task)

@@ -1,3 +1,4 @@
+pub mod Labels
 pub mod Subjects
 pub mod MarkPlaces
 pub mod Parts

@@ -1,5 +1,5 @@
 -- The parts that diagnostics are made of.
-use Rattle.std.specs.Prelude.{ℕ, ◌-◌, List, [], ◌∷◌, ◌++◌, codes, map, length, slice_get, unwrap_or, Some}
+use Rattle.std.specs.Prelude.{ℕ, ◌-◌, List, [], ◌∷◌, ◌++◌, codes, map, length, slice_get, unwrap_or, nat_eq, if◌then◌else◌, Some}
 use Rattle.diagnostics.specs.declared.diagnostic.Span.{Span}
 use Rattle.diagnostics.specs.declared.diagnostic.Note.{Note}
 use Rattle.diagnostics.specs.declared.diagnostic.Help.{Help}
@@ -30,6 +30,7 @@ first_or index path = unwrap_or (slice_get path 0) index
 abbrev pub last_or : (index : ℕ) → List ℕ → ℕ
 last_or index path = unwrap_or (slice_get path (length path - 1)) index
 
--- the way to what is wrong, from the task's entry
-abbrev pub way_note : Judged → (index : ℕ) → (path : List ℕ) → Note
-way_note s index path = path_note s (first_or index path) (codes "reached from here") path
+-- the way to what is wrong from the task's entry, unless it stands there
+abbrev pub way_notes : Judged → (index : ℕ) → (path : List ℕ) → List Note
+way_notes s index path =
+    if nat_eq (first_or index path) index then [] else path_note s (first_or index path) (codes "reached from here") path ∷ []

@@ -5,7 +5,6 @@ use Rattle.std.specs.Fmt.{decimal}
 use Rattle.mips_instructions.specs.Words.{has}
 use Rattle.mips_instructions.specs.Instruction.{dests}
 use Rattle.task_descriptor.specs.declared.descriptor.Marked.{Marked}
-use Rattle.task_descriptor.specs.declared.descriptor.Descriptor.{Descriptor}
 use Rattle.mask_certificate.specs.Lists.{mask_at}
 use Rattle.mark_checker.specs.Rules.{in_mask}
 use Rattle.mark_checker.specs.declared.finding.Finding.{Finding}
@@ -28,23 +27,22 @@ abbrev pub written_from : Judged → (task : ℕ) → Option ℕ → (register :
 written_from s task None r = false
 written_from s task (Some j) r = nat_lt j (length s.program.code) && in_mask (mask_at (entries_of s task) j) r
 
--- a destination of the instruction that a forward bit must not send: one outside of the create mask, or one that may
--- be written again
-abbrev pub must_wait : Judged → (task : ℕ) → Descriptor → Marked → (index register : ℕ) → Bool
-must_wait s task d m i r =
-    dests m.op r && (not (has d.create r) || (written_from s task (inner_end s i false) r || written_from s task (inner_end s i true) r))
+-- a destination of the instruction that a forward bit must not send, since it may be written again (one that the create
+-- mask lacks is told by itself)
+abbrev pub must_wait : Judged → (task : ℕ) → Marked → (index register : ℕ) → Bool
+must_wait s task m i r = dests m.op r && (written_from s task (inner_end s i false) r || written_from s task (inner_end s i true) r)
 
 abbrev pub is_none_left : List ℕ → Bool
 is_none_left [] = true
 is_none_left (r ∷ rs) = false
 
 -- whether the instruction may have the forward bit in this task
-abbrev pub may_forward_in : Option Descriptor → Option Marked → Judged → (task index : ℕ) → Bool
-may_forward_in (Some d) (Some m) s task i = is_none_left (which (must_wait s task d m i))
-may_forward_in _ _ s task i = false
+abbrev pub may_forward_in : Option Marked → Judged → (task index : ℕ) → Bool
+may_forward_in (Some m) s task i = is_none_left (which (must_wait s task m i))
+may_forward_in None s task i = false
 
 abbrev pub may_forward : Judged → (task index : ℕ) → Bool
-may_forward s task i = may_forward_in (slice_get s.program.tasks task) (slice_get s.program.code i) s task i
+may_forward s task i = may_forward_in (slice_get s.program.code i) s task i
 
 -- Else where the register is not written any more, as after a loop: the first instruction to which the task goes on from
 -- one from which on the register may be written, while from there on it may not.

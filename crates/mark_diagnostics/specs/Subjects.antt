@@ -15,6 +15,7 @@ use Rattle.program_tokens.specs.Lines.{lines}
 use Rattle.annotated_asm.specs.ProgramText.{Spells}
 use Rattle.mask_certificate.specs.Lists.{list_of}
 use Rattle.diagnostics.specs.declared.diagnostic.Span.{Span}
+use Rattle.mark_diagnostics.specs.Labels.{labels_from}
 
 -- a program whose marks are judged
 pub record Judged : Type 0 where
@@ -22,6 +23,8 @@ pub record Judged : Type 0 where
   -- the lines of its text, and where in them stands what it says
   pub rows : List (List ℕ)
   pub sources : Sources
+  -- for each instruction the label that names it, if it has one
+  pub labels : List (Option (List ℕ))
   -- how each register is written, register 0 first
   pub names : List (List ℕ)
   pub least : List (List (ℕ × ℕ))
@@ -38,6 +41,7 @@ pub record IsJudged (text : List ℕ) (s : Judged) : Type 0 where
   pub spelled : Spells text s.program
   pub rows : s.rows ≡ lines text
   pub places : sources_of text ≡ Ok s.sources
+  pub labels : s.labels ≡ labels_from s.rows 0 s.sources.code
   pub names : s.names ≡ all_numbered
 
 abbrev pub register_text : Judged → (register : ℕ) → List ℕ
@@ -81,9 +85,25 @@ task_at s j = position (λ (d : Descriptor). d.entry == j) s.program.tasks
 abbrev pub is_entry : Judged → (index : ℕ) → Bool
 is_entry s j = is_some (task_at s j)
 
--- a place: by the task that begins there, else as `@index`; the one after the last instruction in words
+-- the label of an instruction, if it has one
+abbrev pub label_in : Option (Option (List ℕ)) → Option (List ℕ)
+label_in None = None
+label_in (Some label) = label
+
+abbrev pub label_at : Judged → (index : ℕ) → Option (List ℕ)
+label_at s j = label_in (slice_get s.labels j)
+
+-- an instruction: by its label, else as `@index`
+abbrev pub spot_by : Option (List ℕ) → (index : ℕ) → List ℕ
+spot_by None j = codes "@" ++ decimal j
+spot_by (Some label) j = label
+
+abbrev pub spot_text : Judged → (index : ℕ) → List ℕ
+spot_text s j = spot_by (label_at s j) j
+
+-- a place: by the task that begins there, else by its label, else as `@index`; the one after the last instruction in words
 abbrev pub place_by : Judged → Option ℕ → (index : ℕ) → List ℕ
-place_by s None j = if nat_eq j (length s.program.code) then codes "the end of the program" else codes "@" ++ decimal j
+place_by s None j = if nat_eq j (length s.program.code) then codes "the end of the program" else spot_text s j
 place_by s (Some task) j = task_name s task
 
 abbrev pub place_text : Judged → (index : ℕ) → List ℕ

@@ -45,32 +45,20 @@ span_of s (Stop (NoExit task)) = targets_span s task
 span_of s (Stop (NotTaken task)) = target_span s task (first_untaken s task)
 span_of s (Stop (GoesInto task index into)) = instruction_span s index
 
-abbrev pub never_text : (task register : List ℕ) → List ℕ
-never_text task register =
-    codes "no instruction of task " ++ (task ++ (codes " writes or releases " ++ (register ++ codes ", which its create mask has")))
-
-abbrev pub before_text : Judged → (register : ℕ) → List ℕ
-before_text s r = register_text s r ++ codes " was sent before on each path to this release"
-
 abbrev pub costly_text : Judged → CostlyMark → List ℕ
-costly_text s (NeverProduced task register) = never_text (task_name s task) (register_text s register)
+costly_text s (NeverProduced task register) =
+    codes "the create mask of task " ++ (task_name s task ++ (codes " has " ++ (register_text s register ++ codes ", which no instruction of the task writes or releases")))
 costly_text s (NotForwarded index) = codes "this is a last update without !f: later tasks wait for what it writes"
-costly_text s (SentBefore index register) = before_text s register
+costly_text s (SentBefore index register) = register_text s register ++ codes " was sent before on each path to this release"
 costly_text s (Unreached index) = codes "no task reaches the code from here on"
-
-abbrev pub no_exit_text : Judged → (task : ℕ) → List ℕ
-no_exit_text s task = codes "task " ++ (task_name s task ++ codes " has targets, but comes to no stop")
-
-abbrev pub not_taken_text : Judged → (task : ℕ) → List ℕ
-not_taken_text s task = codes "no exit of task " ++ (task_name s task ++ (codes " leads to " ++ places_text s (untaken s task)))
 
 abbrev pub goes_into_text : (task into : List ℕ) → List ℕ
 goes_into_text task into =
     codes "task " ++ (task ++ (codes " goes on into task " ++ (into ++ codes " without a stop; was !s meant here?")))
 
 abbrev pub stop_text : Judged → StopRemark → List ℕ
-stop_text s (NoExit task) = no_exit_text s task
-stop_text s (NotTaken task) = not_taken_text s task
+stop_text s (NoExit task) = codes "task " ++ (task_name s task ++ codes " has targets, but comes to no stop")
+stop_text s (NotTaken task) = codes "no exit of task " ++ (task_name s task ++ (codes " leads to " ++ places_text s (untaken s task)))
 stop_text s (GoesInto task index into) = goes_into_text (task_name s task) (task_name s into)
 
 abbrev pub message_of : Judged → Remark → List ℕ

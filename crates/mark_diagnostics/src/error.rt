@@ -5,17 +5,17 @@ ghost use Rattle.std.specs.List.{All, AllZip};
 ghost use Rattle.annotated_asm.specs.ProgramText.{parse};
 ghost use Rattle.annotator.specs.Least.{IsLeast};
 ghost use Rattle.finding_paths.specs.Shown.{IsFinding, IsShown};
-ghost use Rattle.mark_diagnostics.specs.Exits.{place_note, exit_places as exit_places_of, beyond as beyond_of, wrong_target as wrong_target_of};
-ghost use Rattle.mark_diagnostics.specs.Subjects.{task_name, place_text};
-ghost use Rattle.mark_diagnostics.specs.Errors.{code_of, span_by, early_text, exit_text, beyond_text, indirect_text, target_text, mask_text, message_by, notes_by, help_by, first_path, error_diagnostic, Says, AreMarkErrors};
+ghost use Rattle.mark_diagnostics.specs.Exits.{place_note, beyond as beyond_of, wrong_target as wrong_target_of};
+ghost use Rattle.mark_diagnostics.specs.Subjects.{task_name, spot_text, place_text};
+ghost use Rattle.mark_diagnostics.specs.Errors.{code_of, span_by, early_text, beyond_text, indirect_text, target_text, mask_text, message_by, notes_by, help_by, first_path, error_diagnostic, Says, AreMarkErrors};
 
 use crate::exit::{
-    add_place_note, beyond, exit_help, exit_notes, exit_places, target_help, wrong_number,
-    wrong_target,
+    add_place_note, beyond, beyond_help, exit_help, exit_message, exit_notes, target_help,
+    wrong_number, wrong_target,
 };
 use crate::mask::{mask_help, mask_notes, missing};
 use crate::parts::{
-    add_more, by_text, first_of, in_words, place_words, registers_words, way_notes,
+    add_more, by_text, first_of, place_words, registers_words, spot_words, way_notes,
 };
 use crate::sending::{early_notes, forward_help, later, release_help};
 use crate::step::path_in;
@@ -80,21 +80,6 @@ fn early_words(subject: &Subject, finding: &Finding, sends: &str) -> Made<Words>
     words!(in subject.alloc(); "task {task} {sends} {register} here and may write it again")
 }
 
-/// What is said of a task that can end and go on to places that its targets lack.
-fn exit_words(alloc: Global, task: &str, places: &str) -> Made<Words>
-    ensures { IfOk result (λ words. words ≡ exit_text task.now places.now) }
-{
-    words!(in alloc; "task {task} can end here and go on to {places}, which its targets lack")
-}
-
-/// What is said of an exit to places that are no targets.
-fn exit_message(subject: &Subject, finding: &Finding) -> Made<Words>
-    ensures { IfOk result (λ words. words ≡ exit_text (task_name subject.now finding.now.task) (exit_places_of subject.now finding.now)) }
-{
-    let places = exit_places(subject, finding)?;
-    exit_words(subject.alloc(), subject.task(finding.task), places.as_str())
-}
-
 /// What is said of a task that can go on to a place where no instruction is.
 fn beyond_words(alloc: Global, task: &str, place: &str) -> Made<Words>
     ensures { IfOk result (λ words. words ≡ beyond_text task.now place.now) }
@@ -110,27 +95,27 @@ fn beyond_message(subject: &Subject, finding: &Finding) -> Made<Words>
     beyond_words(subject.alloc(), subject.task(finding.task), place.as_str())
 }
 
-/// What is said of a task that goes on over an indirect jump.
+/// What is said of an indirect jump that does not end the task.
 fn indirect_words(subject: &Subject, task: u32) -> Made<Words>
     ensures { IfOk result (λ words. words ≡ indirect_text subject.now task) }
 {
     let name = subject.task(task);
-    words!(in subject.alloc(); "task {name} goes on over a jump to an address in a register")
+    words!(in subject.alloc(); "this jump to an address in a register has to end task {name}")
 }
 
 /// What is said of a target where no task begins.
-fn target_words(alloc: Global, task: &str, to: u32) -> Made<Words>
-    ensures { IfOk result (λ words. words ≡ target_text task.now to) }
+fn target_words(alloc: Global, task: &str, place: &str) -> Made<Words>
+    ensures { IfOk result (λ words. words ≡ target_text task.now place.now) }
 {
-    words!(in alloc; "task {task} lists the target @{to}, where no task begins")
+    words!(in alloc; "task {task} lists the target {place}, where no task begins")
 }
 
 /// What is said of a task's first target where no task begins.
 fn target_message(subject: &Subject, task: u32) -> Made<Words>
-    ensures { IfOk result (λ words. words ≡ target_text (task_name subject.now task) (wrong_target_of subject.now task)) }
+    ensures { IfOk result (λ words. words ≡ target_text (task_name subject.now task) (spot_text subject.now (wrong_target_of subject.now task))) }
 {
-    let to = wrong_target(subject, task);
-    target_words(subject.alloc(), subject.task(task), to)
+    let place = spot_words(subject, wrong_target(subject, task))?;
+    target_words(subject.alloc(), subject.task(task), place.as_str())
 }
 
 /// What is said of a create mask that lacks registers.
@@ -195,13 +180,7 @@ fn help(subject: &Subject, finding: &Finding, path: &[u32], about: &[Finding]) -
         Rule::ForwardedInNext => { forward_help(subject, finding, later(subject, finding, path)?) }
         Rule::ReleasedInNext => { release_help(subject, finding, later(subject, finding, path)?) }
         Rule::ExitNotListed => exit_help(subject, finding),
-        Rule::FallsOff => {
-            let advice = Words::of(
-                alloc,
-                "let it go on to an instruction of the program, as a jump or a halt, or end the task here",
-            )?;
-            Ok(in_words(alloc, advice))
-        }
+        Rule::FallsOff => beyond_help(subject, finding.index),
         Rule::IndirectGoesOn => {
             let advice = Words::of(alloc, "end the task here: add !s")?;
             let place = after(subject.span(finding.index));

@@ -3,8 +3,8 @@
 ghost use Rattle.std.specs.Prelude.{◌≡◌, ◌++◌, ◌==◌, ◌&&◌, ◌||◌, true, false, not, position, IfOk, OnOk};
 ghost use Rattle.std.specs.List.{find, flat_map, list_any};
 ghost use Rattle.std.specs.Option.{option_copied};
-ghost use Rattle.mark_diagnostics.specs.Subjects.{targets_of, is_entry, exit_end};
-ghost use Rattle.mark_diagnostics.specs.Exits.{begins_text, place_note, begin_text, task_to_begin, unlisted, onward_text, taken_text, both_text, places_said, exit_places, both, lacking, exit_notes, targets_help, entries_listed, unlisted_help, exit_help, is_beyond, beyond, is_end, is_taken, wrong_number, wrong_target, wrong_but_taken, target_help};
+ghost use Rattle.mark_diagnostics.specs.Subjects.{task_name, place_text, targets_of, is_entry, exit_end};
+ghost use Rattle.mark_diagnostics.specs.Exits.{begins_text, place_note, labelled_text, unlabelled_text, begin_by, task_to_begin, unlisted, edge_text, exit_text, exits_text, exit_said, exit_message, both, lacking, exit_notes, targets_help, entries_listed, listed_too, begin_help, unlisted_help, exit_help, is_beyond, beyond, last_text, beyond_help, is_end, is_taken, wrong_number, wrong_target, wrong_but_taken, target_help};
 
 use crate::parts::{by_text, in_words, note_at, place_words, targets_words, way_notes, written};
 use crate::subject::{Made, Subject};
@@ -14,6 +14,7 @@ use diagnostics::words::Words;
 use mark_checker::finding::Finding;
 use mips_instructions::number::Place;
 use std::alloc::Global;
+use task_descriptor::name::Name;
 
 /// What is at a place: the task that begins there, or none.
 fn begins_words(subject: &Subject, task: Option<u32>) -> Made<Words>
@@ -39,27 +40,51 @@ pub(crate) fn add_place_note(subject: &Subject, notes: &mut Vec<Note>, index: u3
     Ok(())
 }
 
-/// What would let a task begin at a place of this name, and follow a task.
-fn begin_words(alloc: Global, place: &str, name: &str) -> Made<Words>
-    ensures { IfOk result (λ words. words ≡ begin_text place.now name.now) }
+/// What would let a task begin at a place that has this label.
+fn labelled_words(alloc: Global, label: &str, besides: &str) -> Made<Words>
+    ensures { IfOk result (λ words. words ≡ labelled_text label.now besides.now) }
 {
-    words!(in alloc; "let a task begin at {place}: give it a label and a line .task LABEL create=- targets=-, and make it a target of task {name}")
+    words!(in alloc; "let a task begin at {label}: add a line .task {label} create=- targets=-{besides}")
 }
 
-/// What would let a task begin at a place.
-fn task_to_begin(subject: &Subject, task: u32, index: u32) -> Made<Words>
-    ensures { IfOk result (λ words. words ≡ task_to_begin subject.now task index) }
+/// What would let a task begin at a place that has no label.
+fn unlabelled_words(alloc: Global, index: u32, besides: &str) -> Made<Words>
+    ensures { IfOk result (λ words. words ≡ unlabelled_text index besides.now) }
+{
+    words!(in alloc; "let a task begin at @{index}: give it a label and a line .task LABEL create=- targets=-{besides}")
+}
+
+/// What would let a task begin at a place that has this label, or none.
+fn begin_words(alloc: Global, label: Option<Name>, index: u32, besides: &str) -> Made<Words>
+    ensures { IfOk result (λ words. words ≡ begin_by label index besides.now) }
+{
+    match label {
+        Some(label) => labelled_words(alloc, label.as_str(), besides),
+        None => unlabelled_words(alloc, index, besides),
+    }
+}
+
+/// Where the program's last instruction is.
+fn last_words(subject: &Subject) -> Made<Words>
+    ensures { IfOk result (λ words. words ≡ last_text subject.now) }
+{
+    let last = subject.code().len().saturating_sub(1);
+    words!(in subject.alloc(); "let it go on to an instruction of the program, the last of which is @{last}")
+}
+
+/// What would let a task begin at a place, and what else is to be done.
+fn task_to_begin(subject: &Subject, index: u32, besides: &str) -> Made<Words>
+    ensures { IfOk result (λ words. words ≡ task_to_begin subject.now index besides.now) }
 {
     let alloc = subject.alloc();
-    if (index as usize) < subject.code().len() {
-        let place = place_words(subject, index)?;
-        begin_words(alloc, place.as_str(), subject.task(task))
-    } else {
-        Words::of(
-            alloc,
-            "no instruction is there: let the program go on to one where a task begins, or end with halt",
-        )
+    let end = subject.code().len();
+    if (index as usize) < end {
+        return begin_words(alloc, subject.label(index), index, besides);
     }
+    if index as usize == end {
+        return words!(in alloc; "let a task begin there: add a line LABEL: halt at the end of the code and a line .task LABEL create=- targets=-{besides}");
+    }
+    last_words(subject)
 }
 
 /// Whether an index is that of a target.
@@ -80,68 +105,84 @@ fn unlisted(subject: &Subject, finding: &Finding, taken: bool) -> Option<u32>
     }
 }
 
-/// A place to which the edge leads that is not taken.
-fn onward_words(alloc: Global, place: &str) -> Made<Words>
-    ensures { IfOk result (λ words. words ≡ onward_text place.now) }
+/// The edge of a branch that leads to a place.
+fn edge_text(branch: bool, taken: bool) -> &'static str
+    ensures { result.now ≡ edge_text branch taken }
 {
-    words!(in alloc; "{place} if the branch is not taken")
-}
-
-/// A place to which the edge leads that is taken.
-fn taken_words(alloc: Global, place: &str) -> Made<Words>
-    ensures { IfOk result (λ words. words ≡ taken_text place.now) }
-{
-    words!(in alloc; "{place} if the branch is taken")
-}
-
-/// The places of both edges.
-fn both_words(alloc: Global, place: &str, second: &str) -> Made<Words>
-    ensures { IfOk result (λ words. words ≡ both_text place.now second.now) }
-{
-    words!(in alloc; "{place} if the branch is not taken and to {second} if it is")
-}
-
-/// These places, and which edge leads there.
-fn places_said(
-    subject: &Subject,
-    branch: bool,
-    onward: Option<u32>,
-    taken: Option<u32>,
-) -> Made<Words>
-    ensures { IfOk result (λ words. words ≡ places_said subject.now branch onward taken) }
-{
-    let alloc = subject.alloc();
-    match (onward, taken) {
-        (Some(index), Some(other)) => {
-            let place = place_words(subject, index)?;
-            if index == other {
-                return Ok(place);
-            }
-            let second = place_words(subject, other)?;
-            both_words(alloc, place.as_str(), second.as_str())
-        }
-        (Some(index), None) => {
-            let place = place_words(subject, index)?;
-            if !branch {
-                return Ok(place);
-            }
-            onward_words(alloc, place.as_str())
-        }
-        (None, Some(other)) => {
-            let second = place_words(subject, other)?;
-            taken_words(alloc, second.as_str())
-        }
-        (None, None) => Words::of(alloc, ""),
+    match (branch, taken) {
+        (false, _) => "",
+        (true, false) => "if the branch is not taken, ",
+        (true, true) => "if the branch is taken, ",
     }
 }
 
-/// The places that the targets of a finding's task lack, and which edge of its instruction leads there.
-pub(crate) fn exit_places(subject: &Subject, finding: &Finding) -> Made<Words>
-    ensures { IfOk result (λ words. words ≡ exit_places subject.now finding.now) }
+/// What is said of an exit to a place.
+fn exit_words(alloc: Global, edge: &str, task: &str, place: &str) -> Made<Words>
+    ensures { IfOk result (λ words. words ≡ exit_text edge.now task.now place.now) }
+{
+    words!(in alloc; "{edge}task {task} ends here and goes on to {place}, which is not one of its targets")
+}
+
+/// What is said of exits to two places.
+fn exits_words(alloc: Global, task: &str, place: &str, second: &str) -> Made<Words>
+    ensures { IfOk result (λ words. words ≡ exits_text task.now place.now second.now) }
+{
+    words!(in alloc; "task {task} ends here and goes on to {place}, or to {second} if the branch is taken; neither is one of its targets")
+}
+
+/// What is said of an exit by an edge.
+fn one_said(subject: &Subject, edge: &str, task: u32, index: u32) -> Made<Words>
+    ensures { IfOk result (λ words. words ≡ exit_text edge.now (task_name subject.now task) (place_text subject.now index)) }
+{
+    let place = place_words(subject, index)?;
+    exit_words(subject.alloc(), edge, subject.task(task), place.as_str())
+}
+
+/// What is said of exits by both edges.
+fn both_said(subject: &Subject, task: u32, index: u32, other: u32) -> Made<Words>
+    ensures { IfOk result (λ words. words ≡ exits_text (task_name subject.now task) (place_text subject.now index) (place_text subject.now other)) }
+{
+    let place = place_words(subject, index)?;
+    let second = place_words(subject, other)?;
+    exits_words(
+        subject.alloc(),
+        subject.task(task),
+        place.as_str(),
+        second.as_str(),
+    )
+}
+
+/// What is said of exits to these places.
+fn exit_said(
+    subject: &Subject,
+    finding: &Finding,
+    onward: Option<u32>,
+    taken: Option<u32>,
+) -> Made<Words>
+    ensures { IfOk result (λ words. words ≡ exit_said subject.now finding.now onward taken) }
+{
+    let task = finding.task;
+    let branch = subject.is_branch(finding.index);
+    match (onward, taken) {
+        (Some(index), Some(other)) => {
+            if index == other {
+                return one_said(subject, "", task, index);
+            }
+            both_said(subject, task, index, other)
+        }
+        (Some(index), None) => one_said(subject, edge_text(branch, false), task, index),
+        (None, Some(other)) => one_said(subject, edge_text(branch, true), task, other),
+        (None, None) => Words::of(subject.alloc(), ""),
+    }
+}
+
+/// What is said of a finding's exits to places that are no targets.
+pub(crate) fn exit_message(subject: &Subject, finding: &Finding) -> Made<Words>
+    ensures { IfOk result (λ words. words ≡ exit_message subject.now finding.now) }
 {
     let onward = unlisted(subject, finding, false);
     let taken = unlisted(subject, finding, true);
-    places_said(subject, subject.is_branch(finding.index), onward, taken)
+    exit_said(subject, finding, onward, taken)
 }
 
 /// These places; one that would stand twice stands once.
@@ -242,13 +283,28 @@ fn listing_help(subject: &Subject, task: u32, places: &[u32]) -> Made<Help>
     Ok(help)
 }
 
+/// What else is to be done where a task is to begin.
+fn listed_too(alloc: Global, name: &str) -> Made<Words>
+    ensures { IfOk result (λ words. words ≡ listed_too name.now) }
+{
+    words!(in alloc; ", and make it a target of task {name}")
+}
+
+/// What to do about an exit to a place where no task begins.
+fn begin_help(subject: &Subject, task: u32, index: u32) -> Made<Help>
+    ensures { IfOk result (λ help. help ≡ begin_help subject.now task index) }
+{
+    let besides = listed_too(subject.alloc(), subject.task(task))?;
+    let message = task_to_begin(subject, index, besides.as_str())?;
+    Ok(in_words(subject.alloc(), message))
+}
+
 /// What to do about an exit to these places, which are no targets.
 fn unlisted_help(subject: &Subject, task: u32, places: &[u32]) -> Made<Help>
     ensures { IfOk result (λ help. help ≡ unlisted_help subject.now task places.now) }
 {
     if let Some(index) = first_without(subject, places) {
-        let message = task_to_begin(subject, task, *index)?;
-        return Ok(in_words(subject.alloc(), message));
+        return begin_help(subject, task, *index);
     }
     listing_help(subject, task, places)
 }
@@ -283,6 +339,19 @@ pub(crate) fn beyond(subject: &Subject, index: u32) -> u32
         subject.inner(index, true)
     };
     end.unwrap_or(0)
+}
+
+/// What to do about an edge that leads to no instruction.
+pub(crate) fn beyond_help(subject: &Subject, index: u32) -> Made<Help>
+    ensures { IfOk result (λ help. help ≡ beyond_help subject.now index) }
+{
+    let alloc = subject.alloc();
+    let message = if beyond(subject, index) as usize == subject.code().len() {
+        Words::of(alloc, "add halt at the end of the code")?
+    } else {
+        last_words(subject)?
+    };
+    Ok(in_words(alloc, message))
 }
 
 /// Whether an edge ends at a place.
@@ -359,7 +428,7 @@ pub(crate) fn target_help(subject: &Subject, task: u32) -> Made<Help>
     ensures { IfOk result (λ help. help ≡ target_help subject.now task) }
 {
     if let Some(place) = wrong_but_taken(subject, task) {
-        let message = task_to_begin(subject, task, place.get())?;
+        let message = task_to_begin(subject, place.get(), "")?;
         return Ok(in_words(subject.alloc(), message));
     }
     let targets = entries_listed(subject, task)?;

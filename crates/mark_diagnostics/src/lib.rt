@@ -4,6 +4,7 @@
 
 pub mod error;
 mod exit;
+mod label;
 mod later;
 mod mark_place;
 mod mask;

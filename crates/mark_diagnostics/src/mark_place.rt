@@ -8,7 +8,7 @@ use crate::subject::column_after;
 use diagnostics::diagnostic::Span;
 
 /// A line; empty where there is none.
-fn line_in<'a>(rows: &[&'a [u8]], number: u32) -> &'a [u8]
+pub(crate) fn line_in<'a>(rows: &[&'a [u8]], number: u32) -> &'a [u8]
     ensures { result.now ≡ slice_index_or (each (λ line. line.now) rows.now) (number - 1) [] }
 {
     match rows.get(number.saturating_sub(1) as usize) {

@@ -1,11 +1,11 @@
 //! The parts that diagnostics are made of, and lists of registers and places in words.
 
 ghost use Rattle.std.specs.Prelude.{◌≡◌, ◌∷◌, [], IfOk, ℕ, Bool, ◌<◌, ◌++◌, if◌then◌else◌, codes, take, drop, OnOk};
-ghost use Rattle.mark_diagnostics.specs.Parts.{in_words, by_text, written, note_at, path_note, first_or, last_or, way_note};
+ghost use Rattle.mark_diagnostics.specs.Parts.{in_words, by_text, written, note_at, path_note, first_or, last_or, way_notes};
 ghost use Rattle.std.specs.List.{flat_map};
 ghost use Rattle.std.specs.Fmt.{decimal};
 ghost use Rattle.std.specs.String.{string_bytes};
-ghost use Rattle.mark_diagnostics.specs.Subjects.{register_text, registers_text, which, place_text, places_text, targets_text};
+ghost use Rattle.mark_diagnostics.specs.Subjects.{register_text, registers_text, which, spot_text, place_text, places_text, targets_text};
 ghost use Rattle.mark_diagnostics.specs.More.{more_message, more_note};
 
 use crate::subject::{Made, Subject};
@@ -93,14 +93,16 @@ pub(crate) fn last_or(index: u32, path: &[u32]) -> u32
     }
 }
 
-/// The way to what is wrong, as the only note.
+/// The way to what is wrong, unless it stands where the way begins.
 pub(crate) fn way_notes(subject: &Subject, index: u32, path: &[u32]) -> Made<Vec<Note>>
-    ensures { IfOk result (λ notes. notes.items ≡ way_note subject.now index path.now ∷ []) }
+    ensures { IfOk result (λ notes. notes.items ≡ way_notes subject.now index path.now) }
 {
-    let message = Words::of(subject.alloc(), "reached from here")?;
-    let note = path_note(subject, first_or(index, path), message, path)?;
     let mut notes = Vec::new(subject.alloc());
-    notes.push(note)?;
+    let first = first_or(index, path);
+    if first != index {
+        let message = Words::of(subject.alloc(), "reached from here")?;
+        notes.push(path_note(subject, first, message, path)?)?;
+    }
     Ok(notes)
 }
 
@@ -152,7 +154,17 @@ pub(crate) fn registers_words(subject: &Subject, registers: &[u8]) -> Made<Words
     Ok(Words::new(text))
 }
 
-/// A place: the name of the task that begins there, or the end of the program, else its index.
+/// An instruction: its label, else its index.
+pub(crate) fn spot_words(subject: &Subject, index: u32) -> Made<Words>
+    ensures { IfOk result (λ words. words ≡ spot_text subject.now index) }
+{
+    match subject.label(index) {
+        Some(label) => Words::of(subject.alloc(), label.as_str()),
+        None => words!(in subject.alloc(); "@{index}"),
+    }
+}
+
+/// A place: the name of the task that begins there, or the end of the program, else its label or its index.
 pub(crate) fn place_words(subject: &Subject, index: u32) -> Made<Words>
     ensures { IfOk result (λ words. words ≡ place_text subject.now index) }
 {
@@ -161,7 +173,7 @@ pub(crate) fn place_words(subject: &Subject, index: u32) -> Made<Words>
         None if index as usize == subject.code().len() => {
             Words::of(subject.alloc(), "the end of the program")
         }
-        None => words!(in subject.alloc(); "@{index}"),
+        None => spot_words(subject, index),
     }
 }
 

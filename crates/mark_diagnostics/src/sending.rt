@@ -17,7 +17,7 @@ use diagnostics::words::Words;
 use mark_checker::finding::Finding;
 use mips_instructions::number::RegSet;
 use std::alloc::Global;
-use task_descriptor::descriptor::{Descriptor, Marked};
+use task_descriptor::descriptor::Marked;
 
 /// Whether a register may be written by a task from the end of an edge on.
 fn written_from(subject: &Subject, task: u32, end: Option<u32>, register: u8) -> bool
@@ -34,41 +34,13 @@ fn written_from(subject: &Subject, task: u32, end: Option<u32>, register: u8) ->
 }
 
 /// Whether a register is a destination of an instruction that a forward bit must not send.
-fn must_wait(
-    subject: &Subject,
-    task: u32,
-    descriptor: &Descriptor,
-    marked: &Marked,
-    index: u32,
-    register: u8,
-) -> bool
+fn must_wait(subject: &Subject, task: u32, marked: &Marked, index: u32, register: u8) -> bool
     requires { register < 34 }
-    ensures { result ≡ must_wait subject.now task descriptor.now marked.now index register }
+    ensures { result ≡ must_wait subject.now task marked.now index register }
 {
-    if !has_number(marked.op.dests(), register) {
-        return false;
-    }
-    if !has_number(descriptor.create, register) {
-        return true;
-    }
-    written_from(subject, task, subject.inner(index, false), register)
-        || written_from(subject, task, subject.inner(index, true), register)
-}
-
-/// Whether no destination of an instruction must wait.
-fn may_send(
-    subject: &Subject,
-    task: u32,
-    descriptor: &Descriptor,
-    marked: &Marked,
-    index: u32,
-) -> Made<bool>
-    ensures { IfOk result (λ may. may ≡ is_none_left (which (must_wait subject.now task descriptor.now marked.now index))) }
-{
-    let waiting = registers_where(subject.alloc(), |register| {
-        must_wait(subject, task, descriptor, marked, index, register)
-    })?;
-    Ok(is_none_left(&waiting))
+    has_number(marked.op.dests(), register)
+        && (written_from(subject, task, subject.inner(index, false), register)
+            || written_from(subject, task, subject.inner(index, true), register))
 }
 
 /// Whether there is no register.
@@ -82,13 +54,13 @@ fn is_none_left(registers: &[u8]) -> bool
 fn may_forward(subject: &Subject, task: u32, index: u32) -> Made<bool>
     ensures { IfOk result (λ may. may ≡ may_forward subject.now task index) }
 {
-    match (
-        subject.tasks().get(task as usize),
-        subject.code().get(index as usize),
-    ) {
-        (Some(descriptor), Some(marked)) => may_send(subject, task, descriptor, marked, index),
-        _ => Ok(false),
-    }
+    let Some(marked) = subject.code().get(index as usize) else {
+        return Ok(false);
+    };
+    let waiting = registers_where(subject.alloc(), |register| {
+        must_wait(subject, task, marked, index, register)
+    })?;
+    Ok(is_none_left(&waiting))
 }
 
 /// Whether the end of an edge is an instruction from which on a task does not write a register any more.
@@ -226,21 +198,12 @@ fn advice(subject: &Subject, first: &str, register: u8, later: Later) -> Made<Wo
     ensures { IfOk result (λ words. words ≡ advice subject.now first.now register later) }
 {
     let alloc = subject.alloc();
+    let name = subject.register(register);
     match later {
         Later::Put(at) => put_words(alloc, first, subject.span(at).line),
-        Later::Is(at) => is_words(
-            alloc,
-            first,
-            subject.span(at).line,
-            subject.register(register),
-        ),
-        Later::Left(at) => left_words(
-            alloc,
-            first,
-            subject.span(at).line,
-            subject.register(register),
-        ),
-        Later::Nowhere => nowhere_words(alloc, first, subject.register(register)),
+        Later::Is(at) => is_words(alloc, first, subject.span(at).line, name),
+        Later::Left(at) => left_words(alloc, first, subject.span(at).line, name),
+        Later::Nowhere => nowhere_words(alloc, first, name),
     }
 }
 

@@ -1,5 +1,6 @@
 //! What diagnostics about marks are about.
 
+use crate::label::labels_of;
 use annotated_asm::fault::AsmFault;
 use diagnostics::diagnostic::Span;
 use diagnostics::words;
@@ -14,6 +15,7 @@ use source_map::reading::source_map;
 use std::alloc::{AllocError, Global};
 use std::marker::Model;
 use task_descriptor::descriptor::{Descriptor, Marked};
+use task_descriptor::name::Name;
 use task_descriptor::program::Program;
 use task_graph::edges::{ends_task, leads_to};
 
@@ -27,6 +29,7 @@ pub(crate) struct Subject<'a> {
     program: &'a Program,
     rows: Vec<&'a [u8]>,
     places: SourceMap,
+    labels: Vec<Option<Name>>,
     names: Vec<Words>,
     least: &'a Cert,
 }
@@ -42,6 +45,7 @@ impl<'a> Model for Subject<'a> {
       program = s.program.now;
       rows = each (λ row. row.now) s.rows.items;
       sources = sources_in s.places;
+      labels = s.labels.items;
       names = s.names.items;
       least = s.least.now;
     } };
@@ -55,7 +59,7 @@ ghost use Rattle.mask_certificate.specs.Lists.{mask_at};
 ghost use Rattle.task_graph.specs.Edges.{end_of};
 ghost use Rattle.task_descriptor.specs.Listing.{is_conditional as is_conditional_of};
 ghost use Rattle.mips_instructions.specs.Instruction.{released};
-ghost use Rattle.mark_diagnostics.specs.Subjects.{IsJudged, register_text, task_name, targets_of, entries_of, task_at, is_entry, forwards, releases, is_branch, exit_end, inner_end, first_byte, span_of, instruction_span, create_span, targets_span, target_in, target_span, column_after, after, numbered, all_numbered};
+ghost use Rattle.mark_diagnostics.specs.Subjects.{IsJudged, label_at, register_text, task_name, targets_of, entries_of, task_at, is_entry, forwards, releases, is_branch, exit_end, inner_end, first_byte, span_of, instruction_span, create_span, targets_span, target_in, target_span, column_after, after, numbered, all_numbered};
 ghost use Rattle.program_tokens.specs.Lines.{lines};
 ghost use Rattle.source_map.specs.Sources.{sources_in, sources_of};
 
@@ -74,12 +78,14 @@ impl<'a> Subject<'a> {
     {
         let rows = lines_of(alloc, text)?;
         let places = places_of(alloc, text, program)?;
+        let labels = labels_of(alloc, &rows, &places.code)?;
         let names = all_numbered(alloc)?;
         Ok(Subject {
             alloc,
             program,
             rows,
             places,
+            labels,
             names,
             least,
         })
@@ -181,6 +187,16 @@ impl<'a> Subject<'a> {
         ensures { result ≡ is_entry self.now index }
     {
         self.task_at(index).is_some()
+    }
+
+    /// The label of an instruction, if it has one.
+    pub(crate) fn label(&self, index: u32) -> Option<Name>
+        ensures { result ≡ label_at self.now index }
+    {
+        match self.labels.get(index as usize) {
+            Some(label) => *label,
+            None => None,
+        }
     }
 
     /// Whether an instruction has the forward bit.

@@ -6,7 +6,7 @@ ghost use Rattle.annotated_asm.specs.ProgramText.{parse};
 ghost use Rattle.annotator.specs.Least.{IsLeast};
 ghost use Rattle.mark_diagnostics.specs.Subjects.{targets_of, releases};
 ghost use Rattle.mark_diagnostics.specs.Remarks.{of_targets, of_step, of_task, stop_remarks};
-ghost use Rattle.mark_diagnostics.specs.Warnings.{code_of, span_of, never_text, before_text, costly_text, no_exit_text, not_taken_text, goes_into_text, stop_text, message_of, is_never, created_in, produced, is_before, still_released, before_help, help_of, warning, warnings, AreMarkWarnings};
+ghost use Rattle.mark_diagnostics.specs.Warnings.{code_of, span_of, costly_text, goes_into_text, stop_text, message_of, is_never, created_in, produced, is_before, still_released, before_help, help_of, warning, warnings, AreMarkWarnings};
 
 use crate::error::MOST_SHOWN;
 use crate::mask::create_help;
@@ -63,62 +63,29 @@ fn span_of(subject: &Subject, remark: &Remark) -> Span
     }
 }
 
-/// What is said of a register that a task never produces.
-fn never_words(alloc: Global, task: &str, register: &str) -> Made<Words>
-    ensures { IfOk result (λ words. words ≡ never_text task.now register.now) }
-{
-    words!(in alloc; "no instruction of task {task} writes or releases {register}, which its create mask has")
-}
-
-/// What is said of a register that was sent before.
-fn before_words(subject: &Subject, register: u8) -> Made<Words>
-    ensures { IfOk result (λ words. words ≡ before_text subject.now register) }
-{
-    let register = subject.register(register);
-    words!(in subject.alloc(); "{register} was sent before on each path to this release")
-}
-
 /// What could be better about a mark.
 fn costly_words(subject: &Subject, mark: &CostlyMark) -> Made<Words>
     ensures { IfOk result (λ words. words ≡ costly_text subject.now mark.now) }
 {
+    let alloc = subject.alloc();
     match mark {
         CostlyMark::NeverProduced { task, register } => {
-            never_words(
-                subject.alloc(),
-                subject.task(*task),
-                subject.register(register.get()),
-            )
+            let name = subject.task(*task);
+            let register = subject.register(register.get());
+            words!(in alloc; "the create mask of task {name} has {register}, which no instruction of the task writes or releases")
         }
         CostlyMark::NotForwarded { .. } => {
             Words::of(
-                subject.alloc(),
+                alloc,
                 "this is a last update without !f: later tasks wait for what it writes",
             )
         }
-        CostlyMark::SentBefore { register, .. } => before_words(subject, register.get()),
-        CostlyMark::Unreached { .. } => {
-            Words::of(subject.alloc(), "no task reaches the code from here on")
+        CostlyMark::SentBefore { register, .. } => {
+            let register = subject.register(register.get());
+            words!(in alloc; "{register} was sent before on each path to this release")
         }
+        CostlyMark::Unreached { .. } => Words::of(alloc, "no task reaches the code from here on"),
     }
-}
-
-/// What is said of a task that comes to no exit.
-fn no_exit_words(subject: &Subject, task: u32) -> Made<Words>
-    ensures { IfOk result (λ words. words ≡ no_exit_text subject.now task) }
-{
-    let name = subject.task(task);
-    words!(in subject.alloc(); "task {name} has targets, but comes to no stop")
-}
-
-/// What is said of targets that no exit takes.
-fn not_taken_words(subject: &Subject, task: u32) -> Made<Words>
-    ensures { IfOk result (λ words. words ≡ not_taken_text subject.now task) }
-{
-    let name = subject.task(task);
-    let untaken = untaken(subject, task)?;
-    let list = places_words(subject, &untaken)?;
-    words!(in subject.alloc(); "no exit of task {name} leads to {list}")
 }
 
 /// What is said of a step into a task.
@@ -132,11 +99,20 @@ fn goes_into_words(alloc: Global, task: &str, into: &str) -> Made<Words>
 fn stop_words(subject: &Subject, remark: &StopRemark) -> Made<Words>
     ensures { IfOk result (λ words. words ≡ stop_text subject.now remark.now) }
 {
+    let alloc = subject.alloc();
     match remark {
-        StopRemark::NoExit(task) => no_exit_words(subject, *task),
-        StopRemark::NotTaken(task) => not_taken_words(subject, *task),
+        StopRemark::NoExit(task) => {
+            let name = subject.task(*task);
+            words!(in alloc; "task {name} has targets, but comes to no stop")
+        }
+        StopRemark::NotTaken(task) => {
+            let name = subject.task(*task);
+            let untaken = untaken(subject, *task)?;
+            let list = places_words(subject, &untaken)?;
+            words!(in alloc; "no exit of task {name} leads to {list}")
+        }
         StopRemark::GoesInto { task, into, .. } => {
-            goes_into_words(subject.alloc(), subject.task(*task), subject.task(*into))
+            goes_into_words(alloc, subject.task(*task), subject.task(*into))
         }
     }
 }

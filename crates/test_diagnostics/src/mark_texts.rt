@@ -65,7 +65,7 @@ halt
 ";
 
 const SAID_OF_LOOSE: &str =
-    "p.s:1:9: warning: no instruction of task A writes or releases $11, which its create mask has
+    "p.s:1:9: warning: the create mask of task A has $11, which no instruction of the task writes or releases
     1 | .task A create=$8,$9,$11 targets=B
       |         ^~~~~~~~~~~~~~~~
 p.s:1:9: help: write create=$8,$9

@@ -26,7 +26,7 @@ a.s:7:14: help: add !f here
     ),
     (
         RELEASE_CREATES_MORE,
-        "a.s:1:9: warning: no instruction of task A writes or releases $7, which its create mask has
+        "a.s:1:9: warning: the create mask of task A has $7, which no instruction of the task writes or releases
     1 | .task A create=$7,$8,$9 targets=B
       |         ^~~~~~~~~~~~~~~
 a.s:1:9: help: write create=$8,$9
@@ -77,17 +77,16 @@ a.s:4:4: note: $8 is written here, on the path 4
     4 | A: addiu $8,$0,1 !f !s
       |    ^~~~~~~~~~~~~~~~~~~
 a.s:1:9: help: write create=$8
-a.s:2:27: error: task B lists the target @3, where no task begins [rule 12]
+a.s:2:27: error: task B lists the target D, where no task begins [rule 12]
     2 | .task B create=$9 targets=D
       |                           ^
 a.s:7:4: note: no task begins here
     7 | D: halt
       |    ^~~~
 a.s:2:19: help: no exit leads there: write targets=-
-a.s:5:4: error: task B can end here and go on to C, which its targets lack [rule 9]
+a.s:5:4: error: task B ends here and goes on to C, which is not one of its targets [rule 9]
     5 | B: addiu $9,$0,2 !s
       |    ^~~~~~~~~~~~~~~~
-a.s:5:4: note: reached from here, on the path 5
 a.s:6:4: note: task C begins here
     6 | C: out $9
       |    ^~~~~~
@@ -342,7 +341,7 @@ bne $9,$0,A !s
 B: out $8
 halt
 ",
-        "a.s:5:1: error: task A can end here and go on to B if the branch is not taken, which its targets lack [rule 9]
+        "a.s:5:1: error: if the branch is not taken, task A ends here and goes on to B, which is not one of its targets [rule 9]
     5 | bne $9,$0,A !s
       | ^~~~~~~~~~~~~~
 a.s:3:4: note: reached from here, on the path 3 -> 4 -> 5
@@ -365,8 +364,7 @@ B: out $8
         "a.s:6:4: error: task B can go on from here to the end of the program, where no instruction is [rule 10]
     6 | B: out $8
       |    ^~~~~~
-a.s:6:4: note: reached from here, on the path 6
-a.s:6:4: help: let it go on to an instruction of the program, as a jump or a halt, or end the task here
+a.s:6:4: help: add halt at the end of the code
 ",
     ),
     (
@@ -378,7 +376,7 @@ bne $9,$0,A !s
 B: out $8
 jr $31
 ",
-        "a.s:7:1: error: task B goes on over a jump to an address in a register [rule 11]
+        "a.s:7:1: error: this jump to an address in a register has to end task B [rule 11]
     7 | jr $31
       | ^~~~~~
 a.s:6:4: note: reached from here, on the path 6 -> 7
