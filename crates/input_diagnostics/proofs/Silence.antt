@@ -11,7 +11,8 @@ use Rattle.mask_certificate.specs.declared.fault.CertFault.TheVariants as fault
 use Rattle.mark_checker.specs.declared.finding.Finding.{Finding}
 use Rattle.diagnostics.specs.declared.diagnostic.Diagnostic.{Diagnostic}
 use Rattle.diagnostics.specs.declared.diagnostic.Source.TheVariants.{Script, Certificate}
-use Rattle.input_diagnostics.specs.Saying.{more_note, most_shown, row_at}
+use Rattle.diagnostics.specs.More.{more_note}
+use Rattle.input_diagnostics.specs.Saying.{most_shown, row_at}
 use Rattle.input_diagnostics.specs.ScriptErrors.{said_of, script_errors, ends_with_return, IsRead}
 use Rattle.input_diagnostics.specs.RefusedCertificates.{refused_error}
 use Rattle.input_diagnostics.specs.CertificateErrors.{Serves}

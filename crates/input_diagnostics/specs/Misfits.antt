@@ -21,7 +21,9 @@ use Rattle.diagnostics.specs.declared.diagnostic.Note.{Note}
 use Rattle.diagnostics.specs.declared.diagnostic.Source.TheVariants.{Certificate}
 use Rattle.diagnostics.specs.declared.diagnostic.Span.{Span}
 use Rattle.diagnostics.specs.Quotations.{quoted}
-use Rattle.input_diagnostics.specs.Saying.{by_text, error, row_at, span, more_note, most_shown}
+use Rattle.diagnostics.specs.Helps.{by_text}
+use Rattle.diagnostics.specs.More.{more_note}
+use Rattle.input_diagnostics.specs.Saying.{error, row_at, span, most_shown}
 use Rattle.input_diagnostics.specs.RefusedCertificates.{anew}
 
 -- the findings of the rules that judge the certificate alone

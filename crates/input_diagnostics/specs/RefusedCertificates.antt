@@ -17,7 +17,8 @@ use Rattle.diagnostics.specs.declared.diagnostic.Span.{Span}
 use Rattle.diagnostics.specs.Quotations.{quoted}
 use Rattle.input_diagnostics.specs.declared.refused.LineSlip.{LineSlip}
 use Rattle.input_diagnostics.specs.declared.refused.LineSlip.TheVariants.{Unended, Name, First, Form, Index, Mask}
-use Rattle.input_diagnostics.specs.Saying.{in_words, by_text, error, row_at, span, return_error}
+use Rattle.diagnostics.specs.Helps.{in_words, by_text}
+use Rattle.input_diagnostics.specs.Saying.{error, row_at, span, return_error}
 use Rattle.input_diagnostics.specs.ScriptErrors.{ends_with_return}
 
 -- the command that makes a certificate

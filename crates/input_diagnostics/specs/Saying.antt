@@ -1,21 +1,13 @@
 -- What the diagnostics about a certificate and about an event script have in common (own choice).
-use Rattle.std.specs.Prelude.{ℕ, zero, suc, ◌+◌, ◌-◌, min, nat_eq, List, [], ◌∷◌, ◌++◌, length, slice_get, unwrap_or, codes, Some, None, if◌then◌else◌}
-use Rattle.std.specs.Fmt.{decimal}
+use Rattle.std.specs.Prelude.{ℕ, ◌+◌, ◌-◌, min, List, [], length, slice_get, unwrap_or, codes, Some}
 use Rattle.diagnostics.specs.declared.code.Code.{Code}
-use Rattle.diagnostics.specs.declared.code.Code.TheVariants as code
 use Rattle.diagnostics.specs.declared.diagnostic.Diagnostic.{Diagnostic}
 use Rattle.diagnostics.specs.declared.diagnostic.Help.{Help}
 use Rattle.diagnostics.specs.declared.diagnostic.Note.{Note as NoteThere}
-use Rattle.diagnostics.specs.declared.diagnostic.Severity.TheVariants.{Error, Note}
+use Rattle.diagnostics.specs.declared.diagnostic.Severity.TheVariants.{Error}
 use Rattle.diagnostics.specs.declared.diagnostic.Source.{Source}
 use Rattle.diagnostics.specs.declared.diagnostic.Span.{Span}
-
--- what to do: in words alone, or with a text to write
-abbrev pub in_words : (message : List ℕ) → Help
-in_words message = record { message = message; replacements = [] }
-
-abbrev pub by_text : (message : List ℕ) → Span → (text : List ℕ) → Help
-by_text message span text = record { message = message; replacements = record { span = span; text = text } ∷ [] }
+use Rattle.diagnostics.specs.Helps.{in_words}
 
 abbrev pub error : Source → Code → Span → (message : List ℕ) → List NoteThere → Help → Diagnostic
 error source code span message notes help = record {
@@ -46,22 +38,6 @@ return_help = codes "take the CR out of every line: tr -d '\\r' < OLD > NEW"
 
 abbrev pub return_error : Source → Code → (n : ℕ) → (line : List ℕ) → Diagnostic
 return_error source code n line = error source code (span n (length line - 1) 1) return_message [] (in_words return_help)
-
--- how many more there are; nothing where there are no more
-abbrev pub more_message : (more : ℕ) → (one many : List ℕ) → List ℕ
-more_message more one many = if nat_eq more 1 then codes "1 more " ++ one else decimal more ++ (codes " more " ++ many)
-
-abbrev pub more_note : Source → (more : ℕ) → (one many : List ℕ) → List Diagnostic
-more_note source zero one many = []
-more_note source (suc n) one many = record {
-  severity = Note;
-  code = code.More;
-  source = source;
-  span = None;
-  message = more_message (suc n) one many;
-  notes = [];
-  help = None;
-} ∷ []
 
 -- how many are shown at most
 abbrev pub most_shown : ℕ

@@ -16,7 +16,9 @@ use Rattle.diagnostics.specs.declared.diagnostic.Span.{Span}
 use Rattle.diagnostics.specs.Quotations.{quoted}
 use Rattle.input_diagnostics.specs.declared.slip.Slip.{Slip}
 use Rattle.input_diagnostics.specs.declared.slip.Slip.TheVariants.{Empty, Space, Word}
-use Rattle.input_diagnostics.specs.Saying.{in_words, by_text, error, row_at, span, return_error, more_note, most_shown}
+use Rattle.diagnostics.specs.Helps.{in_words, by_text}
+use Rattle.diagnostics.specs.More.{more_note}
+use Rattle.input_diagnostics.specs.Saying.{error, row_at, span, return_error, most_shown}
 
 -- What an event is that begins with this word: how it is written.
 abbrev pub form_help : (verb : List ℕ) → List ℕ

@@ -4,7 +4,6 @@
 pub mod certificate;
 mod lines;
 mod misfit;
-mod more;
 pub mod program_lines;
 pub mod refused;
 mod saying;

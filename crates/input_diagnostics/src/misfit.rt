@@ -9,14 +9,15 @@ ghost use Rattle.mask_certificate.specs.CertificateText.{hexadecimal};
 ghost use Rattle.input_diagnostics.specs.Misfits.{is_own, own_findings, further, task_line, entry_line, index_width, span_by, instruction_in, note_by, instruction_note, lacks, is_same_mask, register_in, with_missing, missing_text, code_by, lacking_message, message_by, whole_mask, mask_help, help_by, misfit_error, goes_on, told_from, misfit_errors};
 
 use crate::lines::row_at;
-use crate::more::add_more;
 use crate::program_lines::ProgramLines;
 use crate::refused::anew;
-use crate::saying::{MOST_SHOWN, by_text, error, span};
+use crate::saying::{MOST_SHOWN, error, span};
 use canonical_text::print::write_create;
 use diagnostics::code::Code;
 use diagnostics::diagnostic::{Diagnostic, Help, Note, Source, Span};
+use diagnostics::helps::by_text;
 use diagnostics::listed::Listed;
+use diagnostics::more::add_more;
 use diagnostics::quotation::quoted;
 use diagnostics::words;
 use diagnostics::words::Words;

@@ -8,10 +8,11 @@ ghost use Rattle.event_script.specs.EventScript.{lines};
 ghost use Rattle.input_diagnostics.specs.RefusedCertificates.{anew, is_task_row, next_name, slip_by, line_slip, slip_span, slip_message, slip_words, name_help, first_help, slip_help, digits_in, is_ended, line_error, header_message, header_error, is_task, task_message, task_error, missing_error, index_of, shape_line, shape_message, shape_error, refused_error};
 
 use crate::lines::{lines_of, row_at};
-use crate::saying::{by_text, in_words, plain_error, return_error, span};
+use crate::saying::{plain_error, return_error, span};
 use crate::script::ends_with_return;
 use diagnostics::code::Code;
 use diagnostics::diagnostic::{Diagnostic, Help, Source, Span};
+use diagnostics::helps::{by_text, in_words};
 use diagnostics::quotation::quoted;
 use diagnostics::words;
 use diagnostics::words::Words;

@@ -1,43 +1,17 @@
 //! What the diagnostics about a certificate and about an event script have in common.
 
 ghost use Rattle.std.specs.Prelude.{◌≡◌, [], IfOk};
-ghost use Rattle.input_diagnostics.specs.Saying.{in_words, by_text, error, span, return_error};
+ghost use Rattle.input_diagnostics.specs.Saying.{error, span, return_error};
 
 use diagnostics::code::Code;
-use diagnostics::diagnostic::{Diagnostic, Help, Note, Replacement, Severity, Source, Span};
+use diagnostics::diagnostic::{Diagnostic, Help, Note, Severity, Source, Span};
+use diagnostics::helps::in_words;
 use diagnostics::listed::Listed;
 use diagnostics::words::Words;
 use std::alloc::{AllocError, Global};
 
 /// The most diagnostics that are shown of one text; of any more it is said how many they are (own choice).
 pub(crate) const MOST_SHOWN: usize = 1_000;
-
-/// What to do, in words alone.
-pub(crate) fn in_words(alloc: Global, message: Words) -> Help
-    ensures { result ≡ in_words message }
-{
-    Help {
-        message,
-        replacements: Listed::new(Vec::new(alloc)),
-    }
-}
-
-/// What to do: a text to write in place of a part of the text that the diagnostic is about.
-pub(crate) fn by_text(
-    alloc: Global,
-    message: Words,
-    span: Span,
-    text: Words,
-) -> Result<Help, AllocError>
-    ensures { IfOk result (λ help. help ≡ by_text message span text) }
-{
-    let mut replacements = Vec::new(alloc);
-    replacements.push(Replacement { span, text })?;
-    Ok(Help {
-        message,
-        replacements: Listed::new(replacements),
-    })
-}
 
 /// An error.
 pub(crate) fn error(

@@ -7,11 +7,12 @@ ghost use Rattle.near_words.specs.Near.{nearest};
 ghost use Rattle.input_diagnostics.specs.ScriptErrors.{form_help, slip_span, word_message, slip_message, near_task, task_help, word_help, word_remedy, slip_help, code_of, line_error, ends_with_return, said_of, script_errors, IsRead};
 
 use crate::lines::{lines_of, row_at};
-use crate::more::add_more;
-use crate::saying::{MOST_SHOWN, by_text, in_words, plain_error, return_error, span};
+use crate::saying::{MOST_SHOWN, plain_error, return_error, span};
 use crate::slip::{Slip, slip_of};
 use diagnostics::code::Code;
 use diagnostics::diagnostic::{Diagnostic, Help, Source, Span};
+use diagnostics::helps::{by_text, in_words};
+use diagnostics::more::add_more;
 use diagnostics::quotation::quoted;
 use diagnostics::words;
 use diagnostics::words::Words;
