@@ -1,7 +1,7 @@
 #!/usr/bin/env bash
 # Tries the C library and the Python module: the example, hostile bytes under AddressSanitizer, each allocation refused
-# in turn, threads with small stacks, the stack of each call, and the bytes of the program over all examples and random
-# texts.
+# in turn, threads with small stacks, the stack of each call, sizes and times, and the bytes of the program over all
+# examples and random texts.
 #
 #     library/test/run.sh LIBRARY PROGRAM [TEXTS]
 #
@@ -44,6 +44,12 @@ for it in "$count" largest.s; do ./stack "$it" 1048576 || failed=yes; done
 echo "== threads with small stacks"
 build threads
 ./threads "$count" 1048576
+echo "== sizes, in bytes"
+stat -L -c '%n %s' "$library/libmultiscalar.a" "$library/libmultiscalar.so" example | sed 's|.*/||'
+echo "== a check of 200 instructions"
+build times
+python3 "$here/middling.py" > middling.s
+./times middling.s "$program"
 echo "== Python"
 (cd "$top/python" && MULTISCALAR_LIBRARY=$library/libmultiscalar.so.0 python3 -m unittest -q test_multiscalar)
 echo "== the program's bytes"

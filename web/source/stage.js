@@ -83,7 +83,7 @@ export class Stage {
     const isOver = this.state.standing !== 'running';
     const reasons = this.state.queue.map((unit, at) => reasonOf(ask, unit, at, isOver));
     this.showWhere();
-    put(find('ring'), drawRing(this.state, reasons));
+    put(find('ring'), drawRing(this.state, reasons, this.run.tasks));
     put(find('cards'), makeCards(this.state, this.run.tasks, this.lines, reasons));
     this.showFacts(script);
     this.showLanes();
