@@ -50,11 +50,12 @@ function under(unit) {
 const DOT = 9;
 const MOST_DOTS = 7;
 
-// The registers of a unit as dots on its rim, those on the side of the ring's middle first.
+// The registers of a unit as dots on its rim, on the side of the ring's middle, from left to right or from top to bottom.
 function dotsOf(unit, create, reason, { x, y, angle }, size) {
   const waited = reason?.kind === 'waits' ? reason.register : null;
   const numbers = registersOf(unit, create, waited).slice(0, MOST_DOTS);
-  const apart = 2 * Math.asin((DOT + 1) / (size + 3));
+  const isBackwards = Math.sin(angle) < -0.01 || (Math.sin(angle) < 0.01 && Math.cos(angle) > 0);
+  const apart = (isBackwards ? -2 : 2) * Math.asin((DOT + 1) / (size + 3));
   return numbers.map((number, at) => {
     const around = angle + Math.PI + (at - (numbers.length - 1) / 2) * apart;
     const place = { cx: x + Math.cos(around) * (size + 3), cy: y + Math.sin(around) * (size + 3) };
