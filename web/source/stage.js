@@ -93,7 +93,7 @@ export class Stage {
 
   showWhere() {
     const slider = find('slider');
-    const step = this.run.steps && this.position ? `, step ${this.columnOf(this.position)} of ${this.columnOf(this.last)}` : '';
+    const step = this.run.steps ? `, step ${this.columnOf(this.position)} of ${this.columnOf(this.last)}` : '';
     slider.value = this.position;
     slider.setAttribute('aria-valuetext', `event ${this.position} of ${this.last}${step}`);
     find('where').textContent = `event ${this.position} of ${this.last}${step}`;
