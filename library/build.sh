@@ -35,5 +35,6 @@ Version: $version
 Cflags: -I\${includedir}
 Libs: -L\${libdir} -lmultiscalar
 PC
+chmod 644 libmultiscalar.a libmultiscalar.so.0
 cp libmultiscalar.a libmultiscalar.so.0 multiscalar.pc "$into/"
 ln -sf libmultiscalar.so.0 "$into/libmultiscalar.so"

@@ -8,8 +8,9 @@
             print(f"{diagnostic.name}:{diagnostic.line}: {diagnostic.message}")
 
 It calls the shared library libmultiscalar.so.0 through ctypes: the one that the variable MULTISCALAR_LIBRARY names, or
-the one beside this file, or one that the system finds. Texts are `bytes` or `str`, which is taken as UTF-8. Where no
-certificate is given, the least one is meant. A number out of its range raises ValueError, want of memory MemoryError.
+that of the release or installation in which this file lies, or one that the system finds. Texts are `bytes` or `str`,
+which is taken as UTF-8. Where no certificate is given, the least one is meant. A number out of its range raises
+ValueError, want of memory MemoryError.
 """
 
 from __future__ import annotations
@@ -146,10 +147,15 @@ class Diagnostic:
     advice: tuple[str, ...]
 
 
+# Where the library lies, seen from this file's folder: beside it, in an unpacked release, below install.sh's PREFIX.
+_PLACES = (".", "../lib", "../../../lib")
+
+
 def _library() -> ctypes.CDLL:
-    beside = Path(__file__).with_name("libmultiscalar.so.0")
-    name = os.environ.get("MULTISCALAR_LIBRARY") or (str(beside) if beside.exists() else None)
-    return ctypes.CDLL(name or ctypes.util.find_library("multiscalar") or "libmultiscalar.so.0")
+    folder = Path(__file__).resolve().parent
+    near = (folder / place / "libmultiscalar.so.0" for place in _PLACES)
+    named = os.environ.get("MULTISCALAR_LIBRARY") or next((str(it) for it in near if it.exists()), None)
+    return ctypes.CDLL(named or ctypes.util.find_library("multiscalar") or "libmultiscalar.so.0")
 
 
 _LIBRARY = _library()

@@ -1,6 +1,7 @@
 #!/usr/bin/env bash
 # Tries a release in a bare Debian system without the toolchain: unpacked, installed by install.sh, and as a
-# package; the commands of the pages, the man page and the completions.
+# package; the commands of the pages, the man page and the completions; the programs of docs/LIBRARY.md, in C and in
+# Python; and the page, with this system's Chromium, where it has one.
 #
 #     release/bare.sh FOLDER          FOLDER: where release/build.sh wrote the release
 #
@@ -29,13 +30,24 @@ inside 'cd /srv/multiscalar-*/ && cp ../compare.py ../pages.py examples/ && pyth
 echo "== install.sh"
 inside 'cd /srv/multiscalar-*/ && sh install.sh /srv/installed && /srv/installed/bin/multiscalar --version'
 echo "== the library"
-inside 'cd /srv && gcc -I installed/include multiscalar-*/examples/example.c installed/lib/libmultiscalar.a -o static && ./static multiscalar-*/examples/count/program.s'
-inside 'cd /srv && gcc -I installed/include multiscalar-*/examples/example.c -L installed/lib -lmultiscalar -o shared && LD_LIBRARY_PATH=installed/lib ./shared multiscalar-*/examples/count/program.s'
-inside 'cd /srv/installed/share/multiscalar/python && MULTISCALAR_LIBRARY=/srv/installed/lib/libmultiscalar.so.0 python3 -m unittest -q test_multiscalar'
+python3 "$top/library/test/shown.py" "$system"/srv/multiscalar-*/docs/LIBRARY.md "$system/srv"
+tried='status=0; ./a > said || status=$?; [ $status = 1 ] && cmp said a.txt'
+inside "cd /srv && gcc -Wall -Wextra -I multiscalar-*/include a.c multiscalar-*/lib/libmultiscalar.a -o a && $tried"
+inside "cd /srv && gcc -I installed/include a.c -L installed/lib -lmultiscalar -Wl,-rpath,/srv/installed/lib -o a && $tried"
+inside 'cd /srv && gcc -I installed/include multiscalar-*/examples/example.c installed/lib/libmultiscalar.a -o example && ./example multiscalar-*/examples/count/program.s'
+inside "cd /srv && cp multiscalar-*/examples/five-findings/program.s a.s && PYTHONPATH=\$(echo multiscalar-*/python) python3 a.py"
+inside 'cd /srv/installed/share/multiscalar/python && python3 -m unittest -q test_multiscalar'
+echo "== the page"
+inside 'cd /srv/multiscalar-*/ && grep -q "^page sha256 $(sha256sum multiscalar.html | cut -d" " -f1)$" MANIFEST && cmp multiscalar.html /srv/installed/share/doc/multiscalar/multiscalar.html && wc -c multiscalar.html'
 echo "== the package"
 inside 'dpkg -i /srv/multiscalar_*.deb > /dev/null && multiscalar check --least /usr/share/doc/multiscalar/examples/count/program.s'
+inside "cd /srv && gcc a.c -lmultiscalar -o a && $tried && PYTHONPATH=/usr/share/multiscalar/python python3 a.py"
+inside 'cmp /srv/multiscalar-*/multiscalar.html /usr/share/doc/multiscalar/multiscalar.html'
+if command -v chromium > /dev/null && command -v chromedriver > /dev/null; then
+    "$top/web/test" "$system/usr/share/doc/multiscalar/multiscalar.html" --browser chromium
+fi
 echo "== man page and completions"
 inside 'zcat /usr/share/man/man1/multiscalar.1.gz | mandoc -T lint -W warning && zcat /usr/share/man/man1/multiscalar.1.gz | mandoc -T ascii | head -n 5'
 inside 'source /usr/share/bash-completion/completions/multiscalar; COMP_WORDS=(multiscalar r); COMP_CWORD=1; _multiscalar; echo "${COMPREPLY[@]}"'
-inside 'dpkg -r multiscalar > /dev/null && ! command -v multiscalar'
+inside 'dpkg -r multiscalar > /dev/null && ! command -v multiscalar && [ ! -e /usr/lib/libmultiscalar.so.0 ]'
 echo "the release works in a bare system"

@@ -114,6 +114,8 @@ Description: proved checker and runner for annotated Multiscalar programs
  explains those that are wrong, and runs what is right. Each of its
  functions is proved against its contract.
 EOF
+printf 'libmultiscalar 0 multiscalar\n' > "$deb/DEBIAN/shlibs"
+printf 'activate-noawait ldconfig\n' > "$deb/DEBIAN/triggers"
 (cd "$deb" && find usr -type f -print0 | sort -z | xargs -0 md5sum) > "$deb/DEBIAN/md5sums"
 find "$deb" -exec touch -h -d "@$SOURCE_DATE_EPOCH" {} +
 dpkg-deb --root-owner-group -Zxz -z9 --build "$deb" "$out/multiscalar_${version}_amd64.deb" > /dev/null

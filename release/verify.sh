@@ -2,12 +2,14 @@
 # Proves and builds a release anew, and compares: the commit that its manifest names, the toolchain that it
 # names, and every byte.
 #
-#     release/verify.sh TARBALL
+#     release/verify.sh TARBALL [COMMAND]
 #
+# COMMAND proves and builds in the folder of the sources; rt ci, where it is left out.
 # It needs rt on PATH and this repository with that commit. The first time it takes as long as the proofs do:
 # half an hour to an hour on four cores.
 set -eu
 tarball=$(readlink -f "$1")
+prove=${2:-rt ci}
 top=$(cd "$(dirname "${BASH_SOURCE[0]}")/.." && pwd)
 work=$(mktemp -d)
 trap 'rm -rf "$work"' EXIT
@@ -24,7 +26,7 @@ git clone -q "$top" "$work/clone"
 git -C "$work/clone" checkout -q "$commit" || fail "this repository has no commit $commit"
 cd "$work/clone"
 # It also builds the program.
-rt ci > "$work/proof.log" 2>&1 || { tail -n 20 "$work/proof.log" >&2; fail "rt ci fails at $commit"; }
+bash -c "$prove" > "$work/proof.log" 2>&1 || { tail -n 20 "$work/proof.log" >&2; fail "$prove fails at $commit"; }
 tail -n 1 "$work/proof.log"
 if [ -f "$(dirname "$manifest")/multiscalar.html" ]; then web/build.sh > /dev/null; fi
 release/build.sh "$work/again" > /dev/null

@@ -15,8 +15,8 @@ into=$(readlink -f "$into")
 core=$top/crates/multiscalar_c/out/libmultiscalar_c.a
 kept=$here/out/core.bc
 
-[ -f "$core" ] || (cd "$top/crates/multiscalar_c" && rt lib --jobs 1)
-[ "$kept" -nt "$core" ] || python3 "$here/module/capture.py" "$top/crates/multiscalar_c" "$kept"
+# This builds the core, too.
+[ -f "$core" ] && [ "$kept" -nt "$core" ] || python3 "$here/module/capture.py" "$top/crates/multiscalar_c" "$kept"
 touch "$kept"
 "$here/module/retarget.sh" "$kept" "$into/multiscalar.wasm"
 python3 "$here/bundle.py" "$into/multiscalar.wasm" "$into/multiscalar.html"

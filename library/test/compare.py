@@ -48,6 +48,7 @@ class Comparison:
         self.compare(["explain", file], multiscalar.explain_text(text, name=str(file)))
         self.compare(["explain", "--no-warnings", file], multiscalar.explain_text(text, name=str(file), warnings=False))
         self.compare(["explain", "--format", "json", file], multiscalar.explain_text(text, name=str(file), form=multiscalar.ExplainFormat.JSON))
+        self.compare(["explain", "--format", "sarif", file], multiscalar.explain_text(text, name=str(file), form=multiscalar.ExplainFormat.SARIF))
         for emit, word in emits("annotate"):
             self.compare(["annotate", "--emit", word, file], multiscalar.annotate(text, emit))
 
@@ -62,22 +63,26 @@ class Comparison:
             self.compare(["curve", "--least", "--units", 6, "--budget", 2000, "--emit", name, file], multiscalar.curve(text, units=6, budget=2000, emit=emit))
 
     def replay(self, file, certificate, script):
+        """By a certificate, or by the least one."""
+        text = None if certificate is None else certificate.read_bytes()
+        given = ["--least"] if certificate is None else []
+        files = [file, script] if certificate is None else [file, certificate, script]
         for emit, name in emits("replay"):
-            report = multiscalar.replay(file.read_bytes(), script.read_bytes(), certificate.read_bytes(), emit=emit)
-            self.compare(["replay", "--units", 4, "--emit", name, file, certificate, script], report)
-        self.compare(["replay", "--strict", file, certificate, script],
-                     multiscalar.replay_strictly(file.read_bytes(), script.read_bytes(), certificate.read_bytes()))
+            report = multiscalar.replay(file.read_bytes(), script.read_bytes(), text, emit=emit)
+            self.compare(["replay", *given, "--units", 4, "--emit", name, *files], report)
+        self.compare(["replay", *given, "--strict", *files], multiscalar.replay_strictly(file.read_bytes(), script.read_bytes(), text))
 
     def certify(self, file, certificate):
         self.compare(["check", file, certificate], multiscalar.check(file.read_bytes(), certificate.read_bytes()))
 
-    def example(self, folder):
-        file = folder / "program.s"
+    def example(self, file):
         self.judge(file)
         self.run(file)
-        for certificate in sorted(folder.glob("certificate.cert*")):
+        certificates = sorted(file.parent.glob("certificate.cert*"))
+        for certificate in certificates:
             self.certify(file, certificate)
-            for script in sorted(folder.glob("*.events")):
+        for script in sorted(file.parent.glob("*.events")):
+            for certificate in [None, *certificates]:
                 self.replay(file, certificate, script)
 
 
@@ -96,13 +101,13 @@ def changed(text, chance):
 
 def main():
     chance, comparison = random.Random(1), Comparison()
-    examples = sorted(it.parent for it in (TOP / "examples").glob("*/program.s"))
-    for folder in examples:
-        comparison.example(folder)
+    examples = sorted((TOP / "examples").glob("**/*.s"))
+    for file in examples:
+        comparison.example(file)
     with tempfile.TemporaryDirectory() as folder:
         file = Path(folder) / "a.s"
         for _ in range(TEXTS):
-            file.write_bytes(changed((chance.choice(examples) / "program.s").read_bytes(), chance))
+            file.write_bytes(changed(chance.choice(examples).read_bytes(), chance))
             comparison.judge(file)
     print(f"{comparison.same} answers are the same, {comparison.differing} differ")
     sys.exit(comparison.differing > 0 or not comparison.same)

@@ -1,7 +1,7 @@
 #!/usr/bin/env bash
 # Tries the C library and the Python module: the example, hostile bytes under AddressSanitizer, each allocation refused
-# in turn, threads with small stacks, the stack of each call, and the bytes of the program over all examples and random
-# texts.
+# in turn, threads with small stacks, the stack of each call, sizes and times, and the bytes of the program over all
+# examples and random texts.
 #
 #     library/test/run.sh LIBRARY PROGRAM [TEXTS]
 #
@@ -20,6 +20,8 @@ cd "$work"
 
 count=$top/examples/count/program.s
 diamond=$top/examples/diamond/program.s
+# What multiscalar.h says that a call takes at most: 192 KiB.
+most_stack=196608
 flags=(-std=gnu11 -Wall -Wextra -O2 -I "$top/library")
 
 build() { gcc "${flags[@]}" "$here/$1.c" "${@:2}" "$library/libmultiscalar.a" -lpthread -o "$1"; }
@@ -40,10 +42,17 @@ build refused_allocations -Wl,--wrap=malloc,--wrap=realloc,--wrap=free
 echo "== the stack"
 build stack
 python3 "$here/largest.py" > largest.s
-for it in "$count" largest.s; do ./stack "$it" 1048576 || failed=yes; done
+./stack largest.s "$most_stack" || failed=yes
+for it in $(find "$top/examples" -name '*.s'); do ./stack "$it" "$most_stack" > /dev/null || failed=yes; done
 echo "== threads with small stacks"
 build threads
-./threads "$count" 1048576
+./threads "$count" 262144
+echo "== sizes, in bytes"
+stat -L -c '%n %s' "$library/libmultiscalar.a" "$library/libmultiscalar.so" example | sed 's|.*/||'
+echo "== a check of 200 instructions"
+build times
+python3 "$here/middling.py" > middling.s
+./times middling.s "$program"
 echo "== Python"
 (cd "$top/python" && MULTISCALAR_LIBRARY=$library/libmultiscalar.so.0 python3 -m unittest -q test_multiscalar)
 echo "== the program's bytes"

@@ -47,6 +47,7 @@ export class Editor {
     this.chosen = null;
     this.units = new Map();
     this.head = null;
+    this.mayApply = true; // not in an exercise: there one changes the text oneself
     let waiting;
     this.area.addEventListener('input', () => {
       this.hideBubble();
@@ -116,7 +117,7 @@ export class Editor {
     const { chosen } = this;
     if (!chosen?.place) return;
     const close = make('button', { class: 'close', 'aria-label': 'Close', onclick: () => this.hideBubble() }, '×');
-    put(bubble, findingBody(chosen, () => this.applyFix(chosen)), close);
+    put(bubble, findingBody(chosen, this.mayApply ? () => this.applyFix(chosen) : null), close);
     bubble.hidden = false;
     bubble.style.left = `${find('editor').scrollLeft + 8}px`;
     bubble.style.width = `${Math.min(540, find('editor').clientWidth - find('gutter').offsetWidth - 16)}px`;
@@ -131,12 +132,12 @@ export class Editor {
   }
 }
 
-// A finding in words: the sentence, its notes, the help, and a button where the help is exact.
+// A finding in words: the sentence, its notes, the help, and a button where the help is exact and may be applied.
 export function findingBody(finding, apply) {
   const where = finding.place ? `Line ${finding.place.line}: ` : '';
   const notes = finding.notes.map(it => make('p', { class: 'note' }, it.place ? `Line ${it.place.line}: ${it.sentence}` : it.sentence));
   const path = finding.path.length > 1 ? make('p', { class: 'note' }, `Path: ${finding.path.map(it => it.line).join(' → ')}`) : null;
-  const button = finding.edits.length ? make('button', { class: 'apply', 'data-key': `apply-${finding.number}`, onclick: apply }, 'Do so') : null;
+  const button = apply && finding.edits.length ? make('button', { class: 'apply', 'data-key': `apply-${finding.number}`, onclick: apply }, 'Do so') : null;
   return make('div', {},
     make('p', {}, make('b', {}, where), finding.sentence, ' ', make('span', { class: 'quiet' }, nameOf(finding.code))),
     notes,
@@ -157,7 +158,7 @@ export function showFindings(place, findings, editor) {
     onclick: () => editor.choose(it),
   }, 'Show');
   put(place, findings.map(it => make('li', { class: `is-${it.level}` },
-    findingBody(it, () => editor.applyFix(it)), it.place ? showButton(it) : null)));
+    findingBody(it, editor.mayApply ? () => editor.applyFix(it) : null), it.place ? showButton(it) : null)));
 }
 
 // One line on what was found.

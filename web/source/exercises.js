@@ -2,11 +2,11 @@
 
 import { announce, copy, find, make, plural, put } from './elements.js';
 import { EXERCISES } from './exercise_texts.js';
-import { isReached } from './goals.js';
+import { isReached, standingOf } from './goals.js';
 
-function goalRow(goal, isReachedNow) {
+function goalRow(goal, isReachedNow, standing) {
   return make('li', { class: `${isReachedNow ? 'is-reached' : 'is-open'} ${goal.isFurther ? 'is-further' : ''}` },
-    make('span', { 'aria-hidden': 'true' }, isReachedNow ? '✓ ' : '○ '), goal.text,
+    make('span', { 'aria-hidden': 'true' }, isReachedNow ? '✓ ' : '○ '), goal.text, standing,
     make('span', { class: 'unseen' }, isReachedNow ? ' Reached.' : ' Open.'));
 }
 
@@ -77,15 +77,20 @@ export class Exercises {
     this.check();
   }
 
-  reachedOf(number) {
+  // The work on an exercise with what its goals ask.
+  judged(number) {
     const exercise = EXERCISES[number - 1];
-    const work = { ...this.works[number - 1], jobs: this.jobs, start: exercise.program, fields: exercise.fields };
-    return exercise.goals.map(goal => isReached(goal, work));
+    return { ...this.works[number - 1], jobs: this.jobs, start: exercise.program, fields: exercise.fields };
+  }
+
+  reachedOf(number) {
+    const work = this.judged(number);
+    return EXERCISES[number - 1].goals.map(goal => isReached(goal, work));
   }
 
   check() {
     const reached = this.reachedOf(this.number);
-    put(find('goals'), this.exercise.goals.map((goal, at) => goalRow(goal, reached[at])));
+    put(find('goals'), this.exercise.goals.map((goal, at) => goalRow(goal, reached[at], standingOf(goal, this.judged(this.number)))));
     const isSolved = this.exercise.goals.every((goal, at) => goal.isFurther || reached[at]);
     find('solved').hidden = !isSolved;
     if (isSolved && !this.work.wasSolved) announce(`Exercise ${this.number} is solved.`);

@@ -21,6 +21,11 @@ function summaryOf(work, units) {
   return work.jobs.run(work.text, { units, budget: 20000, predict: 'first' }, 'summary').text;
 }
 
+function stepsIn(summary) {
+  const said = /^steps (\d+),/m.exec(summary);
+  return said ? Number(said[1]) : null;
+}
+
 function squashedIn(summary) {
   const row = /^ +\d+ +\d+ +(\d+) .*\(all\)$/m.exec(summary);
   return row ? Number(row[1]) : null;
@@ -42,8 +47,8 @@ const CHECKS = {
     return status === 0 && linesOf(text).slice(0, -1).join() === goal.words.join();
   },
   steps: (work, goal) => {
-    const said = /^steps (\d+),/m.exec(summaryOf(work, goal.units));
-    return said !== null && Number(said[1]) <= goal.most;
+    const count = stepsIn(summaryOf(work, goal.units));
+    return count !== null && count <= goal.most;
   },
   unsquashed: (work, goal) => squashedIn(summaryOf(work, goal.units)) === 0,
   answer: (work, goal) => {
@@ -61,4 +66,10 @@ const CHECKS = {
 // Whether work reaches a goal. Work is the text, the script by hand, the answers, and what the exercise began with.
 export function isReached(goal, work) {
   return CHECKS[goal.kind](work, goal) === true;
+}
+
+// How far work is from a goal that counts, in words; nothing for other goals.
+export function standingOf(goal, work) {
+  const count = goal.kind === 'steps' ? stepsIn(summaryOf(work, goal.units)) : null;
+  return count === null ? '' : ` Now: ${count}.`;
 }

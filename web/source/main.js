@@ -74,6 +74,7 @@ class Page {
   exerciseOpened(exercise, work) {
     this.listScripts();
     find('proposal-section').hidden = exercise !== null;
+    this.editor.mayApply = exercise === null;
     if (!exercise) return this.saveLink();
     find('example-choice').value = '';
     writeSettings({ units: exercise.units, predict: 'first' });
@@ -107,6 +108,7 @@ class Page {
     find('stage').classList.toggle('is-hand', this.tabs.view === 'hand');
     find('hand-panel').hidden = this.tabs.view !== 'hand';
     find('run-settings').hidden = this.tabs.view === 'hand';
+    find('by-hand-from-here').hidden = true;
     if (this.tabs.view === 'run') this.playRun();
     if (this.tabs.view === 'hand') this.playHand(Infinity);
     if (this.tabs.view === 'compare') this.showCompare();
@@ -116,6 +118,7 @@ class Page {
   playRun() {
     const settings = readSettings();
     const run = makeRun(this.jobs, this.editor.text, settings);
+    find('by-hand-from-here').hidden = run.reason !== undefined;
     if (run.reason) return this.stage.clear(run.reason);
     const at = this.wantedPosition ?? this.stage.position ?? 0;
     this.wantedPosition = null;

@@ -1,6 +1,7 @@
-// The ring of units as a picture: each unit with its task and line, and the register that moves.
+// The ring of units as a picture: each unit with its task, its line and its registers, and the register that moves.
 
 import { draw } from './elements.js';
+import { kindOf, registersOf, saidOf } from './registers.js';
 
 const SIZE = 360;
 const MIDDLE = SIZE / 2;
@@ -46,12 +47,32 @@ function under(unit) {
   return unit.hasStopped ? 'stopped' : `line ${unit.line ?? '?'}`;
 }
 
+const DOT = 9;
+const MOST_DOTS = 7;
+
+// The registers of a unit as dots on its rim, on the side of the ring's middle, from left to right or from top to bottom.
+function dotsOf(unit, create, reason, { x, y, angle }, size) {
+  const waited = reason?.kind === 'waits' ? reason.register : null;
+  const numbers = registersOf(unit, create, waited).slice(0, MOST_DOTS);
+  const isBackwards = Math.sin(angle) < -0.01 || (Math.sin(angle) < 0.01 && Math.cos(angle) > 0);
+  const apart = (isBackwards ? -2 : 2) * Math.asin((DOT + 1) / (size + 3));
+  return numbers.map((number, at) => {
+    const around = angle + Math.PI + (at - (numbers.length - 1) / 2) * apart;
+    const place = { cx: x + Math.cos(around) * (size + 3), cy: y + Math.sin(around) * (size + 3) };
+    return draw('g', { class: `dot ${kindOf(unit, number, number === waited)}` },
+      draw('title', {}, saidOf(unit, number, create.includes(number), number === waited)),
+      draw('circle', { ...place, r: DOT }),
+      write(place.cx, place.cy + 3.5, number === 32 ? 'hi' : number === 33 ? 'lo' : String(number), 'dot-number'));
+  });
+}
+
 function cross(x, y, half) {
   return draw('path', { class: 'cross', d: `M${x - half} ${y - half}l${2 * half} ${2 * half}m0 ${-2 * half}l${-2 * half} ${2 * half}` });
 }
 
-function drawSeat(seat, state, reasons, size) {
-  const { x, y, angle } = spotOf(seat, state.units);
+function drawSeat(seat, state, reasons, size, tasks) {
+  const spot = spotOf(seat, state.units);
+  const { x, y, angle } = spot;
   const position = state.queue.findIndex(it => it.seat === seat);
   const unit = state.queue[position] ?? state.left.find(it => it.seat === seat && it.fate !== 'retired');
   const kinds = ['seat'];
@@ -67,6 +88,7 @@ function drawSeat(seat, state, reasons, size) {
   else if (state.units > 9) parts.push(write(x, y + 4, shortened(unit.task, state.units), 'seat-task is-small'));
   else parts.push(write(x, y - 1, shortened(unit.task, state.units), 'seat-task'), write(x, y + 14, under(unit), 'seat-line'));
   if (unit?.fate) parts.push(cross(x, y, size * 0.7));
+  else if (unit && state.units <= 9) parts.push(...dotsOf(unit, tasks.get(unit.task)?.create ?? [], reasons[position], spot, size));
   return draw('g', {}, parts);
 }
 
@@ -75,11 +97,11 @@ function describe(state) {
   return units.length ? units.join('. ') : 'All units are free.';
 }
 
-// Draws the ring of a state.
-export function drawRing(state, reasons) {
+// Draws the ring of a state; `tasks` has the create masks.
+export function drawRing(state, reasons, tasks) {
   const size = sizeFor(state.units);
   const ring = draw('circle', { cx: MIDDLE, cy: MIDDLE, r: state.units === 1 ? 0 : MIDDLE - 62, class: 'ring-line' });
-  const seats = Array.from({ length: state.units }, (_, seat) => drawSeat(seat, state, reasons, size));
+  const seats = Array.from({ length: state.units }, (_, seat) => drawSeat(seat, state, reasons, size, tasks));
   const words = state.standing !== 'running' ? [state.standing] : state.units > 1 && state.queue.length ? ['thick ring:', 'the head'] : [];
   const middle = words.map((word, at) => write(MIDDLE, (state.units === 1 ? SIZE - 60 : MIDDLE - 4) + 16 * at, word, 'ring-word'));
   const moved = state.moved ? moveOf(state.moved, state.units, size) : middle;

@@ -83,7 +83,7 @@ export class Stage {
     const isOver = this.state.standing !== 'running';
     const reasons = this.state.queue.map((unit, at) => reasonOf(ask, unit, at, isOver));
     this.showWhere();
-    put(find('ring'), drawRing(this.state, reasons));
+    put(find('ring'), drawRing(this.state, reasons, this.run.tasks));
     put(find('cards'), makeCards(this.state, this.run.tasks, this.lines, reasons));
     this.showFacts(script);
     this.showLanes();
@@ -93,7 +93,7 @@ export class Stage {
 
   showWhere() {
     const slider = find('slider');
-    const step = this.run.steps && this.position ? `, step ${this.columnOf(this.position)} of ${this.columnOf(this.last)}` : '';
+    const step = this.run.steps ? `, step ${this.columnOf(this.position)} of ${this.columnOf(this.last)}` : '';
     slider.value = this.position;
     slider.setAttribute('aria-valuetext', `event ${this.position} of ${this.last}${step}`);
     find('where').textContent = `event ${this.position} of ${this.last}${step}`;
