@@ -6,7 +6,7 @@
     compiler/try.py --steps            beside that, the steps of the programs on 1, 2, 4, 8 and 16 units
 
 Each program is translated at -O0, -O1 and -O2, cut and marked in several ways, checked, and run: `seq`, `run` on 1, 4 and
-16 units, and `replay` of the script of a run. What is printed must be what the host prints (not of csmith's programs,
+16 units, and `replay --strict` of the script of a run with its values. What is printed must be what the host prints (not of csmith's programs,
 whose meaning depends on the size of long) and what the program prints that GCC makes for MIPS32 and QEMU runs. The last
 line says how many agree; the status is 0 exactly if none differs. Results are kept in compiler/out, so a run that was
 stopped goes on where it was; a change of a program or of the translator makes its results void.
@@ -177,19 +177,18 @@ class Trials:
             ends.add(tuple(lines[-2:]))
         if len(ends) > 1:
             return f"different: the runs end as {ends}"
-        return self.replayed(text, [*wanted, *ends.pop()])
+        return self.replayed(text)
 
-    def replayed(self, text: str, wanted: list[str]) -> str:
+    def replayed(self, text: str) -> str:
         script = self.folder / "run.events"
-        first, events = command([self.tool.command, "run", "--least", "--units", "4", "--emit", "script", text], 60)
+        words = ["--least", "--units", "4"]
+        first, events = command([self.tool.command, "run", *words, "--emit", "script", "--with-values", text], 60)
         script.write_text(events)
-        second, said = command([self.tool.command, "replay", "--least", "--units", "4", text, str(script)], 60)
+        second, said = command([self.tool.command, "replay", "--strict", *words, text, str(script)], 60)
         if min(first, second) < 0 or first == 3:
             return "too long: the script of a run on 4 units"
-        lines = said.split("\n")[:-1]
-        count = events.count("\n")
-        if lines[count:] != wanted or said.count(" ok\n") != count:
-            return f"different: replay: {' '.join(lines[-3:])}"
+        if second or not said.startswith(f"as expected: {events.count(chr(10))} events;"):
+            return f"different: replay: {said[:200]}"
         return "same"
 
 

@@ -5,11 +5,11 @@ _multiscalar_options() {
         seq) echo "--budget --output --help" ;;
         print) echo "--output --help" ;;
         annotate) echo "--emit --in-place --report --output --help" ;;
-        explain) echo "--certificate --format --no-warnings --output --help" ;;
+        explain) echo "--certificate --script --format --color --no-warnings --output --help" ;;
         check) echo "--workers --least --output --help" ;;
-        replay) echo "--units --emit --least --output --help" ;;
-        run) echo "--units --budget --predict --workers --schedule --emit --least --output --help" ;;
-        curve) echo "--units --budget --predict --emit --least --output --help" ;;
+        replay) echo "--units --emit --strict --least --output --help" ;;
+        run) echo "--with-values --units --budget --predict --workers --schedule --emit --least --output --help" ;;
+        curve) echo "--units --budget --predict --emit --progress --least --output --help" ;;
     esac
 }
 
@@ -19,7 +19,8 @@ _multiscalar_values() {
         replay:--emit) echo "answers summary svg trace json" ;;
         run:--emit) echo "report script summary svg trace json" ;;
         curve:--emit) echo "table svg" ;;
-        explain:--format) echo "text sarif" ;;
+        explain:--format) echo "text sarif json" ;;
+        explain:--color) echo "auto always never" ;;
         run:--schedule) echo "threads steps" ;;
         run:--predict | curve:--predict) echo "first last" ;;
         *:--units | check:--workers | run:--workers) echo "1 2 4 8 16" ;;

@@ -54,7 +54,7 @@ def last_update(program, i, reached):
 
 
 def warnings(program):
-    """The marks that cost speed: (kind, task or index, register), in the order in which they are told."""
+    """The marks that cost speed: (kind, task or index, register), before they are put in the order of places."""
     entries = [entry for _, entry, _, _ in program.tasks]
     reached = [walk(program, [entry]) for entry in entries]
     unsent = {r: walk(program, entries, lambda i: not sends(program, i, r)) for r in range(34)}
@@ -104,10 +104,15 @@ def meant(text, warning):
     return (tasks[number][0], *lists(text)[number][kind == "stop"]) if kind in ("never", "stop") else code[number]
 
 
+def shown(program, text):
+    """The warnings of right marks that are shown, in the order of the places where they stand."""
+    found = [("stop", number, None) for number in unended(program)] + warnings(program)
+    return sorted(found[:MOST_SHOWN], key=lambda warning: tuple(meant(text, warning))[:2])
+
+
 def told(program, text):
     """All that is said of right marks: code, place and sentence of each."""
-    found = [("stop", number, None) for number in unended(program)] + warnings(program)
-    return [(f"warning-{CODES[it[0]]}", tuple(meant(text, it)), sentence(program, it)) for it in found[:MOST_SHOWN]]
+    return [(f"warning-{CODES[it[0]]}", tuple(meant(text, it)), sentence(program, it)) for it in shown(program, text)]
 
 
 def said_of(results):
@@ -201,8 +206,7 @@ def wrong(bench, text, counts):
     counts["right"] += 1
     if without or status or said_of(results) != told(program, text):
         return f"other warnings: {said_of(results)}, not {told(program, text)}"
-    found = [("stop", number, None) for number in unended(program)] + warnings(program)
-    for warning, result in zip(found, results):
+    for warning, result in zip(shown(program, text), results):
         counts[warning[0]] += 1
         after = changed(text, result)
         what = after is not None and unmended(program, text, warning, after, True)

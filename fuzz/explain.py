@@ -101,7 +101,7 @@ def instructions(head, starts):
 
 
 def told(program):
-    """What is told of a program, in its order: task, index, rule and registers. All that a create mask lacks is one error."""
+    """What is told of a program, in the order of the checker: task, index, rule and registers. All that a create mask lacks is one error."""
     findings, errors = verdict(program, certify(program)), []
     for task in range(len(program.tasks)):
         own = [it for it in findings if it[0] == task]
@@ -110,6 +110,11 @@ def told(program):
             errors.append((task, lacking[0][1], lacking[0][2], tuple(sorted({it[3] for it in lacking}))))
         errors += [(*it[:3], (it[3],)) for it in own if it[2] not in MASK]
     return errors
+
+
+def shown(program, text):
+    """Those that are shown of a text, in the order of the places where they stand."""
+    return sorted(told(program)[:MOST_SHOWN], key=lambda error: tuple(meant(program, text, error))[:2])
 
 
 def sentence(program, error):
@@ -189,7 +194,7 @@ def differs(program, text, results):
     said = [it for it in results if it["level"] == "error"]
     if len(said) != min(len(errors), MOST_SHOWN) or len(results) != len(said) + (len(errors) > MOST_SHOWN):
         return f"{len(said)} errors for {len(errors)}"
-    for error, result in zip(errors, said):
+    for error, result in zip(shown(program, text), said):
         if result["ruleId"] != f"rule{error[2]}" or region_of(result["locations"][0]) != tuple(meant(program, text, error)):
             return f"the rule or the place of {error}"
         if not re.fullmatch(sentence(program, error) + r"\.", result["message"]["text"]):
@@ -371,7 +376,7 @@ class Bench:
         results, status = self.results(text, "--no-warnings", certificate=certificate)
         self.counts["certificates"] += 1
         self.counts["certificates that do not fit"] += bool(wanted)
-        if results[:len(said)] != said or [it["ruleId"] for it in results[len(said):] if it["ruleId"] != "more"] != wanted or status != bool(said or wanted):
+        if results[:len(said)] != said or sorted(it["ruleId"] for it in results[len(said):] if it["ruleId"] != "more") != sorted(wanted) or status != bool(said or wanted):
             return f"of the certificate {certificate!r}: {[it['ruleId'] for it in results[len(said):]]}, not {wanted}"
 
     def wrong(self, text):
@@ -390,7 +395,7 @@ class Bench:
 
     def unmended(self, program, text, results):
         """An error that is there after the changes of its fix."""
-        for error, result in zip(told(program), results):
+        for error, result in zip(shown(program, text), results):
             after = changed(text, result)
             if after is None:
                 self.counts["helps in words"] += 1

@@ -306,7 +306,7 @@ def wanted_results(files, given, no_warnings):
         own = [it for it in results if it["locations"][0]["physicalLocation"]["artifactLocation"].get("uri") != files[1]] if len(files) > 1 else results
         beside = [it["ruleId"] for it in results[len(own):] if it["ruleId"] != "more"]
         warned = [] if no_warnings else costly_marks.told(program, text)
-        return beside == remarks and (not explain.differs(program, text, own) if errors else costly_marks.said_of(own) == warned)
+        return sorted(beside) == sorted(remarks) and (not explain.differs(program, text, own) if errors else costly_marks.said_of(own) == warned)
 
     return fits
 
@@ -333,7 +333,7 @@ def wanted_explanation(files, given, no_warnings=False):
     except Fault as fault:
         told = re.sub(r"(BadMark) \d+$", r"\1", fault.text()[len("program refused: "):-1])
         return lambda out, status: status == 1 and f" [{told}]\n" in out
-    errors = [explain.sentence(program, it) for it in explain.told(program)][:explain.MOST_SHOWN]
+    errors = [explain.sentence(program, it) for it in explain.shown(program, text)]
     remarks = len(explain.remarks(program, given[1])) if len(files) > 1 else 0
     warned = [it[2].removesuffix(".") for it in costly_marks.told(program, text)] if not errors and not no_warnings else []
 

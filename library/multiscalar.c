@@ -28,7 +28,7 @@ static const uint32_t *numbers_of(multiscalar_prediction prediction) {
 
 /* One job with what it takes. */
 typedef struct {
-    enum { SEQ, PRINT, ANNOTATE, CHECK, EXPLAIN, REPLAY, RUN_IN_STEPS, CURVE } kind;
+    enum { SEQ, PRINT, ANNOTATE, CHECK, EXPLAIN, REPLAY, REPLAY_STRICTLY, RUN_IN_STEPS, CURVE } kind;
     multiscalar_text program, certificate, script;
     const char *name, *certificate_name;
     multiscalar_prediction prediction;
@@ -58,6 +58,10 @@ static uint32_t do_job(const job *it, uint8_t *out, size_t room, size_t *length)
     case REPLAY:
         return multiscalar_c_replay(is_least, it->units, it->emit, program, program_length, certificate,
                                     certificate_length, bytes_of(it->script), it->script.length, out, room, length);
+    case REPLAY_STRICTLY:
+        return multiscalar_c_replay_strictly(is_least, it->units, program, program_length, certificate,
+                                             certificate_length, bytes_of(it->script), it->script.length, out, room,
+                                             length);
     case RUN_IN_STEPS:
         return multiscalar_c_run_steps(is_least, it->units, it->budget, it->prediction.guess,
                                        numbers_of(it->prediction), it->prediction.list_length, it->emit, program,
@@ -122,6 +126,13 @@ int multiscalar_replay(multiscalar_text program, multiscalar_text certificate, m
     return answer_job((job){.kind = REPLAY, .program = program, .certificate = certificate, .script = script,
                             .units = units, .emit = emit},
                       65536, answer, length);
+}
+
+int multiscalar_replay_strictly(multiscalar_text program, multiscalar_text certificate, multiscalar_text script,
+                                uint32_t units, char **answer, size_t *length) {
+    return answer_job((job){.kind = REPLAY_STRICTLY, .program = program, .certificate = certificate, .script = script,
+                            .units = units},
+                      4096, answer, length);
 }
 
 int multiscalar_run_in_steps(multiscalar_text program, multiscalar_text certificate, uint32_t units, uint32_t budget,

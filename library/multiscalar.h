@@ -77,7 +77,7 @@ int multiscalar_check(multiscalar_text program, multiscalar_text certificate, ch
 
 /* Says what is wrong with a program and with a certificate, if there is one. Names stand in the messages; a
  * certificate has a name exactly where there is one. */
-typedef enum { MULTISCALAR_EXPLAIN_TEXT, MULTISCALAR_EXPLAIN_SARIF } multiscalar_explain_format;
+typedef enum { MULTISCALAR_EXPLAIN_TEXT, MULTISCALAR_EXPLAIN_SARIF, MULTISCALAR_EXPLAIN_JSON } multiscalar_explain_format;
 
 int multiscalar_explain(const char *name, multiscalar_text program, const char *certificate_name,
                         multiscalar_text certificate, bool warnings, multiscalar_explain_format format,
@@ -106,6 +106,11 @@ typedef enum {
 int multiscalar_replay(multiscalar_text program, multiscalar_text certificate, multiscalar_text script, uint32_t units,
                        multiscalar_replay_emit emit, char **answer, size_t *length);
 
+/* Judges a script with expectations (docs/FORMATS.md) on a machine of 1 to 16 units: status 0 exactly where each event
+   is allowed and does what is expected, else 1 with the first line that departs. */
+int multiscalar_replay_strictly(multiscalar_text program, multiscalar_text certificate, multiscalar_text script,
+                                uint32_t units, char **answer, size_t *length);
+
 /* Runs a program in steps on 1 to 16 units, at most `budget` events, 1 to 1,000,000. */
 typedef enum {
     MULTISCALAR_RUN_REPORT,
@@ -113,7 +118,8 @@ typedef enum {
     MULTISCALAR_RUN_SUMMARY,
     MULTISCALAR_RUN_SVG,
     MULTISCALAR_RUN_TRACE,
-    MULTISCALAR_RUN_JSON
+    MULTISCALAR_RUN_JSON,
+    MULTISCALAR_RUN_SCRIPT_WITH_VALUES
 } multiscalar_run_emit;
 
 int multiscalar_run_in_steps(multiscalar_text program, multiscalar_text certificate, uint32_t units, uint32_t budget,
@@ -153,6 +159,9 @@ uint32_t multiscalar_c_replay(bool is_least, uint32_t units, uint32_t emit, cons
                               size_t program_length, const uint8_t *certificate, size_t certificate_length,
                               const uint8_t *script, size_t script_length, uint8_t *out, size_t out_length,
                               size_t *length);
+uint32_t multiscalar_c_replay_strictly(bool is_least, uint32_t units, const uint8_t *program, size_t program_length,
+                                       const uint8_t *certificate, size_t certificate_length, const uint8_t *script,
+                                       size_t script_length, uint8_t *out, size_t out_length, size_t *length);
 uint32_t multiscalar_c_run_steps(bool is_least, uint32_t units, uint32_t budget, uint32_t predict,
                                  const uint32_t *list, size_t list_length, uint32_t emit, const uint8_t *program,
                                  size_t program_length, const uint8_t *certificate, size_t certificate_length,

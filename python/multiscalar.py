@@ -27,8 +27,8 @@ from typing import Sequence, Union
 from urllib.parse import unquote
 
 __all__ = [
-    "AnnotateEmit", "CurveEmit", "Diagnostic", "FIRST", "Finding", "LAST", "ReplayEmit", "Report", "RunEmit", "Verdict",
-    "annotate", "check", "curve", "explain", "explain_text", "print_program", "replay", "run_in_steps", "seq", "version",
+    "AnnotateEmit", "CurveEmit", "Diagnostic", "ExplainFormat", "FIRST", "Finding", "LAST", "ReplayEmit", "Report", "RunEmit", "Verdict",
+    "annotate", "check", "curve", "explain", "explain_text", "print_program", "replay", "replay_strictly", "run_in_steps", "seq", "version",
 ]
 
 Text = Union[str, bytes]
@@ -43,6 +43,14 @@ class AnnotateEmit(IntEnum):
     CERTIFICATE = 1
     KEEP = 2
     MARKS = 3
+
+
+class ExplainFormat(IntEnum):
+    """How `explain_text` lays out what it says: for a person, as a log in SARIF, or as lines of JSON."""
+
+    TEXT = 0
+    SARIF = 1
+    JSON = 2
 
 
 class ReplayEmit(IntEnum):
@@ -64,6 +72,7 @@ class RunEmit(IntEnum):
     SVG = 3
     TRACE = 4
     JSON = 5
+    SCRIPT_WITH_VALUES = 6
 
 
 class CurveEmit(IntEnum):
@@ -205,15 +214,15 @@ def check(program: Text, certificate: Text | None = None) -> Verdict:
 
 
 def explain_text(program: Text, name: str = "program.s", certificate: Text | None = None, certificate_name: str = "program.cert2",
-                 warnings: bool = True) -> Report:
-    """What is wrong with a program, and with a certificate if there is one, as text for a person."""
-    return Report(*_call("explain", 0, warnings, certificate is not None, name.encode(), _bytes(program), certificate_name.encode(), _bytes(certificate)))
+                 warnings: bool = True, form: ExplainFormat = ExplainFormat.TEXT) -> Report:
+    """What is wrong with a program, and with a certificate if there is one, as text for a person or for other tools."""
+    return Report(*_call("explain", int(form), warnings, certificate is not None, name.encode(), _bytes(program), certificate_name.encode(), _bytes(certificate)))
 
 
 def explain(program: Text, name: str = "program.s", certificate: Text | None = None, certificate_name: str = "program.cert2",
             warnings: bool = True) -> list[Diagnostic]:
     """What is wrong with a program, and with a certificate if there is one; empty where nothing is."""
-    _, data = _call("explain", 1, warnings, certificate is not None, name.encode(), _bytes(program), certificate_name.encode(), _bytes(certificate))
+    _, data = _call("explain", int(ExplainFormat.SARIF), warnings, certificate is not None, name.encode(), _bytes(program), certificate_name.encode(), _bytes(certificate))
     return [_diagnostic(result) for result in json.loads(data)["runs"][0]["results"]]
 
 
@@ -259,6 +268,11 @@ def run_in_steps(program: Text, certificate: Text | None = None, units: int = 4,
 def replay(program: Text, script: Text, certificate: Text | None = None, units: int = 4, emit: ReplayEmit = ReplayEmit.ANSWERS) -> Report:
     """Plays a script of events on a machine of 1 to 16 units."""
     return Report(*_call("replay", certificate is None, units, int(emit), _bytes(program), _bytes(certificate), _bytes(script), room=65536))
+
+
+def replay_strictly(program: Text, script: Text, certificate: Text | None = None, units: int = 4) -> Report:
+    """Judges a script with expectations: status 0 exactly where each event is allowed and does what is expected."""
+    return Report(*_call("replay_strictly", certificate is None, units, _bytes(program), _bytes(certificate), _bytes(script)))
 
 
 def curve(program: Text, certificate: Text | None = None, units: int = 16, budget: int = 1_000_000, prediction: Prediction = FIRST,

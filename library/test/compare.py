@@ -16,7 +16,7 @@ PROGRAM, TEXTS = sys.argv[1], int(sys.argv[2])
 EMITS = {
     "annotate": (multiscalar.AnnotateEmit, ["text", "cert", "keep", "marks"]),
     "replay": (multiscalar.ReplayEmit, ["answers", "summary", "svg", "trace", "json"]),
-    "run": (multiscalar.RunEmit, ["report", "script", "summary", "svg", "trace", "json"]),
+    "run": (multiscalar.RunEmit, ["report", "script", "summary", "svg", "trace", "json", "script --with-values"]),
     "curve": (multiscalar.CurveEmit, ["table", "svg"]),
 }
 PREDICTIONS = {"first": multiscalar.FIRST, "last": multiscalar.LAST, "1,0": [1, 0]}
@@ -45,10 +45,9 @@ class Comparison:
         self.compare(["seq", file], multiscalar.seq(text))
         self.compare(["print", file], multiscalar.print_program(text))
         self.compare(["check", "--least", file], multiscalar.check(text))
-        self.compare(["explain", file], multiscalar.explain_text(text, name=str(file)))
         self.compare(["explain", "--no-warnings", file], multiscalar.explain_text(text, name=str(file), warnings=False))
-        log = multiscalar.Report(*multiscalar._call("explain", 1, True, False, str(file).encode(), text, b"", b""))
-        self.compare(["explain", "--format", "sarif", file], log)
+        for form, name in zip(multiscalar.ExplainFormat, ["text", "sarif", "json"]):
+            self.compare(["explain", "--format", name, file], multiscalar.explain_text(text, name=str(file), form=form))
         for emit, word in emits("annotate"):
             self.compare(["annotate", "--emit", word, file], multiscalar.annotate(text, emit))
 
@@ -57,7 +56,7 @@ class Comparison:
         for units in (1, 3, 16):
             for word, prediction in PREDICTIONS.items():
                 for emit, name in emits("run"):
-                    words = ["run", "--least", "--schedule", "steps", "--units", units, "--predict", word, "--budget", 2000, "--emit", name, file]
+                    words = ["run", "--least", "--schedule", "steps", "--units", units, "--predict", word, "--budget", 2000, "--emit", *name.split(), file]
                     self.compare(words, multiscalar.run_in_steps(text, units=units, budget=2000, prediction=prediction, emit=emit))
         for emit, name in emits("curve"):
             self.compare(["curve", "--least", "--units", 6, "--budget", 2000, "--emit", name, file], multiscalar.curve(text, units=6, budget=2000, emit=emit))
@@ -70,6 +69,7 @@ class Comparison:
         for emit, name in emits("replay"):
             report = multiscalar.replay(file.read_bytes(), script.read_bytes(), text, emit=emit)
             self.compare(["replay", *given, "--units", 4, "--emit", name, *files], report)
+        self.compare(["replay", "--strict", *given, *files], multiscalar.replay_strictly(file.read_bytes(), script.read_bytes(), text))
 
     def certify(self, file, certificate):
         self.compare(["check", file, certificate], multiscalar.check(file.read_bytes(), certificate.read_bytes()))

@@ -23,15 +23,18 @@ use Rattle.jobs.specs.declared.job.Emit.{Emit}
 use Rattle.jobs.specs.declared.job.Emit.TheVariants as emit
 use Rattle.jobs.specs.declared.job.Format.{Format}
 use Rattle.jobs.specs.declared.job.Format.TheVariants as form
+use Rattle.jobs.specs.declared.job.Colors.{Colors}
 use Rattle.jobs.specs.declared.job.ReplayEmit.{ReplayEmit}
+use Rattle.jobs.specs.declared.job.ReplayEmit.TheVariants.{Answers}
 use Rattle.jobs.specs.declared.job.RunEmit.{RunEmit}
+use Rattle.jobs.specs.declared.job.RunEmit.TheVariants.{Script, ScriptWithValues}
 use Rattle.jobs.specs.declared.job.CurveEmit.{CurveEmit}
 use Rattle.jobs.specs.declared.job.Schedule.{Schedule}
 use Rattle.jobs.specs.declared.job.Prediction.{Prediction}
 use Rattle.jobs.specs.declared.job.Job.{Job}
-use Rattle.jobs.specs.declared.job.Job.TheVariants.{Seq, Print, Annotate, Explain, Check, Replay, Run, Curve}
+use Rattle.jobs.specs.declared.job.Job.TheVariants.{Seq, Print, Annotate, Explain, Check, Replay, ReplayStrictly, Run, Curve}
 use Rattle.jobs.specs.declared.job.Paths.{Paths}
-use Rattle.command_line.specs.Words.{curve_emit_of, emit_of, format_of, prediction_of, replay_emit_of, run_emit_of, schedule_of}
+use Rattle.command_line.specs.Words.{colors_of, curve_emit_of, emit_of, format_of, prediction_of, replay_emit_of, run_emit_of, schedule_of}
 use Rattle.command_line.specs.CommandLine.{command_line}
 use Rattle.command_line.specs.declared.request.Request.{Request}
 use Rattle.command_line.specs.declared.words.UsageFault.{UsageFault}
@@ -50,7 +53,7 @@ abbrev pub number_of : Text → Option ℕ
 number_of text =
     if is_unsigned_in 0 4294967295 text then Some (digits_value 10 (without_leading_plus text)) else None
 
--- the values of an option with a number, of `--predict`, of `--schedule`, of `--format` and of `--emit`
+-- the values of an option with a number, of `--predict`, of `--schedule`, of `--format`, of `--color` and of `--emit`
 abbrev pub number_at : Text → List Row → Option ℕ
 number_at id values = option_and_then number_of (one_of id values)
 
@@ -63,8 +66,8 @@ schedule_in values = option_and_then schedule_of (first_of (codes "schedule") va
 abbrev pub format_in : List Row → Option Format
 format_in values = option_and_then format_of (first_of (codes "format") values)
 
-abbrev pub run_emit_in : List Row → Option RunEmit
-run_emit_in values = option_and_then run_emit_of (first_of (codes "emit") values)
+abbrev pub colors_in : List Row → Option Colors
+colors_in values = option_and_then colors_of (first_of (codes "color") values)
 
 abbrev pub replay_emit_in : List Row → Option ReplayEmit
 replay_emit_in values = option_and_then replay_emit_of (first_of (codes "emit") values)
@@ -75,6 +78,15 @@ curve_emit_in values = option_and_then curve_emit_of (first_of (codes "emit") va
 -- an option without a value is given
 abbrev pub is_given : Text → List Row → Bool
 is_given id values = option_map_or (λ word. bytes_eq word (codes "true")) (first_of id values) false
+
+-- `--with-values` goes with a script alone
+abbrev pub with_values : (given : Bool) → Option RunEmit → Option RunEmit
+with_values false emit = emit
+with_values true (Some Script) = Some ScriptWithValues
+with_values true other = None
+
+abbrev pub run_emit_in : List Row → Option RunEmit
+run_emit_in values = with_values (is_given (codes "with-values") values) (option_and_then run_emit_of (first_of (codes "emit") values))
 
 -- the result takes the place of the program text
 abbrev pub is_in_place : List Row → Bool
@@ -88,6 +100,10 @@ emit_in values =
 -- `--least` is given
 abbrev pub is_least : List Row → Bool
 is_least values = is_given (codes "least") values
+
+-- `--strict` is given
+abbrev pub is_strict : List Row → Bool
+is_strict values = is_given (codes "strict") values
 
 -- where the certificate comes from, of a subcommand whose last file is this one: with `--least` there is a
 -- file less, and so no last one
@@ -122,20 +138,30 @@ IsCheckMisfit values fault =
 abbrev pub IsNoValue : {V : Type 0} → Option V → UsageFault → Type 0
 IsNoValue value fault = IsOfKind kind.InvalidValue fault × (value ≡ None)
 
+-- `--strict` is given, and something else is to be written, too
+abbrev pub IsStrictMisfit : List Row → UsageFault → Type 0
+IsStrictMisfit values fault = IsOfKind kind.ArgumentConflict fault × (is_strict values ≡ true)
+    × IsSomeAnd (replay_emit_in values) (λ emit. emit ≢ Answers)
+
 -- a subcommand of this name with these values gives the job
 abbrev pub Gives : Text → List Row → Job → Type 0
 Gives name values (Seq budget) =
     (name ≡ codes "seq") × (number_at (codes "budget") values ≡ Some budget)
 Gives name values Print = name ≡ codes "print"
 Gives name values (Annotate emit) = (name ≡ codes "annotate") × (emit_in values ≡ Some emit)
-Gives name values (Explain file certificate warnings format) = (name ≡ codes "explain")
+Gives name values (Explain file certificate script warnings format colors) = (name ≡ codes "explain")
     × (first_of (codes "program") values ≡ Some (string_bytes file))
     × (first_of (codes "certificate") values ≡ option_map string_bytes certificate)
+    × (first_of (codes "script") values ≡ option_map string_bytes script)
     × (warnings ≡ not (is_given (codes "no-warnings") values)) × (format_in values ≡ Some format)
+    × (colors_in values ≡ Some colors)
 Gives name values (Check source workers) = (name ≡ codes "check")
     × IsCheckSource values source × (number_at (codes "workers") values ≡ Some workers)
 Gives name values (Replay source units emit) = (name ≡ codes "replay") × IsSource (codes "script") values source
     × (number_at (codes "units") values ≡ Some units) × (replay_emit_in values ≡ Some emit)
+    × (is_strict values ≡ false)
+Gives name values (ReplayStrictly source units) = (name ≡ codes "replay") × IsSource (codes "script") values source
+    × (number_at (codes "units") values ≡ Some units) × (replay_emit_in values ≡ Some Answers) × (is_strict values ≡ true)
 Gives name values (Run source schedule units workers budget predict emit) = (name ≡ codes "run")
     × IsSource (codes "certificate") values source × (schedule_in values ≡ Some schedule)
     × (number_at (codes "units") values ≡ Some units)
@@ -147,8 +173,9 @@ Gives name values (Curve source units budget predict emit) = (name ≡ codes "cu
     × (number_at (codes "budget") values ≡ Some budget) × (predict_in values ≡ Some predict)
     × (curve_emit_in values ≡ Some emit)
 
--- where the script stands: without a certificate, in its place
+-- where the script stands: of `replay` without a certificate in its place
 abbrev pub place_of_script : Job → Text
+place_of_script (Explain file certificate script warnings format colors) = codes "script"
 place_of_script job = if has_certificate job then codes "script" else codes "certificate"
 
 -- each file of the job has the name that stands in its place
@@ -184,15 +211,17 @@ destination_in values job =
 
 -- the programs behind the first
 abbrev pub further_in : Job → List Row → List Text
-further_in (Explain file certificate warnings format) values = values_at (codes "further") values
+further_in (Explain file certificate script warnings format colors) values = values_at (codes "further") values
 further_in (Check Least workers) values = values_at (codes "certificate") values
 further_in _ values = []
 
--- the job can be done for one program after another: it has no certificate, and what it writes are lines and not
--- one log
+-- the job can be done for one program after another: it has no certificate and no script, and what it writes are
+-- lines for a person and not a log
 abbrev pub repeats : Job → Bool
-repeats (Explain file (Some certificate) warnings format) = false
-repeats (Explain file None warnings form.Sarif) = false
+repeats (Explain file (Some certificate) script warnings format colors) = false
+repeats (Explain file None (Some script) warnings format colors) = false
+repeats (Explain file None None warnings form.Sarif colors) = false
+repeats (Explain file None None warnings form.Json colors) = false
 repeats _ = true
 
 -- where there are further programs, the job can be repeated and no file takes its result
@@ -206,6 +235,7 @@ IsRequested name values request = IsAsked name values request.job request.paths
     × (map string_bytes request.further.items ≡ further_in request.job values)
     × (goes_together request.job request.output request.further.items ≡ true)
     × (request.report ≡ is_given (codes "report") values)
+    × (request.progress ≡ is_given (codes "progress") values)
 
 -- the words ask for this: `clap` has no fault for them, and it is the request of the subcommand that `clap` makes
 -- of them
@@ -257,9 +287,11 @@ Refuses name values Predict = (name ≡ codes "run") × Fits (codes "certificate
 Refuses name values EmitFault = (name ≡ codes "annotate") × (emit_in values ≡ None)
 Refuses name values fault = IsLack (Lacks name values) fault
     ⊎ ((name ≡ codes "explain") × IsNoValue (format_in values) fault)
+    ⊎ ((name ≡ codes "explain") × IsSome (format_in values) × IsNoValue (colors_in values) fault)
     ⊎ ((name ≡ codes "check") × IsCheckMisfit values fault)
     ⊎ ((name ≡ codes "replay") × IsMisfit (codes "script") values fault)
     ⊎ ((name ≡ codes "replay") × Fits (codes "script") values × IsNoValue (replay_emit_in values) fault)
+    ⊎ ((name ≡ codes "replay") × Fits (codes "script") values × IsStrictMisfit values fault)
     ⊎ ((name ≡ codes "run") × IsMisfit (codes "certificate") values fault)
     ⊎ ((name ≡ codes "run") × Fits (codes "certificate") values × IsNoValue (schedule_in values) fault)
     ⊎ ((name ≡ codes "run") × Fits (codes "certificate") values × IsSome (schedule_in values) × IsNoValue (run_emit_in values) fault)

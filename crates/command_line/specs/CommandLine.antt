@@ -71,6 +71,10 @@ further = free_files (codes "further")
 abbrev pub explained_certificate : Rule
 explained_certificate = free_word (codes "certificate")
 
+-- the script that is explained beside its program
+abbrev pub explained_script : Rule
+explained_script = free_word (codes "script")
+
 abbrev pub free_script : Rule
 free_script = free_file (codes "script")
 
@@ -85,6 +89,14 @@ output = file_option (codes "output") 111
 -- the program's own file takes the result
 abbrev pub in_place : Rule
 in_place = flag (codes "in-place")
+
+-- a script says what its events did
+abbrev pub valued : Rule
+valued = flag (codes "with-values")
+
+-- a script with expectations is judged
+abbrev pub strict : Rule
+strict = flag (codes "strict")
 
 -- what is left to mend by hand is told
 abbrev pub report : Rule
@@ -115,6 +127,14 @@ workers = free_number (codes "workers") 16
 abbrev pub layout : Rule
 layout = word (codes "format") (codes "text")
 
+-- whether what is said of a program has colours
+abbrev pub colors : Rule
+colors = word (codes "color") (codes "auto")
+
+-- each of several runs is told when it is done
+abbrev pub progress : Rule
+progress = flag (codes "progress")
+
 -- how the units of a run take turns
 abbrev pub schedule : Rule
 schedule = word (codes "schedule") (codes "threads")
@@ -132,22 +152,23 @@ abbrev pub annotate : Shape
 annotate = subcommand (codes "annotate") (program ∷ free_word (codes "emit") ∷ output ∷ in_place ∷ report ∷ [])
 
 abbrev pub explain : Shape
-explain = subcommand (codes "explain") (program ∷ further ∷ explained_certificate ∷ no_warnings ∷ layout ∷ output ∷ [])
+explain = subcommand (codes "explain") (program ∷ further ∷ explained_certificate ∷ explained_script ∷ no_warnings ∷ layout ∷ colors
+    ∷ output ∷ [])
 
 abbrev pub check : Shape
 check = subcommand (codes "check") (program ∷ certificate_or_programs ∷ least ∷ checkers ∷ output ∷ [])
 
 abbrev pub replay : Shape
 replay = subcommand (codes "replay") (program ∷ certificate ∷ free_script ∷ least ∷ units
-    ∷ word (codes "emit") (codes "answers") ∷ output ∷ [])
+    ∷ word (codes "emit") (codes "answers") ∷ strict ∷ output ∷ [])
 
 abbrev pub run : Shape
 run = subcommand (codes "run") (program ∷ free_certificate ∷ least ∷ schedule ∷ units ∷ workers ∷ budget
-    ∷ word (codes "predict") (codes "first") ∷ word (codes "emit") (codes "report") ∷ output ∷ [])
+    ∷ word (codes "predict") (codes "first") ∷ word (codes "emit") (codes "report") ∷ valued ∷ output ∷ [])
 
 abbrev pub curve : Shape
 curve = subcommand (codes "curve") (program ∷ free_certificate ∷ least ∷ most_units ∷ budget
-    ∷ word (codes "predict") (codes "first") ∷ word (codes "emit") (codes "table") ∷ output ∷ [])
+    ∷ word (codes "predict") (codes "first") ∷ word (codes "emit") (codes "table") ∷ progress ∷ output ∷ [])
 
 -- the program, which has a version, and of which a subcommand is wanted
 abbrev pub program_name : Shape

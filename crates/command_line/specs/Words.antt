@@ -1,4 +1,4 @@
--- What the values of `--predict`, `--schedule`, `--format` and `--emit` stand for (own choice).
+-- What the values of `--predict`, `--schedule`, `--format`, `--color` and `--emit` stand for (own choice).
 use Rattle.std.specs.Prelude.{ℕ, ◌+◌, ◌-◌, ◌*◌, ◌==◌, ◌&&◌, nat_le, if◌then◌else◌, List, [], ◌∷◌, length, map, Option, Some, None, codes}
 use Rattle.std.specs.Char.{is_ascii_digit}
 use Rattle.std.specs.Option.{option_map}
@@ -8,6 +8,8 @@ use Rattle.jobs.specs.declared.job.Emit.{Emit}
 use Rattle.jobs.specs.declared.job.Emit.TheVariants.{Text, Cert, Keep, Marks}
 use Rattle.jobs.specs.declared.job.Format.{Format}
 use Rattle.jobs.specs.declared.job.Format.TheVariants as format
+use Rattle.jobs.specs.declared.job.Colors.{Colors}
+use Rattle.jobs.specs.declared.job.Colors.TheVariants.{Auto, Always, Never}
 use Rattle.jobs.specs.declared.job.RunEmit.{RunEmit}
 use Rattle.jobs.specs.declared.job.RunEmit.TheVariants.{Report, Script, Summary, Picture, Trace, Json}
 use Rattle.jobs.specs.declared.job.ReplayEmit.{ReplayEmit}
@@ -56,7 +58,15 @@ schedule_of text =
 abbrev pub format_of : List ℕ → Option Format
 format_of text =
     if bytes_eq text (codes "text") then Some format.Text
-    else (if bytes_eq text (codes "sarif") then Some format.Sarif else None)
+    else (if bytes_eq text (codes "sarif") then Some format.Sarif
+    else (if bytes_eq text (codes "json") then Some format.Json else None))
+
+-- the value of `--color`
+abbrev pub colors_of : List ℕ → Option Colors
+colors_of text =
+    if bytes_eq text (codes "auto") then Some Auto
+    else (if bytes_eq text (codes "always") then Some Always
+    else (if bytes_eq text (codes "never") then Some Never else None))
 
 -- the value of `--emit` of `annotate`
 abbrev pub emit_of : List ℕ → Option Emit

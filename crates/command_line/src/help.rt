@@ -105,14 +105,16 @@ For a text that is not a program it writes the first fault and those of further 
 Where the annotations are right, it warns of those that cost speed, and of code that no task reaches:
   FILE:LINE:COLUMN: warning: ..
   FILE:LINE:COLUMN: help: ..
-With `--format sarif` it writes the same as a log in SARIF 2.1.0, which editors and code hosts read.
+With `--format sarif` it writes the same as a log in SARIF 2.1.0, which editors and code hosts read, and with
+`--format json` as an object of JSON on each line, for scripts. With `--color always` the lines above have
+colours, which a terminal shows; they have them unasked where they go to a terminal and NO_COLOR is not set.
 With `--certificate FILE` it says, too, why that text is no certificate, or that it is none of the program as
-it stands, and how to make it anew.
+it stands, and how to make it anew; and with `--script FILE` why that text is no script of events.
 
 Of several programs it says so one after another, and then how many there are:
   4 programs: 2 right, 1 wrong, 1 not judged
-One that cannot be read is not judged; the others are. `--certificate`, `--format sarif` and `--output` are
-of one program, and are not allowed beside several.
+One that cannot be read is not judged; the others are. `--certificate`, `--script`, `--format sarif`,
+`--format json` and `--output` are of one program, and are not allowed beside several.
 
 The exit status is 0 where nothing is wrong, with warnings too, and 1 where something is or a text is
 refused. Where a file cannot be read, it is 2, and standard error is told why:
@@ -123,7 +125,9 @@ For example:
   ./multiscalar explain examples/warnings/program.s
   ./multiscalar explain examples/count/program.s examples/five-findings/program.s
   ./multiscalar explain --certificate examples/count/certificate.cert2 examples/count/program.s
-  ./multiscalar explain --format sarif examples/five-findings/program.s > findings.sarif";
+  ./multiscalar explain --script examples/count/script.events examples/count/program.s
+  ./multiscalar explain --format sarif examples/five-findings/program.s > findings.sarif
+  ./multiscalar explain --color always examples/five-findings/program.s | less -R";
 
 /// `check`, in one line.
 pub const CHECK: &str = "Checks a program with its certificate";
@@ -186,6 +190,13 @@ stands: running, halted, trapped K Name or unlisted ADDRESS. Of a text that is n
 first fault and its line:
   script refused: K Name LINE
 
+With `--strict` it judges the script instead, as a log of another simulator. After an event a colon may stand,
+and what the event must have done, parted by commas: `$9=7` (the register comes to have this word),
+`[0x10010000]=5` (this word is loaded from there or stored there), `out=10`, `stops 0x00400010`. Empty lines,
+comments from `#` on and lines such as `step 3` are skipped. It writes the first line that departs from the
+machine, with what the event did and how each unit then stands, with status 1; or, with status 0,
+  as expected: N events; HOW THE RUN STANDS
+
 With `--emit summary` it writes a table instead of the answers and of how the run stands: that of
 `run --emit summary`, of the events that were allowed. With `--emit trace` it writes below each answer what
 the event changed, and with `--emit json` the same for machines, an object of JSON on each line. With
@@ -219,6 +230,7 @@ With `--emit script` it writes what the machine did instead, one event on each l
 as many units:
   ./multiscalar run --least --units 2 --emit script examples/count/program.s > count.events
   ./multiscalar replay --least --units 2 examples/count/program.s count.events
+With `--with-values`, too, it says of each event what it did, for `replay --strict` and other simulators.
 
 With `--emit summary` it writes a table instead, with a row for each task and one for all of them:
   assigned  retired  squashed  dropped  unfinished  useful  wasted  task
@@ -265,6 +277,10 @@ decimals are rounded to the nearest.
 With `--emit svg` it draws a picture instead: for each run how many instructions retired for each step, and
 the share that was thrown away.
 
+With `--progress` standard error is told of each run when it is done, since many units and a great budget take
+their time:
+  multiscalar: PROGRAM: N of M runs
+
 The same words give the same table. It is no model of the time of a processor: an instruction is one step
 whatever it does, and so is a register that goes from one unit to the next.
 
@@ -273,7 +289,8 @@ itself, that of `annotate --emit keep`.
 
 For example:
   ./multiscalar curve --least --units 4 examples/count/program.s
-  ./multiscalar curve --least --emit svg examples/diamond/program.s > curve.svg";
+  ./multiscalar curve --least --emit svg examples/diamond/program.s > curve.svg
+  ./multiscalar curve --least --progress examples/diamond/program.s";
 
 /// `--budget` of `curve`.
 pub const CURVE_BUDGET: &str = "How many events end a run, 1 to 1000000";
@@ -332,6 +349,9 @@ pub const FURTHER: &str = "Further programs, each explained in turn";
 /// `--certificate` of `explain`.
 pub const EXPLAINED_CERTIFICATE: &str = "A certificate of the program, which is explained, too";
 
+/// `--script` of `explain`.
+pub const EXPLAINED_SCRIPT: &str = "A script of events, which is explained, too";
+
 /// `--no-warnings`.
 pub const NO_WARNINGS: &str = "Says nothing of annotations that are right but cost speed";
 
@@ -353,9 +373,13 @@ pub const RESULT_OF_ONE: &str =
 pub const CERTIFICATE_OF_ONE: &str =
     "--certificate is that of one program: give each program a command of its own";
 
-/// Why words with several programs and `--format sarif` give no job.
+/// Why words with several programs and a script give no job.
+pub const SCRIPT_OF_ONE: &str =
+    "--script is that of one program: give each program a command of its own";
+
+/// Why words with several programs and `--format sarif` or `--format json` give no job.
 pub const LOG_OF_ONE: &str =
-    "--format sarif writes the log of one program: give each program a command of its own";
+    "--format sarif and --format json write of one program: give each program a command of its own";
 
 /// `--schedule`.
 pub const SCHEDULE: &str =
@@ -363,19 +387,43 @@ pub const SCHEDULE: &str =
 does at most one event: the same run every time)";
 
 /// `--format` of `explain`.
-pub const FORMAT: &str = "How it is laid out: text (for a person) or sarif (a log in SARIF 2.1.0)";
+pub const FORMAT: &str =
+    "How it is laid out: text (for a person), sarif (a log in SARIF 2.1.0) or json (an object of JSON on
+each line)";
 
 /// Why another value of `--format` gives no job.
-pub const NO_FORMAT: &str = "the value of --format is text or sarif";
+pub const NO_FORMAT: &str = "the value of --format is text, sarif or json";
+
+/// `--color` of `explain`.
+pub const COLOR: &str =
+    "Whether the lines for a person have colours: auto (where standard output is a terminal and takes them,
+and the environment variable NO_COLOR is not set or is empty), always or never";
+
+/// Why another value of `--color` gives no job.
+pub const NO_COLOR: &str = "the value of --color is auto, always or never";
+
+/// `--progress`.
+pub const PROGRESS: &str = "Says on standard error of each run when it is done";
 
 /// Why another value of `--schedule` gives no job.
 pub const NO_SCHEDULE: &str = "the value of --schedule is threads or steps";
+
+/// `--with-values`.
+pub const WITH_VALUES: &str =
+    "With --emit script: says of each event what it did, for replay --strict";
+
+/// `--strict`.
+pub const STRICT: &str = "Judges a script that says what its events must have done";
+
+/// Why `--strict` with another `--emit` gives no job.
+pub const STRICT_EMITS: &str = "with --strict there is no other --emit";
 
 /// Why another value of `--emit` of `replay` gives no job.
 pub const NO_REPLAY_EMIT: &str = "the value of --emit is answers, summary, svg, trace or json";
 
 /// Why another value of `--emit` of `run` gives no job.
-pub const NO_RUN_EMIT: &str = "the value of --emit is report, script, summary, svg, trace or json";
+pub const NO_RUN_EMIT: &str =
+    "the value of --emit is report, script, summary, svg, trace or json; --with-values goes with script";
 
 /// Why another value of `--emit` of `curve` gives no job.
 pub const NO_CURVE_EMIT: &str = "the value of --emit is table or svg";

@@ -13,8 +13,10 @@ pub struct Request {
     pub output: Option<String>,
     /// The names of further programs, in the order of the words, each of which gets the job, too: of
     /// `check --least` and of `explain`; of every other job none. Where there is one, the job has no certificate
-    /// in a file and no log in SARIF, and `output` is `None`.
+    /// in a file, no script and no log for machines, and `output` is `None`.
     pub further: Vec<String>,
     /// Whether standard error is to be told what `annotate` leaves to mend by hand; of every other job not.
     pub report: bool,
+    /// Whether standard error is to be told of each run of `curve` when it is done; of every other job not.
+    pub progress: bool,
 }

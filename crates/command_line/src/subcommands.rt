@@ -4,7 +4,7 @@ ghost use Rattle.clap.specs.Words.{AddsSubcommand, app_of, new_app, rule_of};
 ghost use Rattle.clap.specs.declared.builder.command.Command.TheViews.{out-Command as fields_of};
 ghost use Rattle.command_line.specs.CommandLine.{IsSubcommand, app_named, command_line, program_name as program_name_shape, file as file_rule, file_option as file_option_rule, free_word as free_word_rule, flag as flag_rule, free_file as free_file_rule, free_files as free_files_rule, word as word_rule};
 ghost use Rattle.command_line.specs.CommandLine.{free_number as free_number_rule, number as number_rule};
-ghost use Rattle.command_line.specs.CommandLine.{program as program_rule, certificate as certificate_rule, free_certificate as free_certificate_rule, certificate_or_programs as certificate_or_programs_rule, explained_certificate as explained_certificate_rule, further as further_rule, free_script as free_script_rule, least as least_rule, output as output_rule, in_place as in_place_rule, report as report_rule, no_warnings as no_warnings_rule, layout as layout_rule, schedule as schedule_rule};
+ghost use Rattle.command_line.specs.CommandLine.{program as program_rule, certificate as certificate_rule, free_certificate as free_certificate_rule, certificate_or_programs as certificate_or_programs_rule, explained_certificate as explained_certificate_rule, explained_script as explained_script_rule, further as further_rule, free_script as free_script_rule, least as least_rule, output as output_rule, in_place as in_place_rule, report as report_rule, strict as strict_rule, valued as valued_rule, no_warnings as no_warnings_rule, layout as layout_rule, colors as colors_rule, progress as progress_rule, schedule as schedule_rule};
 ghost use Rattle.command_line.specs.CommandLine.{budget as budget_rule, units as units_rule, most_units as most_units_rule, checkers as checkers_rule, workers as workers_rule};
 ghost use Rattle.command_line.specs.CommandLine.{seq as seq_shape, print as print_shape, annotate as annotate_shape, explain as explain_shape, check as check_shape, replay as replay_shape, run as run_shape, curve as curve_shape};
 
@@ -206,6 +206,13 @@ fn explained_certificate<'a>(alloc: Global) -> Arg<'a>
     free_word(alloc, "certificate", "FILE", help::EXPLAINED_CERTIFICATE)
 }
 
+fn explained_script<'a>(alloc: Global) -> Arg<'a>
+    ensures rule { rule_of result ≡ explained_script_rule }
+    ensures local { result.global ≡ false }
+{
+    free_word(alloc, "script", "FILE", help::EXPLAINED_SCRIPT)
+}
+
 fn free_script<'a>(alloc: Global) -> Arg<'a>
     ensures rule { rule_of result ≡ free_script_rule }
     ensures local { result.global ≡ false }
@@ -236,6 +243,22 @@ fn in_place<'a>(alloc: Global) -> Arg<'a>
     flag(alloc, "in-place", help::IN_PLACE)
 }
 
+// A script says what its events did.
+fn valued<'a>(alloc: Global) -> Arg<'a>
+    ensures rule { rule_of result ≡ valued_rule }
+    ensures local { result.global ≡ false }
+{
+    flag(alloc, "with-values", help::WITH_VALUES)
+}
+
+// A script with expectations is judged.
+fn strict<'a>(alloc: Global) -> Arg<'a>
+    ensures rule { rule_of result ≡ strict_rule }
+    ensures local { result.global ≡ false }
+{
+    flag(alloc, "strict", help::STRICT)
+}
+
 // What is left to mend by hand is told.
 fn report<'a>(alloc: Global) -> Arg<'a>
     ensures rule { rule_of result ≡ report_rule }
@@ -256,6 +279,21 @@ fn layout<'a>(alloc: Global) -> Arg<'a>
     ensures local { result.global ≡ false }
 {
     word(alloc, "format", "HOW", help::FORMAT, "text")
+}
+
+fn colors<'a>(alloc: Global) -> Arg<'a>
+    ensures rule { rule_of result ≡ colors_rule }
+    ensures local { result.global ≡ false }
+{
+    word(alloc, "color", "WHEN", help::COLOR, "auto")
+}
+
+// Each run is told when it is done.
+fn progress<'a>(alloc: Global) -> Arg<'a>
+    ensures rule { rule_of result ≡ progress_rule }
+    ensures local { result.global ≡ false }
+{
+    flag(alloc, "progress", help::PROGRESS)
 }
 
 fn schedule<'a>(alloc: Global) -> Arg<'a>
@@ -357,8 +395,10 @@ fn explain<'a>(alloc: Global) -> Result<Command<'a>, AllocError>
         program(alloc),
         further(alloc),
         explained_certificate(alloc),
+        explained_script(alloc),
         no_warnings(alloc),
         layout(alloc),
+        colors(alloc),
         output(alloc),
     ]?;
     let command = subcommand(alloc, "explain", help::EXPLAIN, help::EXPLAIN_LONG);
@@ -389,6 +429,7 @@ fn replay<'a>(alloc: Global) -> Result<Command<'a>, AllocError>
         least(alloc),
         units(alloc),
         word(alloc, "emit", "WHAT", help::REPLAY_EMIT, "answers"),
+        strict(alloc),
         output(alloc),
     ]?;
     let command = subcommand(alloc, "replay", help::REPLAY, help::REPLAY_LONG);
@@ -408,6 +449,7 @@ fn run<'a>(alloc: Global) -> Result<Command<'a>, AllocError>
         budget(alloc, help::RUN_BUDGET),
         word(alloc, "predict", "HOW", help::PREDICT, "first"),
         word(alloc, "emit", "WHAT", help::RUN_EMIT, "report"),
+        valued(alloc),
         output(alloc),
     ]?;
     let command = subcommand(alloc, "run", help::RUN, help::RUN_LONG);
@@ -425,6 +467,7 @@ fn curve<'a>(alloc: Global) -> Result<Command<'a>, AllocError>
         budget(alloc, help::CURVE_BUDGET),
         word(alloc, "predict", "HOW", help::PREDICT, "first"),
         word(alloc, "emit", "WHAT", help::CURVE_EMIT, "table"),
+        progress(alloc),
         output(alloc),
     ]?;
     let command = subcommand(alloc, "curve", help::CURVE, help::CURVE_LONG);

@@ -1,12 +1,14 @@
 //! From the words of a command line to a job.
-ghost use Rattle.std.specs.Prelude.{◌≡◌, ◌≤◌, ◌==◌, ◌&&◌, ◌⊎◌, IfErr, IfOk, IfSome, MatchOption, MatchResult, All, Some, None, true, false, if◌then◌else◌, map, length, option_map, option_and_then, is_none, unwrap_or, vec_len, [], codes};
+ghost use Rattle.std.specs.Prelude.{◌≡◌, ◌≢◌, ◌≤◌, ◌==◌, ◌&&◌, ◌⊎◌, IfErr, IfOk, IfSome, MatchOption, MatchResult, All, Some, None, true, false, if◌then◌else◌, map, length, option_map, option_and_then, is_none, unwrap_or, vec_len, [], codes};
 ghost use Rattle.std.specs.String.{string_bytes};
 ghost use Rattle.std.specs.List.{slice_split};
 ghost use Rattle.clap.specs.Words.{first_of};
 ghost use Rattle.clap.specs.declared.error.kind.ErrorKind.TheVariants.{ArgumentConflict, InvalidValue, MissingSubcommand};
-ghost use Rattle.command_line.specs.Asked.{AskFor, IsCheckMisfit, IsCheckSource, IsFaultOf, IsFrom, IsLack, IsMisfit, IsNoNumber, IsNoValue, IsOutside, IsOfKind, IsSource, Reads, ReadsRequest, IsDestination, destination_in, is_in_place, is_given, curve_emit_in, fits_in_place, further_in, goes_together, emit_in, format_in, number_at, predict_in, repeats, replay_emit_in, run_emit_in, schedule_in, values_at, values_in};
-ghost use Rattle.command_line.specs.Words.{listed_number, listed_numbers, all_there, curve_emit_of, emit_of, format_of, prediction_of, replay_emit_of, run_emit_of, schedule_of};
+ghost use Rattle.command_line.specs.Asked.{AskFor, IsCheckMisfit, IsCheckSource, IsFaultOf, IsFrom, IsLack, IsMisfit, IsNoNumber, IsNoValue, IsOutside, IsOfKind, IsSource, Reads, ReadsRequest, IsDestination, destination_in, is_in_place, is_given, is_strict, colors_in, curve_emit_in, fits_in_place, further_in, goes_together, emit_in, format_in, number_at, predict_in, repeats, replay_emit_in, run_emit_in, schedule_in, values_at, values_in, with_values};
+ghost use Rattle.command_line.specs.Words.{listed_number, listed_numbers, all_there, colors_of, curve_emit_of, emit_of, format_of, prediction_of, replay_emit_of, run_emit_of, schedule_of};
 ghost use Rattle.jobs.specs.Files.{HasFilesOf, is_in_file};
+ghost use Rattle.jobs.specs.declared.job.Job.TheVariants.{Replay, ReplayStrictly};
+ghost use Rattle.jobs.specs.declared.job.ReplayEmit.TheVariants.{Answers};
 ghost use Rattle.command_line.specs.declared.words.UsageFault.TheVariants.{OutOfMemory, Predict, Emit as EmitFault};
 
 use crate::help;
@@ -15,8 +17,8 @@ use crate::subcommands::{command, command_named};
 use clap::ArgMatches;
 use clap::error::ErrorKind;
 use jobs::job::{
-    CertificateSource, CurveEmit, Emit, Format, Job, Paths, Prediction, ReplayEmit, RunEmit,
-    Schedule,
+    CertificateSource, Colors, CurveEmit, Emit, Format, Job, Paths, Prediction, ReplayEmit,
+    RunEmit, Schedule,
 };
 use jobs::ranges::{Budget, GREATEST_PREDICTION, MOST_PREDICTIONS, PredictionList, Units, Workers};
 use std::alloc::{AllocError, Global};
@@ -27,12 +29,12 @@ use thiserror::Error;
 pub enum UsageFault {
     /// 1: the words are none of the program's, or ask for help or for the version; or there is neither a
     /// certificate nor `--least`, or both but for `check`, or `check` has two certificates; or the value of an
-    /// option is none: of `--schedule` neither `threads` nor `steps`; of `--format` neither `text` nor `sarif`; of
-    /// `--emit` for `replay` none of `answers`, `summary`, `svg`, `trace` and `json`, for `run` none of `report`,
+    /// option is none: of `--schedule` neither `threads` nor `steps`; of `--format` none of `text`, `sarif` and `json`;
+    /// of `--color` none of `auto`, `always` and `never`; of `--emit` for `replay` none of `answers`, `summary`, `svg`, `trace` and `json`, for `run` none of `report`,
     /// `script`, `summary`, `svg`, `trace` and `json`, for `curve` neither `table` nor `svg`; of `--predict` for
     /// `curve` as below; or `--in-place` stands beside `--output` or a certificate that is to be written, or the
-    /// program is standard input; or there are several programs beside a file for the result, `--certificate` or
-    /// a log in SARIF. The fault is `clap`'s, with its text.
+    /// program is standard input; or there are several programs beside a file for the result, `--certificate`,
+    /// `--script` or a log for machines. The fault is `clap`'s, with its text.
     #[error("1 Words")]
     Words(clap::Error),
     /// 2: for `run`, the value of `--predict` is neither `first`, `last` nor 1 to 64 numbers 0..=15.
@@ -66,8 +68,8 @@ impl From<clap::Error> for UsageFault {
 }
 
 /// What a command line asks for. The first word is the program's own name. What `clap` decides comes first,
-/// then whether there are as many files as `--least` asks for, then the values of `--format`, of `--schedule`, of
-/// `--predict` for `curve`, of `--emit`, of `--predict` for `run`, and at last whether `--in-place` can be meant and
+/// then whether there are as many files as `--least` asks for, then the values of `--format`, of `--color`, of
+/// `--schedule`, of `--predict` for `curve`, of `--emit`, of `--predict` for `run`, and at last whether `--in-place` can be meant and
 /// whether further programs can have the job, too. (own choice)
 pub fn request_of(alloc: Global, words: &[String]) -> Result<Request, UsageFault>
     ensures files { IfOk result (λ r. HasFilesOf r.job r.paths) }
@@ -95,6 +97,7 @@ fn read_request(alloc: Global, name: &str, values: &ArgMatches<'_>) -> Result<Re
         output,
         further,
         report: is_given(values, "report"),
+        progress: is_given(values, "progress"),
     })
 }
 
@@ -169,7 +172,15 @@ fn why_of_one(job: &Job, output: &Option<String>) -> Option<&'static str>
             ..
         } => Some(help::CERTIFICATE_OF_ONE),
         Job::Explain {
+            script: Some(_),
+            ..
+        } => Some(help::SCRIPT_OF_ONE),
+        Job::Explain {
             format: Format::Sarif,
+            ..
+        } => Some(help::LOG_OF_ONE),
+        Job::Explain {
+            format: Format::Json,
             ..
         } => Some(help::LOG_OF_ONE),
         _ => None,
@@ -338,17 +349,17 @@ fn replayed_paths(
     }
 }
 
-// The program, and the certificate that is explained beside it, if there is one.
+// The program, and the certificate and the script that are explained beside it, each if there is one.
 fn explained_paths(alloc: Global, values: &ArgMatches<'_>) -> Result<Paths, UsageFault>
     ensures { MatchResult result (λ p. (first_of (codes "program") (values_in values.now) ≡ Some (string_bytes p.program))
         × (string_bytes p.certificate ≡ unwrap_or (first_of (codes "certificate") (values_in values.now)) [])
-        × (string_bytes p.script ≡ []))
+        × (string_bytes p.script ≡ unwrap_or (first_of (codes "script") (values_in values.now)) []))
         (IsLack (first_of (codes "program") (values_in values.now) ≡ None)) }
 {
     Ok(Paths {
         program: path(alloc, values, "program")?,
         certificate: String::from_str(alloc, text(values, "certificate").unwrap_or(""))?,
-        script: String::new(alloc),
+        script: String::from_str(alloc, text(values, "script").unwrap_or(""))?,
     })
 }
 
@@ -535,11 +546,14 @@ fn read_explain(alloc: Global, values: &ArgMatches<'_>) -> Result<(Job, Paths), 
 {
     let paths = explained_paths(alloc, values)?;
     let format = read_format(alloc, values)?;
+    let colors = read_colors(alloc, values)?;
     let job = Job::Explain {
         name: path(alloc, values, "program")?,
         certificate: free_path(alloc, values, "certificate")?,
+        script: free_path(alloc, values, "script")?,
         warnings: !is_given(values, "no-warnings"),
         format,
+        colors,
     };
     Ok((job, paths))
 }
@@ -562,12 +576,39 @@ fn read_replay(alloc: Global, values: &ArgMatches<'_>) -> Result<(Job, Paths), U
     let certificate = read_source(alloc, "replay", values, "script")?;
     let units = read_units(alloc, values)?;
     let emit = replay_emit(alloc, values)?;
-    let job = Job::Replay {
-        certificate,
-        units,
-        emit,
-    };
+    let job = replay_of(alloc, values, certificate, units, emit)?;
     Ok((job, replayed_paths(alloc, values, certificate)?))
+}
+
+// The job of `replay`: with `--strict` nothing but the verdict is written.
+fn replay_of(
+    alloc: Global,
+    values: &ArgMatches<'_>,
+    certificate: CertificateSource,
+    units: Units,
+    emit: ReplayEmit,
+) -> Result<Job, UsageFault>
+    ensures { MatchResult result
+        (λ job. ((is_strict (values_in values.now) ≡ false) × (job ≡ Replay certificate units emit))
+        ⊎ ((is_strict (values_in values.now) ≡ true) × (emit ≡ Answers) × (job ≡ ReplayStrictly certificate units)))
+        (λ fault. IsOfKind ArgumentConflict fault × (is_strict (values_in values.now) ≡ true) × (emit ≢ Answers)) }
+{
+    if !is_given(values, "strict") {
+        return Ok(Job::Replay {
+            certificate,
+            units,
+            emit,
+        });
+    }
+    match emit {
+        ReplayEmit::Answers => Ok(Job::ReplayStrictly { certificate, units }),
+        _ => Err(fault_of_kind(
+            alloc,
+            "replay",
+            ErrorKind::ArgumentConflict,
+            help::STRICT_EMITS,
+        )),
+    }
 }
 
 fn read_run(alloc: Global, values: &ArgMatches<'_>) -> Result<(Job, Paths), UsageFault>
@@ -627,6 +668,29 @@ fn format_named(text: &str) -> Option<Format>
     match text {
         "text" => Some(Format::Text),
         "sarif" => Some(Format::Sarif),
+        "json" => Some(Format::Json),
+        _ => None,
+    }
+}
+
+// What the value of `--color` stands for.
+fn read_colors(alloc: Global, values: &ArgMatches<'_>) -> Result<Colors, UsageFault>
+    ensures { MatchResult result (λ c. colors_in (values_in values.now) ≡ Some c) (IsNoValue (colors_in (values_in values.now))) }
+{
+    match text(values, "color").and_then(colors_named) {
+        Some(colors) => Ok(colors),
+        None => Err(no_value(alloc, "explain", help::NO_COLOR)),
+    }
+}
+
+// The colours of this name.
+fn colors_named(text: &str) -> Option<Colors>
+    ensures { result ≡ colors_of text.now }
+{
+    match text {
+        "auto" => Some(Colors::Auto),
+        "always" => Some(Colors::Always),
+        "never" => Some(Colors::Never),
         _ => None,
     }
 }
@@ -666,9 +730,21 @@ fn replay_emit(alloc: Global, values: &ArgMatches<'_>) -> Result<ReplayEmit, Usa
 fn run_emit(alloc: Global, values: &ArgMatches<'_>) -> Result<RunEmit, UsageFault>
     ensures { MatchResult result (λ e. run_emit_in (values_in values.now) ≡ Some e) (IsNoValue (run_emit_in (values_in values.now))) }
 {
-    match text(values, "emit").and_then(read_run_emit) {
+    let emit = text(values, "emit").and_then(read_run_emit);
+    match with_values(is_given(values, "with-values"), emit) {
         Some(emit) => Ok(emit),
         None => Err(no_value(alloc, "run", help::NO_RUN_EMIT)),
+    }
+}
+
+// What is written where `--with-values` is given, or is not: it goes with a script alone.
+fn with_values(given: bool, emit: Option<RunEmit>) -> Option<RunEmit>
+    ensures { result ≡ with_values given emit }
+{
+    match emit {
+        Some(RunEmit::Script) if given => Some(RunEmit::ScriptWithValues),
+        _ if given => None,
+        _ => emit,
     }
 }
 

@@ -1,6 +1,6 @@
 -- What `explain` says: what is wrong with a program text, or with the marks of its program, what could be better about
--- them, and what is wrong with a certificate that is given beside it (own choice).
-use Rattle.std.specs.Prelude.{◌≡◌, ℕ, Bool, true, false, ◌&&◌, List, [], ◌∷◌, ◌++◌, Option, Result, Ok, Err}
+-- them, and what is wrong with a certificate and with an event script that are given beside it (own choice).
+use Rattle.std.specs.Prelude.{◌≡◌, ℕ, Bool, true, false, ◌&&◌, List, [], ◌∷◌, ◌++◌, Option, Some, None, Result, Ok, Err}
 use Rattle.task_descriptor.specs.Listing.{Listing}
 use Rattle.annotated_asm.specs.declared.fault.AsmFault.{AsmFault}
 use Rattle.annotated_asm.specs.ProgramText.{parse}
@@ -9,8 +9,10 @@ use Rattle.diagnostics.specs.declared.diagnostic.Diagnostic.{Diagnostic}
 use Rattle.text_diagnostics.specs.Refusals.{refusal}
 use Rattle.mark_diagnostics.specs.Errors.{AreMarkErrors}
 use Rattle.mark_diagnostics.specs.Warnings.{AreMarkWarnings}
+use Rattle.input_diagnostics.specs.ScriptErrors.{script_errors}
 use Rattle.explain_report.specs.declared.explanation.Explanation.{Explanation}
 use Rattle.explain_report.specs.Beside.{IsCertificateSaid, is_silent}
+use Rattle.explain_report.specs.Order.{in_order}
 
 -- 0 where nothing is wrong
 abbrev pub said_status : List Diagnostic → ℕ
@@ -22,22 +24,29 @@ abbrev pub AreWarned : (asked : Bool) → (text : List ℕ) → Listing → List
 AreWarned false text p said = said ≡ []
 AreWarned true text p said = (least : List (List (ℕ × ℕ))) × IsLeast p least × AreMarkWarnings text p least false said
 
--- What is said of a program: of its marks, and then of the certificate. What could be better about marks is said only
--- where none is wrong, and leaves the status as it is.
-pub record IsProgramExplained (file : Option (List ℕ)) (warnings : Bool) (text certificate : List ℕ) (p : Listing) (e : Explanation) : Type 0 where
+-- what is wrong with the text of an event script for a program, if a file of one is named
+abbrev pub script_said : (file : Option (List ℕ)) → Listing → (script : List ℕ) → List Diagnostic
+script_said None p script = []
+script_said (Some name) p script = script_errors p script
+
+-- What is said of a program: of its marks, of the certificate, and of the script. What could be better about marks is said
+-- only where none is wrong, and leaves the status as it is.
+pub record IsProgramExplained (cert_file script_file : Option (List ℕ)) (warnings : Bool) (text certificate script : List ℕ) (p : Listing) (e : Explanation) : Type 0 where
   pub errors : List Diagnostic
   pub wrong : AreMarkErrors text errors
   pub warned : List Diagnostic
   pub better : AreWarned (warnings && is_silent errors) text p warned
   pub beside : List Diagnostic
-  pub certified : IsCertificateSaid file text p certificate beside
-  pub said : e.said ≡ errors ++ (warned ++ beside)
-  pub status : e.status ≡ said_status (errors ++ beside)
+  pub certified : IsCertificateSaid cert_file text p certificate beside
+  pub said : e.said ≡ in_order (errors ++ (warned ++ (beside ++ script_said script_file p script)))
+  pub status : e.status ≡ said_status (errors ++ (beside ++ script_said script_file p script))
 
-abbrev pub IsReadExplained : (file : Option (List ℕ)) → (warnings : Bool) → (text certificate : List ℕ) → Result Listing AsmFault → Explanation → Type 0
-IsReadExplained file warnings text certificate (Ok p) e = IsProgramExplained file warnings text certificate p e
-IsReadExplained file warnings text certificate (Err fault) e = e ≡ record { said = refusal text fault; status = 1 }
+abbrev pub IsReadExplained : (cert_file script_file : Option (List ℕ)) → (warnings : Bool) → (text certificate script : List ℕ) → Result Listing AsmFault → Explanation → Type 0
+IsReadExplained cert_file script_file warnings text certificate script (Ok p) e =
+    IsProgramExplained cert_file script_file warnings text certificate script p e
+IsReadExplained cert_file script_file warnings text certificate script (Err fault) e = e ≡ record { said = in_order (refusal text fault); status = 1 }
 
--- what is said of a program text, with warnings or without, and of a certificate, if a file of one is named
-abbrev pub IsExplained : (file : Option (List ℕ)) → (warnings : Bool) → (text certificate : List ℕ) → Explanation → Type 0
-IsExplained file warnings text certificate e = IsReadExplained file warnings text certificate (parse text) e
+-- what is said of a program text, with warnings or without, and of a certificate and of a script, if a file of one is named
+abbrev pub IsExplained : (cert_file script_file : Option (List ℕ)) → (warnings : Bool) → (text certificate script : List ℕ) → Explanation → Type 0
+IsExplained cert_file script_file warnings text certificate script e =
+    IsReadExplained cert_file script_file warnings text certificate script (parse text) e

@@ -1,5 +1,6 @@
 pub mod Inputs
 pub mod Beside
+pub mod Order
 pub mod Explained
 pub mod ExplainText
 pub mod LogText

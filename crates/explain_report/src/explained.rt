@@ -4,16 +4,20 @@ ghost use Rattle.std.specs.Option.{option_map};
 ghost use Rattle.std.specs.String.{string_bytes};
 ghost use Rattle.annotated_asm.specs.ProgramText.{parse};
 ghost use Rattle.annotator.specs.Least.{IsLeast};
+ghost use Rattle.text_diagnostics.specs.Refusals.{refusal};
 ghost use Rattle.explain_report.specs.Beside.{IsCertificateSaid, is_silent};
-ghost use Rattle.explain_report.specs.Explained.{AreWarned, IsExplained, IsProgramExplained, said_status};
+ghost use Rattle.explain_report.specs.Explained.{AreWarned, IsExplained, IsProgramExplained, said_status, script_said};
+ghost use Rattle.explain_report.specs.Order.{in_order};
 
 use crate::beside::{both, certificate_said, is_silent};
 use crate::explanation::Explanation;
+use crate::order::in_order;
 use annotated_asm::assembler::assemble;
 use annotated_asm::fault::AsmFault;
 use annotator::certify::certify;
 use diagnostics::diagnostic::Diagnostic;
 use diagnostics::listed::Listed;
+use input_diagnostics::script::script_errors;
 use mark_diagnostics::error::mark_errors;
 use mark_diagnostics::warning::mark_warnings;
 use mask_certificate::certificate::Cert;
@@ -21,64 +25,107 @@ use std::alloc::{AllocError, Global};
 use task_descriptor::program::Program;
 use text_diagnostics::refusal::refusal;
 
-/// What is said of a program text, with warnings or without, and of the text of a certificate, if a file of one is named.
+/// What is said of a program text, with warnings or without, and of the texts of a certificate and of an event script, if
+/// a file of one is named.
 ///
 /// # Errors
 ///
 /// `AllocError` where memory was refused.
 pub fn explained(
     alloc: Global,
-    file: &Option<String>,
+    cert_file: &Option<String>,
+    script_file: &Option<String>,
     warnings: bool,
     text: &[u8],
     certificate: &[u8],
+    script: &[u8],
 ) -> Result<Explanation, AllocError>
-    ensures { IfOk result (λ explained. IsExplained (option_map string_bytes file.now) warnings
-        text.now certificate.now explained) }
+    ensures { IfOk result (λ explained. IsExplained (option_map string_bytes cert_file.now)
+        (option_map string_bytes script_file.now) warnings text.now certificate.now script.now explained) }
 {
     match assemble(alloc, text) {
-        Ok(program) => program_explained(alloc, file, warnings, text, certificate, &program),
+        Ok(program) => {
+            program_explained(
+                alloc,
+                cert_file,
+                script_file,
+                warnings,
+                text,
+                certificate,
+                script,
+                &program,
+            )
+        }
         Err(AsmFault::OutOfMemory) => Err(AllocError),
-        Err(fault) => Ok(Explanation {
-            said: Listed::new(refusal(alloc, text, fault)?),
-            status: 1,
-        }),
+        Err(fault) => refusal_explained(alloc, text, fault),
     }
 }
 
-// What is said of the program that a text spells: of its marks, and then of the certificate.
+// What is said of a text that spells no program.
+fn refusal_explained(alloc: Global, text: &[u8], fault: AsmFault) -> Result<Explanation, AllocError>
+    ensures { IfOk result (λ explained. explained ≡ record { said = in_order (refusal text.now fault); status = 1 }) }
+{
+    let said = in_order(alloc, refusal(alloc, text, fault)?)?;
+    Ok(Explanation {
+        said: Listed::new(said),
+        status: 1,
+    })
+}
+
+// What is said of the program that a text spells: of its marks, of the certificate, and of the script.
 fn program_explained(
     alloc: Global,
-    file: &Option<String>,
+    cert_file: &Option<String>,
+    script_file: &Option<String>,
     warnings: bool,
     text: &[u8],
     certificate: &[u8],
+    script: &[u8],
     program: &Program,
 ) -> Result<Explanation, AllocError>
     requires { parse text.now ≡ Ok program.now }
-    ensures { IfOk result (λ explained. IsProgramExplained (option_map string_bytes file.now) warnings
-        text.now certificate.now program.now explained) }
+    ensures { IfOk result (λ explained. IsProgramExplained (option_map string_bytes cert_file.now)
+        (option_map string_bytes script_file.now) warnings text.now certificate.now script.now program.now explained) }
 {
     let least = certify(alloc, program)?;
     let errors = mark_errors(alloc, text, program, &least)?;
     let asked = is_asked(warnings, &errors);
     let warned = warned(alloc, text, program, &least, asked)?;
-    let beside = certificate_said(alloc, file, text, program, &least, certificate)?;
-    let explained = explained_by(errors, warned, beside)?;
+    let beside = certificate_said(alloc, cert_file, text, program, &least, certificate)?;
+    let scripted = script_said(alloc, script_file, program, script)?;
+    let explained = explained_by(alloc, errors, warned, both(beside, scripted)?)?;
     Ok(explained)
 }
 
-// What is wrong with the marks, what could be better about them, and what is wrong with the certificate.
+// What is wrong with the text of an event script, if a file of one is named.
+fn script_said(
+    alloc: Global,
+    file: &Option<String>,
+    program: &Program,
+    script: &[u8],
+) -> Result<Vec<Diagnostic>, AllocError>
+    ensures { IfOk result (λ list. list.items ≡ script_said (option_map string_bytes file.now) program.now script.now) }
+{
+    match file {
+        Some(_) => script_errors(alloc, script, program),
+        None => Ok(Vec::new(alloc)),
+    }
+}
+
+// What is wrong with the marks, what could be better about them, and what is wrong with the texts beside the program, in
+// the order of their places.
 fn explained_by(
+    alloc: Global,
     errors: Vec<Diagnostic>,
     warned: Vec<Diagnostic>,
     beside: Vec<Diagnostic>,
 ) -> Result<Explanation, AllocError>
-    ensures said { IfOk result (λ explained. explained.said ≡ errors.items ++ (warned.items ++ beside.items)) }
+    ensures said { IfOk result (λ explained. explained.said ≡ in_order (errors.items ++ (warned.items ++ beside.items))) }
     ensures status { IfOk result (λ explained. explained.status ≡ said_status (errors.items ++ beside.items)) }
 {
     let status = status_of(&errors, &beside);
-    let said = both(errors, both(warned, beside)?)?;
+    let all = both(errors, both(warned, beside)?)?;
+    let said = in_order(alloc, all)?;
     Ok(Explanation {
         said: Listed::new(said),
         status,
@@ -126,7 +173,7 @@ fn is_asked(warnings: bool, errors: &[Diagnostic]) -> bool
     warnings && is_silent(errors)
 }
 
-// The status of what is wrong with the marks and with the certificate: 0 where it is nothing.
+// The status of what is wrong with the marks and with the texts beside the program: 0 where it is nothing.
 fn status_of(errors: &[Diagnostic], beside: &[Diagnostic]) -> u8
     ensures { result ≡ said_status (errors.now ++ beside.now) }
 {

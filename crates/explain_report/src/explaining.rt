@@ -1,10 +1,8 @@
 //! The job `explain`, where it writes text.
-ghost use Rattle.std.specs.Prelude.{◌≡◌, [], map as each, None, IfOk};
+ghost use Rattle.std.specs.Prelude.{◌≡◌, IfOk};
 ghost use Rattle.std.specs.Option.{option_map};
 ghost use Rattle.std.specs.String.{string_bytes};
-ghost use Rattle.diagnostics.specs.TextForm.{text_form};
-ghost use Rattle.diagnostics.specs.declared.colour.Colour.TheVariants.{Never};
-ghost use Rattle.explain_report.specs.ExplainText.{IsExplainReport, explained_text, named_texts};
+ghost use Rattle.explain_report.specs.ExplainText.{IsExplainReport, colour_of, explained_text};
 
 use crate::explained::explained;
 use crate::inputs::{file_lines, file_name, joined, lines_of};
@@ -12,12 +10,13 @@ use diagnostics::colour::Colour;
 use diagnostics::diagnostic::Diagnostic;
 use diagnostics::files::{Files, TextFile};
 use diagnostics::text::text_of;
-use jobs::job::Texts;
+use jobs::job::{Colors, Texts};
 use report_texts::report::Report;
 use std::alloc::{AllocError, Global};
 
-/// What `explain` writes of a program text, whose file has this name, with warnings or without, and of the
-/// text of a certificate, if a file of one is named.
+/// What `explain` writes of a program text, whose file has this name, with warnings or without, and of the texts of a
+/// certificate and of an event script, if a file of one is named. It has colours only where it is to have them always: who
+/// knows the terminal settles `Auto` before.
 ///
 /// # Errors
 ///
@@ -25,64 +24,80 @@ use std::alloc::{AllocError, Global};
 pub fn explain(
     alloc: Global,
     name: &str,
-    file: &Option<String>,
+    cert_file: &Option<String>,
+    script_file: &Option<String>,
     warnings: bool,
+    asked: Colors,
     texts: &Texts,
 ) -> Result<Report, AllocError>
-    ensures { IfOk result (λ report. IsExplainReport name.now (option_map string_bytes file.now) warnings
-        texts.now.program.items texts.now.certificate report) }
+    ensures { IfOk result (λ report. IsExplainReport name.now (option_map string_bytes cert_file.now)
+        (option_map string_bytes script_file.now) warnings asked
+        texts.now.program.items texts.now.certificate texts.now.script.items report) }
 {
     let text = texts.program.as_slice();
+    let script = texts.script.as_slice();
     let certificate = joined(alloc, &texts.certificate)?;
-    let explained = explained(alloc, file, warnings, text, &certificate)?;
-    let said = explained_text(
+    let explained = explained(
         alloc,
-        name,
-        file,
+        cert_file,
+        script_file,
+        warnings,
         text,
         &certificate,
+        script,
+    )?;
+    let said = explained_text(
+        alloc,
+        colour_of(asked),
+        name,
+        cert_file,
+        script_file,
+        text,
+        &certificate,
+        script,
         explained.said.as_slice(),
     )?;
     Ok(Report::new(said.into_bytes(), explained.status))
 }
 
-/// What is said of a program text in a file of this name, and of a certificate, if a file of one is named, in text form.
+// Whether the text has colours.
+fn colour_of(asked: Colors) -> Colour
+    ensures { result ≡ colour_of asked }
+{
+    match asked {
+        Colors::Always => Colour::Always,
+        Colors::Auto | Colors::Never => Colour::Never,
+    }
+}
+
+/// What is said of a program text in a file of this name, and of a certificate and of an event script, if a file of one is
+/// named, in text form.
 ///
 /// # Errors
 ///
 /// `AllocError` where memory was refused.
 pub fn explained_text(
     alloc: Global,
+    colour: Colour,
     name: &str,
-    file: &Option<String>,
+    cert_file: &Option<String>,
+    script_file: &Option<String>,
     text: &[u8],
     certificate: &[u8],
+    script: &[u8],
     said: &[Diagnostic],
 ) -> Result<String, AllocError>
     ensures { IfOk result (λ words. string_bytes words
-        ≡ explained_text name.now (option_map string_bytes file.now) text.now certificate.now said.now) }
+        ≡ explained_text colour name.now (option_map string_bytes cert_file.now) (option_map string_bytes script_file.now)
+        text.now certificate.now script.now said.now) }
 {
     let rows = lines_of(alloc, text)?;
-    let beside = file_lines(alloc, file, certificate)?;
-    text_with(alloc, name, &rows, file_name(file), &beside, said)
-}
-
-// The text form of what is said of texts with these names and lines.
-fn text_with(
-    alloc: Global,
-    name: &str,
-    rows: &[&[u8]],
-    file: &str,
-    beside: &[&[u8]],
-    said: &[Diagnostic],
-) -> Result<String, AllocError>
-    ensures { IfOk result (λ words. string_bytes words
-        ≡ text_form Never (named_texts name.now (each (λ row. row.now) rows.now) file.now (each (λ row. row.now) beside.now)) said.now) }
-{
+    let beside = file_lines(alloc, cert_file, certificate)?;
+    let events = file_lines(alloc, script_file, script)?;
     let files = Files::new(
-        TextFile::new(name, rows),
-        TextFile::new(file, beside),
-        TextFile::new("", &[]),
+        TextFile::new(name, &rows),
+        TextFile::new(file_name(cert_file), &beside),
+        TextFile::new(file_name(script_file), &events),
     );
-    text_of(alloc, &files, said, Colour::Never)
+    text_of(alloc, &files, said, colour)
 }

@@ -3,14 +3,15 @@ ghost use Rattle.std.specs.Prelude.{◌≡◌, ◌↔◌, ℕ, List, [], None, O
 ghost use Rattle.task_descriptor.specs.Listing.{Listing};
 ghost use Rattle.task_graph.specs.Soundness.{Sound};
 ghost use Rattle.annotated_asm.specs.ProgramText.{parse};
+ghost use Rattle.jobs.specs.declared.job.Colors.{Colors};
 ghost use Rattle.report_texts.specs.OutputTexts.{Report};
 ghost use Rattle.explain_report.specs.ExplainText.{IsExplainReport};
 
-/// Where no certificate is named and no warnings are asked for, nothing is written of a program exactly where its marks
-/// are sound, and only then the status is 0.
+/// Where no certificate and no script is named and no warnings are asked for, nothing is written of a program exactly where
+/// its marks are sound, and only then the status is 0.
 pub fn silent_where_sound()
-    ensures bytes { (name text certificate : List ℕ) (p : Listing) (report : Report) → parse text ≡ Ok p
-        → IsExplainReport name None false text certificate report → (report.bytes ≡ []) ↔ Sound p }
-    ensures status { (name text certificate : List ℕ) (p : Listing) (report : Report) → parse text ≡ Ok p
-        → IsExplainReport name None false text certificate report → (report.status ≡ 0) ↔ Sound p }
+    ensures bytes { (name text certificate script : List ℕ) (asked : Colors) (p : Listing) (report : Report) → parse text ≡ Ok p
+        → IsExplainReport name None None false asked text certificate script report → (report.bytes ≡ []) ↔ Sound p }
+    ensures status { (name text certificate script : List ℕ) (asked : Colors) (p : Listing) (report : Report) → parse text ≡ Ok p
+        → IsExplainReport name None None false asked text certificate script report → (report.status ≡ 0) ↔ Sound p }
 {}

@@ -1,5 +1,5 @@
-//! What `explain` writes: what is said of a program text and of a certificate, as one list of diagnostics, in text form
-//! or as a log in SARIF.
+//! What `explain` writes: what is said of a program text, of a certificate and of an event script, as one list of
+//! diagnostics, in text form, as a log in SARIF, or as lines of JSON.
 #![tactic(auto)]
 
 mod beside;
@@ -9,3 +9,4 @@ pub mod explanation;
 mod inputs;
 pub mod laws;
 pub mod logging;
+pub mod order;

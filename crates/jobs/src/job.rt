@@ -32,6 +32,19 @@ pub enum Format {
     Text,
     /// A log in SARIF 2.1.0, for machines.
     Sarif,
+    /// An object in JSON on each line, for machines.
+    Json,
+}
+
+/// Whether the lines that `explain` writes for a person have colours.
+#[derive(Clone, Copy, Debug, PartialEq, Eq)]
+pub enum Colors {
+    /// Where a person sees them: on a terminal, and only if the environment does not ask for none.
+    Auto,
+    /// Wherever they go.
+    Always,
+    /// Nowhere.
+    Never,
 }
 
 /// What `run` writes of a run.
@@ -41,6 +54,8 @@ pub enum RunEmit {
     Report,
     /// The history, as an event script that `replay` reads.
     Script,
+    /// The same with what each event did, as a script that `replay --strict` judges.
+    ScriptWithValues,
     /// How often each task was assigned, how that ended, and how much of its work was of use.
     Summary,
     /// The run as a picture, in SVG.
@@ -114,10 +129,14 @@ pub enum Job {
         name: String,
         /// The certificate's file as the words have it, where one is to be explained, too.
         certificate: Option<String>,
+        /// The event script's file as the words have it, where one is to be explained, too.
+        script: Option<String>,
         /// Whether marks that are right but cost speed are told, too.
         warnings: bool,
         /// How what is said is laid out.
         format: Format,
+        /// Whether the lines for a person have colours.
+        colors: Colors,
     },
     /// Checks the program against its certificate.
     Check {
@@ -129,6 +148,12 @@ pub enum Job {
         certificate: CertificateSource,
         units: Units,
         emit: ReplayEmit,
+    },
+    /// Applies the events of a script with expectations to a machine of this many units, up to the first that is not allowed
+    /// or does not do what is expected.
+    ReplayStrictly {
+        certificate: CertificateSource,
+        units: Units,
     },
     /// Runs the program on a machine of this many units, which this many threads serve, up to this many
     /// events. More threads than units are as many as units; a run in steps has one thread.
@@ -164,6 +189,9 @@ impl Job {
             Job::Explain { certificate, .. } => certificate.is_some(),
             Job::Check { certificate, .. } => matches!(certificate, CertificateSource::File),
             Job::Replay { certificate, .. } => matches!(certificate, CertificateSource::File),
+            Job::ReplayStrictly { certificate, .. } => {
+                matches!(certificate, CertificateSource::File)
+            }
             Job::Run { certificate, .. } => matches!(certificate, CertificateSource::File),
             Job::Curve { certificate, .. } => matches!(certificate, CertificateSource::File),
             _ => false,
@@ -174,7 +202,12 @@ impl Job {
     pub fn has_script(&self) -> bool
         ensures { result ≡ has_script self.now }
     {
-        matches!(self, Job::Replay { .. })
+        match self {
+            Job::Explain { script, .. } => script.is_some(),
+            Job::Replay { .. } => true,
+            Job::ReplayStrictly { .. } => true,
+            _ => false,
+        }
     }
 }
 
@@ -185,7 +218,7 @@ pub struct Paths {
     pub program: String,
     /// The certificate: of `explain`, `check`, `replay`, `run` and `curve`, where it is in a file.
     pub certificate: String,
-    /// The event script: of `replay`.
+    /// The event script: of `replay`, and of `explain` where it is to explain one.
     pub script: String,
 }
 
@@ -196,6 +229,6 @@ pub struct Texts {
     pub program: Vec<u8>,
     /// The certificate: of `explain`, `check`, `replay`, `run` and `curve`, where it is in a file.
     pub certificate: Text,
-    /// The event script: of `replay`.
+    /// The event script: of `replay`, and of `explain` where it is to explain one.
     pub script: Vec<u8>,
 }

@@ -9,7 +9,9 @@ use crate::left::LeftOver;
 use annotated_asm::assembler::assemble;
 use annotated_asm::fault::AsmFault;
 use annotator::certify::certify;
+use diagnostics::colour::Colour;
 use explain_report::explaining::explained_text;
+use explain_report::order::in_order;
 use finding_paths::shown::shown_findings;
 use jobs::job::{Emit, Job};
 use mark_diagnostics::error::mark_errors;
@@ -94,8 +96,18 @@ fn left_in(
     ensures { IfOk result (λ left. IsLeftIn name.now text.now program.now left) }
 {
     let least = certify(alloc, program)?;
-    let errors = mark_errors(alloc, text, program, &least)?;
-    let mut said = explained_text(alloc, name, &None, text, &[], &errors)?;
+    let errors = in_order(alloc, mark_errors(alloc, text, program, &least)?)?;
+    let mut said = explained_text(
+        alloc,
+        Colour::Never,
+        name,
+        &None,
+        &None,
+        text,
+        &[],
+        &[],
+        &errors,
+    )?;
     let count = finding_count(alloc, program, &least)?;
     write_closing(&mut said, name, count)?;
     Ok(LeftOver {

@@ -2,6 +2,7 @@
 //! may write.
 #![tactic(auto)]
 
+use program_edge::coloring::is_colorful;
 use program_edge::program::run;
 use std::io::IsTerminal;
 use std::process;
@@ -10,8 +11,17 @@ use whole_file::system::SystemFolder;
 
 fn main(rt: HostRuntime) -> ExitCode {
     let mut folder = SystemFolder::new(&rt, process::id(rt.process()));
+    let mut output = rt.stdout();
+    let shows_colors = output.is_terminal() && is_colorful(&rt);
     let mut errors = rt.stderr();
     let is_terminal = errors.is_terminal();
-    let status = run(&rt, &mut folder, &mut rt.stdout(), &mut errors, is_terminal);
+    let status = run(
+        &rt,
+        &mut folder,
+        &mut output,
+        &mut errors,
+        is_terminal,
+        shows_colors,
+    );
     ExitCode::from(status)
 }

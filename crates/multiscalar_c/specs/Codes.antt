@@ -27,11 +27,11 @@ emits = emit.Text ∷ emit.Cert ∷ emit.Keep ∷ emit.Marks ∷ []
 
 -- how `explain` lays out what it says, from 0 on
 abbrev pub formats : List Format
-formats = format.Text ∷ format.Sarif ∷ []
+formats = format.Text ∷ format.Sarif ∷ format.Json ∷ []
 
 -- what `run` writes, from 0 on
 abbrev pub run_emits : List RunEmit
-run_emits = run.Report ∷ run.Script ∷ run.Summary ∷ run.Picture ∷ run.Trace ∷ run.Json ∷ []
+run_emits = run.Report ∷ run.Script ∷ run.Summary ∷ run.Picture ∷ run.Trace ∷ run.Json ∷ run.ScriptWithValues ∷ []
 
 -- what `replay` writes, from 0 on
 abbrev pub replay_emits : List ReplayEmit

@@ -1,6 +1,7 @@
 -- What each call takes, and what it hands out (own choice).
-use Rattle.std.specs.Prelude.{◌≡◌, ℕ, Bool, List, Option, Some, None, IsSome, IfSome, slice_get, if◌then◌else◌}
+use Rattle.std.specs.Prelude.{◌≡◌, ℕ, Bool, List, [], Option, Some, None, IsSome, IfSome, slice_get, if◌then◌else◌}
 use Rattle.std.specs.Str.{IsUtf8}
+use Rattle.jobs.specs.declared.job.Colors.TheVariants.{Never}
 use Rattle.jobs.specs.declared.job.Schedule.TheVariants.{Steps}
 use Rattle.report_texts.specs.OutputTexts.{Report}
 use Rattle.report_texts.specs.AnnotateText.{IsAnnotateReport}
@@ -8,6 +9,7 @@ use Rattle.report_texts.specs.CertificateTexts.{OfCertificate}
 use Rattle.report_texts.specs.CheckText.{check_text}
 use Rattle.verdict_report.specs.CurveText.{IsCurveText}
 use Rattle.verdict_report.specs.JobTexts.{IsExplainedIn}
+use Rattle.strict_replay.specs.StrictReplay.{strict_text}
 use Rattle.verdict_report.specs.ReplayText.{replay_text}
 use Rattle.verdict_report.specs.RunText.{IsRunText}
 use Rattle.multiscalar_c.specs.Codes.{IsBudget, IsUnits, curve_emits, emits, formats, prediction_of, replay_emits, run_emits, source_of}
@@ -31,10 +33,10 @@ pub record ExplainTakes (format : ℕ) (name : List ℕ) (file : Option (List �
   pub named : IsUtf8 name
   pub certified : IfSome file (λ name. IsUtf8 name)
 
--- what `explain` writes
+-- what `explain` writes, without colours and of no event script
 abbrev pub IsExplained : (format : ℕ) → (warnings : Bool) → (name : List ℕ) → (file : Option (List ℕ)) → (program certificate : List ℕ) → Report → Type 0
 IsExplained format warnings name file program certificate report =
-    IfSome (slice_get formats format) (λ format. IsExplainedIn format name file warnings program certificate report)
+    IfSome (slice_get formats format) (λ format. IsExplainedIn format name file None warnings Never program certificate [] report)
 
 -- what `replay` takes
 pub record ReplayTakes (units emit : ℕ) : Type 0 where
@@ -46,6 +48,11 @@ abbrev pub IsReplayed : (is_least : Bool) → (units emit : ℕ) → (program ce
 IsReplayed is_least units emit program certificate script report =
     IfSome (slice_get replay_emits emit) (λ emit. OfCertificate (source_of is_least) program certificate (λ certificate.
     report ≡ replay_text emit units program certificate script))
+
+-- what `replay --strict` writes
+abbrev pub IsReplayedStrictly : (is_least : Bool) → (units : ℕ) → (program certificate script : List ℕ) → Report → Type 0
+IsReplayedStrictly is_least units program certificate script report =
+    OfCertificate (source_of is_least) program certificate (λ certificate. report ≡ strict_text units program certificate script)
 
 -- what a run takes that may write one of these
 pub record RunTakes {Emit : Type 0} (emits : List Emit) (units budget predict : ℕ) (list : List ℕ) (emit : ℕ) : Type 0 where

@@ -39,6 +39,7 @@ pub(crate) fn format(code: u32) -> Option<Format>
     match code {
         0 => Some(Format::Text),
         1 => Some(Format::Sarif),
+        2 => Some(Format::Json),
         _ => None,
     }
 }
@@ -54,6 +55,7 @@ pub(crate) fn run_emit(code: u32) -> Option<RunEmit>
         3 => Some(RunEmit::Picture),
         4 => Some(RunEmit::Trace),
         5 => Some(RunEmit::Json),
+        6 => Some(RunEmit::ScriptWithValues),
         _ => None,
     }
 }

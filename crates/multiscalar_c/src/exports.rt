@@ -1,26 +1,26 @@
 //! The calls.
 ghost use Rattle.std.specs.Prelude.{◌≡◌, ⊤, IsSome, slice_get};
 ghost use Rattle.multiscalar_c.specs.Answers.{Answers, Made};
-ghost use Rattle.multiscalar_c.specs.Codes.{IsBudget, curve_emits, emits, run_emits};
-ghost use Rattle.multiscalar_c.specs.Jobs.{ExplainTakes, IsAnnotated, IsChecked, IsCurve, IsExplained, IsReplayed, IsRun, ReplayTakes, RunTakes, file_of};
+ghost use Rattle.multiscalar_c.specs.Codes.{IsBudget, IsUnits, curve_emits, emits, run_emits};
+ghost use Rattle.multiscalar_c.specs.Jobs.{ExplainTakes, IsAnnotated, IsChecked, IsCurve, IsExplained, IsReplayed, IsReplayedStrictly, IsRun, ReplayTakes, RunTakes, file_of};
 ghost use Rattle.report_texts.specs.PrintText.{print_text};
 ghost use Rattle.report_texts.specs.SeqText.{seq_text};
 
 use crate::answer::{Fault, hand_out};
 use crate::codes;
 use crate::texts::{name, texts};
-use explain_report::explaining::explain;
-use explain_report::logging::explain_log;
-use jobs::job::Format;
+use jobs::job::Colors;
 use jobs::ranges::{Budget, Units};
 use report_texts::annotating::annotate;
 use report_texts::printing::print;
 use report_texts::report::Report;
 use report_texts::sequential::seq;
 use std::alloc::Global;
+use strict_replay::replaying::replay_strictly;
 use verdict_report::alone::{StepsRun, check_alone, run_alone};
 use verdict_report::curving::curve;
 use verdict_report::replaying::replay;
+use verdict_report::serve::explain_in;
 
 /// `seq`: runs a program text sequentially, at most `budget` instructions, 1..=1,000,000.
 #[unsafe(no_mangle)]
@@ -112,8 +112,8 @@ fn check_of(
 }
 
 /// `explain`: says what is wrong with a program, whose file has this name, and with the text of a certificate, if
-/// there is one. Names are UTF-8. `format` is 0 for text, 1 for SARIF; `warnings` also tells marks that are right
-/// but cost speed.
+/// there is one. Names are UTF-8. `format` is 0 for text, 1 for SARIF, 2 for lines of JSON; `warnings` also tells marks
+/// that are right but cost speed.
 #[unsafe(no_mangle)]
 pub extern "C" fn multiscalar_c_explain(
     alloc: Global,
@@ -165,10 +165,9 @@ fn explain_of(
         None
     };
     let texts = texts(alloc, program, certificate, b"")?;
-    match format {
-        Format::Text => Ok(explain(alloc, title, &file, warnings, &texts)?),
-        Format::Sarif => Ok(explain_log(alloc, title, &file, warnings, &texts)?),
-    }
+    let none: Option<String> = None;
+    let never = Colors::Never;
+    Ok(explain_in(alloc, format, title, &file, &none, warnings, never, &texts)?)
 }
 
 /// `replay`: plays a script of events on a machine of this many units, 1..=16. `emit` is 0 for the answers, 1 for
@@ -208,10 +207,43 @@ fn replay_of(
     Ok(replay(alloc, codes::source(is_least), units, emit, &texts)?)
 }
 
+/// `replay --strict`: judges a script with expectations on a machine of this many units, 1..=16.
+#[unsafe(no_mangle)]
+pub extern "C" fn multiscalar_c_replay_strictly(
+    alloc: Global,
+    is_least: bool,
+    units: u32,
+    program: &[u8],
+    certificate: &[u8],
+    script: &[u8],
+    out: &mut [u8],
+    len: &mut usize,
+) -> u32
+    ensures { Answers (IsUnits units) (IsReplayedStrictly is_least units program.now certificate.now script.now) result out.old out.new len.new }
+{
+    let report = replay_strictly_of(alloc, is_least, units, program, certificate, script);
+    hand_out(report, out, len)
+}
+
+fn replay_strictly_of(
+    alloc: Global,
+    is_least: bool,
+    units: u32,
+    program: &[u8],
+    certificate: &[u8],
+    script: &[u8],
+) -> Result<Report, Fault>
+    ensures { Made (IsUnits units) (IsReplayedStrictly is_least units program.now certificate.now script.now) result }
+{
+    let units = Units::new(units).ok_or(Fault::Range)?;
+    let texts = texts(alloc, program, certificate, script)?;
+    Ok(replay_strictly(alloc, codes::source(is_least), units, &texts)?)
+}
+
 /// `run --schedule steps`: runs the program in steps on this many units, 1..=16, until it ends or `budget` events,
 /// 1..=1,000,000, are spent. `predict` is 0 for the first target, 1 for the last, 2 for those at the positions of
 /// the list: 1 to 64 numbers, each 0..=15. `emit` is 0 for the output words and the end, 1 for the script, 2 for the
-/// summary, 3 for the picture, 4 for the trace, 5 for lines of JSON.
+/// summary, 3 for the picture, 4 for the trace, 5 for lines of JSON, 6 for the script with what each event did.
 #[unsafe(no_mangle)]
 pub extern "C" fn multiscalar_c_run_steps(
     alloc: Global,

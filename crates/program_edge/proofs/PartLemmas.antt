@@ -3,9 +3,10 @@ use Rattle.std.proofs.Common.{◌≡◌, ◌∙◌, ap, refl, subst, sym, ℕ, B
 use Rattle.std.specs.String.{string_bytes}
 use Rattle.std.specs.declared.alloc.Global.{Global}
 use Rattle.std.specs.declared.string.String.{String}
+use Rattle.jobs.specs.declared.job.Colors.{Colors}
 use Rattle.jobs.specs.declared.job.Format.{Format}
 use Rattle.jobs.specs.declared.job.Job.{Job}
-use Rattle.jobs.specs.declared.job.Job.TheVariants.{Annotate, Check, Curve, Explain, Print, Replay, Run, Seq}
+use Rattle.jobs.specs.declared.job.Job.TheVariants.{Annotate, Check, Curve, Explain, Print, Replay, ReplayStrictly, Run, Seq}
 use Rattle.jobs.specs.declared.job.Texts.{Texts}
 use Rattle.report_texts.specs.OutputTexts.{Report}
 use Rattle.verdict_report.specs.JobTexts.{IsReportOf}
@@ -25,10 +26,10 @@ abbrev seen : Made → Part
 seen made = record { output = made.output.items; errors = made.errors.items; judged = made.judged }
 
 -- the job for the program's own name says the same of it
-same_said : (t : Bool) (first own : String Global) (certificate other : Option (String Global)) (warnings : Bool) (format : Format) (name : List ℕ) (report : Report)
-    → part_with t (Explain own other warnings format) name report ≡ part_with t (Explain first certificate warnings format) name report
-same_said true first own certificate other warnings format name report = refl
-same_said false first own certificate other warnings format name report = refl
+same_said : (t : Bool) (first own : String Global) (certificate script : Option (String Global)) (warnings : Bool) (format : Format) (colors : Colors) (name : List ℕ) (report : Report)
+    → part_with t (Explain own None None warnings format colors) name report ≡ part_with t (Explain first certificate script warnings format colors) name report
+same_said true first own certificate script warnings format colors name report = refl
+same_said false first own certificate script warnings format colors name report = refl
 
 reported : (t : Bool) (asked own : Job) (name : List ℕ) (texts : Texts) (r : Result Made ServeFault) → IsJobFor asked name own
     → ((report : Report) → part_with t own name report ≡ part_with t asked name report)
@@ -45,28 +46,29 @@ reported t asked own name texts (Ok made) for_it same h = λ certificate script.
 }
 reported t asked own name texts (Err fault) for_it same h = tt
 
-pub reported_explained : (t : Bool) (asked : Job) (first own : String Global) (certificate : Option (String Global)) (warnings : Bool) (format : Format) (name : List ℕ) (texts : Texts) (r : Result Made ServeFault)
-    → asked ≡ Explain first certificate warnings format → string_bytes own ≡ name
-    → IfOk r (λ made. (report : Report) × IsReportOf (Explain own None warnings format) texts report × (seen made ≡ part_with t (Explain own None warnings format) name report))
+pub reported_explained : (t : Bool) (asked : Job) (first own : String Global) (certificate script : Option (String Global)) (warnings : Bool) (format : Format) (colors : Colors) (name : List ℕ) (texts : Texts) (r : Result Made ServeFault)
+    → asked ≡ Explain first certificate script warnings format colors → string_bytes own ≡ name
+    → IfOk r (λ made. (report : Report) × IsReportOf (Explain own None None warnings format colors) texts report × (seen made ≡ part_with t (Explain own None None warnings format colors) name report))
     → IfOk r (λ made. texts.certificate ≡ [] → texts.script.items ≡ [] → IsJudged t asked name texts.program.items (seen made))
-reported_explained t asked first own certificate warnings format name texts r is named h =
+reported_explained t asked first own certificate script warnings format colors name texts r is named h =
     subst (λ (job : Job). IfOk r (λ made. texts.certificate ≡ [] → texts.script.items ≡ [] → IsJudged t job name texts.program.items (seen made))) (sym is)
-    (reported t (Explain first certificate warnings format) (Explain own None warnings format) name texts r (own, refl, named)
-    (λ report. same_said t first own certificate None warnings format name report) h)
+    (reported t (Explain first certificate script warnings format colors) (Explain own None None warnings format colors) name texts r (own, refl, named)
+    (λ report. same_said t first own certificate script warnings format colors name report) h)
 
-job_itself : (asked : Job) (name : List ℕ) → ((first : String Global) (certificate : Option (String Global)) (warnings : Bool) (format : Format) → asked ≡ Explain first certificate warnings format → ⊥)
+job_itself : (asked : Job) (name : List ℕ) → ((first : String Global) (certificate script : Option (String Global)) (warnings : Bool) (format : Format) (colors : Colors) → asked ≡ Explain first certificate script warnings format colors → ⊥)
     → IsJobFor asked name asked
-job_itself (Explain first certificate warnings format) name other = absurd (other first certificate warnings format refl)
+job_itself (Explain first certificate script warnings format colors) name other = absurd (other first certificate script warnings format colors refl)
 job_itself (Seq budget) name other = refl
 job_itself Print name other = refl
 job_itself (Annotate emit) name other = refl
 job_itself (Check source workers) name other = refl
 job_itself (Replay source units emit) name other = refl
+job_itself (ReplayStrictly source units) name other = refl
 job_itself (Run source schedule units workers budget predict emit) name other = refl
 job_itself (Curve source units budget predict emit) name other = refl
 
 pub reported_itself : (t : Bool) (asked : Job) (name : List ℕ) (texts : Texts) (r : Result Made ServeFault)
-    → ((first : String Global) (certificate : Option (String Global)) (warnings : Bool) (format : Format) → asked ≡ Explain first certificate warnings format → ⊥)
+    → ((first : String Global) (certificate script : Option (String Global)) (warnings : Bool) (format : Format) (colors : Colors) → asked ≡ Explain first certificate script warnings format colors → ⊥)
     → IfOk r (λ made. (report : Report) × IsReportOf asked texts report × (seen made ≡ part_with t asked name report))
     → IfOk r (λ made. texts.certificate ≡ [] → texts.script.items ≡ [] → IsJudged t asked name texts.program.items (seen made))
 reported_itself t asked name texts r other h = reported t asked asked name texts r (job_itself asked name other) (λ report. refl) h

@@ -1,6 +1,6 @@
 -- What was written to memory that held nothing is the report; what becomes of it.
 use Rattle.std.proofs.Common.{◌≡◌, ◌∙◌, ap, ap₂, subst, sym, inl, inr, refl, ℕ, Bool, false, true, List, [], ◌∷◌, ◌++◌, ◌⊎◌, ◌==◌, ◌||◌, length}
-use Rattle.std.specs.Prelude.{Some}
+use Rattle.std.specs.Prelude.{None, Option, Some}
 use Rattle.std.specs.Io.KnownBytes.{Keeps}
 use Rattle.jobs.specs.declared.job.Job.{Job}
 use Rattle.jobs.specs.declared.job.Texts.{Texts}
@@ -14,7 +14,7 @@ use Rattle.whole_file.specs.declared.unwritten.Unwritten.{Unwritten}
 use Rattle.program_edge.specs.declared.fault.Fault.TheVariants.{NotWritten, Serve}
 use Rattle.program_edge.specs.declared.told.Ending.{Ending}
 use Rattle.program_edge.specs.Telling.{IsTold}
-use Rattle.program_edge.specs.Answering.{IsAnsweredFor, IsJobDone, IsNotDone, IsPut, IsRead, IsShown, IsTaken}
+use Rattle.program_edge.specs.Answering.{IsAnsweredFor, IsDelivered, IsJobDone, IsNotDone, IsPut, IsRead, IsShown, IsTaken}
 use Rattle.program_edge.specs.FileTexts.{Known}
 use Rattle.program_edge.specs.Several.{IsEach}
 use Rattle.command_line.specs.declared.request.Request.{Request}
@@ -67,6 +67,15 @@ shown audience job texts report said ending old new told right (inr h) = inr (re
   told = h.told;
   files = h.files;
 })
+
+-- the same, where no file is to take it
+pub shown_here : (watched : Bool) (audience : Audience) (job : Job) (texts : Texts) (place : Option (String Global)) (report : Report) (said : List ℕ) (ending : Ending) (old new : World)
+    → place ≡ None → IsBeside audience job texts.program.items report said → IsReportOf job texts report
+    → IsShown said report ending old new ⊎ IsBroken report ending old new
+    → IsDelivered watched audience place job texts ending old new ⊎ IsNotDone job texts ending old new
+shown_here watched audience job texts place report said ending old new is told right h =
+    subst (λ (p : Option (String Global)). IsDelivered watched audience p job texts ending old new ⊎ IsNotDone job texts ending old new)
+    (sym is) (shown audience job texts report said ending old new told right h)
 
 pub put : (watched : Bool) (audience : Audience) (job : Job) (path : String Global) (texts : Texts) (report : Report) (said : List ℕ) (ending : Ending) (old new : World)
     → IsBeside audience job texts.program.items report said → IsReportOf job texts report

@@ -1,5 +1,5 @@
 -- How the program ends, for what it was asked and what its files hold (own choice).
-use Rattle.std.specs.Prelude.{◌≡◌, ◌≢◌, ◌⊎◌, ℕ, Bool, true, false, List, [], ◌∷◌, Option, Some, None, Result, Ok, Err}
+use Rattle.std.specs.Prelude.{◌≡◌, ◌≢◌, ◌⊎◌, ◌&&◌, ℕ, Bool, true, false, List, [], ◌∷◌, Option, Some, None, Result, Ok, Err}
 use Rattle.std.specs.Io.KnownBytes.{Appends, Keeps}
 use Rattle.std.specs.String.{string_bytes}
 use Rattle.std.specs.declared.string.String.{String}
@@ -10,7 +10,9 @@ use Rattle.command_line.specs.declared.request.Request.{Request}
 use Rattle.report_texts.specs.OutputTexts.{Report}
 use Rattle.verdict_report.specs.declared.fault.ServeFault.{ServeFault}
 use Rattle.verdict_report.specs.declared.fault.ServeFault.TheVariants as serve
+use Rattle.verdict_report.specs.CurveProgress.{IsProgress, progress_lines}
 use Rattle.verdict_report.specs.JobTexts.{IsCutOff, IsDone, IsReportOf}
+use Rattle.verdict_report.specs.Writing.{Begins}
 use Rattle.whole_file.specs.Files.{ChangesAt, Same}
 use Rattle.whole_file.specs.declared.unwritten.Unwritten.{Unwritten}
 use Rattle.program_edge.specs.declared.fault.Fault.{Fault}
@@ -20,6 +22,7 @@ use Rattle.program_edge.specs.declared.told.Ending.{Ending}
 use Rattle.program_edge.specs.FileTexts.{Known, AreTextsOf}
 use Rattle.program_edge.specs.Asking.{KnownWords, IsAskedOf}
 use Rattle.program_edge.specs.Beside.{Audience, IsBeside}
+use Rattle.program_edge.specs.Colouring.{settled_asked}
 use Rattle.program_edge.specs.Hints.{IsSaid}
 use Rattle.program_edge.specs.Refusals.{is_refusal}
 use Rattle.program_edge.specs.Several.{IsEach}
@@ -85,11 +88,37 @@ abbrev pub IsDelivered : (watched : Bool) → Audience → Option (String Global
 IsDelivered watched audience None job texts ending old new = IsJobDone audience job texts ending old new
 IsDelivered watched audience (Some path) job texts ending old new = IsPut watched audience job path texts ending old new
 
+-- how the program ends, where something was to be told before: is it told, too?
+abbrev pub ending_after : (is_told : Bool) → Ending → Ending
+ending_after is_told own = record { status = own.status; is_told = is_told && own.is_told }
+
+-- the job was made after standard error had heard how far it is, of all of it where `is_told`, and then delivered; the
+-- ending tells of both
+pub record IsMadeTold (watched : Bool) (audience : Audience) (place : Option (String Global)) (job : Job) (texts : Texts) (ending : Ending) (heard : Option (List ℕ)) (old new : World) : Type 0 where
+  pub is_told : Bool
+  pub said : IsProgress job texts audience.name is_told old.errors heard
+  pub own : Ending
+  pub ended : ending ≡ ending_after is_told own
+  pub delivered : IsDelivered watched audience place job texts own (record old { errors = heard }) new
+      ⊎ IsNotDone job texts own (record old { errors = heard }) new
+
+-- the job was delivered, or was not done, after standard error had heard how far it is
+pub record IsDeliveredTold (watched : Bool) (audience : Audience) (place : Option (String Global)) (job : Job) (texts : Texts) (ending : Ending) (old new : World) : Type 0 where
+  pub heard : Option (List ℕ)
+  pub begun : Begins old.errors heard (progress_lines job audience.name)
+  pub ends : IsMadeTold watched audience place job texts ending heard old new
+      ⊎ IsNotDone job texts ending (record old { errors = heard }) new
+
+-- the same for whether standard error is to hear how far the job is
+abbrev pub IsDeliveredIf : (progress watched : Bool) → Audience → Option (String Global) → Job → Texts → Ending → World → World → Type 0
+IsDeliveredIf false watched audience place job texts ending old new =
+    IsDelivered watched audience place job texts ending old new ⊎ IsNotDone job texts ending old new
+IsDeliveredIf true watched audience place job texts ending old new = IsDeliveredTold watched audience place job texts ending old new
+
 -- what is said beside the report names the program's file; `is_terminal` says whether standard error is a terminal
 abbrev pub IsServed : (watched is_terminal : Bool) → Request → Result Texts Unread → Ending → World → World → Type 0
 IsServed watched is_terminal request (Ok texts) ending old new =
-    IsDelivered watched (record { is_terminal = is_terminal; wants_rest = request.report; name = string_bytes request.paths.program }) request.output request.job texts ending old new
-    ⊎ IsNotDone request.job texts ending old new
+    IsDeliveredIf request.progress watched (record { is_terminal = is_terminal; wants_rest = request.report; name = string_bytes request.paths.program }) request.output request.job texts ending old new
 IsServed watched is_terminal request (Err unread) ending old new = IsToldAlone (unread_fault request.job unread) ending old new
 
 -- the texts of the job were read, and the job served
@@ -111,10 +140,11 @@ IsAnswered watched is_terminal known (Ok request) ending old new =
 IsAnswered watched is_terminal known (Err fault) ending old new = IsToldAlone fault ending old new
 
 -- a run of the program on words and files of which this is known; `watched` says whether it is known what the
--- files that it writes hold, `is_terminal` whether standard error is a terminal
-pub record IsRunOf (watched is_terminal : Bool) (words : KnownWords) (known : List ℕ → Known) (status : ℕ) (old new : World) : Type 0 where
+-- files that it writes hold, `is_terminal` whether standard error is a terminal, and `shows_colors` whether standard
+-- output shows colours
+pub record IsRunOf (watched is_terminal shows_colors : Bool) (words : KnownWords) (known : List ℕ → Known) (status : ℕ) (old new : World) : Type 0 where
   pub asked : Result Request Fault
   pub by_words : IsAskedOf words asked
   pub ending : Ending
-  pub answered : IsAnswered watched is_terminal known asked ending old new
+  pub answered : IsAnswered watched is_terminal known (settled_asked shows_colors asked) ending old new
   pub ended : status ≡ ending.status

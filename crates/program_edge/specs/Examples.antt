@@ -8,6 +8,8 @@ use Rattle.program_edge.specs.declared.fault.Fault.TheVariants.{InputTwice, Expl
 use Rattle.program_edge.specs.declared.unread.Reason.TheVariants.{NoSuchFile, Other}
 use Rattle.program_edge.specs.declared.unread.Unread.{Unread}
 use Rattle.jobs.specs.declared.job.CertificateSource.TheVariants.{Least}
+use Rattle.jobs.specs.declared.job.Colors.{Colors}
+use Rattle.jobs.specs.declared.job.Colors.TheVariants.{Always, Auto, Never}
 use Rattle.jobs.specs.declared.job.Format.{Format}
 use Rattle.jobs.specs.declared.job.Job.{Job}
 use Rattle.jobs.specs.declared.job.Job.TheVariants.{Check, Explain, Print, Seq}
@@ -18,6 +20,7 @@ use Rattle.whole_file.specs.declared.unwritten.Unwritten.TheVariants.{NoSuchFold
 use Rattle.left_over.specs.declared.left.LeftOver.{LeftOver}
 use Rattle.program_edge.specs.Asking.{input_of}
 use Rattle.program_edge.specs.Beside.{rest_said}
+use Rattle.program_edge.specs.Colouring.{colors_for}
 use Rattle.program_edge.specs.FileTexts.{but_there, opening_reason}
 use Rattle.program_edge.specs.Hints.{hint_for, hint_of}
 use Rattle.program_edge.specs.Refusals.{is_refusal}
@@ -91,9 +94,9 @@ unlisted_hint = refl
 pub no_hint : (budget : ℕ) → hint_of (Seq budget) (codes "a.s") 0 (codes "halted after 17 instructions" ++ 10 ∷ []) ≡ []
 no_hint budget = refl
 
-pub explained : (name : String Global) (certificate : Option (String Global)) (warnings : Bool) (format : Format) (text : List ℕ)
-    → hint_of (Explain name certificate warnings format) (codes "a.s") 1 text ≡ []
-explained name certificate warnings format text = refl
+pub explained : (name : String Global) (certificate script : Option (String Global)) (warnings : Bool) (format : Format) (colors : Colors) (text : List ℕ)
+    → hint_of (Explain name certificate script warnings format colors) (codes "a.s") 1 text ≡ []
+explained name certificate script warnings format colors text = refl
 
 pub no_terminal : (job : Job) (report : Report) → hint_for false job (codes "a.s") report ≡ []
 no_terminal job report = refl
@@ -104,3 +107,15 @@ asked left = refl
 
 pub unasked : (left : LeftOver) → left.count ≡ 0 → rest_said false (Some left) ≡ []
 unasked left none = rw (none) refl
+
+-- a terminal shows colours unless they are unwanted; a file gets them only from who asks for them
+pub shown_in_colours : colors_for true false Auto ≡ Always
+shown_in_colours = refl
+
+pub none_in_a_file : colors_for true true Auto ≡ Never
+none_in_a_file = refl
+
+pub asked_for : (sees is_kept : Bool) → colors_for sees is_kept Always ≡ Always
+asked_for true true = refl
+asked_for true false = refl
+asked_for false is_kept = refl

@@ -44,7 +44,7 @@ line_hint name line =
 
 -- `explain` says all itself
 abbrev pub explains : Job → Bool
-explains (Explain name certificate warnings format) = true
+explains (Explain name certificate script warnings format colors) = true
 explains _ = false
 
 -- the hint to a result with this status, of a program of this name

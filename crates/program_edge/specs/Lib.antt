@@ -5,6 +5,7 @@ pub mod Hints
 pub mod Telling
 pub mod Asking
 pub mod Beside
+pub mod Colouring
 pub mod Streams
 pub mod Summaries
 pub mod Several

@@ -27,7 +27,7 @@ refuses line = starts_with nat_eq line (codes "program refused: ")
 
 -- what `check` and `explain` say of a refused text is what they were asked for
 abbrev pub judges : Job → Bool
-judges (Explain name certificate warnings format) = true
+judges (Explain name certificate script warnings format colors) = true
 judges (Check source workers) = true
 judges _ = false
 

@@ -57,8 +57,8 @@ certificate_reason name = codes "is a certificate; explain PROGRAM --certificate
 
 -- the job for the program of this name
 abbrev pub IsJobFor : (asked : Job) → (name : List ℕ) → Job → Type 0
-IsJobFor (Explain first certificate warnings format) name job =
-    (own : String Global) × (job ≡ Explain own None warnings format) × (string_bytes own ≡ name)
+IsJobFor (Explain first certificate script warnings format colors) name job =
+    (own : String Global) × (job ≡ Explain own None None warnings format colors) × (string_bytes own ≡ name)
 IsJobFor asked name job = job ≡ asked
 
 -- what is said of a program with this report

@@ -90,7 +90,7 @@ IsTold fault status is_told output output' errors errors' =
 
 -- what is told of a file that gives no text: only `explain` says why
 abbrev pub unread_fault : Job → Unread → Fault
-unread_fault (Explain name certificate warnings format) unread =
+unread_fault (Explain name certificate script warnings format colors) unread =
     if bytes_eq (string_bytes unread.path) (string_bytes name) then NoProgram unread else Explained unread
 unread_fault _ unread = File unread.path
 

@@ -1,18 +1,19 @@
 //! From what was asked and its files to what is written and the status.
 ghost use Rattle.std.specs.Prelude.{◌≡◌, ◌⊎◌, ◌∷◌, IfOk, false};
 ghost use Rattle.whole_file.specs.Files.{Files};
-ghost use Rattle.program_edge.specs.Answering.{IsAnswered, IsAnsweredFor, IsDelivered, IsJobDone, IsNotDone, IsPut, IsRead, IsShown, IsTaken};
+ghost use Rattle.program_edge.specs.Answering.{IsAnswered, IsAnsweredFor, IsDelivered, IsDeliveredIf, IsDeliveredTold, IsJobDone, IsNotDone, IsPut, IsRead, IsShown, IsTaken, ending_after};
 ghost use Rattle.program_edge.specs.Refusals.{is_refusal};
 ghost use Rattle.program_edge.specs.Several.{IsEach};
 ghost use Rattle.program_edge.specs.Streams.{IsBroken};
 ghost use Rattle.program_edge.specs.Telling.{unread_fault};
+ghost use Rattle.verdict_report.specs.JobTexts.{IsReportOf};
 
 use crate::each::answer_each;
 use crate::fault::Fault;
 use crate::named_files::NamedFiles;
-use crate::reader::{Reader, told_report};
+use crate::reader::{Reader, hinted, told_report};
 use crate::refusal::is_refusal;
-use crate::reports::Written;
+use crate::reports::{Written, written_told};
 use crate::streams::{say, write_whole};
 use crate::texts::{NamedTexts, read_texts};
 use crate::told::{Ending, tell};
@@ -50,7 +51,7 @@ pub fn answer<F: NamedFiles, D: Folder, O: Write, E: Write, R: Threads + Wait + 
 /// `folder` that was asked for, and the status is the report's. A text that is refused gives no result, and so
 /// changes no file. Where `errors` is a terminal, a report that refuses a text, or that is of a run that trapped or
 /// ended as unlisted, gets one line there; and there, or where it is asked for, what `annotate` leaves to mend by hand
-/// is told. The first fault ends it, and is told. `check` and `run` make threads. (own choice)
+/// is told; and where it is asked for, each run of `curve` when it is done. The first fault ends it, and is told. `check` and `run` make threads. (own choice)
 pub fn answer_reader<F: NamedFiles, D: Folder, O: Write, E: Write, R: Threads + Wait + Sync>(
     rt: &R,
     alloc: Global,
@@ -132,6 +133,7 @@ fn answer_request<F: NamedFiles, D: Folder, O: Write, E: Write, R: Threads + Wai
         output: place,
         further: _,
         report: wants_rest,
+        progress,
     } = request;
     match read_texts(rt, alloc, files, &job, paths) {
         Ok(NamedTexts { name, texts }) => {
@@ -140,8 +142,8 @@ fn answer_request<F: NamedFiles, D: Folder, O: Write, E: Write, R: Threads + Wai
                 wants_rest,
                 name,
             };
-            deliver(
-                rt, alloc, &job, &texts, place, &reader, folder, output, errors,
+            deliver_if(
+                progress, rt, alloc, &job, &texts, place, &reader, folder, output, errors,
             )
         }
         Err(unread) => tell(&fault_of_file(&job, unread), output, errors),
@@ -168,6 +170,7 @@ fn answer_several<F: NamedFiles, O: Write, E: Write, R: Threads + Wait + Sync>(
         output: _,
         further,
         report: _,
+        progress: _,
     } = request;
     match names_of(further, paths.program) {
         Ok(names) => answer_each(
@@ -206,6 +209,29 @@ fn fault_of_file(job: &Job, unread: Unread) -> Fault
     }
 }
 
+// Does a job with its texts; on the way `errors` hears how far it is, if that is asked for.
+fn deliver_if<D: Folder, O: Write, E: Write, R: Threads + Wait + Sync>(
+    progress: bool,
+    rt: &R,
+    alloc: Global,
+    job: &Job,
+    texts: &Texts,
+    place: Option<String>,
+    reader: &Reader,
+    folder: &mut D,
+    output: &mut O,
+    errors: &mut E,
+) -> Ending
+    ensures { IsDeliveredIf progress D.is_watched reader.now place job.now texts.now result
+        record { output = O.contents output.old; errors = E.contents errors.old; files = D.known folder.old }
+        record { output = O.contents output.new; errors = E.contents errors.new; files = D.known folder.new } }
+{
+    if progress {
+        return deliver_told(rt, alloc, job, texts, place, reader, folder, output, errors);
+    }
+    deliver(rt, alloc, job, texts, place, reader, folder, output, errors)
+}
+
 // Does a job with its texts; its report goes to a file, if there is one.
 fn deliver<D: Folder, O: Write, E: Write, R: Threads + Wait + Sync>(
     rt: &R,
@@ -228,6 +254,85 @@ fn deliver<D: Folder, O: Write, E: Write, R: Threads + Wait + Sync>(
     match place {
         Some(path) => put(rt, alloc, job, texts, path, reader, folder, output, errors),
         None => write_out(rt, alloc, job, texts, reader, output, errors),
+    }
+}
+
+// Does a job as `deliver` does; on the way `errors` hears how far it is.
+fn deliver_told<D: Folder, O: Write, E: Write, R: Threads + Wait + Sync>(
+    rt: &R,
+    alloc: Global,
+    job: &Job,
+    texts: &Texts,
+    place: Option<String>,
+    reader: &Reader,
+    folder: &mut D,
+    output: &mut O,
+    errors: &mut E,
+) -> Ending
+    ensures { IsDeliveredTold D.is_watched reader.now place job.now texts.now result
+        record { output = O.contents output.old; errors = E.contents errors.old; files = D.known folder.old }
+        record { output = O.contents output.new; errors = E.contents errors.new; files = D.known folder.new } }
+{
+    match written_told(rt, alloc, job, texts, reader.name.as_str(), errors) {
+        Ok(told) => {
+            let report = told.written;
+            let own = hand_over(
+                alloc, job, texts, report, place, reader, folder, output, errors,
+            );
+            ending_after(told.is_told, own)
+        }
+        Err(lack) => tell(&Fault::Serve(lack), output, errors),
+    }
+}
+
+// How the program ends where this was told before.
+fn ending_after(is_told: bool, own: Ending) -> Ending
+    ensures { result ≡ ending_after is_told own }
+{
+    Ending {
+        status: own.status,
+        is_told: is_told && own.is_told,
+    }
+}
+
+// What becomes of the report of a job: it goes to a file, if there is one.
+fn hand_over<D: Folder, O: Write, E: Write>(
+    alloc: Global,
+    job: &Job,
+    texts: &Texts,
+    report: Written,
+    place: Option<String>,
+    reader: &Reader,
+    folder: &mut D,
+    output: &mut O,
+    errors: &mut E,
+) -> Ending
+    requires { IsReportOf job.now texts.now record { bytes = report.bytes.items; status = report.status } }
+    ensures { IsDelivered D.is_watched reader.now place job.now texts.now result
+        record { output = O.contents output.old; errors = E.contents errors.old; files = D.known folder.old }
+        record { output = O.contents output.new; errors = E.contents errors.new; files = D.known folder.new }
+        ⊎ IsNotDone job.now texts.now result
+        record { output = O.contents output.old; errors = E.contents errors.old; files = D.known folder.old }
+        record { output = O.contents output.new; errors = E.contents errors.new; files = D.known folder.new } }
+{
+    match hinted(alloc, job, texts, reader, report) {
+        Ok(hinted) => {
+            let hint = hinted.hint.as_slice();
+            match place {
+                Some(path) => take(
+                    alloc,
+                    job,
+                    &hinted.report,
+                    hint,
+                    path,
+                    folder,
+                    output,
+                    errors,
+                ),
+                None => show(&hinted.report, hint, output, errors),
+            }
+        }
+        Err(AllocError) => tell(&Fault::Serve(ServeFault::OutOfMemory), output, errors),
     }
 }
 

@@ -99,13 +99,16 @@ fn judged_part<R: Threads + Wait + Sync>(
         Job::Explain {
             warnings,
             format,
+            colors,
             ..
         } => {
             let own = Job::Explain {
                 name: String::from_str(alloc, name)?,
                 certificate: None,
+                script: None,
                 warnings: *warnings,
                 format: *format,
+                colors: *colors,
             };
             reported_part(rt, alloc, &own, name, texts, is_terminal)
         }

@@ -3,7 +3,8 @@ ghost use Rattle.std.specs.Prelude.{◌≡◌, ◌≢◌, ◌||◌, Err, IfOk, O
 ghost use Rattle.verdict_report.specs.JobTexts.{IsReportOf};
 ghost use Rattle.program_edge.specs.Beside.{IsBeside, IsRest, rest_said};
 
-use crate::reports::{Hinted, Written, hinted_report};
+use crate::hint::hint_for;
+use crate::reports::{Hinted, Written, report_of};
 use jobs::job::{Job, Texts};
 use left_over::left::LeftOver;
 use left_over::proposal::left_over;
@@ -58,11 +59,28 @@ pub(crate) fn told_report<R: Threads + Wait + Sync>(
     ensures fault { result ≢ Err ServeFault.Write }
     ensures memory { OnErr result (result ≡ Err ServeFault.OutOfMemory) }
 {
+    let report = report_of(rt, alloc, job, texts)?;
+    Ok(hinted(alloc, job, texts, reader, report)?)
+}
+
+/// A report, and what is said beside it.
+pub(crate) fn hinted(
+    alloc: Global,
+    job: &Job,
+    texts: &Texts,
+    reader: &Reader,
+    report: Written,
+) -> Result<Hinted, AllocError>
+    ensures report { IfOk result (λ h. h.report ≡ report) }
+    ensures hint { IfOk result (λ h. IsBeside reader.now job.now texts.now.program.items
+        record { bytes = report.bytes.items; status = report.status } h.hint.items) }
+{
     let name = reader.name.as_str();
-    let mut told = hinted_report(rt, alloc, job, texts, reader.is_terminal, name)?;
-    let rest = rest_of(alloc, job, texts, reader, &told.report)?;
-    told.hint.extend_from_slice(rest.as_slice())?;
-    Ok(told)
+    let bytes = report.bytes.as_slice();
+    let mut hint = hint_for(alloc, reader.is_terminal, job, name, report.status, bytes)?;
+    let rest = rest_of(alloc, job, texts, reader, &report)?;
+    hint.extend_from_slice(rest.as_slice())?;
+    Ok(Hinted { report, hint })
 }
 
 // What is said of what the job leaves that wrote this.

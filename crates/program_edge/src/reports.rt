@@ -1,15 +1,18 @@
 //! What a job writes, and the hint to it.
 ghost use Rattle.std.specs.Prelude.{◌≡◌, ◌≢◌, Err, IfOk, OnErr};
+ghost use Rattle.verdict_report.specs.CurveProgress.{IsProgress, progress_lines};
 ghost use Rattle.verdict_report.specs.JobTexts.{IsReportOf};
+ghost use Rattle.verdict_report.specs.Writing.{Begins};
 ghost use Rattle.program_edge.specs.Hints.{hint_for};
 
 use crate::hint::hint_for;
 use jobs::job::{Job, Texts};
 use std::alloc::Global;
+use std::io::Write;
 use std::sync::Wait;
 use std::thread::Threads;
 use verdict_report::fault::ServeFault;
-use verdict_report::serve::serve;
+use verdict_report::serve::{report_told, serve};
 
 // What a job writes, and the status.
 #[derive(Drop)]
@@ -47,7 +50,7 @@ pub(crate) fn hinted_report<R: Threads + Wait + Sync>(
 }
 
 // What a job with its texts writes.
-fn report_of<R: Threads + Wait + Sync>(
+pub(crate) fn report_of<R: Threads + Wait + Sync>(
     rt: &R,
     alloc: Global,
     job: &Job,
@@ -64,4 +67,37 @@ fn report_of<R: Threads + Wait + Sync>(
         Err(ServeFault::Write) => Err(ServeFault::OutOfMemory),
         Err(fault) => Err(fault),
     }
+}
+
+// What a job wrote, and whether all was said that is to be said on the way.
+#[derive(Drop)]
+pub(crate) struct ToldWritten {
+    pub written: Written,
+    pub is_told: bool,
+}
+
+// What a job with its texts writes; on the way `errors` hears how far it is.
+pub(crate) fn written_told<E: Write, R: Threads + Wait + Sync>(
+    rt: &R,
+    alloc: Global,
+    job: &Job,
+    texts: &Texts,
+    name: &str,
+    errors: &mut E,
+) -> Result<ToldWritten, ServeFault>
+    ensures report { IfOk result (λ told. IsReportOf job.now texts.now
+        record { bytes = told.written.bytes.items; status = told.written.status }) }
+    ensures said { IfOk result (λ told. IsProgress job.now texts.now name.now told.is_told
+        (E.contents errors.old) (E.contents errors.new)) }
+    ensures begun { Begins (E.contents errors.old) (E.contents errors.new) (progress_lines job.now name.now) }
+    ensures memory { OnErr result (result ≡ Err ServeFault.OutOfMemory) }
+{
+    let told = report_told(rt, alloc, job, texts, name, errors)?;
+    let mut bytes = Vec::new(alloc);
+    bytes.extend_from_slice(told.report.bytes())?;
+    let status = told.report.status();
+    Ok(ToldWritten {
+        written: Written { bytes, status },
+        is_told: told.is_told,
+    })
 }

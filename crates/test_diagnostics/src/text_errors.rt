@@ -1,5 +1,5 @@
 //! What is said of texts that spell no program. The sentences are those that FORMATS promises; that the nearest word
-//! with these operands is offered, and a label after its place, is what rustc and clang do.
+//! with these operands is offered, before a label, is what rustc and clang do.
 
 use diagnostics::colour::Colour;
 use diagnostics::files::{Files, TextFile};
@@ -7,7 +7,8 @@ use diagnostics::text::text_of;
 use std::alloc::{AllocError, Global};
 use text_diagnostics::refusal::text_diagnostics;
 
-const WORDS: &[u8] = b"A nop\nADDIU $8,$8,1\naddui $8,$8,1\naddu r8,r9,$9\nx: .asciiz 5\nhalt !x";
+const WORDS: &[u8] =
+    b"A nop\nADDIU $8,$8,1\naddui $8,$8,1\naddu r8,r9,$9\nx: .asciiz 5\nhalt !x\nhlat\nble $8,$9,A\naddu $8,$9";
 
 const WORDS_SAID: &str =
     "p.s:1:1: error: there is no instruction or directive `A` [4 Mnemonic line 1]
@@ -22,6 +23,12 @@ p.s:5:4: error: `.asciiz` is not in this profile [4 Mnemonic line 5]
 p.s:5:4: help: write .byte with the letters' numbers, and 0
 p.s:6:6: error: there is no mark `!x` [7 Mark line 6]
 p.s:6:6: help: remove it
+p.s:7:1: error: there is no instruction or directive `hlat` [4 Mnemonic line 7]
+p.s:7:1: help: did you mean halt?
+p.s:8:1: error: `ble` is not in this profile [4 Mnemonic line 8]
+p.s:8:1: help: write slt $1,rt,rs and beq $1,$0,T
+p.s:9:11: error: the operands of `addu` end too early [5 Operand line 9]
+p.s:9:11: help: the form is addu rd,rs,rt
 ";
 
 const NAMES: &[u8] = b".task D create=- targets=AB,E\nABC: j ABC !st\n.data\nD:";
@@ -29,7 +36,7 @@ const NAMES: &[u8] = b".task D create=- targets=AB,E\nABC: j ABC !st\n.data\nD:"
 const NAMES_SAID: &str =
     "p.s:1:7: error: `D` is a label of data, where no task begins [9 Unknown line 1]
 p.s:4:1: note: the label stands here
-p.s:1:7: help: a label is a name with a colon after it; a task has the name of the label where it begins
+p.s:1:7: help: name a label that stands in .text
 p.s:1:26: error: there is no label `AB` [9 Unknown line 1]
 p.s:1:26: help: did you mean ABC?
 p.s:1:29: error: there is no label `E` [9 Unknown line 1]

@@ -77,6 +77,13 @@ a.s:4:4: note: $8 is written here, on the path 4
     4 | A: addiu $8,$0,1 !f !s
       |    ^~~~~~~~~~~~~~~~~~~
 a.s:1:9: help: write create=$8
+a.s:2:27: error: task B lists the target @3, where no task begins [rule 12]
+    2 | .task B create=$9 targets=D
+      |                           ^
+a.s:7:4: note: no task begins here
+    7 | D: halt
+      |    ^~~~
+a.s:2:19: help: no exit leads there: write targets=-
 a.s:5:4: error: task B can end here and go on to C, which its targets lack [rule 9]
     5 | B: addiu $9,$0,2 !s
       |    ^~~~~~~~~~~~~~~~
@@ -85,13 +92,6 @@ a.s:6:4: note: task C begins here
     6 | C: out $9
       |    ^~~~~~
 a.s:2:19: help: write targets=C
-a.s:2:27: error: task B lists the target @3, where no task begins [rule 12]
-    2 | .task B create=$9 targets=D
-      |                           ^
-a.s:7:4: note: no task begins here
-    7 | D: halt
-      |    ^~~~
-a.s:2:19: help: no exit leads there: write targets=-
 ",
     ),
 ];
@@ -210,7 +210,7 @@ A: addu $8,$8,1 !f
         "a.s:2:15: error: `addu` cannot take `1` here [5 Operand line 2]
     2 | A: addu $8,$8,1 !f
       |               ^
-a.s:2:15: help: did you mean $1?
+a.s:2:15: help: the form is addu rd,rs,rt
 a.s:3:10: error: `lw` cannot take `$8` here [5 Operand line 3]
     3 |    lw $9,$8
       |          ^~

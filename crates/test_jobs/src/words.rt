@@ -4,7 +4,8 @@ use crate::answers::words_of;
 use command_line::request::Request;
 use command_line::words::{UsageFault, request_of};
 use jobs::job::{
-    CertificateSource, CurveEmit, Emit, Job, Prediction, ReplayEmit, RunEmit, Schedule,
+    CertificateSource, Colors, CurveEmit, Emit, Format, Job, Prediction, ReplayEmit, RunEmit,
+    Schedule,
 };
 use std::alloc::Global;
 use std::process::Abort;
@@ -18,6 +19,7 @@ enum Wanted {
     Explain(WantedExplain),
     Check(CertificateSource, u32),
     Replay(CertificateSource, u32, ReplayEmit),
+    ReplayStrictly(CertificateSource, u32),
     Run(WantedRun),
     Curve(CertificateSource, u32, u32, Wanting, CurveEmit),
 }
@@ -29,14 +31,29 @@ use CertificateSource::{File, Least};
 struct WantedExplain {
     names_program: bool,
     names_certificate: bool,
+    names_script: bool,
     warnings: bool,
+    format: Format,
+    colors: Colors,
+}
+
+impl WantedExplain {
+    // The names of the certificate and of the script; one that is not there is empty.
+    fn files(self) -> (&'static str, &'static str) {
+        let certificate = if self.names_certificate { "a.cert" } else { "" };
+        let script = if self.names_script { "a.events" } else { "" };
+        (certificate, script)
+    }
 }
 
 // `explain` with nothing but its program.
 const PLAIN_EXPLAIN: WantedExplain = WantedExplain {
     names_program: true,
     names_certificate: false,
+    names_script: false,
     warnings: true,
+    format: Format::Text,
+    colors: Colors::Auto,
 };
 
 // What `run` takes.
@@ -94,12 +111,17 @@ impl Wanted {
             Job::Explain {
                 name,
                 certificate,
+                script,
                 warnings,
-                ..
+                format,
+                colors,
             } => Wanted::Explain(WantedExplain {
                 names_program: name.as_str() == "a.s",
                 names_certificate: is_named(certificate, "a.cert"),
+                names_script: is_named(script, "a.events"),
                 warnings: *warnings,
+                format: *format,
+                colors: *colors,
             }),
             Job::Check {
                 certificate,
@@ -110,6 +132,9 @@ impl Wanted {
                 units,
                 emit,
             } => Wanted::Replay(*certificate, units.get(), *emit),
+            Job::ReplayStrictly { certificate, units } => {
+                Wanted::ReplayStrictly(*certificate, units.get())
+            }
             Job::Run {
                 certificate,
                 schedule,
@@ -149,7 +174,7 @@ impl Wanted {
             Wanted::Replay(Least, ..) => ("", "a.events"),
             Wanted::Replay(File, ..) => ("a.cert", "a.events"),
             Wanted::Check(File, _) => ("a.cert", ""),
-            Wanted::Explain(explain) if explain.names_certificate => ("a.cert", ""),
+            Wanted::Explain(explain) => explain.files(),
             Wanted::Run(run) if run.certificate == File => ("a.cert", ""),
             Wanted::Curve(File, ..) => ("a.cert", ""),
             _ => ("", ""),
@@ -166,7 +191,7 @@ fn is_named(file: &Option<String>, name: &str) -> bool {
 }
 
 // Words that give a job of the program `a.s`.
-const JOBS: [(&str, Wanted); 27] = [
+const JOBS: [(&str, Wanted); 34] = [
     ("seq a.s", Wanted::Seq(1_000_000)),
     ("seq --budget 17 a.s", Wanted::Seq(17)),
     ("print a.s", Wanted::Print),
@@ -182,6 +207,44 @@ const JOBS: [(&str, Wanted); 27] = [
         "explain --no-warnings a.s",
         Wanted::Explain(WantedExplain {
             warnings: false,
+            ..PLAIN_EXPLAIN
+        }),
+    ),
+    (
+        "explain --script a.events a.s",
+        Wanted::Explain(WantedExplain {
+            names_script: true,
+            ..PLAIN_EXPLAIN
+        }),
+    ),
+    (
+        "explain a.s --script=a.events --certificate a.cert --format sarif",
+        Wanted::Explain(WantedExplain {
+            names_certificate: true,
+            names_script: true,
+            format: Format::Sarif,
+            ..PLAIN_EXPLAIN
+        }),
+    ),
+    (
+        "explain --format json a.s --color auto",
+        Wanted::Explain(WantedExplain {
+            format: Format::Json,
+            ..PLAIN_EXPLAIN
+        }),
+    ),
+    (
+        "explain --color always a.s",
+        Wanted::Explain(WantedExplain {
+            colors: Colors::Always,
+            ..PLAIN_EXPLAIN
+        }),
+    ),
+    (
+        "explain a.s --format=json --color=never",
+        Wanted::Explain(WantedExplain {
+            format: Format::Json,
+            colors: Colors::Never,
             ..PLAIN_EXPLAIN
         }),
     ),
@@ -219,6 +282,14 @@ const JOBS: [(&str, Wanted); 27] = [
         Wanted::Replay(Least, 3, ReplayEmit::Summary),
     ),
     (
+        "replay --strict a.s a.cert a.events",
+        Wanted::ReplayStrictly(File, 4),
+    ),
+    (
+        "replay a.s --emit answers --units 2 --least --strict a.events",
+        Wanted::ReplayStrictly(Least, 2),
+    ),
+    (
         "replay a.s a.cert a.events --emit json",
         Wanted::Replay(File, 4, ReplayEmit::Json),
     ),
@@ -245,7 +316,7 @@ const JOBS: [(&str, Wanted); 27] = [
 ];
 
 // Words of `run`.
-const RUNS: [(&str, WantedRun); 13] = [
+const RUNS: [(&str, WantedRun); 14] = [
     ("run a.s a.cert", PLAIN_RUN),
     (
         "run --least a.s",
@@ -259,6 +330,13 @@ const RUNS: [(&str, WantedRun); 13] = [
         WantedRun {
             certificate: Least,
             emit: RunEmit::Script,
+            ..PLAIN_RUN
+        },
+    ),
+    (
+        "run --with-values a.s a.cert --emit script",
+        WantedRun {
+            emit: RunEmit::ScriptWithValues,
             ..PLAIN_RUN
         },
     ),
@@ -366,7 +444,7 @@ fn expect_path(rt: &impl Abort, line: &str, path: &String, expected: &str) {
     assert!(rt; path.as_str() == expected, "{line}");
 }
 
-const NO_JOBS: [&str; 54] = [
+const NO_JOBS: [&str; 64] = [
     "seq",
     "seq a.s b.s",
     "seq a.s --budget 0",
@@ -384,6 +462,12 @@ const NO_JOBS: [&str; 54] = [
     "explain --certificate a.cert --certificate b.cert a.s",
     "explain --certificate a.cert a.s b.s",
     "explain a.s b.s --format sarif",
+    "explain a.s b.s --format json",
+    "explain --script a.events a.s b.s",
+    "explain --script a.events --script b.events a.s",
+    "explain --format xml a.s",
+    "explain --color a.s",
+    "explain --color Always a.s",
     "explain -o b.txt a.s b.s",
     "check -o b.txt --least a.s b.s",
     "replay a.s a.cert",
@@ -406,7 +490,10 @@ const NO_JOBS: [&str; 54] = [
     "curve a.s a.cert --workers 2",
     "replay a.s a.cert a.events --emit report",
     "replay a.s a.cert a.events --emit Summary",
+    "replay a.s a.cert a.events --strict --emit trace",
     "run a.s a.cert --emit xml",
+    "run a.s a.cert --with-values",
+    "run a.s a.cert --with-values --emit trace",
     "run a.s a.cert --emit text",
     "curve a.s a.cert --emit json",
     "curve --least a.s --emit Table",
@@ -417,6 +504,7 @@ const NO_JOBS: [&str; 54] = [
     "print a.s -o",
     "print --in-place a.s",
     "print --report a.s",
+    "run a.s a.cert --progress",
     "annotate --in-place -",
     "annotate --in-place -o b.s a.s",
     "annotate --in-place --emit cert a.s",
@@ -436,26 +524,29 @@ const PLACES: [(&str, Option<&str>); 9] = [
     ("annotate --in-place --emit text a.s", Some("a.s")),
 ];
 
-// Whether it is asked for that what is left to mend by hand is told.
-const REPORTS: [(&str, bool); 5] = [
-    ("annotate a.s", false),
-    ("annotate --report a.s", true),
-    ("annotate a.s --emit marks --report", true),
-    ("annotate --in-place --report a.s", true),
-    ("check --least a.s", false),
+// Whether it is asked for that what is left to mend by hand is told, and whether that each run is.
+const REPORTS: [(&str, bool, bool); 7] = [
+    ("annotate a.s", false, false),
+    ("annotate --report a.s", true, false),
+    ("annotate a.s --emit marks --report", true, false),
+    ("annotate --in-place --report a.s", true, false),
+    ("check --least a.s", false, false),
+    ("curve --least a.s", false, false),
+    ("curve a.s a.cert --progress", false, true),
 ];
 
 #[test]
-fn reads_whether_what_is_left_is_told(rt: HostRuntime) {
-    for &(line, report) in &REPORTS {
-        expect_report(&rt, rt.alloc(), line, report);
+fn reads_what_is_told(rt: HostRuntime) {
+    for &(line, report, progress) in &REPORTS {
+        expect_told(&rt, rt.alloc(), line, report, progress);
     }
 }
 
-// Asserts whether it is told.
-fn expect_report(rt: &impl Abort, alloc: Global, line: &str, report: bool) {
+// Asserts what is told.
+fn expect_told(rt: &impl Abort, alloc: Global, line: &str, report: bool, progress: bool) {
     let request = read(rt, alloc, line).ok().expect(rt, "a job");
     assert!(rt; request.report == report, "{line}");
+    assert!(rt; request.progress == progress, "{line}");
 }
 
 #[test]

@@ -4,9 +4,10 @@
 //! text on standard input; a missing file; wrong words; every help; what is said of a wrong value, of a file
 //! that the words lack or have too many, and of options of one program beside several; files that cannot take a
 //! result, a refused text that changes none, and what cannot be done in place; what `annotate --report` says is
-//! left to mend by hand; and what standard error gets if it is a terminal, beside refused texts, findings, a run
-//! that trapped and proposed marks that leave something. Last, the program does what its own words ask for, on the
-//! two streams of the process and with its status: a file is missing, so it writes nothing to standard output.
+//! left to mend by hand; scripts with expectations; what `curve --progress` tells; and what standard error gets if it
+//! is a terminal, beside refused texts, findings, a run that trapped and proposed marks that leave something. Last, the
+//! program does what its own words ask for, on the two streams of the process and with its status: a file is missing, so
+//! it writes nothing to standard output.
 #![tactic(auto)]
 
 use program_edge::answer::answer_reader;
@@ -23,7 +24,7 @@ use std::sync::Wait;
 use std::thread::Threads;
 use whole_file::system::SystemFolder;
 
-const LINES: [&str; 49] = [
+const LINES: [&str; 58] = [
     "check five-findings.s five-findings.cert2",
     "check --workers 3 large.s large.cert2",
     "replay --units 2 count.s count.cert2 count.events",
@@ -49,7 +50,10 @@ const LINES: [&str; 49] = [
     "check --least -o count.out count.s count.s",
     "explain --certificate count.cert2 count.s count.s",
     "explain --format sarif count.s count.s",
+    "explain --script count.events count.s count.s",
+    "explain --format json count.s count.s",
     "explain --format all count.s",
+    "explain --color all count.s",
     "replay --least --emit all count.s count.events",
     "run --least --schedule all count.s",
     "curve --least --predict all count.s",
@@ -73,6 +77,12 @@ const LINES: [&str; 49] = [
     "annotate --report --emit keep count.s",
     "annotate --report --emit cert returns.s",
     "annotate --report count.cert2",
+    "replay --least --strict --units 2 count.s strict.events",
+    "replay --least --strict --units 2 count.s departs.events",
+    "replay --least --strict --emit trace count.s strict.events",
+    "run --least --schedule steps --units 1 --emit script --with-values count.s",
+    "curve --least --units 3 --progress count.s",
+    "curve --least --progress five-findings.s",
 ];
 
 // Where standard error is a terminal.
@@ -106,7 +116,7 @@ fn main(rt: HostRuntime) -> ExitCode {
         }
     }
     let mut folder = SystemFolder::new(&rt, NUMBER);
-    let status = run(&rt, &mut folder, &mut rt.stdout(), &mut rt.stderr(), false);
+    let status = run(&rt, &mut folder, &mut rt.stdout(), &mut rt.stderr(), false, false);
     ExitCode::from(status)
 }
 

@@ -1,9 +1,10 @@
 -- Texts that may be meant in place of what is wrong in a line (own choice).
-use Rattle.std.specs.Prelude.{ℕ, List, [], ◌∷◌, ◌++◌, filter, map, codes, Option, Some, None, if◌then◌else◌, ◌==◌, ◌&&◌}
+use Rattle.std.specs.Prelude.{ℕ, List, [], ◌∷◌, ◌++◌, filter, map, length, nat_lt, codes, Bool, Option, Some, None, is_some, if◌then◌else◌, ◌==◌, ◌&&◌, ◌||◌}
 use Rattle.std.specs.Str.{byte, bytes_eq, str_to_ascii_lowercase}
 use Rattle.program_tokens.specs.Numbers.{begins_with_digit}
 use Rattle.mips_instructions.specs.InstructionTable.{word_of, every_mnemonic}
 use Rattle.near_words.specs.Near.{is_near}
+use Rattle.text_diagnostics.specs.Shapes.{shape_of}
 use Rattle.syntax_tree.specs.declared.item.LineFaultKind.{LineFaultKind}
 use Rattle.syntax_tree.specs.declared.item.LineFaultKind.TheVariants as kind
 
@@ -53,17 +54,41 @@ row_of word (row ∷ rows) = if bytes_eq row.0 word then Some row.1 else row_of 
 unfoldable pub instead : List ℕ → Option (List ℕ)
 instead word = row_of word instead_table
 
+-- A word that begins no statement.
+
+-- a word begins a statement, if only in another section, or in other assemblers
+abbrev pub is_known_word : List ℕ → Bool
+is_known_word word = is_some (shape_of word) || is_some (instead word)
+
+-- to a word of one letter none is near
+abbrev pub near_mnemonics : List ℕ → List (List ℕ)
+near_mnemonics word = if nat_lt (length word) 2 then [] else filter (is_near word) (map word_of every_mnemonic)
+
+-- by a word that is not known may be meant: it in small letters, a mnemonic that is near, or a label
+unfoldable pub word_candidates : List ℕ → List (List ℕ)
+word_candidates word =
+    if is_known_word word then [] else str_to_ascii_lowercase word ∷ (near_mnemonics word ++ (word ++ codes ":") ∷ [])
+
+-- What is no operand.
+
 -- r8 is $8
 abbrev pub digits_of_register : List ℕ → List ℕ
 digits_of_register [] = []
 digits_of_register (b ∷ bs) = if b == byte "r" && begins_with_digit bs then bs else b ∷ bs
 
--- In place of a word that begins no statement: the word in small letters, a label, or a mnemonic that is near; of what is
--- no token: it in small letters; of what is no operand: a register, or a comma before it; of a mark that cannot stand
--- where it does: nothing.
+-- a number where a register is wanted may be meant as one: `addu $8,$9,1`
+abbrev pub register_candidates : List ℕ → List (List ℕ)
+register_candidates meant = if begins_with_digit meant then [] else (codes "$" ++ digits_of_register meant) ∷ []
+
+-- a register, or a comma before it; nothing where the operands end
+abbrev pub operand_candidates : List ℕ → List (List ℕ)
+operand_candidates [] = []
+operand_candidates (b ∷ bs) = register_candidates (b ∷ bs) ++ (codes "," ++ (b ∷ bs)) ∷ []
+
+-- In place of what is no token: it in small letters; of a mark that cannot stand where it does: nothing.
 unfoldable pub candidates : LineFaultKind → (meant : List ℕ) → List (List ℕ)
-candidates kind.Mnemonic word = str_to_ascii_lowercase word ∷ (word ++ codes ":") ∷ filter (is_near word) (map word_of every_mnemonic)
+candidates kind.Mnemonic word = word_candidates word
 candidates kind.Token meant = str_to_ascii_lowercase meant ∷ []
-candidates kind.Operand meant = (codes "$" ++ digits_of_register meant) ∷ (codes "," ++ meant) ∷ []
+candidates kind.Operand meant = operand_candidates meant
 candidates kind.Mark meant = [] ∷ []
 candidates _ meant = []

@@ -53,13 +53,15 @@ word_help here false (Some text) near = text
 word_help here false None (Some near) = meant_text near
 word_help here _ _ _ = section_help here
 
--- of what is no token: what is done instead of a word that takes it, or what tokens begin with its first byte (34 is a
--- quotation mark)
+-- of what is no token: what is done instead of a word that takes it, or what tokens begin with its first byte (34 and
+-- 39 are quotation marks)
 abbrev pub token_words : (instead : Option (List ℕ)) → (first : ℕ) → List ℕ
 token_words (Some text) first = text
 token_words None first =
     if first == byte "!" then codes "a mark is !f, !s, !st or !sn, in small letters"
     else if first == 34 then codes "a text has no strings: write .byte with the numbers of the letters"
+    else if first == 39 then codes "a text has no letters in quotation marks: write the number of the letter"
+    else if first == byte ";" || first == byte "/" then codes "a comment begins with #"
     else token_help first
 
 abbrev pub number_help : Option Token → Shape → List ℕ
@@ -119,16 +121,18 @@ is_near_label any name item = (any || is_code item.section) && is_near_said name
 abbrev pub near_item : (any : Bool) → (name : List ℕ) → List Item → Option Item
 near_item any name items = if nat_lt (length name) 2 then None else find (is_near_label any name) (take 4096 items)
 
-abbrev pub unknown_words : List ℕ
-unknown_words = codes "a label is a name with a colon after it; a task has the name of the label where it begins"
+-- where none is near
+abbrev pub name_words : Kind → List ℕ
+name_words (DataLabel as_what) = codes "name a label that stands in .text"
+name_words _ = codes "a label is a name with a colon after it; a task has the name of the label where it begins"
 
-abbrev pub said_help : Span → Said → Help
-said_help span (said.Label label) = by_text (meant_text label) span label
-said_help span _ = in_words unknown_words
+abbrev pub said_help : Kind → Span → Said → Help
+said_help kind span (said.Label label) = by_text (meant_text label) span label
+said_help kind span _ = in_words (name_words kind)
 
-abbrev pub near_help : Span → Option Item → Help
-near_help span None = in_words unknown_words
-near_help span (Some item) = said_help span item.said
+abbrev pub near_help : Kind → Span → Option Item → Help
+near_help kind span None = in_words (name_words kind)
+near_help kind span (Some item) = said_help kind span item.said
 
 -- in words, for what has no text to write
 abbrev pub item_words : Kind → List ℕ
@@ -148,6 +152,6 @@ unfoldable pub item_help : List Item → Item → (line : List ℕ) → Kind →
 item_help items item line UnfitForward name span = mark_help item.line line false (codes "remove !f") []
 item_help items item line StopOnHalt name span = mark_help item.line line true (codes "remove the stop") []
 item_help items item line OneSidedStop name span = mark_help item.line line true (codes "write !s, which stops always") (codes "!s")
-item_help items item line (NoLabel as_what) name span = near_help span (near_item (is_loaded item.said) name items)
-item_help items item line (DataLabel as_what) name span = near_help span (near_item (is_loaded item.said) name items)
+item_help items item line (NoLabel as_what) name span = near_help (NoLabel as_what) span (near_item (is_loaded item.said) name items)
+item_help items item line (DataLabel as_what) name span = near_help (DataLabel as_what) span (near_item (is_loaded item.said) name items)
 item_help items item line kind name span = in_words (item_words kind)

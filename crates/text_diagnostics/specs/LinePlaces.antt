@@ -1,19 +1,24 @@
 -- Which bytes of a line are meant by its fault (own choice).
-use Rattle.std.specs.Prelude.{ℕ, List, ◌∷◌, codes, unwrap_or, if◌then◌else◌}
+use Rattle.std.specs.Prelude.{ℕ, Bool, List, ◌∷◌, ◌&&◌, codes, unwrap_or, if◌then◌else◌}
 use Rattle.std.specs.Str.{bytes_eq}
+use Rattle.program_tokens.specs.Grammar.{is_name_start}
 use Rattle.program_tokens.specs.declared.span.Span.{Span}
 use Rattle.text_diagnostics.specs.declared.shape.Shape.{Shape}
 use Rattle.text_diagnostics.specs.declared.shape.Shape.TheVariants.{Nothing}
 use Rattle.text_diagnostics.specs.Shapes.{shape_of}
-use Rattle.text_diagnostics.specs.Bytes.{bytes_at, byte_span, token_span}
+use Rattle.text_diagnostics.specs.Bytes.{bytes_at, byte_at, byte_span, token_span}
 use Rattle.text_diagnostics.specs.Meant.{span_at, operand_span, number_index, mark_index}
 use Rattle.syntax_tree.specs.declared.item.LineFaultKind.{LineFaultKind}
 use Rattle.syntax_tree.specs.declared.item.LineFaultKind.TheVariants as kind
 use Rattle.text_diagnostics.specs.declared.rows.Reading.{Reading}
 
--- the first word of a line's statement: after its labels, each of which has a colon after it
+-- a name and a colon
+abbrev pub is_label : (line : List ℕ) → (name colon : Span) → Bool
+is_label line a b = is_name_start (byte_at line a) && bytes_eq (bytes_at line b) (codes ":")
+
+-- the first word of a line's statement: after its labels
 abbrev pub word_place : (line : List ℕ) → List Span → Span
-word_place line (a ∷ b ∷ rest) = if bytes_eq (bytes_at line b) (codes ":") then word_place line rest else a
+word_place line (a ∷ b ∷ rest) = if is_label line a b then word_place line rest else a
 word_place line places = span_at places 0
 
 abbrev pub word_in : (line : List ℕ) → Reading → List ℕ

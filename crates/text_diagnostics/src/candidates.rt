@@ -1,11 +1,13 @@
 //! Texts that may be meant in place of what is wrong in a line.
 
 ghost use Rattle.std.specs.Prelude.{◌≡◌, ◌++◌, ◌∷◌, [], map as each, filter, IfOk, OnOk};
+ghost use Rattle.program_tokens.specs.Numbers.{begins_with_digit};
 ghost use Rattle.std.specs.Option.{option_map};
 ghost use Rattle.mips_instructions.specs.InstructionTable.{word_of};
 ghost use Rattle.near_words.specs.Near.{is_near};
-ghost use Rattle.text_diagnostics.specs.Candidates.{row_of, instead, digits_of_register, candidates};
+ghost use Rattle.text_diagnostics.specs.Candidates.{row_of, instead, is_known_word, near_mnemonics, word_candidates, digits_of_register, register_candidates, operand_candidates, candidates};
 
+use crate::shape::shape_of;
 use mips_instructions::instruction::{MNEMONICS, Mnemonic};
 use near_words::is_near;
 use std::alloc::{AllocError, Global};
@@ -113,6 +115,78 @@ fn add_near(
     Ok(())
 }
 
+/// Whether a word begins a statement, if only in another section, or in other assemblers.
+fn is_known_word(word: &[u8]) -> bool
+    ensures { result ≡ is_known_word word.now }
+{
+    shape_of(word).is_some() || instead(word).is_some()
+}
+
+/// Adds the mnemonics that are near to a word of more than one letter.
+fn add_near_mnemonics(alloc: Global, list: &mut Vec<Vec<u8>>, word: &[u8]) -> Result<(), AllocError>
+    ensures { OnOk result (each (λ text. text.items) list.new.items
+        ≡ each (λ text. text.items) list.old.items ++ near_mnemonics word.now) }
+{
+    if word.len() < 2 {
+        return Ok(());
+    }
+    add_near(alloc, list, &MNEMONICS, word)
+}
+
+/// The texts that may be meant by a word that begins no statement.
+#[tactic(auto, unfolding(crate::specs::Candidates::word_candidates))]
+fn word_candidates(alloc: Global, word: &[u8]) -> Result<Vec<Vec<u8>>, AllocError>
+    ensures { IfOk result (λ list. each (λ text. text.items) list.items ≡ word_candidates word.now) }
+{
+    let mut list = Vec::new(alloc);
+    if is_known_word(word) {
+        return Ok(list);
+    }
+    list.push(word.to_ascii_lowercase(alloc)?)?;
+    add_near_mnemonics(alloc, &mut list, word)?;
+    add(alloc, &mut list, word, b":")?;
+    Ok(list)
+}
+
+/// Whether some bytes begin with a digit.
+fn begins_with_digit(bytes: &[u8]) -> bool
+    ensures { result ≡ begins_with_digit bytes.now }
+{
+    matches!(bytes, [b'0'..=b'9', ..])
+}
+
+/// The register that may be meant by what is no operand: none by a number.
+fn register_candidates(alloc: Global, meant: &[u8]) -> Result<Vec<Vec<u8>>, AllocError>
+    ensures { IfOk result (λ list. each (λ text. text.items) list.items ≡ register_candidates meant.now) }
+{
+    let mut list = Vec::new(alloc);
+    if !begins_with_digit(meant) {
+        add(alloc, &mut list, b"$", digits_of_register(meant))?;
+    }
+    Ok(list)
+}
+
+/// The texts that may be meant by what is no operand; none where the operands end.
+fn operand_candidates(alloc: Global, meant: &[u8]) -> Result<Vec<Vec<u8>>, AllocError>
+    ensures { IfOk result (λ list. each (λ text. text.items) list.items ≡ operand_candidates meant.now) }
+{
+    if meant.is_empty() {
+        return Ok(Vec::new(alloc));
+    }
+    let mut list = register_candidates(alloc, meant)?;
+    add(alloc, &mut list, b",", meant)?;
+    Ok(list)
+}
+
+/// The list of one text.
+fn only(alloc: Global, text: Vec<u8>) -> Result<Vec<Vec<u8>>, AllocError>
+    ensures { IfOk result (λ list. each (λ text. text.items) list.items ≡ text.items ∷ []) }
+{
+    let mut list = Vec::new(alloc);
+    list.push(text)?;
+    Ok(list)
+}
+
 /// The texts that may be meant in place of what is wrong in a line.
 #[tactic(auto, unfolding(crate::specs::Candidates::candidates))]
 pub(crate) fn candidates(
@@ -122,20 +196,11 @@ pub(crate) fn candidates(
 ) -> Result<Vec<Vec<u8>>, AllocError>
     ensures { IfOk result (λ list. each (λ text. text.items) list.items ≡ candidates kind meant.now) }
 {
-    let mut list = Vec::new(alloc);
     match kind {
-        LineFaultKind::Mnemonic => {
-            list.push(meant.to_ascii_lowercase(alloc)?)?;
-            add(alloc, &mut list, meant, b":")?;
-            add_near(alloc, &mut list, &MNEMONICS, meant)?;
-        }
-        LineFaultKind::Token => list.push(meant.to_ascii_lowercase(alloc)?)?,
-        LineFaultKind::Operand => {
-            add(alloc, &mut list, b"$", digits_of_register(meant))?;
-            add(alloc, &mut list, b",", meant)?;
-        }
-        LineFaultKind::Mark => list.push(Vec::new(alloc))?,
-        LineFaultKind::NotAscii | LineFaultKind::Number => {}
+        LineFaultKind::Mnemonic => word_candidates(alloc, meant),
+        LineFaultKind::Token => only(alloc, meant.to_ascii_lowercase(alloc)?),
+        LineFaultKind::Operand => operand_candidates(alloc, meant),
+        LineFaultKind::Mark => only(alloc, Vec::new(alloc)),
+        LineFaultKind::NotAscii | LineFaultKind::Number => Ok(Vec::new(alloc)),
     }
-    Ok(list)
 }

@@ -5,7 +5,7 @@ ghost use Rattle.std.specs.Option.{option_copied, option_map};
 ghost use Rattle.text_diagnostics.specs.Shapes.{near_statement};
 ghost use Rattle.diagnostics.specs.Quotations.{as_shown};
 ghost use Rattle.text_diagnostics.specs.Candidates.{instead};
-ghost use Rattle.text_diagnostics.specs.Helps.{meant_text, mending_help, section_help, word_help, token_words, number_help, line_words, help_by, line_help, is_mark_of, mark_place, mark_help, is_loaded, is_code, is_near_said, is_near_label, near_item, unknown_words, said_help, near_help, item_words, item_help};
+ghost use Rattle.text_diagnostics.specs.Helps.{meant_text, mending_help, section_help, word_help, token_words, number_help, line_words, help_by, line_help, is_mark_of, mark_place, mark_help, is_loaded, is_code, is_near_said, is_near_label, near_item, name_words, said_help, near_help, item_words, item_help};
 
 use crate::bytes::{byte_at, bytes_at, token_help};
 use crate::candidates::instead;
@@ -99,6 +99,12 @@ fn token_words(instead: Option<&'static str>, first: u8) -> &'static str
     }
     if first == b'"' {
         return "a text has no strings: write .byte with the numbers of the letters";
+    }
+    if first == b'\'' {
+        return "a text has no letters in quotation marks: write the number of the letter";
+    }
+    if first == b';' || first == b'/' {
+        return "a comment begins with #";
     }
     token_help(first)
 }
@@ -263,29 +269,37 @@ fn near_item<'a>(any: bool, name: &[u8], items: &'a [Item]) -> Option<&'a Item>
 }
 
 /// What to do about a name that is no label of the wanted kind, where no label is near.
-const UNKNOWN: &str =
-    "a label is a name with a colon after it; a task has the name of the label where it begins";
+fn name_words(kind: Kind) -> &'static str
+    ensures { result.now ≡ name_words kind }
+{
+    match kind {
+        Kind::DataLabel(_) => "name a label that stands in .text",
+        _ => {
+            "a label is a name with a colon after it; a task has the name of the label where it begins"
+        }
+    }
+}
 
 /// What to do about a name, where this may be meant.
-fn said_help(alloc: Global, span: Span, said: &Said) -> Result<Help, AllocError>
-    ensures { IfOk result (λ help. help ≡ said_help span said.now) }
+fn said_help(alloc: Global, kind: Kind, span: Span, said: &Said) -> Result<Help, AllocError>
+    ensures { IfOk result (λ help. help ≡ said_help kind span said.now) }
 {
     match said {
         Said::Label(label) => {
             let message = meant_text(alloc, label.as_str())?;
             by_text(alloc, message, span, Words::of(alloc, label.as_str())?)
         }
-        _ => Ok(in_words(alloc, Words::of(alloc, UNKNOWN)?)),
+        _ => Ok(in_words(alloc, Words::of(alloc, name_words(kind))?)),
     }
 }
 
 /// What to do about a name, where a label is near or none.
-fn near_help(alloc: Global, span: Span, near: Option<&Item>) -> Result<Help, AllocError>
-    ensures { IfOk result (λ help. help ≡ near_help span (option_copied near.entry)) }
+fn near_help(alloc: Global, kind: Kind, span: Span, near: Option<&Item>) -> Result<Help, AllocError>
+    ensures { IfOk result (λ help. help ≡ near_help kind span (option_copied near.entry)) }
 {
     match near {
-        Some(item) => said_help(alloc, span, &item.said),
-        None => Ok(in_words(alloc, Words::of(alloc, UNKNOWN)?)),
+        Some(item) => said_help(alloc, kind, span, &item.said),
+        None => Ok(in_words(alloc, Words::of(alloc, name_words(kind))?)),
     }
 }
 
@@ -353,7 +367,12 @@ pub(crate) fn item_help(
             mark_help(alloc, item.line, line, true, words, "!s")
         }
         Kind::NoLabel(_) | Kind::DataLabel(_) => {
-            near_help(alloc, span, near_item(is_loaded(&item.said), name, items))
+            near_help(
+                alloc,
+                kind,
+                span,
+                near_item(is_loaded(&item.said), name, items),
+            )
         }
         _ => Ok(in_words(alloc, Words::of(alloc, item_words(kind))?)),
     }

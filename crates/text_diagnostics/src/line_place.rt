@@ -1,9 +1,9 @@
 //! Which bytes of a line are meant by its fault.
 
 ghost use Rattle.std.specs.Prelude.{◌≡◌, IfOk};
-ghost use Rattle.text_diagnostics.specs.LinePlaces.{word_place, word_in, shape_named, line_place};
+ghost use Rattle.text_diagnostics.specs.LinePlaces.{is_label, word_place, word_in, shape_named, line_place};
 
-use crate::bytes::{byte_span, bytes_at, token_span};
+use crate::bytes::{byte_at, byte_span, bytes_at, token_span};
 use crate::meant::{mark_index, number_index, operand_span, span_at};
 use crate::rows::Reading;
 use crate::shape::{Shape, shape_of};
@@ -14,13 +14,21 @@ use syntax_tree::item::LineFaultKind;
 /// What stands after a label.
 const COLON: &[u8] = b":";
 
+/// Whether two places of a line are those of a label: a name and a colon.
+fn is_label(line: &[u8], name: Span, colon: Span) -> bool
+    ensures { result ≡ is_label line.now name colon }
+{
+    let first = byte_at(line, name);
+    (first == b'_' || first.is_ascii_alphabetic()) && bytes_at(line, colon) == COLON
+}
+
 /// Where the first word of a line's statement stands, after its labels.
 fn word_place(line: &[u8], places: &[Span]) -> Span
     ensures { result ≡ word_place line.now places.now }
 {
     let mut rest = places;
-    while let [_, second, others @ ..] = rest {
-        if bytes_at(line, *second) != COLON {
+    while let [first, second, others @ ..] = rest {
+        if !is_label(line, *first, *second) {
             break;
         }
         rest = others;

@@ -4,7 +4,7 @@ ghost use Rattle.std.specs.Prelude.{◌≡◌, is_ok, find, map as each, IfOk};
 ghost use Rattle.std.specs.Option.{option_map};
 ghost use Rattle.program_statements.specs.Statements.{statement_of};
 ghost use Rattle.text_diagnostics.specs.Meant.{label_tokens};
-ghost use Rattle.text_diagnostics.specs.Mending.{replaced, reads, goes_further, mends, mended};
+ghost use Rattle.text_diagnostics.specs.Mending.{replaced, reads, goes_further, taken_by, mends, mended};
 
 use crate::bytes::bytes_at;
 use crate::candidates::candidates;
@@ -57,7 +57,7 @@ fn reads(alloc: Global, section: Section, line: &[u8]) -> Result<bool, AllocErro
     }
 }
 
-/// Whether the first token of a line that is no operand stands after a place.
+/// Whether the first token of a line that is no operand stands after a part of it.
 #[tactic(auto, unfolding(crate::specs::Mending::goes_further))]
 fn goes_further(alloc: Global, place: Span, line: &[u8]) -> Result<bool, AllocError>
     ensures { IfOk result (λ yes. yes ≡ goes_further place line.now) }
@@ -65,7 +65,17 @@ fn goes_further(alloc: Global, place: Span, line: &[u8]) -> Result<bool, AllocEr
     let reading = read(alloc, line)?;
     let shape = shape_named(word_in(line, &reading));
     let next = operand_span(shape, reading.tokens.as_slice(), reading.places.as_slice());
-    Ok(place.column < next.column)
+    Ok(place.column.saturating_add(place.len) <= next.column)
+}
+
+/// The place of a text that begins where another place does.
+fn taken_by(place: Span, text: &[u8]) -> Span
+    ensures { result ≡ taken_by place text.now }
+{
+    Span {
+        column: place.column,
+        len: text.len(),
+    }
 }
 
 /// Whether a text mends a line in a section, in place of what is wrong in it.
@@ -84,7 +94,7 @@ fn mends(
         return Ok(true);
     }
     match kind {
-        LineFaultKind::Operand => goes_further(alloc, place, &mended),
+        LineFaultKind::Operand => goes_further(alloc, taken_by(place, text), &mended),
         _ => Ok(false),
     }
 }

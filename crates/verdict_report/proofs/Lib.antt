@@ -1,3 +1,4 @@
 mod Addresses
+mod CurveLemmas
 mod Plays
 pub mod BeginsLemmas

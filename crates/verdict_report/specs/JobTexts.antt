@@ -14,17 +14,23 @@ use Rattle.verdict_report.specs.Writing.{Begins}
 use Rattle.report_texts.specs.AnnotateText.{IsAnnotateReport}
 use Rattle.report_texts.specs.CertificateTexts.{OfCertificate}
 use Rattle.explain_report.specs.ExplainText.{IsExplainReport}
-use Rattle.explain_report.specs.LogText.{IsLogReport}
+use Rattle.strict_replay.specs.StrictReplay.{strict_text}
+use Rattle.explain_report.specs.LogText.{IsJsonReport, IsLogReport}
+use Rattle.jobs.specs.declared.job.Colors.{Colors}
 use Rattle.jobs.specs.declared.job.Format.{Format}
-use Rattle.jobs.specs.declared.job.Format.TheVariants.{Text, Sarif}
+use Rattle.jobs.specs.declared.job.Format.TheVariants.{Text, Sarif, Json}
 use Rattle.jobs.specs.declared.job.Job.{Job}
-use Rattle.jobs.specs.declared.job.Job.TheVariants.{Seq, Print, Annotate, Explain, Check, Replay, Run, Curve}
+use Rattle.jobs.specs.declared.job.Job.TheVariants.{Seq, Print, Annotate, Explain, Check, Replay, ReplayStrictly, Run, Curve}
 use Rattle.jobs.specs.declared.job.Texts.{Texts}
 
 -- what `explain` writes in a format
-abbrev pub IsExplainedIn : Format → (name : List ℕ) → (file : Option (List ℕ)) → (warnings : Bool) → (text certificate : List ℕ) → Report → Type 0
-IsExplainedIn Text name file warnings text certificate report = IsExplainReport name file warnings text certificate report
-IsExplainedIn Sarif name file warnings text certificate report = IsLogReport name file warnings text certificate report
+abbrev pub IsExplainedIn : Format → (name : List ℕ) → (certificate_file script_file : Option (List ℕ)) → (warnings : Bool) → Colors → (text certificate script : List ℕ) → Report → Type 0
+IsExplainedIn Text name certificate_file script_file warnings colors text certificate script report =
+    IsExplainReport name certificate_file script_file warnings colors text certificate script report
+IsExplainedIn Sarif name certificate_file script_file warnings colors text certificate script report =
+    IsLogReport name certificate_file script_file warnings text certificate script report
+IsExplainedIn Json name certificate_file script_file warnings colors text certificate script report =
+    IsJsonReport name certificate_file script_file warnings text certificate script report
 
 -- what a job may write of its texts; how many threads there are does not matter. With the least certificate
 -- it is what the job writes with the text of `annotate --emit keep` in its place
@@ -32,12 +38,15 @@ abbrev pub IsReportOf : Job → Texts → Report → Type 0
 IsReportOf (Seq budget) texts report = report ≡ seq_text budget texts.program.items
 IsReportOf Print texts report = report ≡ print_text texts.program.items
 IsReportOf (Annotate emit) texts report = IsAnnotateReport emit texts.program.items report
-IsReportOf (Explain name certificate warnings format) texts report =
-    IsExplainedIn format (string_bytes name) (option_map string_bytes certificate) warnings texts.program.items texts.certificate report
+IsReportOf (Explain name certificate script warnings format colors) texts report =
+    IsExplainedIn format (string_bytes name) (option_map string_bytes certificate) (option_map string_bytes script) warnings colors
+    texts.program.items texts.certificate texts.script.items report
 IsReportOf (Check source workers) texts report =
     OfCertificate source texts.program.items texts.certificate (λ certificate. report ≡ check_text texts.program.items certificate)
 IsReportOf (Replay source units emit) texts report =
     OfCertificate source texts.program.items texts.certificate (λ certificate. report ≡ replay_text emit units texts.program.items certificate texts.script.items)
+IsReportOf (ReplayStrictly source units) texts report =
+    OfCertificate source texts.program.items texts.certificate (λ certificate. report ≡ strict_text units texts.program.items certificate texts.script.items)
 IsReportOf (Run source schedule units workers budget predict emit) texts report =
     OfCertificate source texts.program.items texts.certificate (λ certificate.
     IsRunText schedule units budget predict emit texts.program.items certificate report)

@@ -4,6 +4,7 @@ pub mod MachineText
 pub mod ReplayText
 pub mod RunText
 pub mod CurveText
+pub mod CurveProgress
 pub mod JobTexts
 pub mod Playing
 pub mod Runs

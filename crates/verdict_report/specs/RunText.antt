@@ -29,6 +29,7 @@ use Rattle.jobs.specs.declared.job.RunEmit.{RunEmit}
 use Rattle.jobs.specs.declared.job.RunEmit.TheVariants as emit
 use Rattle.report_texts.specs.OutputTexts.{Report, words_text}
 use Rattle.report_texts.specs.JudgedTexts.{Judgement, refused, accepted, judgement}
+use Rattle.strict_replay.specs.ValuedScript.{valued_script}
 use Rattle.verdict_report.specs.MachineText.{machine_text, standing_status}
 
 -- a run: the events that were applied, what they left, how it ended, and in how many steps, if it went in
@@ -84,6 +85,7 @@ steps_text (Some count) s = codes "steps " ++ (decimal count ++ (codes ", retire
 abbrev pub IsWrittenOf : RunEmit → (units : ℕ) → (text : List ℕ) → Listing → Run → List ℕ → Type 0
 IsWrittenOf emit.Report units text p run bytes = bytes ≡ ending_text run.how run.state
 IsWrittenOf emit.Script units text p run bytes = (bytes ≡ script_text p run.history) × (script_of p bytes ≡ Ok run.history)
+IsWrittenOf emit.ScriptWithValues units text p run bytes = bytes ≡ valued_script p units run.history
 IsWrittenOf emit.Summary units text p run bytes = bytes ≡ summary_text p (lives_of units run.history) ++ steps_text run.steps run.state
 IsWrittenOf emit.Picture units text p run bytes = bytes ≡ picture_text p units run.history
 IsWrittenOf emit.Trace units text p run bytes = bytes ≡ trace_text p (places_of text) units run.history

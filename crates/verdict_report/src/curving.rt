@@ -1,11 +1,16 @@
 //! The job `curve`.
-ghost use Rattle.std.specs.Prelude.{◌≡◌, ◌≤◌, IfOk};
+ghost use Rattle.std.specs.Prelude.{◌≡◌, ◌≤◌, IfOk, true, false};
+ghost use Rattle.std.specs.Io.KnownBytes.{Appends, Keeps};
 ghost use Rattle.speed_curve.specs.Curve.{AreRows};
 ghost use Rattle.verdict_report.specs.RunText.{predictor_of as predictor_by};
 ghost use Rattle.verdict_report.specs.CurveText.{IsCurveReport, IsCurveText, end_status as end_status_of, rows_status as rows_status_of, rows_text as rows_text_of};
+ghost use Rattle.verdict_report.specs.CurveProgress.{IsSaidIf, curve_lines, run_lines};
+ghost use Rattle.verdict_report.specs.Writing.{Begins};
 ghost use Rattle.report_texts.specs.CertificateTexts.{OfCertificate};
+ghost use Rattle.report_texts.specs.JudgedTexts.{judgement};
 
 use crate::scheduled::predictor_of;
+use crate::telling::tell;
 use curve_picture::drawing::draw;
 use jobs::job::{CertificateSource, CurveEmit, Prediction, Texts};
 use jobs::ranges::{Budget, Units};
@@ -16,6 +21,7 @@ use report_texts::report::Report;
 use speed_curve::row::{Row, row_of};
 use speed_curve::table::write;
 use std::alloc::{AllocError, Global};
+use std::io::Write;
 
 /// What `curve` writes of a program text and the text of its certificate: a table or a picture of its runs in
 /// steps on 1, 2, 3 units and more, up to so many.
@@ -31,28 +37,110 @@ pub fn curve(
     ensures { IfOk result (λ report. OfCertificate source texts.now.program.items texts.now.certificate (λ certificate.
         IsCurveText units budget predict.now emit texts.now.program.items certificate report)) }
 {
+    let mut nobody = Vec::new(alloc);
+    let told = curve_heard(
+        alloc,
+        units,
+        budget,
+        predict,
+        emit,
+        source,
+        texts,
+        false,
+        "",
+        &mut nobody,
+    )?;
+    Ok(told.report)
+}
+
+/// What a job writes, and whether all was said that is to be said on the way.
+#[derive(Debug, Drop)]
+pub struct ToldReport {
+    /// What it writes.
+    pub report: Report,
+    /// Whether all was said.
+    pub is_told: bool,
+}
+
+/// What `curve` writes, as above; `errors` hears of each run when it is done, of the program of this name. Once that
+/// can't be said, it is not tried again, and the runs go on. (own choice)
+pub fn curve_told<E: Write>(
+    alloc: Global,
+    units: Units,
+    budget: Budget,
+    predict: &Prediction,
+    emit: CurveEmit,
+    source: CertificateSource,
+    texts: &Texts,
+    name: &str,
+    errors: &mut E,
+) -> Result<ToldReport, AllocError>
+    ensures report { IfOk result (λ told. OfCertificate source texts.now.program.items texts.now.certificate (λ certificate.
+        IsCurveText units budget predict.now emit texts.now.program.items certificate told.report)) }
+    ensures said { IfOk result (λ told. OfCertificate source texts.now.program.items texts.now.certificate (λ certificate.
+        told.is_told ≡ true → Appends (E.contents errors.old) (E.contents errors.new)
+        (curve_lines name.now units (judgement texts.now.program.items certificate)))) }
+    ensures begun { Begins (E.contents errors.old) (E.contents errors.new) (run_lines name.now units units) }
+{
+    curve_heard(
+        alloc, units, budget, predict, emit, source, texts, true, name, errors,
+    )
+}
+
+// What `curve` writes; `errors` hears of the runs if that is asked for.
+fn curve_heard<E: Write>(
+    alloc: Global,
+    units: Units,
+    budget: Budget,
+    predict: &Prediction,
+    emit: CurveEmit,
+    source: CertificateSource,
+    texts: &Texts,
+    asked: bool,
+    name: &str,
+    errors: &mut E,
+) -> Result<ToldReport, AllocError>
+    ensures report { IfOk result (λ told. OfCertificate source texts.now.program.items texts.now.certificate (λ certificate.
+        IsCurveText units budget predict.now emit texts.now.program.items certificate told.report)) }
+    ensures said { IfOk result (λ told. OfCertificate source texts.now.program.items texts.now.certificate (λ certificate.
+        told.is_told ≡ true → Appends (E.contents errors.old) (E.contents errors.new)
+        (curve_lines name.now units (judgement texts.now.program.items certificate)))) }
+    ensures begun { asked ≡ true → Begins (E.contents errors.old) (E.contents errors.new) (run_lines name.now units units) }
+{
     match judge(alloc, source, texts)? {
-        Judged::Refused(report) => Ok(report),
-        Judged::Accepted(accepted) => {
-            curve_of_accepted(alloc, units, budget, predict, emit, &accepted)
-        }
+        Judged::Refused(report) => Ok(ToldReport {
+            report,
+            is_told: asked,
+        }),
+        Judged::Accepted(accepted) => curve_of_accepted(
+            alloc, units, budget, predict, emit, &accepted, asked, name, errors,
+        ),
     }
 }
 
 // What `curve` writes of an accepted program.
-fn curve_of_accepted(
+fn curve_of_accepted<E: Write>(
     alloc: Global,
     units: Units,
     budget: Budget,
     predict: &Prediction,
     emit: CurveEmit,
     accepted: &Accepted,
-) -> Result<Report, AllocError>
-    ensures { IfOk result (IsCurveReport units budget predict.now emit accepted.now.program) }
+    asked: bool,
+    name: &str,
+    errors: &mut E,
+) -> Result<ToldReport, AllocError>
+    ensures report { IfOk result (λ told. IsCurveReport units budget predict.now emit accepted.now.program told.report) }
+    ensures told { IfOk result (λ told. IsSaidIf asked told.is_told (run_lines name.now units units)
+        (E.contents errors.old) (E.contents errors.new)) }
+    ensures begun { asked ≡ true → Begins (E.contents errors.old) (E.contents errors.new) (run_lines name.now units units) }
 {
-    let rows = rows_of(alloc, units, budget, predict, accepted)?;
-    let bytes = rows_text(alloc, emit, &rows)?;
-    Ok(Report::new(bytes, rows_status(&rows)))
+    let told = rows_of(alloc, units, budget, predict, accepted, asked, name, errors)?;
+    let bytes = rows_text(alloc, emit, &told.rows)?;
+    Ok(ToldReport {
+        report: Report::new(bytes, rows_status(&told.rows)),
+        is_told: told.is_told,
+    })
 }
 
 // The rows as a table or as a picture.
@@ -65,25 +153,40 @@ fn rows_text(alloc: Global, emit: CurveEmit, rows: &[Row]) -> Result<Vec<u8>, Al
     }
 }
 
+// Rows, and whether all was said that is to be said of their runs.
+#[derive(Drop)]
+struct ToldRows {
+    rows: Vec<Row>,
+    is_told: bool,
+}
+
 // The rows of the runs on 1, 2, 3 units and more, each with the predictor as it was at first.
-fn rows_of(
+fn rows_of<E: Write>(
     alloc: Global,
     most: Units,
     budget: Budget,
     predict: &Prediction,
     accepted: &Accepted,
-) -> Result<Vec<Row>, AllocError>
-    ensures { IfOk result (λ rows. AreRows accepted.now.program budget (predictor_by predict.now) most rows.items) }
+    asked: bool,
+    name: &str,
+    errors: &mut E,
+) -> Result<ToldRows, AllocError>
+    ensures rows { IfOk result (λ told. AreRows accepted.now.program budget (predictor_by predict.now) most told.rows.items) }
+    ensures told { IfOk result (λ told. IsSaidIf asked told.is_told (run_lines name.now most most)
+        (E.contents errors.old) (E.contents errors.new)) }
+    ensures begun { asked ≡ true → Begins (E.contents errors.old) (E.contents errors.new) (run_lines name.now most most) }
 {
     let last = most.get();
     let events = budget.get();
     let mut rows = Vec::new(alloc);
+    let mut is_told = asked;
     for count in 0..last {
         let predictor = predictor_of(alloc, predict)?;
         let row = row_of(alloc, accepted, count + 1, events, predictor)?;
         rows.push(row)?;
+        is_told = tell(alloc, is_told, name, count + 1, last, errors);
     }
-    Ok(rows)
+    Ok(ToldRows { rows, is_told })
 }
 
 // The status of the first run that did not halt; 0 where each halted.

@@ -15,4 +15,5 @@ pub mod replaying;
 pub mod running;
 pub mod scheduled;
 pub mod serve;
+mod telling;
 pub mod writing;

@@ -27,6 +27,7 @@ use run_picture::events::single_events;
 use std::alloc::{AllocError, Global};
 use std::sync::Wait;
 use std::thread::Threads;
+use strict_replay::writing::write_valued;
 use threaded_runner::report::How;
 
 /// What `run` writes of a program text and the text of its certificate.
@@ -92,6 +93,10 @@ pub(crate) fn report_of_run(
     let bytes = match emit {
         RunEmit::Report => ending(alloc, ran)?,
         RunEmit::Script => script(alloc, ran, accepted)?,
+        RunEmit::ScriptWithValues => {
+            let events = single_events(alloc, ran.machine.history())?;
+            write_valued(alloc, accepted, units.get(), &events)?
+        }
         RunEmit::Summary => summary(alloc, units, ran, accepted)?,
         RunEmit::Picture => picture_of(alloc, units, &ran.machine, accepted.program())?,
         RunEmit::Trace => {

@@ -3,18 +3,19 @@ ghost use Rattle.std.specs.Prelude.{◌≡◌, ◌≢◌, Err, IfOk, OnOk, OnErr
 ghost use Rattle.std.specs.Io.KnownBytes.{Appends, Keeps};
 ghost use Rattle.std.specs.Option.{option_map};
 ghost use Rattle.std.specs.String.{string_bytes};
+ghost use Rattle.verdict_report.specs.CurveProgress.{IsProgress, progress_lines};
 ghost use Rattle.verdict_report.specs.JobTexts.{IsCutOff, IsDone, IsExplainedIn, IsReportOf};
 ghost use Rattle.verdict_report.specs.Writing.{Begins};
 
-use crate::curving::curve;
+use crate::curving::{ToldReport, curve, curve_told};
 use crate::fault::ServeFault;
 use crate::ran::Extent;
 use crate::replaying::replay;
 use crate::running::run;
 use crate::writing::write_bytes;
 use explain_report::explaining::explain;
-use explain_report::logging::explain_log;
-use jobs::job::{Format, Job, Texts};
+use explain_report::logging::{explain_json, explain_log};
+use jobs::job::{Colors, Format, Job, Texts};
 use report_texts::annotating::annotate;
 use report_texts::checking::check;
 use report_texts::printing::print;
@@ -24,6 +25,7 @@ use std::alloc::{AllocError, Global};
 use std::io::Write;
 use std::sync::Wait;
 use std::thread::Threads;
+use strict_replay::replaying::replay_strictly;
 
 /// Does a job: builds its text whole, writes it, and answers the status of the program, 0 to 3. Want of
 /// memory may come at any point; nothing is written then. Where the writer fails, what went out is a
@@ -48,6 +50,51 @@ pub fn serve<W: Write, R: Threads + Wait + Sync>(
     Ok(report.status())
 }
 
+/// What a job writes, as `serve` writes it; on the way `errors` hears how far it is: of `curve` of each run when it is
+/// done, of the program of this name. Once that can't be said, it is not tried again, and the job goes on. (own choice)
+pub fn report_told<E: Write, R: Threads + Wait + Sync>(
+    rt: &R,
+    alloc: Global,
+    job: &Job,
+    texts: &Texts,
+    name: &str,
+    errors: &mut E,
+) -> Result<ToldReport, ServeFault>
+    ensures report { IfOk result (λ told. IsReportOf job.now texts.now told.report) }
+    ensures said { IfOk result (λ told. IsProgress job.now texts.now name.now told.is_told
+        (E.contents errors.old) (E.contents errors.new)) }
+    ensures begun { Begins (E.contents errors.old) (E.contents errors.new) (progress_lines job.now name.now) }
+    ensures fault { result ≢ Err ServeFault.Write }
+    ensures own { result ≢ Err ServeFault.Foreign }
+{
+    match job {
+        Job::Curve {
+            certificate,
+            units,
+            budget,
+            predict,
+            emit,
+        } => {
+            let told = curve_told(
+                alloc,
+                *units,
+                *budget,
+                predict,
+                *emit,
+                *certificate,
+                texts,
+                name,
+                errors,
+            )?;
+            Ok(told)
+        }
+        _ => Ok(ToldReport {
+            report: report_of(rt, alloc, job, texts)?,
+            is_told: true,
+        }),
+    }
+}
+
 // What a job writes, and the status.
 fn report_of<R: Threads + Wait + Sync>(
     rt: &R,
@@ -67,9 +114,23 @@ fn report_of<R: Threads + Wait + Sync>(
         Job::Explain {
             name,
             certificate,
+            script,
             warnings,
             format,
-        } => Ok(explain_in(alloc, *format, name, certificate, *warnings, texts)?),
+            colors,
+        } => {
+            let report = explain_in(
+                alloc,
+                *format,
+                name,
+                certificate,
+                script,
+                *warnings,
+                *colors,
+                texts,
+            )?;
+            Ok(report)
+        }
         Job::Check {
             certificate,
             workers,
@@ -79,6 +140,9 @@ fn report_of<R: Threads + Wait + Sync>(
             units,
             emit,
         } => Ok(replay(alloc, *certificate, *units, *emit, texts)?),
+        Job::ReplayStrictly { certificate, units } => {
+            Ok(replay_strictly(alloc, *certificate, *units, texts)?)
+        }
         Job::Run {
             certificate,
             schedule,
@@ -106,21 +170,30 @@ fn report_of<R: Threads + Wait + Sync>(
     }
 }
 
-// What `explain` writes in this format.
-fn explain_in(
+/// What `explain` writes in this format of a program text, whose file has this name, and of the texts of a certificate
+/// and of an event script, if a file of one is named.
+///
+/// # Errors
+///
+/// `AllocError` where memory was refused.
+pub fn explain_in(
     alloc: Global,
     format: Format,
     name: &str,
-    file: &Option<String>,
+    certificate: &Option<String>,
+    script: &Option<String>,
     warnings: bool,
+    colors: Colors,
     texts: &Texts,
 ) -> Result<Report, AllocError>
-    ensures { IfOk result (λ report. IsExplainedIn format name.now (option_map string_bytes file.now) warnings
-        texts.now.program.items texts.now.certificate report) }
+    ensures { IfOk result (λ report. IsExplainedIn format name.now (option_map string_bytes certificate.now)
+        (option_map string_bytes script.now) warnings colors
+        texts.now.program.items texts.now.certificate texts.now.script.items report) }
 {
     match format {
-        Format::Text => explain(alloc, name, file, warnings, texts),
-        Format::Sarif => explain_log(alloc, name, file, warnings, texts),
+        Format::Text => explain(alloc, name, certificate, script, warnings, colors, texts),
+        Format::Sarif => explain_log(alloc, name, certificate, script, warnings, texts),
+        Format::Json => explain_json(alloc, name, certificate, script, warnings, texts),
     }
 }
 

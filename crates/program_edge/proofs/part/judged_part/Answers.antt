@@ -5,7 +5,7 @@ use Rattle.program_edge.proofs.part.judged_part.Goals as goal
 pub returns-in_ok-from_str-in-Explain-clause-part : goal.returns-in_ok-from_str-in-Explain-clause-part
 returns-in_ok-from_str-in-Explain-clause-part g c =
     reported_explained c.args.is_terminal c.args.job.now c.in-Explain.name c.in_ok-from_str-in-Explain.field-0
-    c.in-Explain.certificate c.in-Explain.warnings c.in-Explain.format c.args.name.now c.args.texts.now c.reported_part.result
+    c.in-Explain.certificate c.in-Explain.script c.in-Explain.warnings c.in-Explain.format c.in-Explain.colors c.args.name.now c.args.texts.now c.reported_part.result
     c.in-Explain.is c.in_ok-from_str-in-Explain.ensures.ok c.reported_part.ensures.part
 
 pub returns-in_default : goal.returns-in_default

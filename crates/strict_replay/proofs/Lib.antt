@@ -1,0 +1,5 @@
+mod Capped
+pub mod Departures
+pub mod Holding
+pub mod Parts
+mod UnitsTold

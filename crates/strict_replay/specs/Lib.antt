@@ -1,0 +1,5 @@
+pub mod StrictScript
+pub mod StrictReplay
+pub mod StandText
+pub mod Laws
+pub mod ValuedScript

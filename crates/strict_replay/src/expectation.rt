@@ -1,0 +1,22 @@
+//! What an event must have done.
+
+use machine_events::event::Standing;
+use mips_instructions::number::Reg;
+
+/// What an event must have done (own choice). Words are unsigned.
+#[derive(Clone, Copy, Debug, PartialEq, Eq)]
+pub enum Expectation {
+    /// It brought this word into this register of the unit that it names: by a write, or from the unit before it.
+    Register { register: Reg, word: u32 },
+    /// It sent this register with this word from the unit that it names: by a forward bit, a release or a drain.
+    Sends { register: Reg, word: u32 },
+    /// It loaded this word from this address, or stored it there. The word of a load is what came into the register, and
+    /// the word of a store has the bytes that were stored, and zeros above them.
+    Memory { address: u32, word: u32 },
+    /// It put out this word.
+    Output { word: u32 },
+    /// It stopped its unit, whose task left to this address.
+    Stops { address: u32 },
+    /// It ended the run in this way.
+    Ends { standing: Standing },
+}
