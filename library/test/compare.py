@@ -45,10 +45,9 @@ class Comparison:
         self.compare(["seq", file], multiscalar.seq(text))
         self.compare(["print", file], multiscalar.print_program(text))
         self.compare(["check", "--least", file], multiscalar.check(text))
-        self.compare(["explain", file], multiscalar.explain_text(text, name=str(file)))
         self.compare(["explain", "--no-warnings", file], multiscalar.explain_text(text, name=str(file), warnings=False))
-        self.compare(["explain", "--format", "json", file], multiscalar.explain_text(text, name=str(file), form=multiscalar.ExplainFormat.JSON))
-        self.compare(["explain", "--format", "sarif", file], multiscalar.explain_text(text, name=str(file), form=multiscalar.ExplainFormat.SARIF))
+        for form, name in zip(multiscalar.ExplainFormat, ["text", "sarif", "json"]):
+            self.compare(["explain", "--format", name, file], multiscalar.explain_text(text, name=str(file), form=form))
         for emit, word in emits("annotate"):
             self.compare(["annotate", "--emit", word, file], multiscalar.annotate(text, emit))
 
@@ -70,7 +69,7 @@ class Comparison:
         for emit, name in emits("replay"):
             report = multiscalar.replay(file.read_bytes(), script.read_bytes(), text, emit=emit)
             self.compare(["replay", *given, "--units", 4, "--emit", name, *files], report)
-        self.compare(["replay", *given, "--strict", *files], multiscalar.replay_strictly(file.read_bytes(), script.read_bytes(), text))
+        self.compare(["replay", "--strict", *given, *files], multiscalar.replay_strictly(file.read_bytes(), script.read_bytes(), text))
 
     def certify(self, file, certificate):
         self.compare(["check", file, certificate], multiscalar.check(file.read_bytes(), certificate.read_bytes()))

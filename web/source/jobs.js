@@ -52,7 +52,7 @@ export class Jobs {
 
   explain(program, format = 'sarif') {
     const name = encoder.encode('program.s');
-    return this.ask('explain', [code(['text', 'sarif'], format), true, false, name, encoder.encode(program), nothing, nothing]);
+    return this.ask('explain', [code(['text', 'sarif', 'json'], format), true, false, name, encoder.encode(program), nothing, nothing]);
   }
 
   run(program, { units, budget, predict }, emit) {
