@@ -1,0 +1,6 @@
+pub mod InOrder
+pub mod Walking
+pub mod Applying
+pub mod Stepping
+pub mod Going
+pub mod Counting

@@ -1,0 +1,5 @@
+pub mod Reasons
+pub mod Waits
+pub mod Steps
+pub mod Counts
+pub mod Examples

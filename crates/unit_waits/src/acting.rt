@@ -1,0 +1,55 @@
+//! Which unit does an event, and which event ends a step.
+
+ghost use Rattle.std.specs.Prelude.{◌≡◌, ◌≤◌, drop, length, position as position_by};
+ghost use Rattle.machine_model.specs.HeadEvent.{position_of as position_of_event};
+ghost use Rattle.unit_waits.specs.Waits.{acts as acts_in, ends_step as ends_step_of};
+
+use machine_events::event::Event;
+
+/// The position that an event is at, in a queue of so many units.
+fn position_of(active: u32, event: &Event) -> u32
+    ensures { result ≡ position_of_event active event.now }
+{
+    match *event {
+        Event::Assign(_) => active,
+        Event::Exec(position) => position,
+        Event::Transfer(position, _) => position,
+        Event::Drain(position, _) => position,
+        Event::Squash(position) => position,
+        Event::Retire => 0,
+        Event::Fault => 0,
+        Event::Drop(position) => position,
+    }
+}
+
+/// Whether an event ends a step that began with so many units at work.
+fn ends_step(active: u32, event: &Event) -> bool
+    ensures { result ≡ ends_step_of active event.now }
+{
+    position_of(active, event) == 0
+}
+
+/// Whether the unit at a position does one of the events of a step.
+pub(crate) fn acts(active: u32, position: u32, events: &[Event]) -> bool
+    ensures { result ≡ acts_in active position events.now }
+{
+    events
+        .iter()
+        .any(|event| position_of(active, event) == position)
+}
+
+/// The index of the first event that ends a step; `None` where none does.
+pub(crate) fn last_of_step(active: u32, events: &[Event]) -> Option<usize>
+    ensures { result ≡ position_by (λ e. ends_step_of active e) events.now }
+{
+    events.iter().position(|event| ends_step(active, event))
+}
+
+/// The events behind so many.
+pub(crate) fn behind(history: &[Event], start: usize) -> &[Event]
+    requires { start ≤ length history.now }
+    ensures { result.now ≡ drop start history.now }
+{
+    let (_, left) = history.split_at(start);
+    left
+}

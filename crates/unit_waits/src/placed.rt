@@ -1,0 +1,22 @@
+//! Where the units of a machine stand.
+
+ghost use Rattle.std.specs.Prelude.{◌≡◌};
+ghost use Rattle.processor_steps.specs.Processors.{ArePlaced};
+ghost use Rattle.sequencer.specs.Machines.{state};
+
+use accepted_laws::laws::replayed_places_masked;
+use machine_model::laws::places_are_valid;
+use mark_checker::accept::Accepted;
+use sequencer::machine::Machine;
+
+/// Each unit of a machine over an accepted program stands at a valid place; the call does nothing.
+pub(crate) fn law_placed(accepted: &Accepted, machine: &Machine<'_>)
+    requires { machine.now.accepted ≡ accepted.now }
+    ensures { ArePlaced accepted.now (state machine.now).queue }
+{
+    // What a program and a machine keep is known where they are read.
+    let _ = accepted.program().start();
+    let _ = machine.history();
+    places_are_valid();
+    replayed_places_masked(accepted);
+}

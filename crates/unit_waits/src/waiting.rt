@@ -1,0 +1,45 @@
+//! A unit that does nothing in a step, and what keeps it.
+
+use machine_events::event::Spot;
+use mips_instructions::number::Reg;
+
+/// Who has to send a register.
+#[derive(Clone, Copy, Debug, PartialEq, Eq)]
+pub struct Owed {
+    /// The number of the unit round the ring.
+    pub unit: u32,
+    /// The number of its task.
+    pub task: u32,
+    /// Whether it has sent the register, which then is on its way from unit to unit.
+    pub is_sent: bool,
+}
+
+/// What keeps a unit.
+#[derive(Clone, Copy, Debug, PartialEq, Eq)]
+pub enum Reason {
+    /// Its next instruction needs this register, the least of those that have not arrived.
+    NeedsRegister(Reg, Owed),
+    /// Its next instruction is one that the head alone executes.
+    NeedsHead,
+    /// It has stopped, and has to pass this register on, which has not arrived.
+    HasToPass(Reg, Owed),
+    /// It has stopped and has sent all that its task may produce, and is not the head yet.
+    HasFinished,
+    /// Nothing does. In a run in steps no unit waits so.
+    CouldGoOn,
+}
+
+/// A unit at work behind the head that does nothing in a step.
+#[derive(Clone, Copy, Debug, PartialEq, Eq)]
+pub struct Waiting {
+    /// The number of the step, from 1.
+    pub step: u32,
+    /// The number of the unit round the ring.
+    pub unit: u32,
+    /// The number of its task.
+    pub task: u32,
+    /// Where it stands.
+    pub place: Spot,
+    /// What keeps it.
+    pub reason: Reason,
+}

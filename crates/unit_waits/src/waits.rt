@@ -1,0 +1,69 @@
+//! Who waits in the steps of a history.
+
+ghost use Rattle.std.specs.Prelude.{◌≡◌, ℕ, ◌+◌, ◌<◌, ◌≤◌, [], length, IfOk};
+ghost use Rattle.machine_model.specs.Machine.{State, opening};
+ghost use Rattle.machine_model.specs.Answer.{most_events};
+ghost use Rattle.machine_model.specs.Replay.{Replays};
+ghost use Rattle.sequencer.specs.Machines.{state, units_of};
+ghost use Rattle.unit_waits.specs.Waits.{waits as waits_of};
+
+use crate::acting::{behind, last_of_step};
+use crate::steps::do_step;
+use crate::waiting::Waiting;
+use machine_events::event::Event;
+use mark_checker::accept::Accepted;
+use sequencer::machine::{Machine, MachineFault};
+use std::alloc::{AllocError, Global};
+
+/// A machine of so many units at the start of an accepted program.
+pub(crate) fn machine_at_start<'a>(
+    alloc: Global,
+    accepted: &'a Accepted,
+    units: u32,
+) -> Result<Machine<'a>, AllocError>
+    requires { (0 < units) × (units ≤ 16) }
+    ensures accepted { IfOk result (λ machine. machine.accepted ≡ accepted.now) }
+    ensures units { IfOk result (λ machine. units_of machine ≡ units) }
+    ensures history { IfOk result (λ machine. machine.history ≡ []) }
+    ensures opening { IfOk result (λ machine. state machine ≡ opening accepted.now.program) }
+{
+    match Machine::new(alloc, accepted, units) {
+        Ok(machine) => Ok(machine),
+        Err(MachineFault::OutOfMemory) => Err(AllocError),
+        Err(MachineFault::Units) => unreachable!(),
+    }
+}
+
+/// Who waits in the steps of a history of so many units, 1 to 16, at the start of an accepted program, and
+/// why: each unit behind the head that does nothing in a step, step after step, and in a step from the head
+/// on. Each event of the history is allowed where it comes, and there are at most 1,000,000. An event at
+/// position 0 ends a step; what comes after the last one does not count. The error says that memory was
+/// refused.
+pub fn waits(
+    alloc: Global,
+    accepted: &Accepted,
+    units: u32,
+    history: &[Event],
+) -> Result<Vec<Waiting>, AllocError>
+    requires some { 0 < units }
+    requires few { units ≤ 16 }
+    requires replay { (s : State) × Replays accepted.now.program units history.now s }
+    requires room { length history.now ≤ most_events }
+    ensures { IfOk result (λ waits. waits.items ≡ waits_of accepted.now.program units history.now) }
+{
+    let mut machine = machine_at_start(alloc, accepted, units)?;
+    let mut waits = Vec::new(alloc);
+    let mut start = 0;
+    let mut number = 1;
+    while start < history.len() {
+        let left = behind(history, start);
+        let Some(last) = last_of_step(machine.active(), left) else {
+            return Ok(waits);
+        };
+        let in_step = do_step(alloc, accepted, &mut machine, units, number, left, last)?;
+        waits.extend_from_slice(in_step.as_slice())?;
+        start += last + 1;
+        number += 1;
+    }
+    Ok(waits)
+}
