@@ -173,6 +173,8 @@ impl Wanted {
         match self {
             Wanted::Replay(Least, ..) => ("", "a.events"),
             Wanted::Replay(File, ..) => ("a.cert", "a.events"),
+            Wanted::ReplayStrictly(Least, _) => ("", "a.events"),
+            Wanted::ReplayStrictly(File, _) => ("a.cert", "a.events"),
             Wanted::Check(File, _) => ("a.cert", ""),
             Wanted::Explain(explain) => explain.files(),
             Wanted::Run(run) if run.certificate == File => ("a.cert", ""),
