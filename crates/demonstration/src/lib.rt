@@ -1,0 +1,6 @@
+//! What shows the harm of a wrong mark: a list of events that the machine allows, after which a retired instruction
+//! has read something else than the sequential program reads there; and the law that with sound marks there is
+//! none.
+#![tactic(auto)]
+
+pub mod laws;

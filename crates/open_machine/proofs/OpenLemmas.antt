@@ -1,0 +1,126 @@
+-- What the calls on a unit, a queue and a processor leave is what the model's events leave.
+use Rattle.std.specs.Prelude.{◌≡◌, ℕ, ◌+◌, Bool, true, false, ◌||◌, nat_eq, Option, Some, None, is_none, List, [], ◌∷◌, ◌++◌, slice_get, slice_set, slice_index, map, if◌then◌else◌, Result, Ok, Err, OnOk}
+use Rattle.std.proofs.Common.{refl, sym, ap, ◌∙◌, subst, cond, add-one}
+use Rattle.std.proofs.lemmas.List.{map-append}
+use Rattle.std.proofs.Math.Path.{fun_ext}
+use Rattle.mips_instructions.specs.Words.{has}
+use Rattle.mips_instructions.specs.Instruction.{reg_a, reg_b, waits}
+use Rattle.std.specs.Option.{option_or}
+use Rattle.std.proofs.lemmas.Bool.{eqb-true}
+use Rattle.mips_plain.specs.Effect.{may_run_ahead, memory_after, output_after, outcome_after}
+use Rattle.task_descriptor.specs.Listing.{Listing}
+use Rattle.task_descriptor.specs.declared.descriptor.Marked.{Marked}
+use Rattle.machine_model.specs.Machine.{Active, State, Words, task_at, creates, value}
+use Rattle.machine_model.specs.Unit.{after_exec, after_drain, drain_refusal, exec_refusal, exit_of, instruction_at, lacks, operand, put}
+use Rattle.machine_model.specs.Refusals.{for_none, for_some, least, unless}
+use Rattle.machine_model.specs.Step.{is_reserved, started, stands}
+use Rattle.machine_model.specs.Answer.{after, with_queue, with_unit, exec_after, index_of_place, refusal}
+use Rattle.machine_events.specs.declared.event.Event.TheVariants.{Assign, Drain}
+use Rattle.machine_events.specs.declared.event.Refused.{Refused}
+use Rattle.machine_events.specs.declared.event.Refused.TheVariants as refused
+use Rattle.machine_events.specs.declared.event.Spot.TheVariants.{Inside}
+use Rattle.register_ring.specs.Held.{no_pairs, pairs, put_first}
+use Rattle.register_ring.specs.Ports.{arrived_of, sent_of, arrived_fresh}
+use Rattle.unit_core.specs.Units.{UnitView, active_of}
+use Rattle.unit_core.specs.Worlds.{WorldView, memory_of}
+use Rattle.processor_steps.specs.Processors.{QueueView, ProcessorView, state_of, actives}
+use Rattle.processor_steps.proofs.Queues.{changed}
+use Rattle.open_machine.specs.Instructions.{IsAt}
+use Rattle.open_machine.specs.Executions.{Executes, ExecutesAt}
+use Rattle.open_machine.specs.declared.instruction.Next.{Next}
+
+-- a unit that begins is the one that the model starts
+pub begins_started : (p : Listing) (s : State) (words : List ℕ) (accum t : ℕ) (u : UnitView) → ((r : ℕ) → has accum r ≡ is_reserved p s.queue r) → s.regs ≡ (λ r. slice_index words r) → u.task ≡ t → u.serial ≡ s.assigns → u.place ≡ Inside (task_at p t).entry → arrived_of u.port ≡ arrived_fresh words accum → sent_of u.port ≡ no_pairs → pairs u.local ≡ no_pairs → u.log ≡ [] → active_of u ≡ started p s t
+begins_started p s words accum t u reserved regs task serial place arrived sent local log =
+    let same : arrived_fresh words accum ≡ (λ r. if is_reserved p s.queue r then None else Some (s.regs r)) =
+    fun_ext (λ r. ap (λ (b : Bool). cond b None (Some (slice_index words r))) (reserved r)
+    ∙ ap (λ (f : ℕ → ℕ). cond (is_reserved p s.queue r) None (Some (f r))) (sym regs)) in
+    let all = arrived ∙ same in
+    λ j. record {
+      task = task j;
+      serial = serial j;
+      arrived = all j;
+      local = local j;
+      sent = sent j;
+      place = place j;
+      log = log j;
+    }
+
+pub assigned : (p : Listing) (v : ProcessorView) (q : QueueView) (t n : ℕ) (u : UnitView) → q ≡ record { units = v.queue.units ++ u ∷ []; capacity = v.queue.capacity } → active_of u ≡ started p (state_of v) t → n ≡ v.assigns + 1 → state_of (record v { queue = q; assigns = n }) ≡ after p (state_of v) (Assign t)
+assigned p v q t n u pushed is more =
+    let queue =
+    ap (λ (x : QueueView). actives x) pushed ∙ map-append active_of v.queue.units (u ∷ [])
+    ∙ ap (λ (x : Active). actives v.queue ++ x ∷ []) is in
+    let assigns = more ∙ add-one v.assigns in
+    λ j. record (state_of v) { queue = queue j; assigns = assigns j }
+
+-- the instruction of a unit, executed with the operands that the code holds for it
+pub steps : (p : Listing) (k : ℕ) (q : QueueView) (us : List UnitView) (x x' : UnitView) (n : Next) (w w' : WorldView) → map active_of us ≡ actives q → IsAt p (active_of x) n → active_of x' ≡ after_exec p (active_of x) n.marked.now n.index n.a n.b (memory_of w) → memory_of w' ≡ memory_after n.marked.now.op n.a n.b (memory_of w) → w'.output ≡ output_after n.marked.now.op n.a w.output → w'.outcome ≡ stands (outcome_after n.marked.now.op n.a) → Executes p k (active_of x) (actives q) (map active_of (slice_set us k x')) w w'
+steps p k q us x x' n w w' same at after_is memory output outcome = λ m there.
+    let u = active_of x in
+    let o = n.marked.now in
+    let marked : o ≡ m = let first = at.is_there in cc in
+    let index : n.index ≡ index_of_place u.place = sym (ap index_of_place at.is_inside) in
+    let a : n.a ≡ operand u (reg_a o.op) = at.is_a in
+    let b : n.b ≡ operand u (reg_b o.op) = at.is_b in
+    let left : active_of x' ≡ after_exec p u o (index_of_place u.place) (operand u (reg_a o.op)) (operand u (reg_b o.op)) (memory_of w) =
+    after_is ∙ (λ j. after_exec p u o (index j) (a j) (b j) (memory_of w)) in
+    let here : ExecutesAt p k u o (actives q) (map active_of (slice_set us k x')) w w' = record {
+      queue = changed us q k x' _ same left;
+      memory = memory ∙ (λ j. memory_after o.op (a j) (b j) (memory_of w));
+      output = output ∙ (λ j. output_after o.op (a j) w.output);
+      outcome = outcome ∙ (λ j. stands (outcome_after o.op (a j)));
+    } in
+    subst (λ (y : Marked). ExecutesAt p k u y (actives q) (map active_of (slice_set us k x')) w w') marked here
+
+-- what an Exec that nothing refuses leaves
+at_instruction : (p : Listing) (v : ProcessorView) (q : QueueView) (w : WorldView) (k : ℕ) (u : Active) (m : Option Marked) (rest : Marked → Option Refused) → for_some m refused.Stopped rest ≡ None → ((n : Marked) → m ≡ Some n → ExecutesAt p k u n (actives v.queue) (actives q) v.world w) → state_of (record v { queue = q; world = w }) ≡ exec_after p (state_of v) k u m
+at_instruction p v q w k u None rest none leaves = absurd (cc)
+at_instruction p v q w k u (Some n) rest none leaves =
+    let x = leaves n refl in
+    λ j. record (state_of v) { queue = x.queue j; memory = x.memory j; output = x.output j; outcome = x.outcome j }
+
+pub executed : (p : Listing) (v : ProcessorView) (q : QueueView) (w : WorldView) (k : ℕ) (o : Option Active) → for_some o refused.NoSuch (λ u. exec_refusal p (nat_eq k 0) u) ≡ None → ((u : Active) → o ≡ Some u → Executes p k u (actives v.queue) (actives q) v.world w) → state_of (record v { queue = q; world = w }) ≡ with_unit (state_of v) o (λ u. exec_after p (state_of v) k u (instruction_at p u.place))
+executed p v q w k None none leaves = absurd (cc)
+executed p v q w k (Some u) none leaves = at_instruction p v q w k u (instruction_at p u.place) _ none (leaves u refl)
+
+pub on_ok : {T E : Type 0} (r : Result T E) (A B : Type 0) → OnOk r A → (A → B) → OnOk r B
+on_ok (Ok x) A B h f = f h
+on_ok (Err e) A B h f = tt
+
+-- a register that has not been sent
+
+unsent_put : (here : Bool) (word : Option ℕ) (w : ℕ) → (here ≡ true → word ≡ None) → option_or word (cond here (Some w) None) ≡ cond here (Some w) word
+unsent_put true word w none = ap (λ (o : Option ℕ). option_or o (Some w)) (none refl)
+unsent_put false None w none = refl
+unsent_put false (Some x) w none = refl
+
+pub first_is_put : (r w : ℕ) (words : Words) → words r ≡ None → put_first r w words ≡ put r w words
+first_is_put r w words none =
+    fun_ext (λ (s : ℕ). unsent_put (nat_eq s r) (words s) w (λ here. ap words (eqb-true s r here) ∙ none))
+
+unsent_by : (created : Bool) (exit sent : Option ℕ) (rest : Option Refused) → unless created refused.NoSuch (for_some exit refused.NotStopped (λ at. unless (is_none sent) refused.AlreadyThere rest)) ≡ None → sent ≡ None
+unsent_by true (Some at) None rest e = refl
+unsent_by true (Some at) (Some w) rest e = absurd (cc)
+unsent_by true None sent rest e = absurd (cc)
+unsent_by false exit sent rest e = absurd (cc)
+
+unsent_where : (p : Listing) (u : Active) (r : ℕ) → drain_refusal p u r ≡ None → u.sent r ≡ None
+unsent_where p u r none = unsent_by (creates p u.task r) (exit_of u.place) (u.sent r) _ none
+
+drained_by : (p : Listing) (s : State) (queue : List Active) (k r word : ℕ) (o : Option Active) → for_some o refused.NoSuch (λ u. drain_refusal p u r) ≡ None → ((u : Active) → o ≡ Some u → operand u r ≡ word) → ((u : Active) → o ≡ Some u → u.sent r ≡ None → queue ≡ slice_set s.queue k (record u { sent = put r word u.sent })) → with_queue s queue ≡ with_unit s o (λ u. with_queue s (slice_set s.queue k (after_drain u r (operand u r))))
+drained_by p s queue k r word None none is leaves = absurd (cc)
+drained_by p s queue k r word (Some u) none is leaves =
+    ap (λ (us : List Active). with_queue s us) (leaves u refl (unsent_where p u r none))
+    ∙ ap (λ (w : ℕ). with_queue s (slice_set s.queue k (after_drain u r w))) (sym (is u refl))
+
+pub drained : (p : Listing) (units : ℕ) (s : State) (queue : List Active) (k r word : ℕ) → refusal p units s (Drain k r) ≡ None → ((u : Active) → slice_get s.queue k ≡ Some u → operand u r ≡ word) → ((u : Active) → slice_get s.queue k ≡ Some u → u.sent r ≡ None → queue ≡ slice_set s.queue k (record u { sent = put r word u.sent })) → with_queue s queue ≡ after p s (Drain k r)
+drained p units s queue k r word none is leaves = drained_by p s queue k r word (slice_get s.queue k) none is leaves
+
+-- what refuses an Exec, put together
+pub exec_refused : (p : Listing) (u : Active) (n : Next) (lacking : Option ℕ) (h : Bool) (set : ℕ) → IsAt p u n → ((r : ℕ) → has set r ≡ waits n.marked.now.op r) → lacking ≡ least (has set) (λ r. is_none (value u r)) → for_none lacking refused.Waiting (unless (h || may_run_ahead n.marked.now.op n.a) refused.NotHead None) ≡ exec_refusal p h u
+exec_refused p u n lacking h set at members is_lacking =
+    let m = n.marked.now in
+    let lack : lacking ≡ lacks u m.op = is_lacking ∙ ap (λ (f : ℕ → Bool). least f (λ r. is_none (value u r))) (fun_ext members) in
+    (λ j. for_none (lack j) refused.Waiting (unless (h || may_run_ahead m.op (at.is_a j)) refused.NotHead None))
+    ∙ sym (ap (λ (o : Option Marked). for_some o refused.Stopped (λ x. for_none (lacks u x.op) refused.Waiting (unless (h || may_run_ahead x.op (operand u (reg_a x.op))) refused.NotHead None))) at.is_there)

@@ -1,0 +1,14 @@
+//! A plain machine that takes any well-formed program, whether the checker accepts its marks or not: a list of
+//! units, changed by one event after another as the machine step says. It is written to be simple, not fast.
+#![tactic(auto)]
+
+mod allowed;
+mod changes;
+mod instruction;
+mod listing;
+pub mod machine;
+mod processor;
+mod queue;
+mod tries;
+pub mod unit;
+mod world;

@@ -1,0 +1,81 @@
+//! What the machine looks up of its program: where a task begins, what it produces, what it lists.
+
+ghost use Rattle.std.specs.Prelude.{◌≡◌};
+ghost use Rattle.mips_instructions.specs.Words.{address};
+ghost use Rattle.task_graph.specs.Soundness.{is_target as is_target_of};
+ghost use Rattle.machine_model.specs.Machine.{task_at, begins as begins_at};
+ghost use Rattle.machine_model.specs.Step.{is_listed as is_listed_at, follows_at};
+
+use machine_events::event::Spot;
+use mips_instructions::number::{Place, RegSet};
+use mips_instructions::places::CODE_START;
+use task_descriptor::program::Program;
+
+#[tactic(auto, unfolding(mips_instructions::specs::Words::address))]
+/// The address at which a task begins; that of index 0 for a number beyond the tasks.
+pub(crate) fn begins(program: &Program, task: u32) -> u32
+    ensures { result ≡ begins_at program.now task }
+{
+    match program.tasks().get(task as usize) {
+        Some(descriptor) => program.address(descriptor.entry),
+        None => CODE_START,
+    }
+}
+
+/// The index at which a task begins; 0 for a number beyond the tasks.
+pub(crate) fn entry(program: &Program, task: u32) -> u32
+    ensures { result ≡ (task_at program.now task).entry }
+{
+    match program.tasks().get(task as usize) {
+        Some(descriptor) => descriptor.entry.get(),
+        None => 0,
+    }
+}
+
+/// The registers for which a task may produce values; none for a number beyond the tasks.
+pub(crate) fn created(program: &Program, task: u32) -> RegSet
+    ensures { result ≡ (task_at program.now task).create }
+{
+    match program.tasks().get(task as usize) {
+        Some(descriptor) => descriptor.create,
+        None => RegSet::empty(),
+    }
+}
+
+/// The targets of a task; none for a number beyond the tasks.
+fn targets(program: &Program, task: u32) -> &[Place]
+    ensures { result.now ≡ (task_at program.now task).targets }
+{
+    match program.tasks().get(task as usize) {
+        Some(descriptor) => descriptor.targets.as_slice(),
+        None => &[],
+    }
+}
+
+/// Whether an address is that of a target of a task.
+pub(crate) fn is_listed(program: &Program, task: u32, at: u32) -> bool
+    ensures { result ≡ is_listed_at program.now task at }
+{
+    targets(program, task)
+        .iter()
+        .any(|target| program.address(*target) == at)
+}
+
+/// Whether a place is a target of a task.
+fn is_target(program: &Program, task: u32, place: u32) -> bool
+    ensures { result ≡ is_target_of (task_at program.now task) place }
+{
+    targets(program, task)
+        .iter()
+        .any(|target| place == target.get())
+}
+
+/// Whether a task may follow a tail that stands at a spot.
+pub(crate) fn may_follow(program: &Program, tail: u32, task: u32, spot: Spot) -> bool
+    ensures { result ≡ follows_at program.now tail task spot }
+{
+    match spot {
+        Spot::Inside(_) => is_target(program, tail, entry(program, task)),
+        Spot::Stopped(at) => begins(program, task) == at && is_listed(program, tail, at),
+    }
+}

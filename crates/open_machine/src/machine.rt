@@ -1,0 +1,161 @@
+//! The machine: units over any well-formed program, changed by events alone.
+
+use crate::processor::Processor;
+use crate::unit::OpenUnit;
+use machine_events::event::{Commit, Event, Refused, Standing};
+use machine_model::laws::answer_is_next;
+use mips_plain::outcome::{OutOfMemory, Read};
+use std::alloc::Global;
+use std::marker::Model;
+use task_descriptor::program::Program;
+
+/// The most events of a machine: with as many before it, an event is refused.
+pub const MOST_EVENTS: usize = 1_000_000;
+
+/// A multiscalar machine over a well-formed program, whether its marks are sound or not.
+#[derive(Drop)]
+pub struct OpenMachine<'a> {
+    alloc: Global,
+    program: &'a Program,
+    processor: Processor,
+    count: usize,
+}
+
+impl<'a> Model for OpenMachine<'a> {
+    ghost use Rattle.open_machine.specs.Machines.{OpenView, IsOpen};
+
+    ghost Value = { OpenView };
+
+    ghost view = { λ m. record { program = m.program.now; processor = m.processor; count = m.count } };
+
+    ghost invariant = { λ m. IsOpen (record { program = m.program.now; processor = m.processor; count = m.count }) };
+}
+
+impl<'a> OpenMachine<'a> {
+    ghost use Rattle.std.specs.Prelude.{◌≡◌, ◌≤◌, ◌↔◌, length, slice_get, IfOk, OnOk, OnErr, IsTrue};
+    ghost use Rattle.std.specs.Option.{option_copied, option_map};
+    ghost use Rattle.machine_model.specs.Machine.{opening};
+    ghost use Rattle.unit_core.specs.Units.{active_of};
+    ghost use Rattle.machine_events.specs.declared.event.Standing.TheVariants as standing;
+    ghost use Rattle.open_machine.specs.Machines.{state, units_of, IsAnswered, Applies};
+
+    /// A machine at the start of the program, with so many units, at most 16, none of them at work.
+    ///
+    /// # Errors
+    ///
+    /// `OutOfMemory` where the queue or the memory found no room.
+    pub fn new(
+        alloc: Global,
+        program: &'a Program,
+        units: u32,
+    ) -> Result<OpenMachine<'a>, OutOfMemory>
+        requires { units ≤ 16 }
+        ensures program { IfOk result (λ machine. machine.program ≡ program.now) }
+        ensures units { IfOk result (λ machine. units_of machine ≡ units) }
+        ensures count { IfOk result (λ machine. machine.count ≡ 0) }
+        ensures opening { IfOk result (λ machine. state machine ≡ opening program.now) }
+    {
+        let processor = Processor::new(alloc, program, units)?;
+        Ok(OpenMachine {
+            alloc,
+            program,
+            processor,
+            count: 0,
+        })
+    }
+
+    /// Applies an event, exactly where the machine step allows it and fewer than 1,000,000 were applied.
+    ///
+    /// # Errors
+    ///
+    /// The first refusal that holds, else `OutOfMemory` where a growth was refused; nothing is changed then.
+    pub fn apply(&mut self, event: &Event) -> Result<(), Refused>
+        ensures answer { IsAnswered self.old event.now result }
+        ensures ok { OnOk result (Applies self.old event.now self.new) }
+        ensures err { OnErr result (self.new ≡ self.old) }
+        ensures kept { (self.new.program ≡ self.old.program) × (units_of self.new ≡ units_of self.old) }
+    {
+        answer_is_next();
+        // A program says that it is well formed, which the law asks for, where its start is read.
+        let _ = self.program.start();
+        if !self.is_running() {
+            return Err(Refused::Ended);
+        }
+        self.processor
+            .step(self.alloc, self.program, self.count, event)?;
+        self.count += 1;
+        Ok(())
+    }
+
+    /// Whether the run goes on.
+    pub fn is_running(&self) -> bool
+        ensures { IsTrue result ↔ ((state self.now).outcome ≡ standing.Running) }
+    {
+        matches!(self.processor.outcome(), Standing::Running)
+    }
+
+    /// The program.
+    pub fn program(&self) -> &'a Program
+        ensures { result.now ≡ self.now.program }
+    {
+        self.program
+    }
+
+    /// How many events were applied.
+    pub fn count(&self) -> usize
+        ensures { result ≡ self.now.count }
+    {
+        self.count
+    }
+
+    /// How many units there are, at work or not.
+    pub fn capacity(&self) -> u32
+        ensures capacity { result ≡ units_of self.now }
+        ensures within { units_of self.now ≤ 16 }
+    {
+        self.processor.capacity()
+    }
+
+    /// How many units are at work.
+    pub fn active(&self) -> u32
+        ensures active { result ≡ length (state self.now).queue }
+        ensures within { length (state self.now).queue ≤ units_of self.now }
+    {
+        self.processor.active()
+    }
+
+    /// The unit at a position from the head, 0 being the head; `None` behind the tail.
+    pub fn unit(&self, position: u32) -> Option<&OpenUnit>
+        ensures { option_map active_of (option_copied result) ≡ slice_get (state self.now).queue position }
+    {
+        self.processor.unit(position)
+    }
+
+    /// How the run stands.
+    pub fn outcome(&self) -> Standing
+        ensures { result ≡ (state self.now).outcome }
+    {
+        self.processor.outcome()
+    }
+
+    /// What the retired tasks read, the first first.
+    pub fn reads(&self) -> &[Read]
+        ensures { result.now ≡ (state self.now).reads }
+    {
+        self.processor.reads()
+    }
+
+    /// One commit for each retired task, the first first.
+    pub fn commits(&self) -> &[Commit]
+        ensures { result.now ≡ (state self.now).commits }
+    {
+        self.processor.commits()
+    }
+
+    /// The address at which the next task after the retired ones begins.
+    pub fn next(&self) -> u32
+        ensures { result ≡ (state self.now).next }
+    {
+        self.processor.next
+    }
+}

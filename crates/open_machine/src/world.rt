@@ -1,0 +1,134 @@
+//! What an instruction changes beside its unit.
+
+use machine_events::event::Standing;
+use mips_instructions::instruction::Op;
+use mips_plain::memory::{Memory, fixed_load};
+use mips_plain::outcome::OutOfMemory;
+use std::alloc::Global;
+use std::marker::Model;
+
+/// Memory, the output, and how the run stands.
+#[derive(Debug, Drop)]
+pub(crate) struct World {
+    memory: Memory,
+    output: Vec<u32>,
+    outcome: Standing,
+}
+
+impl Model for World {
+    ghost use Rattle.unit_core.specs.Worlds.{WorldView};
+
+    ghost Value = { WorldView };
+
+    ghost view = { λ w. record { contents = w.memory; output = w.output.items; outcome = w.outcome } };
+}
+
+impl World {
+    ghost use Rattle.std.specs.Prelude.{◌≡◌, [], IsTrue, ◌↔◌, IfOk, OnOk, OnErr};
+    ghost use Rattle.mips_plain.specs.MemoryMap.{byte_of};
+    ghost use Rattle.mips_plain.specs.Access.{is_load};
+    ghost use Rattle.mips_plain.specs.Effect.{memory_after, output_after, outcome_after};
+    ghost use Rattle.machine_model.specs.Step.{stands};
+    ghost use Rattle.unit_core.specs.Worlds.{memory_of};
+    ghost use Rattle.unit_core.specs.ExecParts.{loads, IsAddress};
+    ghost use Rattle.machine_events.specs.declared.event.Standing.TheVariants.{Running};
+
+    /// A world with this memory, in which nothing was put out and the run goes on. Takes no memory.
+    pub(crate) fn new(alloc: Global, memory: Memory) -> World
+        ensures contents { result.contents ≡ memory }
+        ensures output { result.output ≡ [] }
+        ensures outcome { result.outcome ≡ Running }
+    {
+        World {
+            memory,
+            output: Vec::new(alloc),
+            outcome: Standing::Running,
+        }
+    }
+
+    /// How the run stands.
+    pub(crate) fn outcome(&self) -> Standing
+        ensures { result ≡ self.now.outcome }
+    {
+        self.outcome
+    }
+
+    /// Whether the run goes on.
+    pub(crate) fn is_running(&self) -> bool
+        ensures { IsTrue result ↔ (self.now.outcome ≡ Running) }
+    {
+        matches!(self.outcome, Standing::Running)
+    }
+
+    /// Ends the run.
+    pub(crate) fn end(&mut self, outcome: Standing)
+        ensures { self.new ≡ record self.old { outcome = outcome } }
+    {
+        self.outcome = outcome;
+    }
+
+    /// Carries out what an instruction with the operands a and b does beside its registers, and answers the
+    /// word that it loads, if it loads one. `fixed` are the bytes that the program's read-only data begins
+    /// with. Want of memory is answered only by `out`; nothing is changed then.
+    pub(crate) fn carry_out(
+        &mut self,
+        op: &Op,
+        a: u32,
+        b: u32,
+        fixed: &[u8],
+    ) -> Result<Option<u32>, OutOfMemory>
+        requires { self.old.outcome ≡ Running }
+        ensures loaded { IfOk result (λ word. word ≡ loads op.now a (byte_of fixed.now) (memory_of self.old)) }
+        ensures memory { OnOk result (memory_of self.new ≡ memory_after op.now a b (memory_of self.old)) }
+        ensures output { OnOk result (self.new.output ≡ output_after op.now a self.old.output) }
+        ensures outcome { OnOk result (self.new.outcome ≡ stands (outcome_after op.now a)) }
+        ensures err { OnErr result (self.new ≡ self.old) }
+    {
+        match *op {
+            Op::Load(_, _, _, n) => return Ok(self.load(op, a, access_address(a, n), fixed)),
+            Op::Store(_, _, _, n) => if let Err(trap) = self
+                .memory
+                .store(op, access_address(a, n), b)
+            {
+                self.outcome = Standing::Trapped(trap);
+            },
+            Op::Out(_) => self.output.push(a)?,
+            Op::Halt => self.outcome = Standing::Halted,
+            _ => {}
+        }
+        Ok(None)
+    }
+
+    /// The word of a load at its address; traps where there is none.
+    fn load(&mut self, op: &Op, a: u32, address: u32, fixed: &[u8]) -> Option<u32>
+        requires running { self.old.outcome ≡ Running }
+        requires load { IsTrue (is_load op.now) }
+        requires address { IsAddress op.now a address }
+        ensures word { result ≡ loads op.now a (byte_of fixed.now) (memory_of self.old) }
+        ensures outcome { self.new.outcome ≡ stands (outcome_after op.now a) }
+        ensures output { self.new.output ≡ self.old.output }
+        ensures contents { self.new.contents ≡ self.old.contents }
+    {
+        if let Some(word) = fixed_load(op, a, fixed) {
+            return Some(word);
+        }
+        match self.memory.load(op, address) {
+            Ok(word) => Some(word),
+            Err(trap) => {
+                self.outcome = Standing::Trapped(trap);
+                None
+            }
+        }
+    }
+}
+
+ghost use Rattle.std.specs.Prelude.{◌≡◌};
+ghost use Rattle.mips_plain.specs.MemoryMap.{effective};
+
+/// The address of a load or a store with the operand a and this offset.
+#[tactic(auto, unfolding(mips_plain::specs::MemoryMap::effective))]
+fn access_address(a: u32, n: i16) -> u32
+    ensures { result ≡ effective a n }
+{
+    a.wrapping_add(i32::from(n).cast_unsigned())
+}
