@@ -6,7 +6,7 @@
  *     char *answer;
  *     size_t length;
  *     int status = multiscalar_check(program, multiscalar_no_text, &answer, &length);
- *     if (status == 1) fwrite(answer, 1, length, stderr);      // each wrong mark
+ *     if (answer) fwrite(answer, 1, length, stdout);   // status 0: accepted; 1: each wrong mark, or why a text is refused
  *     multiscalar_free(answer);
  *
  * Link with -lmultiscalar. `multiscalar SUBCOMMAND --help` and docs/FORMATS.md say what each job writes:

@@ -72,7 +72,7 @@ function headReason(answer) {
 
 function transferReason(answer, register, position) {
   if (answer.isAllowed) return `waits for $${register}, which it can take now`;
-  return position === 0 ? `waits for $${register}` : `waits for $${register}: the unit before has not got it to send yet`;
+  return position === 0 ? `waits for $${register}` : `waits for $${register}: the unit before it does not have it to send yet`;
 }
 
 // Why the unit at a position does not go on, or that it can. `ask` answers to one more event.

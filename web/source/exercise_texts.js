@@ -84,7 +84,7 @@ export const EXERCISES = [
     program: LOOP({ create: '$8,$10,$11' }),
     text: [
       'Each round of this loop is a task. A line that begins with .task declares one: create= names the registers that the task may produce, and a later task that reads one of them waits for it.',
-      'One register is missing there, so the machine refuses to run the program. The wavy line shows where; click it, and it says what is wrong and what to do. Change the text so that the marks are right.',
+      'One register is missing there, so the machine of several units refuses to run the program (the sequential one does not look at marks). The wavy line shows where; click it, and it says what is wrong and what to do. Change the text so that the marks are right.',
     ],
     goals: [RIGHT, prints(20), SAME],
   },

@@ -44,7 +44,6 @@ const PHRASES = {
   stopped_at: it => `stops, and goes on to ${exitText(it)}`,
   arrived: it => `takes $${it.register} = ${it.word} from the unit before it`,
   drained: it => `sends $${it.register} = ${it.word}`,
-  squashed: it => `${it.task} is squashed`,
   dropped: it => `${it.task} is dropped`,
   retired: it => `retires, and ${exitText(it)} comes next`,
   ended: it => `the run ${it.standing === 'halted' ? 'has halted' : `is ${it.standing}`}`,
@@ -67,7 +66,9 @@ export function eventSentence(state) {
     const register = event.register === undefined ? '' : ` $${event.register}`;
     return `refused ${event.code} ${event.name}${register}: ${refusalSentence(event.name)}`;
   }
-  const phrases = event.changes.filter(it => isShown(it, event)).map(it => PHRASES[it.change]?.(it) ?? it.change);
+  const lost = event.changes.filter(it => it.change === 'squashed').map(it => it.task);
+  const phrases = event.changes.filter(it => it.change !== 'squashed' && isShown(it, event)).map(it => PHRASES[it.change]?.(it) ?? it.change);
+  if (lost.length) phrases.push(`squashes what stands after it (${lost.join(', ')})`);
   return `${actorOf(state, event)}: ${phrases.join('; ')}`;
 }
 
