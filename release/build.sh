@@ -37,7 +37,9 @@ mkdir "$root"
 # What is committed, and no other file.
 committed() { git archive --format=tar HEAD -- "$@" | tar -xf - -C "$root"; }
 
-committed README.md CHANGELOG.md LICENSE-APACHE LICENSE-MIT docs examples man completions syntax compiler
+committed README.md CHANGELOG.md CONTRIBUTING.md LICENSE-APACHE LICENSE-MIT docs examples man completions syntax compiler
+# Pages to which those link.
+committed bench/README.md fuzz/README.md fuzz/entry/README.md web/README.md
 rm -f "$root"/examples/*.py
 cp release/install.sh "$root/install.sh"
 install -m 755 "$program" "$root/multiscalar"
@@ -46,9 +48,8 @@ strip --strip-all "$root/multiscalar"
 # The library.
 committed library/multiscalar.h library/example.c python
 mkdir "$root/include"
-mv "$root/library/multiscalar.h" "$root/include/multiscalar.h"
+cp "$root/library/multiscalar.h" "$root/include/multiscalar.h"
 mv "$root/library/example.c" "$root/examples/example.c"
-rmdir "$root/library"
 library/build.sh "$root/lib"
 
 # The page, where it has been built from this core.
