@@ -141,7 +141,9 @@ void multiscalar_free(char *answer);
 /* The proved functions themselves. They allocate no answer: it goes to `out`, which has room for `out_length`
  * bytes, and its length to `*length`. MULTISCALAR_SHORT: `out` is as it was, and *length is what the answer needs.
  * Numbers are those of the enums above. No pointer is NULL, not even with length 0; `out` and `length` are apart from
- * each other and from all texts. */
+ * each other and from all texts. With `is_least` the call makes the least certificate itself, and `certificate` is not
+ * read; without `has_certificate` the certificate and its name are not. `predict` is 0 for the first target, 1 for the
+ * last, 2 for the 1 to 64 positions of `list` (each at most 15); without 2 `list` is not read. */
 uint32_t multiscalar_c_seq(uint32_t budget, const uint8_t *program, size_t program_length, uint8_t *out,
                            size_t out_length, size_t *length);
 uint32_t multiscalar_c_print(const uint8_t *program, size_t program_length, uint8_t *out, size_t out_length,
