@@ -116,7 +116,14 @@ fn main(rt: HostRuntime) -> ExitCode {
         }
     }
     let mut folder = SystemFolder::new(&rt, NUMBER);
-    let status = run(&rt, &mut folder, &mut rt.stdout(), &mut rt.stderr(), false, false);
+    let status = run(
+        &rt,
+        &mut folder,
+        &mut rt.stdout(),
+        &mut rt.stderr(),
+        false,
+        false,
+    );
     ExitCode::from(status)
 }
 
