@@ -1,2 +1,3 @@
 pub mod PlainReads
 pub mod ShownReads
+pub mod Judging

@@ -3,4 +3,6 @@
 //! none.
 #![tactic(auto)]
 
+pub mod judge;
 pub mod laws;
+pub mod search;

@@ -1,0 +1,31 @@
+use Rattle.std.proofs.Common.{◌≡◌, ◌<◌, ℕ, Option, Some, None, [], ◌∷◌, length, unwrap_or, sym, ap, ◌∙◌}
+use Rattle.std.specs.Prelude.{slice_get}
+use Rattle.mips_instructions.specs.Instruction.{reg_a, reg_b}
+use Rattle.mips_plain.specs.PlainView.{machine_state}
+use Rattle.task_descriptor.specs.Listing.{input, instruction_at}
+use Rattle.task_descriptor.specs.declared.descriptor.Marked.{Marked}
+use Rattle.unit_core.proofs.UnitLemmas.{item_there}
+use Rattle.demonstration.proofs.Judging.{running_reads, no_fetch, fetch_found, index_within}
+use Rattle.demonstration.proofs.judge.next_read.Goals as goal
+
+pub returns-in_default : goal.returns-in_default
+returns-in_default c =
+    let p = c.args.program.now in
+    let s = machine_state c.args.plain.now in
+    let runs = c.goes_on.ensures.0 c.if-not-goes_on.false in
+    let none : None ≡ instruction_at p s.pc = c.in_default.ensures ∙ ap (λ (at : ℕ). instruction_at p at) c.pc-pc.ensures in
+    (λ j. record { pc = c.pc-pc.ensures j; a = 0; b = 0 } ∷ []) ∙ running_reads s.outcome (input p) s None runs (no_fetch p s.pc none)
+
+pub returns : goal.returns
+returns c =
+    let p = c.args.program.now in
+    let s = machine_state c.args.plain.now in
+    let runs = c.goes_on.ensures.0 c.if-not-goes_on.false in
+    let i = c.in-Some.index in
+    let m = c.index-code-index.result in
+    let at : Some i ≡ instruction_at p s.pc = c.in-Some.ensures ∙ ap (λ (n : ℕ). instruction_at p n) c.pc-pc.ensures in
+    let there : slice_get p.code i ≡ Some m = item_there p.code c.code.result.now i m c.code.ensures.value (index_within p s.pc i at) c.index-code-index.is in
+    let word : Option ℕ → ℕ = λ o. s.regs (unwrap_or o 0) in
+    let a : c.operand.result ≡ s.regs (reg_a m.op) = c.operand.ensures ∙ ap word c.sources-first.ensures.first ∙ ap (λ (x : Marked). s.regs (reg_a x.op)) (sym c.index-code-index.is) in
+    let b : c.operand-2.result ≡ s.regs (reg_b m.op) = c.operand-2.ensures ∙ ap word c.sources-first.ensures.second ∙ ap (λ (x : Marked). s.regs (reg_b x.op)) (sym c.index-code-index.is) in
+    (λ j. record { pc = c.pc-pc.ensures j; a = a j; b = b j } ∷ []) ∙ running_reads s.outcome (input p) s (Some m.op) runs (fetch_found p s.pc i m at there)
