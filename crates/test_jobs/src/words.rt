@@ -402,6 +402,14 @@ const RUNS: [(&str, WantedRun); 14] = [
         },
     ),
     (
+        "run a.s a.cert --emit waits --schedule steps",
+        WantedRun {
+            schedule: Schedule::Steps,
+            emit: RunEmit::Waits,
+            ..PLAIN_RUN
+        },
+    ),
+    (
         "run a.s a.cert --emit json",
         WantedRun {
             emit: RunEmit::Json,
@@ -496,6 +504,7 @@ const NO_JOBS: [&str; 64] = [
     "run a.s a.cert --emit xml",
     "run a.s a.cert --with-values",
     "run a.s a.cert --with-values --emit trace",
+    "run a.s a.cert --emit waits",
     "run a.s a.cert --emit text",
     "curve a.s a.cert --emit json",
     "curve --least a.s --emit Table",
