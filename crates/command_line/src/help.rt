@@ -192,9 +192,11 @@ first fault and its line:
 
 With `--strict` it judges the script instead, as a log of another simulator. After an event a colon may stand,
 and what the event must have done, parted by commas: `$9=7` (the register comes to have this word),
-`[0x10010000]=5` (this word is loaded from there or stored there), `out=10`, `stops 0x00400010`. Empty lines,
-comments from `#` on and lines such as `step 3` are skipped. It writes the first line that departs from the
-machine, with what the event did and how each unit then stands, with status 1; or, with status 0,
+`sends $9=7` (it is sent with this word), `[0x10010000]=5` (this word is loaded from there or stored there),
+`out=10`, `stops 0x00400010`, and how it ended the run: `ends halted`, `ends trapped K Name` or
+`ends unlisted ADDRESS`. Empty lines, comments from `#` on and lines such as `step 3` are skipped. It writes
+the first line that departs from the machine, with what the event did and how each unit then stands, with
+status 1; or, with status 0,
   as expected: N events; HOW THE RUN STANDS
 
 With `--emit summary` it writes a table instead of the answers and of how the run stands: that of

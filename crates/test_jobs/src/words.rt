@@ -318,7 +318,7 @@ const JOBS: [(&str, Wanted); 34] = [
 ];
 
 // Words of `run`.
-const RUNS: [(&str, WantedRun); 14] = [
+const RUNS: [(&str, WantedRun); 15] = [
     ("run a.s a.cert", PLAIN_RUN),
     (
         "run --least a.s",
@@ -454,7 +454,7 @@ fn expect_path(rt: &impl Abort, line: &str, path: &String, expected: &str) {
     assert!(rt; path.as_str() == expected, "{line}");
 }
 
-const NO_JOBS: [&str; 64] = [
+const NO_JOBS: [&str; 65] = [
     "seq",
     "seq a.s b.s",
     "seq a.s --budget 0",
