@@ -318,7 +318,7 @@ const JOBS: [(&str, Wanted); 34] = [
 ];
 
 // Words of `run`.
-const RUNS: [(&str, WantedRun); 14] = [
+const RUNS: [(&str, WantedRun); 15] = [
     ("run a.s a.cert", PLAIN_RUN),
     (
         "run --least a.s",
@@ -402,6 +402,14 @@ const RUNS: [(&str, WantedRun); 14] = [
         },
     ),
     (
+        "run a.s a.cert --emit waits --schedule steps",
+        WantedRun {
+            schedule: Schedule::Steps,
+            emit: RunEmit::Waits,
+            ..PLAIN_RUN
+        },
+    ),
+    (
         "run a.s a.cert --emit json",
         WantedRun {
             emit: RunEmit::Json,
@@ -446,7 +454,7 @@ fn expect_path(rt: &impl Abort, line: &str, path: &String, expected: &str) {
     assert!(rt; path.as_str() == expected, "{line}");
 }
 
-const NO_JOBS: [&str; 64] = [
+const NO_JOBS: [&str; 65] = [
     "seq",
     "seq a.s b.s",
     "seq a.s --budget 0",
@@ -496,6 +504,7 @@ const NO_JOBS: [&str; 64] = [
     "run a.s a.cert --emit xml",
     "run a.s a.cert --with-values",
     "run a.s a.cert --with-values --emit trace",
+    "run a.s a.cert --emit waits",
     "run a.s a.cert --emit text",
     "curve a.s a.cert --emit json",
     "curve --least a.s --emit Table",
