@@ -27,9 +27,10 @@ use Rattle.jobs.specs.declared.job.Colors.{Colors}
 use Rattle.jobs.specs.declared.job.ReplayEmit.{ReplayEmit}
 use Rattle.jobs.specs.declared.job.ReplayEmit.TheVariants.{Answers}
 use Rattle.jobs.specs.declared.job.RunEmit.{RunEmit}
-use Rattle.jobs.specs.declared.job.RunEmit.TheVariants.{Script, ScriptWithValues}
+use Rattle.jobs.specs.declared.job.RunEmit.TheVariants.{Script, ScriptWithValues, Waits}
 use Rattle.jobs.specs.declared.job.CurveEmit.{CurveEmit}
 use Rattle.jobs.specs.declared.job.Schedule.{Schedule}
+use Rattle.jobs.specs.declared.job.Schedule.TheVariants.{Steps}
 use Rattle.jobs.specs.declared.job.Prediction.{Prediction}
 use Rattle.jobs.specs.declared.job.Job.{Job}
 use Rattle.jobs.specs.declared.job.Job.TheVariants.{Seq, Print, Annotate, Explain, Check, Replay, ReplayStrictly, Run, Curve}
@@ -85,8 +86,20 @@ with_values false emit = emit
 with_values true (Some Script) = Some ScriptWithValues
 with_values true other = None
 
+-- `--emit waits` goes with `--schedule steps` alone
+abbrev pub waits_in_steps : Option Schedule → Option RunEmit
+waits_in_steps (Some Steps) = Some Waits
+waits_in_steps other = None
+
+abbrev pub in_schedule : Option Schedule → Option RunEmit → Option RunEmit
+in_schedule schedule (Some Waits) = waits_in_steps schedule
+in_schedule schedule other = other
+
+abbrev pub emit_with_values : List Row → Option RunEmit
+emit_with_values values = with_values (is_given (codes "with-values") values) (option_and_then run_emit_of (first_of (codes "emit") values))
+
 abbrev pub run_emit_in : List Row → Option RunEmit
-run_emit_in values = with_values (is_given (codes "with-values") values) (option_and_then run_emit_of (first_of (codes "emit") values))
+run_emit_in values = in_schedule (schedule_in values) (emit_with_values values)
 
 -- the result takes the place of the program text
 abbrev pub is_in_place : List Row → Bool

@@ -5,7 +5,7 @@ pub const VERSION: &str = "0.1.0";
 
 /// What `--version` says behind the program's name: the version, and the toolchain that proves the program, as
 /// `rt version` names it. `release/build.sh` builds with no other.
-pub const VERSION_AND_TOOLCHAIN: &str = "0.1.0 (proved with rattle-kit-13f logic dac8208d650f15bf)";
+pub const VERSION_AND_TOOLCHAIN: &str = "0.1.0 (proved with rattle-kit-13b logic dac8208d650f15bf)";
 
 /// What the program is for, in one line.
 pub const PROGRAM: &str = "Runs and checks annotated Multiscalar programs";
@@ -192,9 +192,11 @@ first fault and its line:
 
 With `--strict` it judges the script instead, as a log of another simulator. After an event a colon may stand,
 and what the event must have done, parted by commas: `$9=7` (the register comes to have this word),
-`[0x10010000]=5` (this word is loaded from there or stored there), `out=10`, `stops 0x00400010`. Empty lines,
-comments from `#` on and lines such as `step 3` are skipped. It writes the first line that departs from the
-machine, with what the event did and how each unit then stands, with status 1; or, with status 0,
+`sends $9=7` (it is sent with this word), `[0x10010000]=5` (this word is loaded from there or stored there),
+`out=10`, `stops 0x00400010`, and how it ended the run: `ends halted`, `ends trapped K Name` or
+`ends unlisted ADDRESS`. Empty lines, comments from `#` on and lines such as `step 3` are skipped. It writes
+the first line that departs from the machine, with what the event did and how each unit then stands, with
+status 1; or, with status 0,
   as expected: N events; HOW THE RUN STANDS
 
 With `--emit summary` it writes a table instead of the answers and of how the run stands: that of
@@ -241,6 +243,8 @@ With `--schedule steps` it makes no threads: in each step every unit does at mos
 one that the machine allows before the step. So the same words give the same run. The summary then ends
 with how many steps the run took and how many instructions retired in them: how far the annotations let
 tasks overlap. It is no model of the time of a processor.
+With `--emit waits` it writes why units waited, the most frequent first: in how many steps which task stood
+where, and needed which register, owed by which task, or had to be the head.
 
 With `--least` it makes the certificate itself, that of `annotate --emit keep`.
 
@@ -252,6 +256,7 @@ For example:
   ./multiscalar run --least examples/count/program.s
   ./multiscalar run --least --emit svg examples/count/program.s > count.svg
   ./multiscalar run --least --schedule steps --emit summary examples/count/program.s
+  ./multiscalar run --least --schedule steps --emit waits examples/count/program.s
   ./multiscalar run --least --units 8 --predict last --emit summary examples/diamond/program.s";
 
 /// `curve`, in one line.
@@ -327,7 +332,8 @@ event with its answer and what it changed) or json (the same in JSON, an object 
 pub const RUN_EMIT: &str =
     "What is written: report (the words that were put out, and how the run ended), script (the events
 of the run), summary (how often each task was assigned, and how that ended), svg (a picture), trace (each
-event with what it changed) or json (the same in JSON, an object on each line)";
+event with what it changed), json (the same in JSON, an object on each line) or, with --schedule steps, waits
+(in how many steps which task waited where, and for what)";
 
 /// `--emit` of `curve`.
 pub const CURVE_EMIT: &str =
@@ -423,7 +429,7 @@ pub const NO_REPLAY_EMIT: &str = "the value of --emit is answers, summary, svg, 
 
 /// Why another value of `--emit` of `run` gives no job.
 pub const NO_RUN_EMIT: &str =
-    "the value of --emit is report, script, summary, svg, trace or json; --with-values goes with script";
+    "the value of --emit is report, script, summary, svg, trace, json or, with --schedule steps, waits; --with-values goes with script";
 
 /// Why another value of `--emit` of `curve` gives no job.
 pub const NO_CURVE_EMIT: &str = "the value of --emit is table or svg";

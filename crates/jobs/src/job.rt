@@ -64,6 +64,8 @@ pub enum RunEmit {
     Trace,
     /// The same in JSON, an object on each line, for machines.
     Json,
+    /// In how many steps which task waited where, and for what: of a run in steps.
+    Waits,
 }
 
 /// What `replay` writes of a script.

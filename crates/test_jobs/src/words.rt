@@ -318,7 +318,7 @@ const JOBS: [(&str, Wanted); 34] = [
 ];
 
 // Words of `run`.
-const RUNS: [(&str, WantedRun); 14] = [
+const RUNS: [(&str, WantedRun); 15] = [
     ("run a.s a.cert", PLAIN_RUN),
     (
         "run --least a.s",
@@ -398,6 +398,14 @@ const RUNS: [(&str, WantedRun); 14] = [
         "run a.s a.cert --emit script",
         WantedRun {
             emit: RunEmit::Script,
+            ..PLAIN_RUN
+        },
+    ),
+    (
+        "run a.s a.cert --emit waits --schedule steps",
+        WantedRun {
+            schedule: Schedule::Steps,
+            emit: RunEmit::Waits,
             ..PLAIN_RUN
         },
     ),
