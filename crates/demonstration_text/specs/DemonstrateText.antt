@@ -1,6 +1,6 @@
 -- What `demonstrate` may write of a program text: a run that shows what a wrong annotation does; that there is
 -- none, since the annotations are sound; or that none was found.
-use Rattle.std.specs.Prelude.{◌≡◌, ◌⊎◌, ⊥, ℕ, List, [], ◌∷◌, ◌++◌, Result, Ok, Err, codes}
+use Rattle.std.specs.Prelude.{◌≡◌, ◌⊎◌, ℕ, List, [], ◌∷◌, ◌++◌, Result, Ok, Err, codes}
 use Rattle.std.specs.Fmt.{decimal}
 use Rattle.task_descriptor.specs.Listing.{Listing}
 use Rattle.annotated_asm.specs.declared.fault.AsmFault.{AsmFault}
@@ -20,12 +20,13 @@ abbrev pub nothing_to_show : Report
 nothing_to_show = record { bytes = codes "the annotations are right: no run shows anything" ++ 10 ∷ []; status = 0 }
 
 -- none of the runs that were tried shows anything
+abbrev pub nothing_found_text : (units steps : ℕ) → List ℕ
+nothing_found_text units steps =
+    codes "no run found on up to " ++ (decimal units ++ (codes " units, of up to " ++ (decimal steps
+    ++ (codes " events; explain says which annotations are wrong" ++ 10 ∷ []))))
+
 abbrev pub nothing_found : (units steps : ℕ) → Report
-nothing_found units steps = record {
-  bytes = codes "no run found on up to " ++ (decimal units ++ (codes " units, of up to " ++ (decimal steps
-      ++ (codes " events; explain says which annotations are wrong" ++ 10 ∷ []))));
-  status = 3;
-}
+nothing_found units steps = record { bytes = nothing_found_text units steps; status = 3 }
 
 -- a run: how many units the machine has, the events, one on a line, and what they show
 abbrev pub shown_text : Listing → List Position → (units : ℕ) → List Event → Evidence → List ℕ

@@ -33,12 +33,19 @@ abbrev pub read_text : Option Marked → (read right : Read) → List ℕ
 read_text None read right = codes " executes no instruction"
 read_text (Some marked) read right = operands_text marked.op read right
 
--- an instruction, which the sequential program executes with other operands, or not in this place
+-- an instruction in whose place the sequential program executes another
+abbrev pub elsewhere_text : Listing → List Position → (pc : ℕ) → List ℕ
+elsewhere_text p places pc = codes " executes this; the sequential program executes " ++ exit_text p places pc
+
+-- an instruction that the sequential program executes with other operands, or in whose place it executes another
+abbrev pub other_text : Listing → List Position → (read right : Read) → List ℕ
+other_text p places read right =
+    if nat_eq read.pc right.pc then read_text (marked_at p read.pc) read right
+    else elsewhere_text p places right.pc
+
 abbrev pub stale_text : Listing → List Position → Read → Option Read → List ℕ
 stale_text p places read None = codes " executes this; the sequential program has ended"
-stale_text p places read (Some right) =
-    if nat_eq read.pc right.pc then read_text (marked_at p read.pc) read right
-    else codes " executes this; the sequential program executes " ++ exit_text p places right.pc
+stale_text p places read (Some right) = other_text p places read right
 
 -- where a harm is done
 abbrev pub place_of_harm : Listing → List Position → Harm → List ℕ

@@ -3,7 +3,7 @@
 ghost use Rattle.std.specs.Prelude.{◌≡◌, ◌++◌, OnOk, option_copied, unwrap_or};
 ghost use Rattle.std.specs.String.{string_bytes};
 ghost use Rattle.demonstration.specs.declared.judge.Harm.TheVariants.{CutOff as CutOffHarm};
-ghost use Rattle.demonstration_text.specs.HarmText.{harm_text, kind_of_harm, marked_at as marked_of, operands_text, place_of_harm, read_text, stale_text, words_text};
+ghost use Rattle.demonstration_text.specs.HarmText.{elsewhere_text, harm_text, kind_of_harm, marked_at as marked_of, operands_text, other_text, place_of_harm, read_text, stale_text, words_text};
 
 use demonstration::judge::{CutOff, Evidence, Harm};
 use event_script::writing::task_name;
@@ -71,12 +71,42 @@ fn write_read(
     read: Read,
     right: Read,
 ) -> Result<(), AllocError>
-    ensures { OnOk result (string_bytes text.new ≡ string_bytes text.old ++ read_text (option_copied marked) read right) }
+    ensures { OnOk result (string_bytes text.new ≡ string_bytes text.old ++ read_text (option_copied marked.entry) read right) }
 {
     match marked {
         Some(marked) => write_operands(text, &marked.op, read, right),
         None => text.push_str(" executes no instruction"),
     }
+}
+
+/// Adds which operands an instruction reads and should read, or which one the sequential program executes in its place.
+fn write_other(
+    text: &mut String,
+    program: &Program,
+    places: &[Position],
+    read: Read,
+    right: Read,
+) -> Result<(), AllocError>
+    ensures { OnOk result (string_bytes text.new ≡ string_bytes text.old ++ other_text program.now places.now read right) }
+{
+    if read.pc == right.pc {
+        write_read(text, marked_at(program, read.pc), read, right)
+    } else {
+        write_elsewhere(text, program, places, right.pc)
+    }
+}
+
+/// Adds that the sequential program executes another instruction.
+fn write_elsewhere(
+    text: &mut String,
+    program: &Program,
+    places: &[Position],
+    pc: u32,
+) -> Result<(), AllocError>
+    ensures { OnOk result (string_bytes text.new ≡ string_bytes text.old ++ elsewhere_text program.now places.now pc) }
+{
+    text.push_str(" executes this; the sequential program executes ")?;
+    write_exit(text, program, places, pc)
 }
 
 /// Adds what an instruction does that the sequential program does not.
@@ -90,14 +120,7 @@ fn write_stale(
     ensures { OnOk result (string_bytes text.new ≡ string_bytes text.old ++ stale_text program.now places.now read right) }
 {
     match right {
-        Some(right) => {
-            if read.pc == right.pc {
-                write_read(text, marked_at(program, read.pc), read, right)
-            } else {
-                text.push_str(" executes this; the sequential program executes ")?;
-                write_exit(text, program, places, right.pc)
-            }
-        }
+        Some(right) => write_other(text, program, places, read, right),
         None => text.push_str(" executes this; the sequential program has ended"),
     }
 }

@@ -1,12 +1,12 @@
 //! The job `demonstrate`.
 
-ghost use Rattle.std.specs.Prelude.{◌≡◌, ◌≢◌, ◌++◌, ⊥, IfOk, IfSome, OnOk};
+ghost use Rattle.std.specs.Prelude.{◌≡◌, ◌≢◌, ◌++◌, IfOk, IfSome, OnOk};
 ghost use Rattle.std.specs.String.{string_bytes};
 ghost use Rattle.task_graph.specs.Soundness.{Sound};
-ghost use Rattle.event_script.specs.ScriptText.{script_text};
+ghost use Rattle.event_script.specs.ScriptText.{line_text, script_text};
 ghost use Rattle.event_trace.specs.Entries.{places_of};
 ghost use Rattle.demonstration.specs.Shown.{IsShown};
-ghost use Rattle.demonstration_text.specs.DemonstrateText.{IsDemonstrateReport, IsDemonstrated, TellsOfRun, nothing_found as nothing_found_report, nothing_to_show as nothing_to_show_report, shown_text};
+ghost use Rattle.demonstration_text.specs.DemonstrateText.{IsDemonstrateReport, IsDemonstrated, TellsOfRun, nothing_found as nothing_found_report, nothing_found_text, nothing_to_show as nothing_to_show_report, shown_text};
 
 use crate::harm_text::write_harm;
 use annotated_asm::assembler::assemble;
@@ -84,14 +84,19 @@ fn nothing_to_show(alloc: Global) -> Result<Report, AllocError>
 fn nothing_found(alloc: Global, units: Units, steps: Budget) -> Result<Report, AllocError>
     ensures { IfOk result (λ report. report ≡ nothing_found_report units steps) }
 {
-    let units = units.get();
-    let steps = steps.get();
     let mut text = String::new(alloc);
+    write_nothing_found(&mut text, units.get(), steps.get())?;
+    Ok(Report::new(text.into_bytes(), 3))
+}
+
+/// Adds that no run is found.
+fn write_nothing_found(text: &mut String, units: u32, steps: u32) -> Result<(), AllocError>
+    ensures { OnOk result (string_bytes text.new ≡ string_bytes text.old ++ nothing_found_text units steps) }
+{
     writeln!(
         text,
         "no run found on up to {units} units, of up to {steps} events; explain says which annotations are wrong"
-    )?;
-    Ok(Report::new(text.into_bytes(), 3))
+    )
 }
 
 /// What is written of a run that shows something.
@@ -131,8 +136,15 @@ fn write_events(text: &mut String, program: &Program, events: &[Event]) -> Resul
     ensures { OnOk result (string_bytes text.new ≡ string_bytes text.old ++ script_text program.now events.now) }
 {
     for event in events {
-        write_event(text, program, *event)?;
-        writeln!(text, "")?;
+        write_line(text, program, *event)?;
     }
     Ok(())
+}
+
+/// Adds an event with its LF.
+fn write_line(text: &mut String, program: &Program, event: Event) -> Result<(), AllocError>
+    ensures { OnOk result (string_bytes text.new ≡ string_bytes text.old ++ line_text program.now event) }
+{
+    write_event(text, program, event)?;
+    writeln!(text, "")
 }
