@@ -323,7 +323,8 @@ def beside_the_model(planted):
         runner = planted.plant("digit", needed)
         done = subprocess.run([sys.executable, str(HERE / "explain.py"), runner, "--seconds", str(20 * patience), "--seed", "1"], capture_output=True)
         yield f"explain.py: {name}", "another digit", done.returncode == 1
-    for name, needed in (("curve.py", "curve"), ("curve_picture.py", "curve svg"), ("costly_marks.py", "explain"), ("marks.py", "annotate marks"), ("sarif.py", "explain sarif")):
+    for name, needed in (("curve.py", "curve"), ("curve_picture.py", "curve svg"), ("costly_marks.py", "explain"), ("marks.py", "annotate marks"), ("sarif.py", "explain sarif"),
+                         ("waits.py", "run waits")):
         runner = planted.plant("digit", needed)
         done = subprocess.run([sys.executable, str(HERE / name), runner, "--seconds", str(20 * patience), "--seed", "1"], capture_output=True)
         yield f"{name}: {needed.split()[0]}", "another digit", done.returncode == 1

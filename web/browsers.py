@@ -25,6 +25,15 @@ def until(made, what):
     raise TimeoutError(what)
 
 
+POINTER = {'type': 'pointer', 'id': 'mouse', 'parameters': {'pointerType': 'mouse'}}
+
+
+def click_on(element):
+    """A click into the middle of an element, as WebDriver says it."""
+    moved = {'type': 'pointerMove', 'duration': 0, 'x': 0, 'y': 0, 'origin': element}
+    return {'actions': [{**POINTER, 'actions': [moved, {'type': 'pointerDown', 'button': 0}, {'type': 'pointerUp', 'button': 0}]}]}
+
+
 class Browser:
     """What both can do. A script is the body of a function; its value comes back as JSON has it."""
 
@@ -92,6 +101,10 @@ class Chromium(Browser):
 
     def key(self, key):
         self.ask('POST', f'{self.session}/actions', {'actions': [{'type': 'key', 'id': 'keys', 'actions': [{'type': 'keyDown', 'value': key}, {'type': 'keyUp', 'value': key}]}]})
+
+    def click(self, selector):
+        found = self.ask('POST', f'{self.session}/element', {'using': 'css selector', 'value': selector})
+        self.ask('POST', f'{self.session}/actions', click_on(found))
 
     def screenshot(self, path):
         pathlib.Path(path).write_bytes(base64.b64decode(self.ask('GET', f'{self.session}/screenshot')))
@@ -183,6 +196,10 @@ class Firefox(Browser):
 
     def key(self, key):
         self.ask('WebDriver:PerformActions', {'actions': [{'type': 'key', 'id': 'keys', 'actions': [{'type': 'keyDown', 'value': key}, {'type': 'keyUp', 'value': key}]}]})
+
+    def click(self, selector):
+        found = self.ask('WebDriver:FindElement', {'using': 'css selector', 'value': selector})
+        self.ask('WebDriver:PerformActions', click_on(found['value']))
 
     def screenshot(self, path):
         pathlib.Path(path).write_bytes(base64.b64decode(self.ask('WebDriver:TakeScreenshot', {'full': False, 'hash': False})['value']))

@@ -1,8 +1,8 @@
-// Two markings side by side: what differs, the steps on 1 to 16 units, and where units wait.
+// Two markings side by side: what differs, where units wait, and the steps on 1 to 16 units.
 
-import { draw, find, make, put } from './elements.js';
+import { announce, draw, find, make, plural, put } from './elements.js';
 import { alignLines } from './difference.js';
-import { waitsOf } from './waits.js';
+import { waitsOf, waitsTable } from './waits.js';
 import { whyNoRun } from './runner.js';
 
 const WIDTH = 520;
@@ -63,51 +63,55 @@ function stepsTable(one, other) {
     make('tr', {}, make('th', { scope: 'row' }, '■ the other'), cells(other)));
 }
 
-function waitsTable(one, other, units) {
-  if (!one || !other) return make('p', { class: 'quiet' }, 'The table of waits is made for short runs alone.');
-  const keys = [...new Set([...one, ...other].map(it => `${it.task}\n${it.reason}`))].sort();
-  if (!keys.length) return make('p', {}, `On ${units} units nobody waits for a register or for the head.`);
-  const count = (rows, key) => rows.find(it => `${it.task}\n${it.reason}` === key)?.count ?? 0;
-  const sum = rows => rows.reduce((total, it) => total + it.count, 0);
-  const rows = keys.map(key => {
-    const [task, reason] = key.split('\n');
-    const cells = [reason, count(one, key), count(other, key)].map(it => make('td', {}, String(it)));
-    return make('tr', {}, make('th', { scope: 'row' }, task), cells);
-  });
-  return make('table', {}, make('caption', {}, `Waits on ${units} units, in steps`),
-    make('tr', {}, ['task', 'waits for', '● this program', '■ the other'].map(it => make('th', { scope: 'col' }, it))), rows,
-    make('tr', {}, make('th', { scope: 'row' }, 'all'), make('td', {}, ''), make('td', {}, String(sum(one))), make('td', {}, String(sum(other)))));
+// The lines of one text, with their numbers; those that the other text lacks are of a kind of their own.
+function numberedLines(rows, own, kind) {
+  const lines = rows.filter(it => it.kind === 'kept' || it.kind === own);
+  return lines.map((it, at) => make('div', { class: it.kind === own ? kind : '', 'data-line': at + 1 },
+    make('span', { class: 'line-number' }, String(at + 1)), it.text || ' '));
 }
 
-function sideBySide(one, other) {
-  const rows = alignLines(one, other);
-  const left = rows.filter(it => it.kind !== 'added').map(it => make('div', { class: it.kind === 'removed' ? 'is-removed' : '' }, it.text || ' '));
-  const right = rows.filter(it => it.kind !== 'removed').map(it => make('div', { class: it.kind === 'added' ? 'is-added' : '' }, it.text || ' '));
-  const column = (name, lines) => make('div', { class: 'text-column', role: 'group', 'aria-label': name }, lines);
-  return [column('This program', left), column('The other', right)];
+// Marks one line of a text beside the other, and scrolls to it.
+function pointInto(place, number) {
+  place.querySelector('.is-pointed')?.classList.remove('is-pointed');
+  const line = place.querySelector(`[data-line="${number}"]`);
+  if (!line) return;
+  line.classList.add('is-pointed');
+  place.scrollTop = line.offsetTop - (place.clientHeight - line.offsetHeight) / 2;
+  announce(`Line ${number}: ${line.lastChild.textContent.trim()}`);
 }
 
 export class Compare {
-  // `otherText` answers the text that is chosen to compare with.
-  constructor(jobs, otherText) {
+  // `otherText` answers the text that is chosen to compare with; `pointed` is called with a line of the program.
+  constructor(jobs, otherText, pointed) {
     this.jobs = jobs;
     this.otherText = otherText;
-    this.turn = 0;
+    this.pointed = pointed;
   }
 
-  async show(program, settings) {
-    this.turn += 1;
-    const { turn } = this;
+  show(program, settings) {
     const other = this.otherText();
-    put(find('side-by-side'), sideBySide(program, other));
+    const rows = alignLines(program, other);
+    put(find('lines-one'), numberedLines(rows, 'removed', 'is-removed'));
+    put(find('lines-other'), numberedLines(rows, 'added', 'is-added'));
     const [one, two] = [program, other].map(text => stepsByUnits(this.jobs, text, settings));
     const reasons = [one.reason && `This program: ${one.reason}`, two.reason && `The other: ${two.reason}`].filter(Boolean);
     find('compare-reason').textContent = reasons.join(' ');
     put(find('plot'), plot(one.rows ?? [], two.rows ?? []));
     put(find('steps-table'), stepsTable(one.rows ?? [], two.rows ?? []));
-    put(find('waits-table'));
-    if (reasons.length) return;
-    const waits = [await waitsOf(this.jobs, program, settings), await waitsOf(this.jobs, other, settings)];
-    if (turn === this.turn) put(find('waits-table'), waitsTable(...waits, settings.units));
+    this.showWaits(program, other, settings);
+  }
+
+  // The tables of waits of both, with bars of one scale.
+  showWaits(program, other, settings) {
+    const tables = [program, other].map(it => waitsOf(this.jobs, it, settings));
+    const most = Math.max(1, ...tables.map(it => it?.rows[0]?.count ?? 0));
+    const caption = `Waits on ${plural(settings.units, 'unit')}`;
+    const choose = (name, line) => {
+      pointInto(find(`lines-${name}`), line);
+      if (name === 'one') this.pointed(line);
+    };
+    const table = (waits, text, name) => waitsTable(waits, { caption, program: text, name, most, choose: line => choose(name, line) });
+    put(find('waits-one'), table(tables[0], program, 'one'));
+    put(find('waits-other'), table(tables[1], other, 'other'));
   }
 }

@@ -59,10 +59,12 @@ function longestCommon(before, after) {
   return table;
 }
 
+const MOST_LINES = 1500;
+
 // The lines of two texts side by side: kept, taken out or put in.
 export function alignLines(one, other) {
-  const before = one.split('\n').slice(0, 400);
-  const after = other.split('\n').slice(0, 400);
+  const before = one.trimEnd().split('\n').slice(0, MOST_LINES);
+  const after = other.trimEnd().split('\n').slice(0, MOST_LINES);
   const table = longestCommon(before, after);
   const rows = [];
   let row = 0;

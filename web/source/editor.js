@@ -1,6 +1,6 @@
 // The program text: a text area over a copy of it in which findings and places are marked.
 
-import { find, make, put, plural } from './elements.js';
+import { announce, find, make, plural, put } from './elements.js';
 import { applyEdits, nameOf } from './findings.js';
 
 function rangesOf(finding, kind) {
@@ -29,10 +29,10 @@ function stretchesOf(line, ranges) {
   });
 }
 
-function markedLine(line, ranges, units) {
+function markedLine(line, ranges, kinds) {
   const parts = stretchesOf(line, ranges).map(it => it.kinds ? make('span', { class: it.kinds }, it.text) : it.text);
   if (ranges.some(it => it.endColumn !== null && it.endColumn <= it.column)) parts.push(make('span', { class: 'mark-error' }, ' '));
-  return make('span', { class: units.length ? 'line is-here' : 'line' }, parts, '\n');
+  return make('span', { class: ['line', ...kinds].join(' ') }, parts, '\n');
 }
 
 function gutterLine(number, units, hasHead) {
@@ -48,15 +48,32 @@ export class Editor {
     this.units = new Map();
     this.head = null;
     this.mayApply = true; // not in an exercise: there one changes the text oneself
+    this.pointed = null; // a line that a table names
+    this.isTyping = false; // whether the arrow keys move in the text; after a click they step the run until one types
     let waiting;
     this.area.addEventListener('input', () => {
       this.hideBubble();
+      this.pointed = null;
+      this.isTyping = true;
       this.paint();
       clearTimeout(waiting);
       waiting = setTimeout(changed, 120);
     });
-    this.area.addEventListener('click', () => this.showAtCaret());
-    this.area.addEventListener('keydown', event => { if (event.key === 'Escape') this.hideBubble(); });
+    this.area.addEventListener('focus', () => { this.isTyping = true; });
+    this.area.addEventListener('click', () => this.clicked());
+    this.area.addEventListener('keydown', event => this.key(event));
+  }
+
+  clicked() {
+    this.isTyping = this.area.selectionStart !== this.area.selectionEnd;
+    this.showAtCaret();
+  }
+
+  key({ key }) {
+    if (key === 'Escape') {
+      this.hideBubble();
+      this.isTyping = false;
+    } else if (!['ArrowLeft', 'ArrowRight', 'Shift', 'Control', 'Alt', 'Meta'].includes(key)) this.isTyping = true;
   }
 
   get text() {
@@ -66,6 +83,7 @@ export class Editor {
   load(text) {
     this.area.value = text.replaceAll('\r\n', '\n');
     this.chosen = null;
+    this.pointed = null;
     this.hideBubble();
   }
 
@@ -77,6 +95,22 @@ export class Editor {
       this.area.value = text;
       this.area.dispatchEvent(new Event('input'));
     }
+    this.isTyping = false;
+  }
+
+  // Marks a line, and scrolls to it.
+  point(number) {
+    this.pointed = number;
+    this.paint();
+    const line = find('marked').children[number - 1];
+    if (!line) return;
+    const { clientHeight } = find('editor');
+    find('editor').scrollTop = line.offsetTop - (clientHeight - line.offsetHeight) / 2;
+    announce(`Line ${number}: ${line.textContent.trim()}`);
+  }
+
+  kindsOf(number) {
+    return [this.units.has(number) && 'is-here', this.pointed === number && 'is-pointed'].filter(Boolean);
   }
 
   show({ findings = this.findings, units = this.units, head = this.head }) {
@@ -91,7 +125,7 @@ export class Editor {
     const lines = this.text.split('\n');
     const ranges = [...noteRanges(this.chosen), ...this.findings.flatMap(it => rangesOf(it, it.level === 'warning' ? 'warning' : 'error'))];
     const seats = number => this.units.get(number) ?? [];
-    put(find('marked'), lines.map((line, at) => markedLine(line, ranges.filter(it => it.line === at + 1), seats(at + 1))));
+    put(find('marked'), lines.map((line, at) => markedLine(line, ranges.filter(it => it.line === at + 1), this.kindsOf(at + 1))));
     put(find('gutter'), lines.map((_, at) => gutterLine(at + 1, seats(at + 1), this.head)));
   }
 

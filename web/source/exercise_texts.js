@@ -1,4 +1,4 @@
-// The six exercises: a text, a program to begin with, and goals that the page checks.
+// The six exercises: a text, hints, a program to begin with, and goals that the page checks.
 
 const LOOP = marks => `# Adds up the first four even numbers, one task for each round.
 .task LOOP create=${marks.create} targets=LOOP,DONE
@@ -87,6 +87,10 @@ export const EXERCISES = [
       'One register is missing there, so the machine of several units refuses to run the program (the sequential one does not look at marks). The wavy line shows where; click it, and it says what is wrong and what to do. Change the text so that the marks are right.',
     ],
     goals: [RIGHT, prints(20), SAME],
+    hints: [
+      'Click the wavy line in the program: the sentence there names the register, and the instruction that writes it.',
+      'create= takes a list: put the register between two others, with commas and without blanks.',
+    ],
   },
   {
     title: 'Make it faster',
@@ -94,10 +98,14 @@ export const EXERCISES = [
     units: 4,
     program: LOOP({ create: '$8,$9,$10,$11' }),
     text: [
-      'The marks are right, but the run takes 38 steps: go through it with the arrow keys, and see what each round waits for. A register leaves a task when the task has ended, if no mark says more.',
+      'The marks are right, but the run takes 38 steps: go through it with the arrow keys, and see what each round waits for; the table of waits below the lanes adds it up. A register leaves a task when the task has ended, if no mark says more.',
       'The mark !f after an instruction (as !s stands after the branch) forwards at once what the instruction writes. Put one !f where it helps most.',
     ],
     goals: [RIGHT, steps(31), prints(20), SAME, { ...steps(18, 'Further: at most 18 steps on 4 units.'), isFurther: true }],
+    hints: [
+      'The table of waits stands below the lanes. All waits are for one register: which instruction writes it?',
+      'No later instruction of the round writes that register, so it can be sent at once: put !f at the end of its line. For the further goal, ask what the table says then.',
+    ],
   },
   {
     title: 'Find the stale value',
@@ -109,13 +117,17 @@ export const EXERCISES = [
       'Work out which word the second round would get for $9, and which one is right. Registers are 0 at the start. Then mend the mark.',
     ],
     fields: [
-      { name: 'stale', label: 'Stale word of $9 in the second round', expected: '1' },
-      { name: 'word', label: 'Right word of $9 in the second round', expected: '2' },
+      { name: 'stale', label: 'Stale word of $9 in the second round', expected: 1 },
+      { name: 'word', label: 'Right word of $9 in the second round', expected: 2 },
     ],
     goals: [
       { kind: 'answer', name: 'stale', text: 'You have found the stale word.' },
       { kind: 'answer', name: 'word', text: 'You have found the right word.' },
       RIGHT, prints(20), SAME,
+    ],
+    hints: [
+      'In the first round $8 becomes 1, and $9 is 0 before the round. Write down $9 after each of the two additions.',
+      'What a round sends must be the last word that it writes to the register, so !f belongs to the last instruction that writes it.',
     ],
   },
   {
@@ -124,10 +136,14 @@ export const EXERCISES = [
     units: 3,
     program: BRANCH,
     text: [
-      'Behind CHOOSE comes SECOND or FIRST, and that is known only after its branch. Until then the machine guesses the first target in the list, and here the guess is wrong: find the squash, and what was executed in vain.',
+      'After CHOOSE comes SECOND or FIRST, and which one is known only after its branch. Until then the machine guesses the first target in the list, and here the guess is wrong: find the squash, and what was executed in vain.',
       'Change the .task line of CHOOSE so that on 3 units, with the first target predicted, no task is ever squashed.',
     ],
     goals: [RIGHT, { kind: 'unsquashed', units: 3, text: 'No task is squashed on 3 units.' }, prints(7), SAME],
+    hints: [
+      'Which of the two numbers is larger, and so which task comes after CHOOSE?',
+      'The order of the targets has no meaning but this: the first one is guessed.',
+    ],
   },
   {
     title: 'The path that does not write',
@@ -139,6 +155,10 @@ export const EXERCISES = [
       'The instruction release $9 sends the value that came from before, at once. Find the place for it.',
     ],
     goals: [RIGHT, steps(24), prints(9), SAME],
+    hints: [
+      'Follow a round with an even number line by line. From which line on is it certain that it does not write $9?',
+      'The nop there does nothing: another instruction can stand in its place.',
+    ],
   },
   {
     title: 'By hand',
@@ -146,7 +166,7 @@ export const EXERCISES = [
     units: 2,
     program: BRANCH,
     text: [
-      'Now you are the schedule: click one event after another, in any order that the machine allows. Give SECOND to the unit behind CHOOSE, although it is the wrong task, let it execute both of its instructions, and then bring the run to its end.',
+      'Now you are the schedule: click one event after another, in any order that the machine allows. Give SECOND to the unit after that of CHOOSE, although it is the wrong task, let it execute both of its instructions, and then bring the run to its end.',
       'Whatever you do, if the run halts, it prints 7. Try to make it print 3.',
     ],
     goals: [
@@ -154,6 +174,10 @@ export const EXERCISES = [
       { kind: 'ended', text: 'The run has halted.' },
       { kind: 'put-out', words: [7], text: 'It has printed 7.' },
       SAME,
+    ],
+    hints: [
+      'Begin with assign CHOOSE and assign SECOND. SECOND reads $9, which CHOOSE writes: let CHOOSE execute that line first, then SECOND takes $9 by a transfer.',
+      'When CHOOSE has executed its branch it has stopped, and squash 0 is allowed. Then assign FIRST; drain what CHOOSE still has to send, and it can retire.',
     ],
   },
 ];

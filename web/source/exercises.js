@@ -52,6 +52,7 @@ export class Exercises {
     find('exercise-title').textContent = `Exercise ${this.number} of ${EXERCISES.length}: ${exercise.title}`;
     put(find('exercise-text'), exercise.text.map(it => make('p', {}, it)));
     put(find('exercise-fields'), (exercise.fields ?? []).map(it => this.field(it)));
+    put(find('exercise-hints'), exercise.hints.map((it, at) => make('details', {}, make('summary', {}, `Hint ${at + 1} of ${exercise.hints.length}`), make('p', {}, it))));
     find('exercise-next').hidden = this.number === EXERCISES.length;
   }
 

@@ -36,6 +36,11 @@ function playedOf(work) {
   return run.history?.states ?? null;
 }
 
+// A number as it is typed: `2`, or `0x2`.
+function numberIn(word) {
+  return /^\s*(0x[0-9a-f]+|\d+)\s*$/i.test(word) ? Number(word) : null;
+}
+
 const CHECKS = {
   right: work => work.jobs.check(work.text).status === 0,
   same: work => {
@@ -53,7 +58,7 @@ const CHECKS = {
   unsquashed: (work, goal) => squashedIn(summaryOf(work, goal.units)) === 0,
   answer: (work, goal) => {
     const field = work.fields.find(it => it.name === goal.name);
-    return (work.answers[goal.name] ?? '').trim() === field.expected;
+    return numberIn(work.answers[goal.name] ?? '') === field.expected;
   },
   wasted: (work, goal) => {
     const isMeant = unit => unit.task === goal.task && unit.fate === 'squashed' && unit.executed >= goal.least;

@@ -2,7 +2,7 @@
 // least one, which the module makes.
 
 const ANNOTATE = ['text', 'cert', 'keep', 'marks'];
-const RUN = ['report', 'script', 'summary', 'svg', 'trace', 'json'];
+const RUN = ['report', 'script', 'summary', 'svg', 'trace', 'json', 'script with values', 'waits'];
 const REPLAY = ['answers', 'summary', 'svg', 'trace', 'json'];
 const CURVE = ['table', 'svg'];
 const LEAST = true;

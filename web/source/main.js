@@ -21,9 +21,9 @@ class Page {
     this.kept = null;
     this.editor = new Editor(() => this.textChanged());
     this.proposal = new Proposal(jobs, this.editor);
-    this.stage = new Stage(jobs, (state, ask) => this.moved(state, ask));
+    this.stage = new Stage(jobs, (state, ask) => this.moved(state, ask), line => this.editor.point(line));
     this.hand = new Hand(() => this.playHand(Infinity));
-    this.compare = new Compare(jobs, () => this.otherText());
+    this.compare = new Compare(jobs, () => this.otherText(), line => this.editor.point(line));
     this.tabs = new Tabs(['run', 'hand', 'compare'], () => this.viewChanged());
     this.exercises = new Exercises(jobs, (exercise, work) => this.exerciseOpened(exercise, work));
     this.exercises.answered = () => this.saveLink();
@@ -42,9 +42,12 @@ class Page {
     document.addEventListener('keydown', event => this.key(event));
   }
 
+  // Keys that no control takes go to the run. The text takes them once one types there.
   key(event) {
-    const isControl = event.target.closest('input, textarea, select, [role=tab], .scroll');
-    if (isControl || event.ctrlKey || event.altKey || event.metaKey || this.tabs.view === 'compare') return;
+    const isText = event.target === this.editor.area;
+    const isControl = event.target.closest('input, textarea, select, [role=tab]') || event.target.matches('[role=region]');
+    const isTaken = isText ? this.editor.isTyping : isControl;
+    if (isTaken || event.ctrlKey || event.altKey || event.metaKey || this.tabs.view === 'compare') return;
     this.stage.key(event);
   }
 

@@ -4,6 +4,7 @@ import { find } from './elements.js';
 import { stepsOf, tasksOf } from './asking.js';
 import { historyOf, readLines, scriptLine } from './history.js';
 import { endSentence } from './sentences.js';
+import { waitsOf } from './waits.js';
 
 // The settings of the form, each within its range.
 export function readSettings() {
@@ -52,6 +53,7 @@ export function makeRun(jobs, program, settings) {
     history: historyOf(told.events, settings.units),
     ending: endingOf(jobs.run(program, settings, 'report').text, told.end),
     tasks: tasksOf(jobs, program),
+    waits: waitsOf(jobs, program, settings),
     steps: null,
   };
 }

@@ -1,11 +1,12 @@
 // The machine at one position of its history: ring, cards, lanes, list of events, output and memory.
 
-import { find, make, put } from './elements.js';
+import { find, make, plural, put } from './elements.js';
 import { answerTo, endAfter, reasonOf, registerName } from './asking.js';
 import { makeCards } from './cards.js';
 import { drawLanes, offsetOf } from './lanes.js';
 import { drawRing } from './ring.js';
 import { eventSentence, hexadecimal, squashSentence } from './sentences.js';
+import { waitsTable } from './waits.js';
 
 const PLAY_EVERY = 700;
 
@@ -15,10 +16,11 @@ function memoryText(words) {
 }
 
 export class Stage {
-  // `moved` is called with the state that is shown, after each move.
-  constructor(jobs, moved) {
+  // `moved` is called with the state that is shown, after each move; `pointed` with a line of the program.
+  constructor(jobs, moved, pointed) {
     this.jobs = jobs;
     this.moved = moved;
+    this.pointed = pointed;
     this.playing = null;
     this.run = null;
     find('slider').addEventListener('input', event => this.go(Number(event.target.value)));
@@ -42,7 +44,7 @@ export class Stage {
     return this.run.history.states[this.position];
   }
 
-  // Takes a run: program, units, script, history, ending, tasks, and the steps of its events, if they are known.
+  // Takes a run: program, units, script, history, ending, tasks, and its waits and the steps of its events, if they are known.
   load(run, position) {
     this.stop();
     this.run = run;
@@ -50,6 +52,7 @@ export class Stage {
     find('no-run').hidden = true;
     find('stage-body').hidden = false;
     find('slider').max = this.last;
+    this.showWaits();
     this.showEvents();
     this.go(position);
   }
@@ -121,6 +124,14 @@ export class Stage {
     const offset = offsetOf(this.run.history, columnOf, this.position);
     const place = find('lanes');
     if (offset < place.scrollLeft + 60 || offset > place.scrollLeft + place.clientWidth - 60) place.scrollLeft = offset - place.clientWidth / 2;
+  }
+
+  // The waits of a run in steps; a schedule by hand has none.
+  showWaits() {
+    find('run-waits').hidden = !this.run.waits;
+    if (!this.run.waits) return;
+    const caption = `All waits of the run on ${plural(this.run.units, 'unit')}`;
+    put(find('waits-run'), waitsTable(this.run.waits, { caption, program: this.run.program, name: 'run', choose: this.pointed }));
   }
 
   showEvents() {

@@ -33,7 +33,7 @@ use Rattle.jobs.specs.declared.job.Schedule.{Schedule}
 use Rattle.jobs.specs.declared.job.Schedule.TheVariants.{Steps}
 use Rattle.jobs.specs.declared.job.Prediction.{Prediction}
 use Rattle.jobs.specs.declared.job.Job.{Job}
-use Rattle.jobs.specs.declared.job.Job.TheVariants.{Seq, Print, Annotate, Explain, Check, Replay, ReplayStrictly, Run, Curve}
+use Rattle.jobs.specs.declared.job.Job.TheVariants.{Seq, Print, Annotate, Explain, Check, Replay, ReplayStrictly, Run, Curve, Demonstrate}
 use Rattle.jobs.specs.declared.job.Paths.{Paths}
 use Rattle.command_line.specs.Words.{colors_of, curve_emit_of, emit_of, format_of, prediction_of, replay_emit_of, run_emit_of, schedule_of}
 use Rattle.command_line.specs.CommandLine.{command_line}
@@ -185,6 +185,8 @@ Gives name values (Curve source units budget predict emit) = (name ≡ codes "cu
     × IsSource (codes "certificate") values source × (number_at (codes "units") values ≡ Some units)
     × (number_at (codes "budget") values ≡ Some budget) × (predict_in values ≡ Some predict)
     × (curve_emit_in values ≡ Some emit)
+Gives name values (Demonstrate units steps) = (name ≡ codes "demonstrate")
+    × (number_at (codes "units") values ≡ Some units) × (number_at (codes "steps") values ≡ Some steps)
 
 -- where the script stands: of `replay` without a certificate in its place
 abbrev pub place_of_script : Job → Text
@@ -282,6 +284,8 @@ Lacks name values = (is_name name ≡ false)
     ⊎ ((name ≡ codes "run") × IsNoNumber 1000000 (number_at (codes "budget") values))
     ⊎ ((name ≡ codes "curve") × IsNoNumber 16 (number_at (codes "units") values))
     ⊎ ((name ≡ codes "curve") × IsNoNumber 1000000 (number_at (codes "budget") values))
+    ⊎ ((name ≡ codes "demonstrate") × IsNoNumber 16 (number_at (codes "units") values))
+    ⊎ ((name ≡ codes "demonstrate") × IsNoNumber 1000000 (number_at (codes "steps") values))
 
 -- the fault where something is not there; or memory ran out
 abbrev pub IsLack : Type 0 → UsageFault → Type 0

@@ -25,7 +25,7 @@ pub const STATUS: &str = "Exit status:
   0  accepted, nothing found wrong, printed, halted, or a replay that is still running; help; version
   1  a text or an annotation refused or found wrong; trapped; ended at an address that is not listed
   2  wrong usage, a file that cannot be read, out of memory, or output that cannot be written
-  3  out of budget
+  3  out of budget; no run found that shows what a wrong annotation does
 Of several programs it is the greatest.
 
 Results and refusals of texts go to standard output; with -o FILE, results go to FILE. A fault of
@@ -391,6 +391,26 @@ pub const LOG_OF_ONE: &str =
 pub const SCHEDULE: &str =
     "How the units take turns: threads (in any order) or steps (on one thread, in steps in which each unit
 does at most one event: the same run every time)";
+
+/// `demonstrate`, in one line.
+pub const DEMONSTRATE: &str = "Looks for a run that shows what a wrong annotation does";
+
+/// `demonstrate`.
+pub const DEMONSTRATE_LONG: &str =
+    "Looks for a run that shows what a wrong annotation does: one in which a task reads a stale register. It
+takes the program as it is annotated and needs no certificate. It tries machines of 2 units, of 3, and so on
+up to --units, in runs of up to --steps events.
+
+Where it finds such a run, it writes its events, one on a line, and then what is wrong: the task and the line
+that read the register, the word that was read, and the word that the sequential program reads there. The
+exit status is 1.
+
+Where the annotations are right, no run shows anything: it says so, and the exit status is 0. Where they are
+wrong and it finds no such run, it says so, and the exit status is 3. That may be since the path on which
+the annotation is wrong is never taken. `explain` says which annotations are wrong, and on which path.
+
+For example:
+  ./multiscalar demonstrate examples/five-findings/program.s";
 
 /// `--format` of `explain`.
 pub const FORMAT: &str =

@@ -280,6 +280,7 @@ fn read_job(alloc: Global, name: &str, values: &ArgMatches<'_>) -> Result<(Job, 
         "replay" => read_replay(alloc, values),
         "run" => read_run(alloc, values),
         "curve" => read_curve(alloc, values),
+        "demonstrate" => read_demonstrate(alloc, values),
         _ => Err(no_job(alloc)),
     }
 }
@@ -649,6 +650,26 @@ fn read_curve(alloc: Global, values: &ArgMatches<'_>) -> Result<(Job, Paths), Us
         emit,
     };
     Ok((job, certified_paths(alloc, values, certificate)?))
+}
+
+fn read_demonstrate(alloc: Global, values: &ArgMatches<'_>) -> Result<(Job, Paths), UsageFault>
+    ensures { Reads (codes "demonstrate") (values_in values.now) result }
+{
+    let units = read_units(alloc, values)?;
+    let steps = read_steps(alloc, values)?;
+    let job = Job::Demonstrate { units, steps };
+    Ok((job, program_path(alloc, values)?))
+}
+
+// The most events of each run of a search.
+fn read_steps(alloc: Global, values: &ArgMatches<'_>) -> Result<Budget, UsageFault>
+    ensures { MatchResult result (λ s. number_at (codes "steps") (values_in values.now) ≡ Some s)
+        (IsLack (IsNoNumber 1000000 (number_at (codes "steps") (values_in values.now)))) }
+{
+    match number(values, "steps").and_then(Budget::new) {
+        Some(steps) => Ok(steps),
+        None => Err(no_job(alloc)),
+    }
 }
 
 // What the value of `--format` stands for.

@@ -92,7 +92,7 @@ pub enum CurveEmit {
     Picture,
 }
 
-/// How `run` guesses the next task behind a running one (the paper, section 2.1, leaves it open).
+/// How `run` guesses the next task after a running one (the paper, section 2.1, leaves it open).
 #[derive(Debug, Drop)]
 pub enum Prediction {
     /// The first target.
@@ -176,6 +176,12 @@ pub enum Job {
         budget: Budget,
         predict: Prediction,
         emit: CurveEmit,
+    },
+    /// Looks for a run that shows the harm of a wrong mark, on machines of 2, 3 units and more, up to so many, each
+    /// run up to this many events.
+    Demonstrate {
+        units: Units,
+        steps: Budget,
     },
 }
 
