@@ -1,7 +1,7 @@
 //! One run of a job, as the program does it, but for its files; and tables of runs.
 
 use command_line::words::request_of;
-use jobs::job::Texts;
+use jobs::job::{Job, Texts};
 use std::alloc::Global;
 use std::process::Abort;
 use std::sync::Wait;
@@ -158,12 +158,17 @@ pub fn expect(
 
 /// What the words write of texts, and the status.
 pub fn answer(rt: &impl Bench, alloc: Global, words: &str, texts: &Texts) -> (Vec<u8>, u8) {
-    let words = words_of(rt, alloc, words);
-    let request = request_of(alloc, words.as_slice()).ok();
-    let job = request.expect(rt, "a request").job;
+    let job = job_of(rt, alloc, words);
     let mut written = Vec::new(alloc);
     let status = serve(rt, alloc, &job, texts, &mut written).ok();
     (written, status.expect(rt, "a status"))
+}
+
+/// The job that the words ask for.
+pub fn job_of(rt: &impl Abort, alloc: Global, words: &str) -> Job {
+    let words = words_of(rt, alloc, words);
+    let request = request_of(alloc, words.as_slice()).ok();
+    request.expect(rt, "a request").job
 }
 
 /// The words of a command line, split at blanks, with the program's own name first.

@@ -1,17 +1,14 @@
 //! Each job, with its report flushed.
 
+use crate::answers::{Bench, job_of, texts_of};
 use crate::held_back::HeldBack;
-use command_line::words::request_of;
 use jobs::job::{Job, Texts};
 use std::alloc::Global;
 use std::io;
 use std::io::{ErrorKind, Write};
 use std::process::Abort;
-use std::sync::Wait;
-use std::thread::Threads;
 use test_programs::certificates::{COUNT_CERTIFICATE, COUNT_CERTIFICATE_WIDE};
 use test_programs::programs::COUNT;
-use text_pieces::text::Text;
 use verdict_report::fault::ServeFault;
 use verdict_report::serve::serve;
 
@@ -41,38 +38,13 @@ a.s:7:14: help: add !f here
 
 // `COUNT` with its certificate, and a script with no event.
 fn texts(rt: &impl Abort, alloc: Global) -> Texts {
-    Texts {
-        program: copy(rt, alloc, COUNT),
-        certificate: Text::new(alloc, copy(rt, alloc, COUNT_CERTIFICATE)),
-        script: copy(rt, alloc, ""),
-    }
-}
-
-fn copy(rt: &impl Abort, alloc: Global, text: &str) -> Vec<u8> {
-    let copied = text.as_bytes().to_vec(alloc).ok();
-    copied.expect(rt, "room for a text")
-}
-
-// The job of these words, which stand behind the program's own name.
-fn job(rt: &impl Abort, alloc: Global, line: &str) -> Job {
-    let mut words = Vec::new(alloc);
-    push_word(rt, alloc, &mut words, "multiscalar");
-    for word in line.split(' ') {
-        push_word(rt, alloc, &mut words, word);
-    }
-    let request = request_of(alloc, words.as_slice()).ok();
-    request.expect(rt, "a request").job
-}
-
-fn push_word(rt: &impl Abort, alloc: Global, words: &mut Vec<String>, word: &str) {
-    let word = String::from_str(alloc, word).ok();
-    let word = word.expect(rt, "room for a word");
-    assert!(rt; words.push(word).is_ok());
+    let certificate = COUNT_CERTIFICATE.as_bytes();
+    texts_of(rt, alloc, COUNT.as_bytes(), certificate, b"")
 }
 
 // What arrives of the report of `COUNT` that these words ask for.
-fn arrived<R: Abort + Threads + Wait + Sync>(rt: &R, alloc: Global, line: &str) -> Vec<u8> {
-    let job = job(rt, alloc, line);
+fn arrived(rt: &impl Bench, alloc: Global, line: &str) -> Vec<u8> {
+    let job = job_of(rt, alloc, line);
     let texts = texts(rt, alloc);
     let mut writer = HeldBack::new(alloc);
     let status = serve(rt, alloc, &job, &texts, &mut writer).ok();

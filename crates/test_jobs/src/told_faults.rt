@@ -1,5 +1,6 @@
 //! What is told of each fault, and on which stream.
 
+use crate::answers::words_of;
 use crate::held_back::HeldBack;
 use program_edge::asked::asked_by;
 use program_edge::fault::Fault;
@@ -31,16 +32,12 @@ fn text(rt: &impl Abort, alloc: Global, text: &str) -> String {
     text.expect(rt, "room for a text")
 }
 
-/// Why these words, after the name of the program, give no job.
-fn fault_of(rt: &impl Abort, alloc: Global, words: &[&str]) -> Fault {
-    let mut all = Vec::new(alloc);
-    all.push(text(rt, alloc, "multiscalar"))
-        .ok()
-        .expect(rt, "room");
-    for &word in words {
-        all.push(text(rt, alloc, word)).ok().expect(rt, "room");
-    }
-    asked_by(alloc, all.as_slice()).err().expect(rt, "a fault")
+// Why these words, after the name of the program, give no job.
+fn fault_of(rt: &impl Abort, alloc: Global, words: &str) -> Fault {
+    let words = words_of(rt, alloc, words);
+    asked_by(alloc, words.as_slice())
+        .err()
+        .expect(rt, "a fault")
 }
 
 #[test]
@@ -59,7 +56,7 @@ Usage: multiscalar check [OPTIONS] PROGRAM CERT
 
 For more information, try '--help'.
 ";
-    let missing = fault_of(&rt, rt.alloc(), &["check", "a.s"]);
+    let missing = fault_of(&rt, rt.alloc(), "check a.s");
     expect_line(&rt, rt.alloc(), &missing, line);
 }
 
@@ -110,7 +107,7 @@ const VERSION: &str = "multiscalar 0.1.0 (proved with rattle-kit-13b logic dac82
 // Help is no fault: it stands on standard output.
 #[test]
 fn helps_on_standard_output(rt: HostRuntime) {
-    let help = fault_of(&rt, rt.alloc(), &["--version"]);
+    let help = fault_of(&rt, rt.alloc(), "--version");
     let (output, errors, status) = told(&rt, rt.alloc(), &help);
     assert!(rt; output.as_slice() == VERSION.as_bytes());
     assert!(rt; errors.is_empty());

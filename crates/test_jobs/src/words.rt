@@ -22,6 +22,7 @@ enum Wanted {
     ReplayStrictly(CertificateSource, u32),
     Run(WantedRun),
     Curve(CertificateSource, u32, u32, Wanting, CurveEmit),
+    Demonstrate(u32, u32),
 }
 
 use CertificateSource::{File, Least};
@@ -165,6 +166,7 @@ impl Wanted {
                 Wanting::of(predict),
                 *emit,
             ),
+            Job::Demonstrate { units, steps } => Wanted::Demonstrate(units.get(), steps.get()),
         }
     }
 
@@ -193,7 +195,7 @@ fn is_named(file: &Option<String>, name: &str) -> bool {
 }
 
 // Words that give a job of the program `a.s`.
-const JOBS: [(&str, Wanted); 34] = [
+const JOBS: [(&str, Wanted); 36] = [
     ("seq a.s", Wanted::Seq(1_000_000)),
     ("seq --budget 17 a.s", Wanted::Seq(17)),
     ("print a.s", Wanted::Print),
@@ -314,6 +316,11 @@ const JOBS: [(&str, Wanted); 34] = [
     (
         "curve --emit svg --least a.s",
         Wanted::Curve(Least, 16, 1_000_000, Wanting::First, CurveEmit::Picture),
+    ),
+    ("demonstrate a.s", Wanted::Demonstrate(16, 10_000)),
+    (
+        "demonstrate --steps 1000000 a.s --units 1",
+        Wanted::Demonstrate(1, 1_000_000),
     ),
 ];
 

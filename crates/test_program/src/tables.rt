@@ -90,6 +90,21 @@ impl<'a, R: Runtime> Table<'a, R> {
         }
     }
 
+    // Runs the row, if it has a command line, and begins another one.
+    fn run(&mut self, status: u8, told: &mut impl Write) -> io::Result<bool> {
+        if self.row.commands.is_empty() {
+            return Ok(false);
+        }
+        let row = mem::replace(&mut self.row, Row::new(self.host.alloc()));
+        if !row.run(self.host, self.rt, self.path, status, told)? {
+            self.is_right = false;
+        }
+        self.count = self.count.saturating_add(row.commands.len());
+        Ok(true)
+    }
+}
+
+impl<'a, R> Table<'a, R> {
     // Makes a file of this name, with nothing in it; whether it can stand here.
     fn begin(&mut self, name: &str) -> io::Result<bool> {
         if !self.row.commands.is_empty() {
@@ -134,19 +149,6 @@ impl<'a, R: Runtime> Table<'a, R> {
             Line::AnyErrors => return Ok(self.row.errors.skip()),
             _ => return Ok(false),
         }
-        Ok(true)
-    }
-
-    // Runs the row, if it has a command line, and begins another one.
-    fn run(&mut self, status: u8, told: &mut impl Write) -> io::Result<bool> {
-        if self.row.commands.is_empty() {
-            return Ok(false);
-        }
-        let row = mem::replace(&mut self.row, Row::new(self.host.alloc()));
-        if !row.run(self.host, self.rt, self.path, status, told)? {
-            self.is_right = false;
-        }
-        self.count = self.count.saturating_add(row.commands.len());
         Ok(true)
     }
 
