@@ -10,6 +10,7 @@ _multiscalar_options() {
         replay) echo "--units --emit --strict --least --output --help" ;;
         run) echo "--with-values --units --budget --predict --workers --schedule --emit --least --output --help" ;;
         curve) echo "--units --budget --predict --emit --progress --least --output --help" ;;
+        demonstrate) echo "--units --steps --output --help" ;;
     esac
 }
 
@@ -17,7 +18,7 @@ _multiscalar_values() {
     case $1:$2 in
         annotate:--emit) echo "text cert keep marks" ;;
         replay:--emit) echo "answers summary svg trace json" ;;
-        run:--emit) echo "report script summary svg trace json" ;;
+        run:--emit) echo "report script summary svg trace json waits" ;;
         curve:--emit) echo "table svg" ;;
         explain:--format) echo "text sarif json" ;;
         explain:--color) echo "auto always never" ;;
@@ -32,7 +33,7 @@ _multiscalar() {
     COMPREPLY=()
     if [ "$COMP_CWORD" -eq 1 ]; then
         # shellcheck disable=SC2207
-        COMPREPLY=($(compgen -W "seq print annotate explain check replay run curve help --help --version" -- "$word"))
+        COMPREPLY=($(compgen -W "seq print annotate explain check replay run curve demonstrate help --help --version" -- "$word"))
         return
     fi
     local values

@@ -1,6 +1,6 @@
 # fish completion for multiscalar
 
-set -l subcommands seq print annotate explain check replay run curve help
+set -l subcommands seq print annotate explain check replay run curve demonstrate help
 
 complete -c multiscalar -n "not __fish_seen_subcommand_from $subcommands" -f
 complete -c multiscalar -n "not __fish_seen_subcommand_from $subcommands" -l help -d 'print the help'
@@ -13,14 +13,15 @@ complete -c multiscalar -n "not __fish_seen_subcommand_from $subcommands" -a che
 complete -c multiscalar -n "not __fish_seen_subcommand_from $subcommands" -a replay -d 'apply a script of events to a machine'
 complete -c multiscalar -n "not __fish_seen_subcommand_from $subcommands" -a run -d 'run a program on a machine of some units'
 complete -c multiscalar -n "not __fish_seen_subcommand_from $subcommands" -a curve -d 'compare runs on 1, 2, 3 units and more'
+complete -c multiscalar -n "not __fish_seen_subcommand_from $subcommands" -a demonstrate -d 'look for a run that shows what a wrong annotation does'
 complete -c multiscalar -n "not __fish_seen_subcommand_from $subcommands" -a help -d 'print a help'
 
-complete -c multiscalar -n '__fish_seen_subcommand_from seq print annotate explain check replay run curve' -l help -d 'print the help'
-complete -c multiscalar -n '__fish_seen_subcommand_from seq print annotate explain check replay run curve' -l output -s o -r -d 'where the result goes'
+complete -c multiscalar -n '__fish_seen_subcommand_from seq print annotate explain check replay run curve demonstrate' -l help -d 'print the help'
+complete -c multiscalar -n '__fish_seen_subcommand_from seq print annotate explain check replay run curve demonstrate' -l output -s o -r -d 'where the result goes'
 complete -c multiscalar -n '__fish_seen_subcommand_from annotate' -l in-place -d 'replace the program text'
 complete -c multiscalar -n '__fish_seen_subcommand_from annotate' -l report -d 'say what is left to mend by hand'
 complete -c multiscalar -n '__fish_seen_subcommand_from seq run curve' -l budget -x -d 'when to end'
-complete -c multiscalar -n '__fish_seen_subcommand_from replay run curve' -l units -x -a '1 2 4 8 16' -d 'how many units'
+complete -c multiscalar -n '__fish_seen_subcommand_from replay run curve demonstrate' -l units -x -a '1 2 4 8 16' -d 'how many units'
 complete -c multiscalar -n '__fish_seen_subcommand_from check run' -l workers -x -a '1 2 4 8 16' -d 'how many threads'
 complete -c multiscalar -n '__fish_seen_subcommand_from check replay run curve' -l least -d 'make the least certificate'
 complete -c multiscalar -n '__fish_seen_subcommand_from run curve' -l predict -x -a 'first last' -d 'which target is guessed'
@@ -29,9 +30,10 @@ complete -c multiscalar -n '__fish_seen_subcommand_from annotate' -l emit -x -a 
 complete -c multiscalar -n '__fish_seen_subcommand_from replay' -l strict -d 'judge a script with expectations'
 complete -c multiscalar -n '__fish_seen_subcommand_from replay' -l emit -x -a 'answers summary svg trace json' -d 'what is written'
 complete -c multiscalar -n '__fish_seen_subcommand_from run' -l with-values -d 'say what each event did'
-complete -c multiscalar -n '__fish_seen_subcommand_from run' -l emit -x -a 'report script summary svg trace json' -d 'what is written'
+complete -c multiscalar -n '__fish_seen_subcommand_from run' -l emit -x -a 'report script summary svg trace json waits' -d 'what is written'
 complete -c multiscalar -n '__fish_seen_subcommand_from curve' -l emit -x -a 'table svg' -d 'what is written'
 complete -c multiscalar -n '__fish_seen_subcommand_from curve' -l progress -d 'say when a run is done'
+complete -c multiscalar -n '__fish_seen_subcommand_from demonstrate' -l steps -x -d 'when to end each run'
 complete -c multiscalar -n '__fish_seen_subcommand_from explain' -l certificate -r -d 'explain this certificate, too'
 complete -c multiscalar -n '__fish_seen_subcommand_from explain' -l format -x -a 'text sarif json' -d 'how it is laid out'
 complete -c multiscalar -n '__fish_seen_subcommand_from explain' -l script -r -d 'explain this script, too'

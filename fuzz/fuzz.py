@@ -23,6 +23,7 @@ def run(words, files):
 def known(sub): return subprocess.run([PROG, sub, '--help'], capture_output=True).returncode == 0
 # A program whose help says so writes a trace as lines of JSON, too.
 TRACES = ['trace'] + ['json'] * ('json' in subprocess.run([PROG, 'replay', '--help'], capture_output=True, text=True).stdout)
+STEPS = ['report', 'script', 'summary', *TRACES] + ['waits'] * ('waits' in subprocess.run([PROG, 'run', '--help'], capture_output=True, text=True).stdout)
 SUBS = [s for s in O.subs.split(',') if known(s)]
 print('subcommands', SUBS, flush=True)
 def marked(text):
@@ -152,7 +153,7 @@ def one():
     if s == 'curve': return certified(['curve', '--units', str(R.choice([1, 2, 3, 5, 16])), '--budget', str(R.choice([1, 7, 60, 400, 1000])), *predict], t, c)
     machine = ['--units', str(R.choice([1, 2, 3, 4, 16])), '--budget', str(R.choice([1, 7, 60, 400, 3000])), *predict]
     if s == 'run' and R.random() < .6:
-        return certified(['run', '--schedule', 'steps', *machine, '--emit', R.choice(['report', 'script', 'summary', *TRACES])], t, c)
+        return certified(['run', '--schedule', 'steps', *machine, '--emit', R.choice(STEPS)], t, c)
     if s == 'run' and R.random() < .4: return certified(['run', *machine, '--workers', str(R.choice([1, 2, 16])), '--emit', R.choice(TRACES)], t, c)
     if s == 'run':
         try: q = assemble(lat(t)); cert_parse(lat(c), q)

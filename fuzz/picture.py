@@ -29,7 +29,7 @@ SVG = "{http://www.w3.org/2000/svg}"
 MOST_SINGLE = 2000
 LEFT, WIDTH = 88.0, 1160.0
 Life = collections.namedtuple("Life", "task unit first last executed ending")
-TITLE = re.compile(r"task (\w+), unit (\d+), events (\d+) to (\d+), instructions: (\d+), (\w+)")
+TITLE = re.compile(r"task (\w+), unit (\d+), events? (\d+)(?: to (\d+))?, instructions: (\d+), (\w+)")
 STRETCHES = 290
 
 
@@ -117,7 +117,7 @@ def bar_faults(root, lives, events):
         if title is None:
             continue
         task, unit, first, last, executed, ending = TITLE.fullmatch(title.text).groups()
-        life = Life(task, int(unit), int(first), int(last), int(executed), ending)
+        life = Life(task, int(unit), int(first), int(last or first), int(executed), ending)
         drawn.append(life)
         left, width = float(bar.get("x")), float(bar.get("width"))
         begin = LEFT + (life.first - 1) * WIDTH / events

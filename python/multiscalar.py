@@ -73,6 +73,7 @@ class RunEmit(IntEnum):
     TRACE = 4
     JSON = 5
     SCRIPT_WITH_VALUES = 6
+    WAITS = 7
 
 
 class CurveEmit(IntEnum):

@@ -44,6 +44,8 @@ class Calls(unittest.TestCase):
         self.assertEqual((report.status, report.text.splitlines()[0]), (0, "5"))
         script = multiscalar.run_in_steps(RIGHT, units=2, emit=multiscalar.RunEmit.SCRIPT)
         self.assertEqual(multiscalar.replay(RIGHT, script.data, units=2).status, 0)
+        waits = multiscalar.run_in_steps(RIGHT, units=2, emit=multiscalar.RunEmit.WAITS)
+        self.assertEqual((waits.status, waits.text.splitlines()[-1]), (0, "       0  (all)"))
 
     def test_curve(self):
         self.assertEqual(multiscalar.curve(RIGHT, units=2, prediction=[0]).status, 0)

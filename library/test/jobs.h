@@ -8,11 +8,11 @@ typedef struct {
     multiscalar_text program, certificate, script;
 } texts;
 
-#define JOBS 12
+#define JOBS 13
 
 static const char *const job_names[JOBS] = {
     "seq",     "print",        "annotate", "check --least", "check", "explain", "explain, SARIF", "run, JSON",
-    "run, SVG", "replay, trace", "curve",    "curve, SVG"};
+    "run, SVG", "replay, trace", "curve",    "curve, SVG",    "run, waits"};
 
 static const multiscalar_prediction first = {MULTISCALAR_FIRST, NULL, 0};
 
@@ -41,9 +41,12 @@ static int do_job(const texts *it, int job, char **answer, size_t *length) {
     case 10:
         return multiscalar_curve(it->program, multiscalar_no_text, 4, 1000, first, MULTISCALAR_CURVE_TABLE, answer,
                                  length);
-    default:
+    case 11:
         return multiscalar_curve(it->program, multiscalar_no_text, 16, 1000, first, MULTISCALAR_CURVE_SVG, answer,
                                  length);
+    default:
+        return multiscalar_run_in_steps(it->program, it->certificate, 16, 1000, first, MULTISCALAR_RUN_WAITS, answer,
+                                        length);
     }
 }
 

@@ -27,12 +27,13 @@ use Rattle.jobs.specs.declared.job.Colors.{Colors}
 use Rattle.jobs.specs.declared.job.ReplayEmit.{ReplayEmit}
 use Rattle.jobs.specs.declared.job.ReplayEmit.TheVariants.{Answers}
 use Rattle.jobs.specs.declared.job.RunEmit.{RunEmit}
-use Rattle.jobs.specs.declared.job.RunEmit.TheVariants.{Script, ScriptWithValues}
+use Rattle.jobs.specs.declared.job.RunEmit.TheVariants.{Script, ScriptWithValues, Waits}
 use Rattle.jobs.specs.declared.job.CurveEmit.{CurveEmit}
 use Rattle.jobs.specs.declared.job.Schedule.{Schedule}
+use Rattle.jobs.specs.declared.job.Schedule.TheVariants.{Steps}
 use Rattle.jobs.specs.declared.job.Prediction.{Prediction}
 use Rattle.jobs.specs.declared.job.Job.{Job}
-use Rattle.jobs.specs.declared.job.Job.TheVariants.{Seq, Print, Annotate, Explain, Check, Replay, ReplayStrictly, Run, Curve}
+use Rattle.jobs.specs.declared.job.Job.TheVariants.{Seq, Print, Annotate, Explain, Check, Replay, ReplayStrictly, Run, Curve, Demonstrate}
 use Rattle.jobs.specs.declared.job.Paths.{Paths}
 use Rattle.command_line.specs.Words.{colors_of, curve_emit_of, emit_of, format_of, prediction_of, replay_emit_of, run_emit_of, schedule_of}
 use Rattle.command_line.specs.CommandLine.{command_line}
@@ -85,8 +86,20 @@ with_values false emit = emit
 with_values true (Some Script) = Some ScriptWithValues
 with_values true other = None
 
+-- `--emit waits` goes with `--schedule steps` alone
+abbrev pub waits_in_steps : Option Schedule → Option RunEmit
+waits_in_steps (Some Steps) = Some Waits
+waits_in_steps other = None
+
+abbrev pub in_schedule : Option Schedule → Option RunEmit → Option RunEmit
+in_schedule schedule (Some Waits) = waits_in_steps schedule
+in_schedule schedule other = other
+
+abbrev pub emit_with_values : List Row → Option RunEmit
+emit_with_values values = with_values (is_given (codes "with-values") values) (option_and_then run_emit_of (first_of (codes "emit") values))
+
 abbrev pub run_emit_in : List Row → Option RunEmit
-run_emit_in values = with_values (is_given (codes "with-values") values) (option_and_then run_emit_of (first_of (codes "emit") values))
+run_emit_in values = in_schedule (schedule_in values) (emit_with_values values)
 
 -- the result takes the place of the program text
 abbrev pub is_in_place : List Row → Bool
@@ -172,6 +185,8 @@ Gives name values (Curve source units budget predict emit) = (name ≡ codes "cu
     × IsSource (codes "certificate") values source × (number_at (codes "units") values ≡ Some units)
     × (number_at (codes "budget") values ≡ Some budget) × (predict_in values ≡ Some predict)
     × (curve_emit_in values ≡ Some emit)
+Gives name values (Demonstrate units steps) = (name ≡ codes "demonstrate")
+    × (number_at (codes "units") values ≡ Some units) × (number_at (codes "steps") values ≡ Some steps)
 
 -- where the script stands: of `replay` without a certificate in its place
 abbrev pub place_of_script : Job → Text
@@ -269,6 +284,8 @@ Lacks name values = (is_name name ≡ false)
     ⊎ ((name ≡ codes "run") × IsNoNumber 1000000 (number_at (codes "budget") values))
     ⊎ ((name ≡ codes "curve") × IsNoNumber 16 (number_at (codes "units") values))
     ⊎ ((name ≡ codes "curve") × IsNoNumber 1000000 (number_at (codes "budget") values))
+    ⊎ ((name ≡ codes "demonstrate") × IsNoNumber 16 (number_at (codes "units") values))
+    ⊎ ((name ≡ codes "demonstrate") × IsNoNumber 1000000 (number_at (codes "steps") values))
 
 -- the fault where something is not there; or memory ran out
 abbrev pub IsLack : Type 0 → UsageFault → Type 0

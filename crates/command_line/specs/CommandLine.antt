@@ -109,6 +109,10 @@ no_warnings = flag (codes "no-warnings")
 abbrev pub budget : Rule
 budget = number (codes "budget") 1000000 (codes "1000000")
 
+-- the most events of each run of a search
+abbrev pub steps : Rule
+steps = number (codes "steps") 1000000 (codes "10000")
+
 abbrev pub units : Rule
 units = number (codes "units") 16 (codes "4")
 
@@ -170,6 +174,9 @@ abbrev pub curve : Shape
 curve = subcommand (codes "curve") (program ∷ free_certificate ∷ least ∷ most_units ∷ budget
     ∷ word (codes "predict") (codes "first") ∷ word (codes "emit") (codes "table") ∷ progress ∷ output ∷ [])
 
+abbrev pub demonstrate : Shape
+demonstrate = subcommand (codes "demonstrate") (program ∷ most_units ∷ steps ∷ output ∷ [])
+
 -- the program, which has a version, and of which a subcommand is wanted
 abbrev pub program_name : Shape
 program_name = record (new_shape (codes "multiscalar")) { has_version = true; subcommand_required = true }
@@ -177,7 +184,7 @@ program_name = record (new_shape (codes "multiscalar")) { has_version = true; su
 abbrev pub command_line : App
 command_line = record {
   top = record program_name { is_leaf = false };
-  subs = seq ∷ print ∷ annotate ∷ explain ∷ check ∷ replay ∷ run ∷ curve ∷ [];
+  subs = seq ∷ print ∷ annotate ∷ explain ∷ check ∷ replay ∷ run ∷ curve ∷ demonstrate ∷ [];
 }
 
 -- A fault of the words is told with the usage of their subcommand. These subcommands find faults where `clap`

@@ -5,7 +5,7 @@ pub const VERSION: &str = "0.1.0";
 
 /// What `--version` says behind the program's name: the version, and the toolchain that proves the program, as
 /// `rt version` names it. `release/build.sh` builds with no other.
-pub const VERSION_AND_TOOLCHAIN: &str = "0.1.0 (proved with rattle-kit-13f logic dac8208d650f15bf)";
+pub const VERSION_AND_TOOLCHAIN: &str = "0.1.0 (proved with rattle-kit-13b logic dac8208d650f15bf)";
 
 /// What the program is for, in one line.
 pub const PROGRAM: &str = "Runs and checks annotated Multiscalar programs";
@@ -25,7 +25,7 @@ pub const STATUS: &str = "Exit status:
   0  accepted, nothing found wrong, printed, halted, or a replay that is still running; help; version
   1  a text or an annotation refused or found wrong; trapped; ended at an address that is not listed
   2  wrong usage, a file that cannot be read, out of memory, or output that cannot be written
-  3  out of budget
+  3  out of budget; no run found that shows what a wrong annotation does
 Of several programs it is the greatest.
 
 Results and refusals of texts go to standard output; with -o FILE, results go to FILE. A fault of
@@ -192,9 +192,11 @@ first fault and its line:
 
 With `--strict` it judges the script instead, as a log of another simulator. After an event a colon may stand,
 and what the event must have done, parted by commas: `$9=7` (the register comes to have this word),
-`[0x10010000]=5` (this word is loaded from there or stored there), `out=10`, `stops 0x00400010`. Empty lines,
-comments from `#` on and lines such as `step 3` are skipped. It writes the first line that departs from the
-machine, with what the event did and how each unit then stands, with status 1; or, with status 0,
+`sends $9=7` (it is sent with this word), `[0x10010000]=5` (this word is loaded from there or stored there),
+`out=10`, `stops 0x00400010`, and how it ended the run: `ends halted`, `ends trapped K Name` or
+`ends unlisted ADDRESS`. Empty lines, comments from `#` on and lines such as `step 3` are skipped. It writes
+the first line that departs from the machine, with what the event did and how each unit then stands, with
+status 1; or, with status 0,
   as expected: N events; HOW THE RUN STANDS
 
 With `--emit summary` it writes a table instead of the answers and of how the run stands: that of
@@ -241,6 +243,8 @@ With `--schedule steps` it makes no threads: in each step every unit does at mos
 one that the machine allows before the step. So the same words give the same run. The summary then ends
 with how many steps the run took and how many instructions retired in them: how far the annotations let
 tasks overlap. It is no model of the time of a processor.
+With `--emit waits` it writes why units waited, the most frequent first: in how many steps which task stood
+where, and needed which register, owed by which task, or had to be the head.
 
 With `--least` it makes the certificate itself, that of `annotate --emit keep`.
 
@@ -252,6 +256,7 @@ For example:
   ./multiscalar run --least examples/count/program.s
   ./multiscalar run --least --emit svg examples/count/program.s > count.svg
   ./multiscalar run --least --schedule steps --emit summary examples/count/program.s
+  ./multiscalar run --least --schedule steps --emit waits examples/count/program.s
   ./multiscalar run --least --units 8 --predict last --emit summary examples/diamond/program.s";
 
 /// `curve`, in one line.
@@ -327,7 +332,8 @@ event with its answer and what it changed) or json (the same in JSON, an object 
 pub const RUN_EMIT: &str =
     "What is written: report (the words that were put out, and how the run ended), script (the events
 of the run), summary (how often each task was assigned, and how that ended), svg (a picture), trace (each
-event with what it changed) or json (the same in JSON, an object on each line)";
+event with what it changed), json (the same in JSON, an object on each line) or, with --schedule steps, waits
+(in how many steps which task waited where, and for what)";
 
 /// `--emit` of `curve`.
 pub const CURVE_EMIT: &str =
@@ -386,6 +392,26 @@ pub const SCHEDULE: &str =
     "How the units take turns: threads (in any order) or steps (on one thread, in steps in which each unit
 does at most one event: the same run every time)";
 
+/// `demonstrate`, in one line.
+pub const DEMONSTRATE: &str = "Looks for a run that shows what a wrong annotation does";
+
+/// `demonstrate`.
+pub const DEMONSTRATE_LONG: &str =
+    "Looks for a run that shows what a wrong annotation does: one in which a task reads a stale register. It
+takes the program as it is annotated and needs no certificate. It tries machines of 2 units, of 3, and so on
+up to --units, in runs of up to --steps events.
+
+Where it finds such a run, it writes its events, one on a line, and then what is wrong: the task and the line
+that read the register, the word that was read, and the word that the sequential program reads there. The
+exit status is 1.
+
+Where the annotations are right, no run shows anything: it says so, and the exit status is 0. Where they are
+wrong and it finds no such run, it says so, and the exit status is 3. That may be since the path on which
+the annotation is wrong is never taken. `explain` says which annotations are wrong, and on which path.
+
+For example:
+  ./multiscalar demonstrate examples/five-findings/program.s";
+
 /// `--format` of `explain`.
 pub const FORMAT: &str =
     "How it is laid out: text (for a person), sarif (a log in SARIF 2.1.0) or json (an object of JSON on
@@ -423,7 +449,7 @@ pub const NO_REPLAY_EMIT: &str = "the value of --emit is answers, summary, svg, 
 
 /// Why another value of `--emit` of `run` gives no job.
 pub const NO_RUN_EMIT: &str =
-    "the value of --emit is report, script, summary, svg, trace or json; --with-values goes with script";
+    "the value of --emit is report, script, summary, svg, trace, json or, with --schedule steps, waits; --with-values goes with script";
 
 /// Why another value of `--emit` of `curve` gives no job.
 pub const NO_CURVE_EMIT: &str = "the value of --emit is table or svg";

@@ -5,8 +5,8 @@ ghost use Rattle.clap.specs.declared.builder.command.Command.TheViews.{out-Comma
 ghost use Rattle.command_line.specs.CommandLine.{IsSubcommand, app_named, command_line, program_name as program_name_shape, file as file_rule, file_option as file_option_rule, free_word as free_word_rule, flag as flag_rule, free_file as free_file_rule, free_files as free_files_rule, word as word_rule};
 ghost use Rattle.command_line.specs.CommandLine.{free_number as free_number_rule, number as number_rule};
 ghost use Rattle.command_line.specs.CommandLine.{program as program_rule, certificate as certificate_rule, free_certificate as free_certificate_rule, certificate_or_programs as certificate_or_programs_rule, explained_certificate as explained_certificate_rule, explained_script as explained_script_rule, further as further_rule, free_script as free_script_rule, least as least_rule, output as output_rule, in_place as in_place_rule, report as report_rule, strict as strict_rule, valued as valued_rule, no_warnings as no_warnings_rule, layout as layout_rule, colors as colors_rule, progress as progress_rule, schedule as schedule_rule};
-ghost use Rattle.command_line.specs.CommandLine.{budget as budget_rule, units as units_rule, most_units as most_units_rule, checkers as checkers_rule, workers as workers_rule};
-ghost use Rattle.command_line.specs.CommandLine.{seq as seq_shape, print as print_shape, annotate as annotate_shape, explain as explain_shape, check as check_shape, replay as replay_shape, run as run_shape, curve as curve_shape};
+ghost use Rattle.command_line.specs.CommandLine.{budget as budget_rule, steps as steps_rule, units as units_rule, most_units as most_units_rule, checkers as checkers_rule, workers as workers_rule};
+ghost use Rattle.command_line.specs.CommandLine.{seq as seq_shape, print as print_shape, annotate as annotate_shape, explain as explain_shape, check as check_shape, replay as replay_shape, run as run_shape, curve as curve_shape, demonstrate as demonstrate_shape};
 
 use crate::help;
 use clap::{Arg, ArgAction, Command, value_parser};
@@ -25,7 +25,8 @@ pub(crate) fn command<'a>(alloc: Global) -> Result<Command<'a>, AllocError>
     let command = with_subcommand(command, check(alloc));
     let command = with_subcommand(command, replay(alloc));
     let command = with_subcommand(command, run(alloc));
-    with_subcommand(command, curve(alloc))
+    let command = with_subcommand(command, curve(alloc));
+    with_subcommand(command, demonstrate(alloc))
 }
 
 /// The subcommand of this name, with its usage, of those that find faults where `clap` finds none; for any other
@@ -310,6 +311,15 @@ fn budget<'a>(alloc: Global, text: &'a str) -> Arg<'a>
     number(alloc, "budget", text, MOST_BUDGET, "1000000")
 }
 
+// The most events of each run of a search.
+fn steps<'a>(alloc: Global) -> Arg<'a>
+    ensures rule { rule_of result ≡ steps_rule }
+    ensures local { result.global ≡ false }
+{
+    let text = "The most events of each run, 1 to 1000000";
+    number(alloc, "steps", text, MOST_BUDGET, "10000")
+}
+
 fn units<'a>(alloc: Global) -> Arg<'a>
     ensures rule { rule_of result ≡ units_rule }
     ensures local { result.global ≡ false }
@@ -472,4 +482,19 @@ fn curve<'a>(alloc: Global) -> Result<Command<'a>, AllocError>
     ]?;
     let command = subcommand(alloc, "curve", help::CURVE, help::CURVE_LONG);
     with_usage(command, help::CURVE_USAGE).args(arguments)
+}
+
+fn demonstrate<'a>(alloc: Global) -> Result<Command<'a>, AllocError>
+    ensures { IfOk result (IsSubcommand demonstrate_shape) }
+{
+    subcommand(
+        alloc,
+        "demonstrate",
+        help::DEMONSTRATE,
+        help::DEMONSTRATE_LONG,
+    )
+    .arg(program(alloc))?
+    .arg(most_units(alloc))?
+    .arg(steps(alloc))?
+    .arg(output(alloc))
 }

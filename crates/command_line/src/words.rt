@@ -4,7 +4,7 @@ ghost use Rattle.std.specs.String.{string_bytes};
 ghost use Rattle.std.specs.List.{slice_split};
 ghost use Rattle.clap.specs.Words.{first_of};
 ghost use Rattle.clap.specs.declared.error.kind.ErrorKind.TheVariants.{ArgumentConflict, InvalidValue, MissingSubcommand};
-ghost use Rattle.command_line.specs.Asked.{AskFor, IsCheckMisfit, IsCheckSource, IsFaultOf, IsFrom, IsLack, IsMisfit, IsNoNumber, IsNoValue, IsOutside, IsOfKind, IsSource, Reads, ReadsRequest, IsDestination, destination_in, is_in_place, is_given, is_strict, colors_in, curve_emit_in, fits_in_place, further_in, goes_together, emit_in, format_in, number_at, predict_in, repeats, replay_emit_in, run_emit_in, schedule_in, values_at, values_in, with_values};
+ghost use Rattle.command_line.specs.Asked.{AskFor, IsCheckMisfit, IsCheckSource, IsFaultOf, IsFrom, IsLack, IsMisfit, IsNoNumber, IsNoValue, IsOutside, IsOfKind, IsSource, Reads, ReadsRequest, IsDestination, destination_in, is_in_place, is_given, is_strict, colors_in, curve_emit_in, fits_in_place, further_in, goes_together, emit_in, emit_with_values, format_in, in_schedule, number_at, predict_in, repeats, replay_emit_in, run_emit_in, schedule_in, values_at, values_in, waits_in_steps, with_values};
 ghost use Rattle.command_line.specs.Words.{listed_number, listed_numbers, all_there, colors_of, curve_emit_of, emit_of, format_of, prediction_of, replay_emit_of, run_emit_of, schedule_of};
 ghost use Rattle.jobs.specs.Files.{HasFilesOf, is_in_file};
 ghost use Rattle.jobs.specs.declared.job.Job.TheVariants.{Replay, ReplayStrictly};
@@ -280,6 +280,7 @@ fn read_job(alloc: Global, name: &str, values: &ArgMatches<'_>) -> Result<(Job, 
         "replay" => read_replay(alloc, values),
         "run" => read_run(alloc, values),
         "curve" => read_curve(alloc, values),
+        "demonstrate" => read_demonstrate(alloc, values),
         _ => Err(no_job(alloc)),
     }
 }
@@ -651,6 +652,26 @@ fn read_curve(alloc: Global, values: &ArgMatches<'_>) -> Result<(Job, Paths), Us
     Ok((job, certified_paths(alloc, values, certificate)?))
 }
 
+fn read_demonstrate(alloc: Global, values: &ArgMatches<'_>) -> Result<(Job, Paths), UsageFault>
+    ensures { Reads (codes "demonstrate") (values_in values.now) result }
+{
+    let units = read_units(alloc, values)?;
+    let steps = read_steps(alloc, values)?;
+    let job = Job::Demonstrate { units, steps };
+    Ok((job, program_path(alloc, values)?))
+}
+
+// The most events of each run of a search.
+fn read_steps(alloc: Global, values: &ArgMatches<'_>) -> Result<Budget, UsageFault>
+    ensures { MatchResult result (λ s. number_at (codes "steps") (values_in values.now) ≡ Some s)
+        (IsLack (IsNoNumber 1000000 (number_at (codes "steps") (values_in values.now)))) }
+{
+    match number(values, "steps").and_then(Budget::new) {
+        Some(steps) => Ok(steps),
+        None => Err(no_job(alloc)),
+    }
+}
+
 // What the value of `--format` stands for.
 fn read_format(alloc: Global, values: &ArgMatches<'_>) -> Result<Format, UsageFault>
     ensures { MatchResult result (λ f. format_in (values_in values.now) ≡ Some f) (IsNoValue (format_in (values_in values.now))) }
@@ -699,7 +720,7 @@ fn colors_named(text: &str) -> Option<Colors>
 fn read_schedule(alloc: Global, values: &ArgMatches<'_>) -> Result<Schedule, UsageFault>
     ensures { MatchResult result (λ s. schedule_in (values_in values.now) ≡ Some s) (IsNoValue (schedule_in (values_in values.now))) }
 {
-    match text(values, "schedule").and_then(schedule_named) {
+    match schedule_in(values) {
         Some(schedule) => Ok(schedule),
         None => Err(no_value(alloc, "run", help::NO_SCHEDULE)),
     }
@@ -730,10 +751,44 @@ fn replay_emit(alloc: Global, values: &ArgMatches<'_>) -> Result<ReplayEmit, Usa
 fn run_emit(alloc: Global, values: &ArgMatches<'_>) -> Result<RunEmit, UsageFault>
     ensures { MatchResult result (λ e. run_emit_in (values_in values.now) ≡ Some e) (IsNoValue (run_emit_in (values_in values.now))) }
 {
-    let emit = text(values, "emit").and_then(read_run_emit);
-    match with_values(is_given(values, "with-values"), emit) {
+    match in_schedule(schedule_in(values), emit_with_values(values)) {
         Some(emit) => Ok(emit),
         None => Err(no_value(alloc, "run", help::NO_RUN_EMIT)),
+    }
+}
+
+// What the value of `--schedule` stands for.
+fn schedule_in(values: &ArgMatches<'_>) -> Option<Schedule>
+    ensures { result ≡ schedule_in (values_in values.now) }
+{
+    text(values, "schedule").and_then(schedule_named)
+}
+
+// What the value of `--emit` of `run` stands for, and `--with-values` beside it.
+fn emit_with_values(values: &ArgMatches<'_>) -> Option<RunEmit>
+    ensures { result ≡ emit_with_values (values_in values.now) }
+{
+    let emit = text(values, "emit").and_then(read_run_emit);
+    with_values(is_given(values, "with-values"), emit)
+}
+
+// What is written of a run with this schedule: the waits of a run in steps alone.
+fn in_schedule(schedule: Option<Schedule>, emit: Option<RunEmit>) -> Option<RunEmit>
+    ensures { result ≡ in_schedule schedule emit }
+{
+    match emit {
+        Some(RunEmit::Waits) => waits_in_steps(schedule),
+        _ => emit,
+    }
+}
+
+// The waits, where the run goes in steps.
+fn waits_in_steps(schedule: Option<Schedule>) -> Option<RunEmit>
+    ensures { result ≡ waits_in_steps schedule }
+{
+    match schedule {
+        Some(Schedule::Steps) => Some(RunEmit::Waits),
+        _ => None,
     }
 }
 
@@ -881,6 +936,7 @@ fn read_run_emit(text: &str) -> Option<RunEmit>
         "svg" => Some(RunEmit::Picture),
         "trace" => Some(RunEmit::Trace),
         "json" => Some(RunEmit::Json),
+        "waits" => Some(RunEmit::Waits),
         _ => None,
     }
 }

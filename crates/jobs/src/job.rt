@@ -64,6 +64,8 @@ pub enum RunEmit {
     Trace,
     /// The same in JSON, an object on each line, for machines.
     Json,
+    /// In how many steps which task waited where, and for what: of a run in steps.
+    Waits,
 }
 
 /// What `replay` writes of a script.
@@ -90,7 +92,7 @@ pub enum CurveEmit {
     Picture,
 }
 
-/// How `run` guesses the next task behind a running one (the paper, section 2.1, leaves it open).
+/// How `run` guesses the next task after a running one (the paper, section 2.1, leaves it open).
 #[derive(Debug, Drop)]
 pub enum Prediction {
     /// The first target.
@@ -174,6 +176,12 @@ pub enum Job {
         budget: Budget,
         predict: Prediction,
         emit: CurveEmit,
+    },
+    /// Looks for a run that shows the harm of a wrong mark, on machines of 2, 3 units and more, up to so many, each
+    /// run up to this many events.
+    Demonstrate {
+        units: Units,
+        steps: Budget,
     },
 }
 

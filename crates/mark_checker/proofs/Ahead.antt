@@ -1,6 +1,6 @@
 -- A test of some end of an instruction's edges is the test of one of the two indices that the code
 -- has: each way an index goes over, by cases on which of the two it is.
-use Rattle.std.proofs.Common.{◌≡◌, ℕ, ◌+◌, ◌<◌, ◌⊎◌, ◌↔◌, Bool, true, false, not, ◌&&◌, ◌||◌, cond, nat_eq, nat_lt, nat_le, Option, Some, None, List, [], ◌∷◌, ◌++◌, length, slice_get, refl, sym, ◌∙◌, ap, subst, inl, inr, arith, suc}
+use Rattle.std.proofs.Common.{◌≡◌, ℕ, ◌+◌, ◌<◌, ◌≤◌, ◌⊎◌, ◌↔◌, Bool, true, false, not, ◌&&◌, ◌||◌, cond, nat_eq, nat_lt, nat_le, Option, Some, None, List, [], ◌∷◌, ◌++◌, length, slice_get, refl, sym, ◌∙◌, ap, subst, inl, inr, arith, suc}
 use Rattle.std.specs.List.{list_any, prefix_len}
 use Rattle.std.specs.Prelude.{position, is_some}
 use Rattle.std.specs.Option.{option_to_list}
@@ -74,6 +74,14 @@ among next j h = elim h [
   | inl e ↦ or_left (is_it next.first j) (is_it next.second j) (it next.first j e)
   | inr e ↦ or_right (is_it next.first j) (is_it next.second j) (it next.second j e)
 ]
+
+-- each inner successor is an index of an instruction
+pub below_limit : (p : Listing) (i : ℕ) (next : Next) → length p.code ≤ 4096
+    → ((j : ℕ) → (is_among next j ≡ true) ↔ Follows p i j)
+    → (j : ℕ) → (next.first ≡ Some j) ⊎ (next.second ≡ Some j) → j < 4096
+below_limit p i next few exact j e =
+    let within : j < length p.code = ((exact j).0 (among next j e)).within in
+    omega arith
 
 from_end : (p : Listing) (leaving : Bool) (i j : ℕ) (m : Marked) → slice_get p.code i ≡ Some m
     → (end_of leaving m i false ≡ Some j) ⊎ (end_of leaving m i true ≡ Some j) → Edge p leaving i j

@@ -7,11 +7,20 @@ use task_descriptor::descriptor::Marked;
 use task_descriptor::program::Program;
 use task_graph::edges::{Next, exits_of, next_inside};
 
-/// What the rules look at in an instruction.
+/// At most two indices of instructions, in half the room of a [`Next`]: an index is below 4,096.
+#[derive(Clone, Copy)]
+pub(crate) struct Successors {
+    /// The least index, if there is any.
+    pub(crate) first: Option<u16>,
+    /// The other index, if there are two.
+    pub(crate) second: Option<u16>,
+}
+
+/// What the rules look at in an instruction: 32 bytes, since `accepts` keeps 4,096 of them on the stack.
 #[derive(Clone, Copy)]
 pub(crate) struct Look {
     /// The inner successors.
-    pub(crate) next: Next,
+    pub(crate) next: Successors,
     /// The registers that it writes.
     pub(crate) written: RegSet,
     /// The registers that it sends: forwards or releases.
@@ -36,7 +45,7 @@ pub(crate) fn look_through(program: &Program, looks: &mut [Look])
 /// What is looked at where there is no instruction.
 pub(crate) fn nothing() -> Look {
     Look {
-        next: Next {
+        next: Successors {
             first: None,
             second: None,
         },
@@ -51,7 +60,12 @@ fn look_at(program: &Program, marked: &Marked, index: u32) -> Look
     requires { slice_get program.now.code index ≡ Some marked.now }
     ensures { Tells program.now index marked.now result }
 {
-    let next = next_inside(program, index);
+    let _ = program.code();
+    let inside = next_inside(program, index);
+    let next = Successors {
+        first: narrowed(inside.first),
+        second: narrowed(inside.second),
+    };
     let exits = exits_of(program, index);
     let written = marked.op.dests();
     let sent = forwarded_by(marked, written).union(released_by(&marked.op));
@@ -66,7 +80,18 @@ fn look_at(program: &Program, marked: &Marked, index: u32) -> Look
     }
 }
 
-ghost use Rattle.std.specs.Prelude.{◌||◌, is_some, not};
+ghost use Rattle.std.specs.Prelude.{◌||◌, ◌<◌, ℕ, is_some, not};
+
+/// An index of an instruction, if there is one, in half its room.
+fn narrowed(index: Option<u32>) -> Option<u16>
+    requires { (j : ℕ) → index ≡ Some j → j < 4096 }
+    ensures { result ≡ index }
+{
+    match index {
+        Some(index) => Some(index as u16),
+        None => None,
+    }
+}
 
 fn is_none_of(one: bool, two: bool, three: bool) -> bool
     ensures { result ≡ not (one || (two || three)) }

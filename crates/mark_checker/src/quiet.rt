@@ -39,8 +39,8 @@ pub(crate) fn is_quiet(
 fn is_quiet_inside(look: &Look, masks: &Masks<'_>, create: RegSet, mask: RegSet) -> bool
     ensures { result ≡ true → IsQuiet look.now masks.now create mask }
 {
-    let first = ahead_at(masks, look.next.first);
-    let second = ahead_at(masks, look.next.second);
+    let first = ahead_at(masks, widened(look.next.first));
+    let second = ahead_at(masks, widened(look.next.second));
     if !look.stays || first.without_mask || second.without_mask {
         return false;
     }
@@ -49,4 +49,13 @@ fn is_quiet_inside(look: &Look, masks: &Masks<'_>, create: RegSet, mask: RegSet)
     let again = common(look.sent, next);
     let beside = look.sent.minus(create);
     is_nobody(lost.union(again.union(beside)))
+}
+
+fn widened(index: Option<u16>) -> Option<u32>
+    ensures { result ≡ index }
+{
+    match index {
+        Some(index) => Some(u32::from(index)),
+        None => None,
+    }
 }

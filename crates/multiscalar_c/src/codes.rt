@@ -56,6 +56,7 @@ pub(crate) fn run_emit(code: u32) -> Option<RunEmit>
         4 => Some(RunEmit::Trace),
         5 => Some(RunEmit::Json),
         6 => Some(RunEmit::ScriptWithValues),
+        7 => Some(RunEmit::Waits),
         _ => None,
     }
 }

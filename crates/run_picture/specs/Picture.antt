@@ -1,4 +1,4 @@
--- The picture of a run (own choice): its shapes, and its text.
+-- The picture of a run: its shapes, and its text.
 use Rattle.std.specs.Fmt.{decimal}
 use Rattle.std.specs.Prelude.{ℕ, ◌+◌, ◌/◌, List, [], ◌∷◌, ◌++◌, length, codes, nat_le, if◌then◌else◌}
 use Rattle.machine_events.specs.declared.event.Event.{Event}
@@ -10,6 +10,7 @@ use Rattle.run_summary.specs.Tallies.{tally_of}
 use Rattle.run_picture.specs.declared.shape.Shape.{Shape}
 use Rattle.run_picture.specs.declared.shape.Words.TheVariants.{Ring, Stretch}
 use Rattle.run_picture.specs.Scales.{bottom_of}
+use Rattle.run_picture.specs.WordsText.{title_text}
 use Rattle.run_picture.specs.Frame.{titles_of, lanes_of, axis_of, note_of}
 use Rattle.run_picture.specs.Bars.{bars_of, names_of}
 use Rattle.run_picture.specs.Marks.{marks_of}
@@ -48,7 +49,7 @@ root_text height =
 
 abbrev pub called_text : (units events : ℕ) → List ℕ
 called_text units events =
-    codes "<title>Run on " ++ (decimal units ++ (codes " units, " ++ (decimal events ++ (codes " events</title>" ++ 10 ∷ []))))
+    codes "<title>" ++ (title_text units events ++ (codes "</title>" ++ 10 ∷ []))
 
 abbrev pub legend_text : (events : ℕ) → List ℕ
 legend_text events = if nat_le events 2000 then marks_legend else stretches_legend

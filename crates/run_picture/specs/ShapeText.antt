@@ -1,6 +1,6 @@
--- The SVG element of a shape (own choice).
+-- The SVG element of a shape.
 use Rattle.std.specs.Fmt.{decimal}
-use Rattle.std.specs.Prelude.{ℕ, ◌+◌, List, [], ◌∷◌, ◌++◌, codes, flat_map}
+use Rattle.std.specs.Prelude.{ℕ, ◌+◌, List, [], ◌∷◌, ◌++◌, codes, flat_map, nat_eq, if◌then◌else◌}
 use Rattle.task_descriptor.specs.declared.descriptor.Descriptor.{Descriptor}
 use Rattle.task_lives.specs.declared.life.Ending.{Ending}
 use Rattle.task_lives.specs.declared.life.Ending.TheVariants.{Retired, Squashed, Dropped, Unfinished}
@@ -66,7 +66,8 @@ abbrev pub place_text : (name : List ℕ) (unit : ℕ) → List ℕ
 place_text name unit = codes "<title>task " ++ (name ++ (codes ", unit " ++ decimal unit))
 
 abbrev pub span_text : (first last : ℕ) → List ℕ
-span_text first last = codes ", events " ++ (decimal first ++ (codes " to " ++ decimal last))
+span_text first last =
+    if nat_eq first last then codes ", event " ++ decimal first else codes ", events " ++ (decimal first ++ (codes " to " ++ decimal last))
 
 abbrev pub course_text : (executed : ℕ) (ending : List ℕ) → List ℕ
 course_text executed ending = codes ", instructions: " ++ (decimal executed ++ (codes ", " ++ (ending ++ codes "</title>")))

@@ -1,4 +1,4 @@
--- What labels say (own choice).
+-- What labels say.
 use Rattle.std.specs.Fmt.{decimal}
 use Rattle.std.specs.Prelude.{ℕ, List, [], ◌++◌, codes, length, take, flat_map, encode_utf8, nat_eq, nat_le, if◌then◌else◌}
 use Rattle.task_descriptor.specs.declared.descriptor.Descriptor.{Descriptor}
@@ -7,7 +7,7 @@ use Rattle.run_picture.specs.declared.shape.Words.{Words}
 use Rattle.run_picture.specs.declared.shape.Words.TheVariants.{Title, Sums, OfUnit, EventNumber, Events, Task, Register, Ring, Stretch}
 use Rattle.run_picture.specs.Bars.{name_of}
 
--- what stands behind a word for so many things
+-- what follows a word for a number of things
 abbrev pub plural : ℕ → List ℕ
 plural n = if nat_eq n 1 then [] else codes "s"
 
@@ -34,7 +34,7 @@ words_text tasks (Title units events) = title_text units events
 words_text tasks (Sums tally) = lives_text tally ++ work_text tally
 words_text tasks (OfUnit unit) = codes "unit " ++ decimal unit
 words_text tasks (EventNumber number) = decimal number
-words_text tasks Events = codes "events, numbered as the lines of the run's script"
+words_text tasks Events = codes "events that were allowed, numbered from 1"
 words_text tasks (Task task letters) = name_text (name_of tasks task) letters
 words_text tasks (Register register) = codes "$" ++ decimal register
 words_text tasks Ring = codes "An arrow that leaves the last unit goes on at unit 0: the units form a ring."

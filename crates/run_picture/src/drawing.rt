@@ -17,6 +17,7 @@ use crate::shape::{Shape, Words};
 use crate::shape_text::write_shapes;
 use crate::sheet::{marks_legend, stretches_legend, style_sheet};
 use crate::stretches::{push_stretches, stretch_length};
+use crate::words_text::write_title;
 use machine_events::event::{Event, EventRun};
 use run_summary::tally::add_up;
 use std::alloc::{AllocError, Global};
@@ -192,7 +193,9 @@ fn write_root(text: &mut String, height: u64) -> Result<(), AllocError>
 fn write_called(text: &mut String, units: u32, events: usize) -> Result<(), AllocError>
     ensures { OnOk result (string_bytes text.new ≡ string_bytes text.old ++ called_text units events) }
 {
-    writeln!(text, "<title>Run on {units} units, {events} events</title>")
+    text.push_str("<title>")?;
+    write_title(text, units, events)?;
+    text.push_str("</title>\n")
 }
 
 /// Writes the style sheet and the legend.

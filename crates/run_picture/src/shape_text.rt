@@ -121,7 +121,11 @@ fn write_place(text: &mut String, name: &str, unit: u32) -> Result<(), AllocErro
 fn write_span(text: &mut String, first: u64, last: u64) -> Result<(), AllocError>
     ensures { OnOk result (string_bytes text.new ≡ string_bytes text.old ++ span_text first last) }
 {
-    write!(text, ", events {first} to {last}")
+    if first == last {
+        write!(text, ", event {first}")
+    } else {
+        write!(text, ", events {first} to {last}")
+    }
 }
 
 /// Writes how many instructions were executed, and the ending.

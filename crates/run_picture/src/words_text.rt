@@ -19,13 +19,13 @@ pub(crate) fn write_words(
     ensures { OnOk result (string_bytes text.new ≡ string_bytes text.old ++ words_text tasks.now words) }
 {
     match words {
-        Words::Title(units, events) => write_title(text, units, events),
+        Words::Title(units, events) => write_title(text, units, events as usize),
         Words::Sums(tally) => write_sums(text, tally),
         Words::OfUnit(unit) => write!(text, "unit {unit}"),
         Words::EventNumber(number) => write!(text, "{number}"),
         Words::Task(task, letters) => write_name(text, name_of(tasks, task), letters),
         Words::Register(register) => write!(text, "${register}"),
-        Words::Events => text.push_str("events, numbered as the lines of the run's script"),
+        Words::Events => text.push_str("events that were allowed, numbered from 1"),
         Words::Ring => text.push_str(
             "An arrow that leaves the last unit goes on at unit 0: the units form a ring.",
         ),
@@ -37,16 +37,16 @@ pub(crate) fn write_words(
 }
 
 /// Writes what the picture is called.
-fn write_title(text: &mut String, units: u32, events: u32) -> Result<(), AllocError>
+pub(crate) fn write_title(text: &mut String, units: u32, events: usize) -> Result<(), AllocError>
     ensures { OnOk result (string_bytes text.new ≡ string_bytes text.old ++ title_text units events) }
 {
-    let s = plural(units);
+    let s = plural(units as usize);
     let of_events = plural(events);
     write!(text, "Run on {units} unit{s}: {events} event{of_events}")
 }
 
-/// What stands behind a word for so many things.
-fn plural(count: u32) -> &'static str
+/// What follows a word for a number of things.
+fn plural(count: usize) -> &'static str
     ensures { result.now ≡ plural_of count }
 {
     if count == 1 { "" } else { "s" }

@@ -5,20 +5,14 @@ use std::alloc::Global;
 use std::process::Abort;
 use test_programs::certificates::COUNT_CERTIFICATE_WIDE;
 use test_programs::programs::{
-    COUNT, COUNT_BARE, COUNT_CREATES_LESS, COUNT_FORWARDED, DIAMOND, FIVE_FINDINGS, PAIR,
-    READ_ONLY, RELEASE, SPIN, UNLISTED_JUMP, WRONG_PATH_LOAD, WRONG_PATH_SPIN,
+    COUNT, COUNT_BARE, COUNT_FORWARDED, DIAMOND, FIVE_FINDINGS, PAIR, READ_ONLY, RELEASE, SPIN,
+    UNLISTED_JUMP, WRONG_PATH_LOAD, WRONG_PATH_SPIN,
 };
 
-// All four values of `--emit`. The proposal forwards $10 as well, since no path writes it again.
-const PROPOSALS: [Row<'static>; 5] = [
+// The proposal forwards $10 as well, since no path writes it again.
+const PROPOSALS: [Row<'static>; 4] = [
     Row {
         words: "annotate a.s",
-        program: COUNT_BARE,
-        expected: COUNT_FORWARDED,
-        ..EMPTY
-    },
-    Row {
-        words: "annotate --emit text a.s",
         program: COUNT_BARE,
         expected: COUNT_FORWARDED,
         ..EMPTY
@@ -53,21 +47,6 @@ const LAID_OUT_MARKED: &str =
 #[test]
 fn annotates_count(rt: HostRuntime) {
     run_all(&rt, rt.alloc(), &PROPOSALS);
-}
-
-const REFUSING: [&str; 4] = [
-    "annotate a.s",
-    "annotate --emit cert a.s",
-    "annotate --emit keep a.s",
-    "annotate --emit marks a.s",
-];
-
-#[test]
-fn refuses_texts(rt: HostRuntime) {
-    let expected = "program refused: 4 Mnemonic line 1\n";
-    for &words in &REFUSING {
-        expect_of(&rt, rt.alloc(), words, "foo $8", expected, 1);
-    }
 }
 
 // What the words write of a program, with status 0.
@@ -164,31 +143,5 @@ halt
 fn keeps_read_only_data(rt: HostRuntime) {
     for &words in &["print a.s", "annotate a.s"] {
         expect_of(&rt, rt.alloc(), words, READ_ONLY, READ_ONLY_PRINTED, 0);
-    }
-}
-
-// With the least certificate what is found is a fault of the marks. So the one fault of the other
-// certificate of these programs is gone.
-const REFUSED: [(&str, &str); 2] = [
-    (
-        FIVE_FINDINGS,
-        "A 0 rule 5 $8\nA 0 rule 8 $8\nB 1 rule 9 -\nB 1 rule 12 -\nrefused 4\n",
-    ),
-    (COUNT_CREATES_LESS, "A 0 rule 5 $10\nrefused 1\n"),
-];
-
-#[test]
-fn keeps_marks_as_they_stand(rt: HostRuntime) {
-    for &(program, expected) in &REFUSED {
-        let program = program.as_bytes();
-        let certificate = annotated(&rt, rt.alloc(), "annotate --emit keep a.s", program);
-        expect_checked(
-            &rt,
-            rt.alloc(),
-            program,
-            certificate.as_slice(),
-            expected,
-            1,
-        );
     }
 }

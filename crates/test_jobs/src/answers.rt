@@ -94,23 +94,10 @@ pub fn expect_of(
     expected: &str,
     status: u8,
 ) {
-    expect_with(rt, alloc, words, program, "", expected, status);
-}
-
-/// Asserts what the words write of a program with a certificate, and the status.
-pub fn expect_with(
-    rt: &impl Bench,
-    alloc: Global,
-    words: &str,
-    program: &str,
-    certificate: &str,
-    expected: &str,
-    status: u8,
-) {
     let row = Row {
         words,
         program,
-        certificate,
+        certificate: "",
         script: "",
         expected,
         status,

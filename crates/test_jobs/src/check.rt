@@ -175,7 +175,7 @@ fn finds_what_is_wrong(rt: HostRuntime) {
     run_all(&rt, rt.alloc(), &FINDINGS);
 }
 
-const REFUSALS: [Row<'static>; 8] = [
+const REFUSALS: [Row<'static>; 7] = [
     // The certificate is none; bit 34 is no register.
     Row {
         program: PRODUCT,
@@ -211,13 +211,6 @@ const REFUSALS: [Row<'static>; 8] = [
     Row {
         certificate: "cert 1\ntask C\n0 00000700\n1 00000600\n2 00000400\n3 00000000\ntask B\n4 00000000\n5 00000000\n",
         expected: "certificate refused: 3 TaskName 2\n",
-        ..REFUSED
-    },
-    // The program is judged before the certificate.
-    Row {
-        program: "foo",
-        certificate: "cert 3\n",
-        expected: "program refused: 4 Mnemonic line 1\n",
         ..REFUSED
     },
 ];

@@ -13,21 +13,13 @@ mod certificates;
 #[cfg(test)]
 mod check;
 #[cfg(test)]
-mod curve;
-#[cfg(test)]
-mod explain;
-#[cfg(test)]
 mod files;
 #[cfg(test)]
 mod flushed_reports;
 #[cfg(test)]
 mod held_back;
 #[cfg(test)]
-mod least;
-#[cfg(test)]
 mod limits;
-#[cfg(test)]
-mod log;
 #[cfg(test)]
 mod print;
 #[cfg(test)]

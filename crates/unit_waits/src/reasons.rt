@@ -1,7 +1,7 @@
 //! What keeps a unit behind the head.
 
-ghost use Rattle.std.specs.Prelude.{◌≡◌, ◌<◌, Some, slice_get, is_none};
-ghost use Rattle.machine_model.specs.Machine.{creates, task_at};
+ghost use Rattle.std.specs.Prelude.{◌≡◌, ◌<◌, Some, slice_get, is_none, is_some};
+ghost use Rattle.machine_model.specs.Machine.{creates, pass, task_at};
 ghost use Rattle.machine_model.specs.Refusals.{least};
 ghost use Rattle.processor_steps.specs.Processors.{ArePlaced};
 ghost use Rattle.sequencer.specs.Machines.{state, units_of};
@@ -60,17 +60,30 @@ fn position_owing(program: &Program, machine: &Machine<'_>, register: Reg, posit
     owing
 }
 
+/// Whether a unit passes a register on: it has sent it, or its task does not produce it and it has arrived.
+fn passes_on(program: &Program, unit: &Unit, register: Reg) -> bool
+    ensures { result ≡ is_some (pass program.now (active_of unit.now) register) }
+{
+    unit.pass(created(program, unit.task()), register).is_some()
+}
+
 /// What the unit at a position owes of a register.
-fn owed_at(machine: &Machine<'_>, units: u32, register: Reg, position: u32) -> Owed
+fn owed_at(
+    program: &Program,
+    machine: &Machine<'_>,
+    units: u32,
+    register: Reg,
+    position: u32,
+) -> Owed
     requires some { 0 < units }
-    ensures { result ≡ owed_at_of units (state machine.now) register position }
+    ensures { result ≡ owed_at_of program.now units (state machine.now) register position }
 {
     let number = unit_at(machine, units, position);
     match machine.unit(position) {
         Some(unit) => Owed {
             unit: number,
             task: unit.task(),
-            is_sent: unit.sent(register).is_some(),
+            is_sent: passes_on(program, unit, register),
         },
         None => Owed {
             unit: number,
@@ -92,7 +105,7 @@ fn owed_to(
     ensures { result ≡ owed_to_of program.now units (state machine.now) register position }
 {
     let owing = position_owing(program, machine, register, position);
-    owed_at(machine, units, register, owing)
+    owed_at(program, machine, units, register, owing)
 }
 
 /// The least register of a unit's create mask that it has not sent.

@@ -10,7 +10,7 @@ pub struct Owed {
     pub unit: u32,
     /// The number of its task.
     pub task: u32,
-    /// Whether it has sent the register, which then is on its way from unit to unit.
+    /// Whether it passes the register on, which then is on its way from unit to unit.
     pub is_sent: bool,
 }
 

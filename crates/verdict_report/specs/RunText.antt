@@ -15,6 +15,7 @@ use Rattle.run_summary.specs.SummaryText.{summary_text}
 use Rattle.run_picture.specs.Picture.{picture_text}
 use Rattle.event_trace.specs.Entries.{places_of}
 use Rattle.event_trace.specs.Trace.{trace_text}
+use Rattle.wait_table.specs.TableText.{waits_text}
 use Rattle.event_json.specs.Json.{json_text}
 use Rattle.threaded_runner.specs.declared.report.How.{How}
 use Rattle.threaded_runner.specs.declared.report.How.TheVariants.{Ended, OutOfBudget}
@@ -81,7 +82,7 @@ steps_text (Some count) s = codes "steps " ++ (decimal count ++ (codes ", retire
 
 -- what is written of a run: its end; its history as a script, which is read as that history; or what the
 -- tasks that it assigned came to, and its steps; or a picture of its history; or the trace of its history, by
--- the lines of the program text, or the same in JSON
+-- the lines of the program text, or the same in JSON; or the table of its waits
 abbrev pub IsWrittenOf : RunEmit → (units : ℕ) → (text : List ℕ) → Listing → Run → List ℕ → Type 0
 IsWrittenOf emit.Report units text p run bytes = bytes ≡ ending_text run.how run.state
 IsWrittenOf emit.Script units text p run bytes = (bytes ≡ script_text p run.history) × (script_of p bytes ≡ Ok run.history)
@@ -90,6 +91,7 @@ IsWrittenOf emit.Summary units text p run bytes = bytes ≡ summary_text p (live
 IsWrittenOf emit.Picture units text p run bytes = bytes ≡ picture_text p units run.history
 IsWrittenOf emit.Trace units text p run bytes = bytes ≡ trace_text p (places_of text) units run.history
 IsWrittenOf emit.Json units text p run bytes = bytes ≡ json_text p (places_of text) units run.history
+IsWrittenOf emit.Waits units text p run bytes = bytes ≡ waits_text p (places_of text) units run.history
 
 -- the report of some run of a program in which nothing is found, and which this text spells
 pub record IsRunReport (schedule : Schedule) (units budget : ℕ) (predict : Prediction) (emitted : RunEmit) (text : List ℕ) (p : Listing) (report : Report) : Type 0 where

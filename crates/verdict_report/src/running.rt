@@ -8,6 +8,8 @@ ghost use Rattle.verdict_report.specs.Runs.{run_of};
 ghost use Rattle.task_lives.specs.Lives.{lives_of};
 ghost use Rattle.run_summary.specs.SummaryText.{summary_text};
 ghost use Rattle.event_script.specs.EventScript.{script_of};
+ghost use Rattle.event_trace.specs.Entries.{places_of};
+ghost use Rattle.wait_table.specs.TableText.{waits_text};
 ghost use Rattle.event_script.specs.ScriptText.{script_text};
 
 use crate::fault::ServeFault;
@@ -29,6 +31,7 @@ use std::sync::Wait;
 use std::thread::Threads;
 use strict_replay::writing::write_valued;
 use threaded_runner::report::How;
+use wait_table::table::table;
 
 /// What `run` writes of a program text and the text of its certificate.
 ///
@@ -107,6 +110,7 @@ pub(crate) fn report_of_run(
             let events = single_events(alloc, ran.machine.history())?;
             lines_of(alloc, units, accepted, text, &events)?
         }
+        RunEmit::Waits => waits_of(alloc, units, ran, accepted, text)?,
     };
     Ok(Report::new(bytes, ending_status_of(ran)))
 }
@@ -154,6 +158,24 @@ fn steps_of(alloc: Global, ran: &Ran<'_>) -> Result<String, AllocError>
         writeln!(text, "steps {steps}, retired instructions {committed}")?;
     }
     Ok(text)
+}
+
+// In how many steps which task waited where, and for what.
+fn waits_of(
+    alloc: Global,
+    units: Units,
+    ran: &Ran<'_>,
+    accepted: &Accepted,
+    text: &[u8],
+) -> Result<Vec<u8>, AllocError>
+    requires over { ran.now.machine.accepted ≡ accepted.now }
+    requires units { (units_of ran.now.machine ≤ 16) × (units_of ran.now.machine ≡ units) }
+    ensures { IfOk result (λ bytes. bytes.items
+        ≡ waits_text accepted.now.program (places_of text.now) units ran.now.machine.history) }
+{
+    let events = single_events(alloc, ran.machine.history())?;
+    let waits = table(alloc, accepted, units.get(), text, &events)?;
+    Ok(waits.into_bytes())
 }
 
 // The history of the run, as a script.

@@ -12,4 +12,5 @@ returns c =
     let five = with_sub_if_there c.with_subcommand-command-4.result c.check.result c.with_subcommand-command-5.result _ _ c.with_subcommand-command-5.ensures four c.check.ensures in
     let six = with_sub_if_there c.with_subcommand-command-5.result c.replay.result c.with_subcommand-command-6.result _ _ c.with_subcommand-command-6.ensures five c.replay.ensures in
     let seven = with_sub_if_there c.with_subcommand-command-6.result c.run.result c.with_subcommand-command-7.result _ _ c.with_subcommand-command-7.ensures six c.run.ensures in
-    with_sub_if_there c.with_subcommand-command-7.result c.curve.result c.with_subcommand.result _ _ c.with_subcommand.ensures seven c.curve.ensures
+    let eight = with_sub_if_there c.with_subcommand-command-7.result c.curve.result c.with_subcommand-command-8.result _ _ c.with_subcommand-command-8.ensures seven c.curve.ensures in
+    with_sub_if_there c.with_subcommand-command-8.result c.demonstrate.result c.with_subcommand.result _ _ c.with_subcommand.ensures eight c.demonstrate.ensures

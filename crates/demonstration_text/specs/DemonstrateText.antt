@@ -1,0 +1,56 @@
+-- What `demonstrate` may write of a program text: a run that shows what a wrong annotation does; that there is
+-- none, since the annotations are sound; or that none was found.
+use Rattle.std.specs.Prelude.{◌≡◌, ◌⊎◌, ⊥, ℕ, List, [], ◌∷◌, ◌++◌, Result, Ok, Err, codes}
+use Rattle.std.specs.Fmt.{decimal}
+use Rattle.task_descriptor.specs.Listing.{Listing}
+use Rattle.annotated_asm.specs.declared.fault.AsmFault.{AsmFault}
+use Rattle.annotated_asm.specs.ProgramText.{parse}
+use Rattle.task_graph.specs.Soundness.{Sound}
+use Rattle.machine_events.specs.declared.event.Event.{Event}
+use Rattle.event_script.specs.ScriptText.{script_text}
+use Rattle.source_map.specs.declared.position.Position.{Position}
+use Rattle.event_trace.specs.Entries.{places_of}
+use Rattle.report_texts.specs.OutputTexts.{Report, program_refused}
+use Rattle.demonstration.specs.Shown.{IsShown}
+use Rattle.demonstration.specs.declared.judge.Evidence.{Evidence}
+use Rattle.demonstration_text.specs.HarmText.{harm_text}
+
+-- the annotations are sound
+abbrev pub nothing_to_show : Report
+nothing_to_show = record { bytes = codes "the annotations are right: no run shows anything" ++ 10 ∷ []; status = 0 }
+
+-- none of the runs that were tried shows anything
+abbrev pub nothing_found : (units steps : ℕ) → Report
+nothing_found units steps = record {
+  bytes = codes "no run found on up to " ++ (decimal units ++ (codes " units, of up to " ++ (decimal steps
+      ++ (codes " events; explain says which annotations are wrong" ++ 10 ∷ []))));
+  status = 3;
+}
+
+-- a run: how many units the machine has, the events, one on a line, and what they show
+abbrev pub shown_text : Listing → List Position → (units : ℕ) → List Event → Evidence → List ℕ
+shown_text p places units events it =
+    codes "on " ++ (decimal units ++ (codes " units:" ++ 10 ∷ (script_text p events ++ (harm_text p places it ++ 10 ∷ []))))
+
+-- it tells of events that show something
+pub record TellsOfRun (p : Listing) (places : List Position) (report : Report) : Type 0 where
+  pub units : ℕ
+  pub events : List Event
+  pub it : Evidence
+  pub shown : IsShown p units events it
+  pub bytes : report.bytes ≡ shown_text p places units events it
+  pub status : report.status ≡ 1
+
+-- what is written of a program
+abbrev pub IsDemonstrated : (units steps : ℕ) → List Position → Listing → Report → Type 0
+IsDemonstrated units steps places p report =
+    (Sound p × (report ≡ nothing_to_show))
+    ⊎ ((Sound p → ⊥) × (TellsOfRun p places report ⊎ (report ≡ nothing_found units steps)))
+
+abbrev pub IsDemonstratedOf : (units steps : ℕ) → List Position → Result Listing AsmFault → Report → Type 0
+IsDemonstratedOf units steps places (Ok p) report = IsDemonstrated units steps places p report
+IsDemonstratedOf units steps places (Err fault) report = report ≡ program_refused fault
+
+-- what is written of a program text
+abbrev pub IsDemonstrateReport : (units steps : ℕ) → (text : List ℕ) → Report → Type 0
+IsDemonstrateReport units steps text report = IsDemonstratedOf units steps (places_of text) (parse text) report

@@ -1,0 +1,3 @@
+pub mod HarmText
+pub mod DemonstrateText
+pub mod Examples

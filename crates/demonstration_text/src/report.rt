@@ -1,0 +1,138 @@
+//! The job `demonstrate`.
+
+ghost use Rattle.std.specs.Prelude.{◌≡◌, ◌≢◌, ◌++◌, ⊥, IfOk, IfSome, OnOk};
+ghost use Rattle.std.specs.String.{string_bytes};
+ghost use Rattle.task_graph.specs.Soundness.{Sound};
+ghost use Rattle.event_script.specs.ScriptText.{script_text};
+ghost use Rattle.event_trace.specs.Entries.{places_of};
+ghost use Rattle.demonstration.specs.Shown.{IsShown};
+ghost use Rattle.demonstration_text.specs.DemonstrateText.{IsDemonstrateReport, IsDemonstrated, TellsOfRun, nothing_found as nothing_found_report, nothing_to_show as nothing_to_show_report, shown_text};
+
+use crate::harm_text::write_harm;
+use annotated_asm::assembler::assemble;
+use annotated_asm::fault::AsmFault;
+use annotator::soundness::is_sound;
+use demonstration::search;
+use demonstration::search::Demonstration;
+use event_script::writing::write_event;
+use event_trace::places::places;
+use jobs::ranges::{Budget, Units};
+use machine_events::event::Event;
+use mips_plain::outcome::OutOfMemory;
+use report_texts::report::{Report, refused_program};
+use source_map::position::Position;
+use std::alloc::{AllocError, Global};
+use task_descriptor::program::Program;
+
+/// What `demonstrate` writes of a program text: of a program whose annotations are wrong, a run on 2 units, on 3, and so
+/// on, at most so many, that shows what they do, if one is found among runs of up to so many events. The status is 0
+/// where the annotations are right, 1 where a run is shown or the text is refused, and 3 where none is found.
+///
+/// # Errors
+///
+/// `AllocError` where memory was refused.
+pub fn demonstrate(
+    alloc: Global,
+    units: Units,
+    steps: Budget,
+    text: &[u8],
+) -> Result<Report, AllocError>
+    ensures { IfOk result (IsDemonstrateReport units steps text.now) }
+{
+    match assemble(alloc, text) {
+        Ok(program) => {
+            let places = places(alloc, text)?;
+            demonstrate_program(alloc, units, steps, &places, &program)
+        }
+        Err(AsmFault::OutOfMemory) => Err(AllocError),
+        Err(fault) => refused_program(alloc, fault),
+    }
+}
+
+/// What is written of a program.
+fn demonstrate_program(
+    alloc: Global,
+    units: Units,
+    steps: Budget,
+    places: &[Position],
+    program: &Program,
+) -> Result<Report, AllocError>
+    ensures { IfOk result (IsDemonstrated units steps places.now program.now) }
+{
+    if is_sound(alloc, program)? {
+        return nothing_to_show(alloc);
+    }
+    let found = search::demonstrate(alloc, program, units.get(), steps.get()).map_err(
+        |_: OutOfMemory| AllocError,
+    )?;
+    match found {
+        Some(found) => tell_of_run(alloc, places, program, &found),
+        None => nothing_found(alloc, units, steps),
+    }
+}
+
+/// What is written where the annotations are right.
+fn nothing_to_show(alloc: Global) -> Result<Report, AllocError>
+    ensures { IfOk result (λ report. report ≡ nothing_to_show_report) }
+{
+    let mut text = String::new(alloc);
+    writeln!(text, "the annotations are right: no run shows anything")?;
+    Ok(Report::new(text.into_bytes(), 0))
+}
+
+/// What is written where no run is found.
+fn nothing_found(alloc: Global, units: Units, steps: Budget) -> Result<Report, AllocError>
+    ensures { IfOk result (λ report. report ≡ nothing_found_report units steps) }
+{
+    let units = units.get();
+    let steps = steps.get();
+    let mut text = String::new(alloc);
+    writeln!(
+        text,
+        "no run found on up to {units} units, of up to {steps} events; explain says which annotations are wrong"
+    )?;
+    Ok(Report::new(text.into_bytes(), 3))
+}
+
+/// What is written of a run that shows something.
+fn tell_of_run(
+    alloc: Global,
+    places: &[Position],
+    program: &Program,
+    found: &Demonstration,
+) -> Result<Report, AllocError>
+    requires { IsShown program.now found.now.units found.now.events.items found.now.evidence }
+    ensures { IfOk result (TellsOfRun program.now places.now) }
+{
+    let text = shown(alloc, places, program, found)?;
+    Ok(Report::new(text.into_bytes(), 1))
+}
+
+/// The text of a run that shows something.
+fn shown(
+    alloc: Global,
+    places: &[Position],
+    program: &Program,
+    found: &Demonstration,
+) -> Result<String, AllocError>
+    ensures { IfOk result (λ text. string_bytes text ≡ shown_text program.now places.now found.now.units found.now.events.items found.now.evidence) }
+{
+    let units = found.units;
+    let mut text = String::new(alloc);
+    writeln!(text, "on {units} units:")?;
+    write_events(&mut text, program, found.events.as_slice())?;
+    write_harm(&mut text, program, places, &found.evidence)?;
+    writeln!(text, "")?;
+    Ok(text)
+}
+
+/// Adds each event, on a line of its own.
+fn write_events(text: &mut String, program: &Program, events: &[Event]) -> Result<(), AllocError>
+    ensures { OnOk result (string_bytes text.new ≡ string_bytes text.old ++ script_text program.now events.now) }
+{
+    for event in events {
+        write_event(text, program, *event)?;
+        writeln!(text, "")?;
+    }
+    Ok(())
+}

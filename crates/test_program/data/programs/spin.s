@@ -1,0 +1,2 @@
+.task A create=- targets=-
+A: j A

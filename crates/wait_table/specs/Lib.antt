@@ -1,0 +1,5 @@
+pub mod Order
+pub mod Kinds
+pub mod Sums
+pub mod TableText
+pub mod Examples
