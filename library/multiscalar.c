@@ -28,7 +28,7 @@ static const uint32_t *numbers_of(multiscalar_prediction prediction) {
 
 /* One job with what it takes. */
 typedef struct {
-    enum { SEQ, PRINT, ANNOTATE, CHECK, EXPLAIN, REPLAY, REPLAY_STRICTLY, RUN_IN_STEPS, CURVE } kind;
+    enum { SEQ, PRINT, ANNOTATE, CHECK, EXPLAIN, REPLAY, REPLAY_STRICTLY, RUN_IN_STEPS, CURVE, DEMONSTRATE } kind;
     multiscalar_text program, certificate, script;
     const char *name, *certificate_name;
     multiscalar_prediction prediction;
@@ -70,6 +70,8 @@ static uint32_t do_job(const job *it, uint8_t *out, size_t room, size_t *length)
         return multiscalar_c_curve(is_least, it->units, it->budget, it->prediction.guess, numbers_of(it->prediction),
                                    it->prediction.list_length, it->emit, program, program_length, certificate,
                                    certificate_length, out, room, length);
+    case DEMONSTRATE:
+        return multiscalar_c_demonstrate(it->units, it->budget, program, program_length, out, room, length);
     }
     return MULTISCALAR_RANGE;
 }
@@ -148,6 +150,11 @@ int multiscalar_curve(multiscalar_text program, multiscalar_text certificate, ui
     return answer_job((job){.kind = CURVE, .program = program, .certificate = certificate, .units = units,
                             .budget = budget, .prediction = prediction, .emit = emit},
                       65536, answer, length);
+}
+
+int multiscalar_demonstrate(multiscalar_text program, uint32_t units, uint32_t steps, char **answer, size_t *length) {
+    return answer_job((job){.kind = DEMONSTRATE, .program = program, .units = units, .budget = steps}, 4096, answer,
+                      length);
 }
 
 const char *multiscalar_version(void) { return MULTISCALAR_VERSION; }

@@ -133,6 +133,10 @@ typedef enum { MULTISCALAR_CURVE_TABLE, MULTISCALAR_CURVE_SVG } multiscalar_curv
 int multiscalar_curve(multiscalar_text program, multiscalar_text certificate, uint32_t units, uint32_t budget,
                       multiscalar_prediction prediction, multiscalar_curve_emit emit, char **answer, size_t *length);
 
+/* Looks for a run that shows what a wrong annotation does, on machines of 2 units, of 3, and so on up to `units`, in
+ * runs of up to `steps` events. */
+int multiscalar_demonstrate(multiscalar_text program, uint32_t units, uint32_t steps, char **answer, size_t *length);
+
 /* The version of the library, as `multiscalar --version` has it: a NUL ends it, and nobody frees it. */
 const char *multiscalar_version(void);
 
@@ -173,6 +177,8 @@ uint32_t multiscalar_c_curve(bool is_least, uint32_t units, uint32_t budget, uin
                              size_t list_length, uint32_t emit, const uint8_t *program, size_t program_length,
                              const uint8_t *certificate, size_t certificate_length, uint8_t *out, size_t out_length,
                              size_t *length);
+uint32_t multiscalar_c_demonstrate(uint32_t units, uint32_t steps, const uint8_t *program, size_t program_length,
+                                   uint8_t *out, size_t out_length, size_t *length);
 
 #ifdef __cplusplus
 }

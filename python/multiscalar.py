@@ -28,7 +28,7 @@ from urllib.parse import unquote
 
 __all__ = [
     "AnnotateEmit", "CurveEmit", "Diagnostic", "ExplainFormat", "FIRST", "Finding", "LAST", "ReplayEmit", "Report", "RunEmit", "Verdict",
-    "annotate", "check", "curve", "explain", "explain_text", "print_program", "replay", "replay_strictly", "run_in_steps", "seq", "version",
+    "annotate", "check", "curve", "demonstrate", "explain", "explain_text", "print_program", "replay", "replay_strictly", "run_in_steps", "seq", "version",
 ]
 
 Text = Union[str, bytes]
@@ -281,3 +281,8 @@ def curve(program: Text, certificate: Text | None = None, units: int = 16, budge
     """Runs a program in steps on 1, 2, 3 units and more, up to so many."""
     code, numbers = _prediction(prediction)
     return Report(*_call("curve", certificate is None, units, budget, code, numbers, int(emit), _bytes(program), _bytes(certificate)))
+
+
+def demonstrate(program: Text, units: int = 16, steps: int = 10_000) -> Report:
+    """Looks for a run that shows what a wrong annotation does: status 1 where it shows one, 0 where there is none, 3 where it finds none."""
+    return Report(*_call("demonstrate", units, steps, _bytes(program)))

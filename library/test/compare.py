@@ -45,6 +45,7 @@ class Comparison:
         self.compare(["seq", file], multiscalar.seq(text))
         self.compare(["print", file], multiscalar.print_program(text))
         self.compare(["check", "--least", file], multiscalar.check(text))
+        self.compare(["demonstrate", "--units", 4, "--steps", 500, file], multiscalar.demonstrate(text, units=4, steps=500))
         self.compare(["explain", "--no-warnings", file], multiscalar.explain_text(text, name=str(file), warnings=False))
         for form, name in zip(multiscalar.ExplainFormat, ["text", "sarif", "json"]):
             self.compare(["explain", "--format", name, file], multiscalar.explain_text(text, name=str(file), form=form))

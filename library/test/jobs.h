@@ -8,11 +8,12 @@ typedef struct {
     multiscalar_text program, certificate, script;
 } texts;
 
-#define JOBS 13
+#define JOBS 14
 
 static const char *const job_names[JOBS] = {
     "seq",     "print",        "annotate", "check --least", "check", "explain", "explain, SARIF", "run, JSON",
-    "run, SVG", "replay, trace", "curve",    "curve, SVG",    "run, waits"};
+    "run, SVG", "replay, trace", "curve",    "curve, SVG",    "run, waits",
+    "demonstrate"};
 
 static const multiscalar_prediction first = {MULTISCALAR_FIRST, NULL, 0};
 
@@ -44,9 +45,10 @@ static int do_job(const texts *it, int job, char **answer, size_t *length) {
     case 11:
         return multiscalar_curve(it->program, multiscalar_no_text, 16, 1000, first, MULTISCALAR_CURVE_SVG, answer,
                                  length);
-    default:
+    case 12:
         return multiscalar_run_in_steps(it->program, it->certificate, 16, 1000, first, MULTISCALAR_RUN_WAITS, answer,
                                         length);
+    default: return multiscalar_demonstrate(it->program, 4, 1000, answer, length);
     }
 }
 

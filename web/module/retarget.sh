@@ -16,7 +16,7 @@ cd "$work"
 
 layout='e-m:e-p:64:64-p10:8:8-p20:8:8-i64:64-i128:128-n32:64-S128-ni:1:10:20'
 flags=(--target=wasm64-unknown-unknown -mcpu=generic -mbulk-memory -msign-ext -mnontrapping-fptoint -ffunction-sections -fdata-sections -Os)
-calls='seq print annotate check explain replay run_steps curve'
+calls='seq print annotate check explain replay run_steps curve demonstrate'
 
 "$tools/clang" --target=x86_64-unknown-linux-gnu -Wno-override-module -x ir "$core" -S -emit-llvm -O0 -Xclang -disable-llvm-passes -o core.ll
 sed -i -e "s/^target datalayout = .*/target datalayout = \"$layout\"/" \

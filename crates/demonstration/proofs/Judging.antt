@@ -1,5 +1,5 @@
 -- What the judge finds at each event and at each read.
-use Rattle.std.specs.Prelude.{◌≡◌, ℕ, zero, suc, ◌+◌, ◌<◌, ◌≤◌, Bool, true, false, ◌&&◌, nat_eq, Option, Some, None, Ok, Err, map, List, [], ◌∷◌, ◌++◌, length, take, get_or, slice_get, slice_index_or, option_to_list}
+use Rattle.std.specs.Prelude.{◌≡◌, ℕ, zero, suc, ◌+◌, ◌<◌, ◌≤◌, Bool, true, false, not, IsTrue, ◌&&◌, nat_eq, Option, Some, None, Ok, Err, map, List, [], ◌∷◌, ◌++◌, length, take, get_or, slice_get, slice_index_or, option_to_list}
 use Rattle.std.proofs.Common.{refl, sym, ap, ◌∙◌, subst, arith, inl, inr, add-one}
 use Rattle.std.proofs.lemmas.Bool.{cond-true, cond-false, eqb-true, eq-eqb, lt-ltb, le-ltb, cases_lt, false≢true}
 use Rattle.std.proofs.lemmas.List.{take_more, get_or_default, length-map}
@@ -23,7 +23,10 @@ use Rattle.machine_events.specs.declared.event.Event.{Event}
 use Rattle.machine_events.specs.declared.event.Refused.{Refused}
 use Rattle.machine_events.specs.declared.event.Refused.TheVariants as refused
 use Rattle.open_machine.specs.Machines.{OpenView, state, units_of, answer_to, IsAnswered}
-use Rattle.demonstration.specs.Shown.{IsFirstStale, plain_read}
+use Rattle.demonstration.specs.declared.judge.Evidence.{Evidence}
+use Rattle.demonstration.specs.declared.judge.Harm.{Harm}
+use Rattle.demonstration.specs.declared.judge.Judgement.TheVariants as judged
+use Rattle.demonstration.specs.Shown.{AreRight, DoesHarm, IsFirstStale, IsShown, harmed_task, plain_read, seen}
 use Rattle.demonstration.specs.Judging.{IsRefusedAt, reads_agree}
 use Rattle.demonstration.proofs.PlainReads.{reads_next}
 
@@ -158,3 +161,21 @@ unfolding fetch
 fetch_found p at i m e there =
     ap (λ (o : Option ℕ). option_and_then (slice_get (map (λ (x : Marked). x.op) p.code)) o) (within_code p.code (index_of at) i e).0
     ∙ get_op p.code i m there
+
+pub not_so : (b : Bool) → IsTrue (not b) → b ≡ false
+not_so true so = absurd (cc)
+not_so false so = refl
+
+-- a harm that was found, and the judgement that says so
+pub shown_so : (p : Listing) (units : ℕ) (events : List Event) (s : State) (it : Harm) (told said : Evidence) → Replays p units events s → DoesHarm p s it → told.harm ≡ it → told.task ≡ harmed_task s it → judged.Shown told ≡ judged.Shown said → IsShown p units events said
+shown_so p units events s it told said replay does same_harm same_task same =
+    let is : told ≡ said = cc in
+    subst (IsShown p units events) is (record {
+      after = s;
+      allowed = replay;
+      harms = subst (DoesHarm p s) (sym same_harm) does;
+      task = same_task ∙ ap (harmed_task s) (sym same_harm);
+    })
+
+pub right_so : (p : Listing) (units : ℕ) (events : List Event) (s : State) → Replays p units events s → AreRight p (seen s) → (after : State) × Replays p units events after × AreRight p (seen after)
+right_so p units events s replay right = (s, replay, right)

@@ -1,3 +1,4 @@
 pub mod PlainReads
+pub mod SeenReads
 pub mod ShownReads
 pub mod Judging

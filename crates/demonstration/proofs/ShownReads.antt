@@ -1,22 +1,63 @@
--- What retired is what the plain machine reads, by the headline; so nothing is shown.
-use Rattle.std.specs.Prelude.{◌≡◌, ◌<◌, ℕ, suc, List, length, slice_get, Some}
-use Rattle.std.proofs.Common.{sym, ap, ◌∙◌, subst}
+-- What is seen is what the plain machine reads, by the invariant of the headline, and the head has its registers, by
+-- the headline; so nothing is shown.
+use Rattle.std.specs.Prelude.{◌≡◌, ◌<◌, ◌≤◌, ℕ, suc, ◌+◌, List, [], ◌∷◌, ◌++◌, length, slice_get, Some}
+use Rattle.std.proofs.Common.{refl, sym, ap, ◌∙◌, subst, length-append}
 use Rattle.mips_plain.specs.declared.outcome.Read.{Read}
 use Rattle.task_descriptor.specs.Listing.{Listing, input}
-use Rattle.machine_model.specs.Claims.{Claims, count_c, reads_of}
-use Rattle.machine_model.specs.Machine.{State}
+use Rattle.task_graph.specs.Soundness.{Sound}
+use Rattle.machine_model.specs.Claims.{Claims, by_head, count_c, count_h, plain_of, reads_of}
+use Rattle.machine_model.specs.Machine.{Active, State, value}
 use Rattle.machine_model.specs.Replay.{Replays}
+use Rattle.machine_model.proofs.Headline.{every_replay_good}
 use Rattle.machine_events.specs.declared.event.Event.{Event}
+use Rattle.demonstration.specs.declared.judge.Harm.{Harm}
+use Rattle.demonstration.specs.declared.judge.Harm.TheVariants as harm
 use Rattle.demonstration.specs.Laws.{ShowsNothing}
+use Rattle.demonstration.specs.Shown.{DoesHarm, IsFirstStale, IsCutOff, HasStale, NamesItsPlace, read_by_head, seen}
 use Rattle.demonstration.proofs.PlainReads.{get_below, read_early}
+use Rattle.demonstration.proofs.SeenReads.{SeenRight, every_replay_seen}
 
-pub nothing_shown : (p : Listing) → ((units : ℕ) (events : List Event) (s : State) → Replays p units events s → Claims p s) → ShowsNothing p
-nothing_shown p headline = λ units events number read right shown.
+head_count : (us : List Active) → length (read_by_head us) ≡ by_head us
+head_count [] = refl
+head_count (u ∷ us) = refl
+
+seen_count : (p : Listing) (s : State) → Claims p s → length (seen s) ≡ count_h s
+seen_count p s claims =
+    length-append s.reads (read_by_head s.queue)
+    ∙ (λ j. claims.number j + head_count s.queue j)
+
+module _ (p : Listing) (s : State) (claims : Claims p s) (right : SeenRight p s) where
+  no_stale_read : (stale : _) → DoesHarm p s (harm.Stale stale) → ⊥
+  no_stale_read stale h =
+      let n = count_h s in
+      let number = stale.number in
+      let below : number < n = subst (λ (k : ℕ). number < k) (seen_count p s claims) (get_below (seen s) number stale.read h.is_read) in
+      let full : length (reads_of p n) ≡ n = ap (λ (xs : List Read). length xs) (sym right.reads) ∙ seen_count p s claims in
+      let same : slice_get (reads_of p (suc number)) number ≡ Some stale.read =
+      read_early (input p) n number below full ∙ ap (λ (xs : List Read). slice_get xs number) (sym right.reads) ∙ h.is_read in
+      h.differs (sym h.is_right ∙ same)
+
+  not_cut_off : (cut : _) → DoesHarm p s (harm.CutOff cut) → ⊥
+  not_cut_off cut h =
+      let c = h.cut in
+      right.unlisted cut.at c.ends c.count c.last c.is_last c.is_read (subst (NamesItsPlace p) (sym c.is_from) c.names)
+
+  no_stale_word : (held : _) → DoesHarm p s (harm.Held held) → ⊥
+  no_stale_word held h =
+      let w = h.holds in
+      let is : value w.head held.register ≡ Some ((plain_of p (length (seen s))).regs held.register) =
+      claims.head w.head w.is_head held.register ∙ ap (λ (n : ℕ). Some ((plain_of p n).regs held.register)) (sym (seen_count p s claims)) in
+      let same : Some held.word ≡ Some ((plain_of p (length (seen s))).regs held.register) = sym w.has_word ∙ is in
+      let word : held.word ≡ (plain_of p (length (seen s))).regs held.register = cc in
+      w.differs (word ∙ w.is_right)
+
+  no_harm : (it : Harm) → DoesHarm p s it → ⊥
+  no_harm (harm.Stale stale) h = no_stale_read stale h
+  no_harm (harm.CutOff cut) h = not_cut_off cut h
+  no_harm (harm.Held held) h = no_stale_word held h
+
+pub nothing_shown : (p : Listing) → length p.code ≤ 4096 → Sound p → ShowsNothing p
+nothing_shown p fits sound = λ units events it shown.
     let s = shown.after in
-    let claims = headline units events s shown.allowed in
-    let n = count_c s in
-    let below : number < n = subst (λ (k : ℕ). number < k) claims.number (get_below s.reads number read shown.stale.is_read) in
-    let full : length (reads_of p n) ≡ n = ap (λ (xs : List Read). length xs) (sym claims.reads) ∙ claims.number in
-    let same : slice_get (reads_of p (suc number)) number ≡ Some read =
-    read_early (input p) n number below full ∙ ap (λ (xs : List Read). slice_get xs number) (sym claims.reads) ∙ shown.stale.is_read in
-    shown.stale.differs (sym shown.stale.is_right ∙ same)
+    no_harm p s (every_replay_good p fits sound units events s shown.allowed).claims
+    (every_replay_seen p fits sound units events s shown.allowed) it.harm shown.harms

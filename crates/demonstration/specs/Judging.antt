@@ -1,17 +1,12 @@
 -- What the judge answers beside what is shown.
-use Rattle.std.specs.Prelude.{◌≡◌, ℕ, ◌<◌, Bool, false, ◌&&◌, nat_eq, List, length, take, slice_get, Option, Some, None}
+use Rattle.std.specs.Prelude.{◌≡◌, ℕ, ◌<◌, Bool, false, ◌&&◌, nat_eq, List, take, slice_get, Option, Some, None}
 use Rattle.mips_plain.specs.declared.outcome.Read.{Read}
 use Rattle.task_descriptor.specs.Listing.{Listing}
 use Rattle.machine_model.specs.Machine.{State}
 use Rattle.machine_model.specs.Step.{Next}
 use Rattle.machine_model.specs.Answer.{most_events}
 use Rattle.machine_model.specs.Replay.{Replays}
-use Rattle.machine_model.specs.Claims.{reads_of}
 use Rattle.machine_events.specs.declared.event.Event.{Event}
-
--- the reads are those of the plain machine's first steps
-abbrev pub AreRight : Listing → List Read → Type 0
-AreRight p reads = reads ≡ reads_of p (length reads)
 
 -- the events before this one are allowed, and this one is not, or a million came before it
 pub record IsRefusedAt (p : Listing) (units : ℕ) (events : List Event) (index : ℕ) : Type 0 where

@@ -1,12 +1,35 @@
--- What a list of events shows of a program's marks: that what the retired tasks read is not what the plain
--- machine reads.
-use Rattle.std.specs.Prelude.{◌≡◌, ℕ, suc, List, take, slice_get, Option, Some}
+-- What shows that the marks of a program do harm: a list of events that its machine allows, and after them
+-- something that the sequential program never does.
+use Rattle.std.specs.Prelude.{◌≡◌, ℕ, suc, List, [], ◌∷◌, ◌++◌, ◌-◌, Bool, false, nat_lt, if◌then◌else◌, length, take, slice_get, Option, Some}
+use Rattle.mips_instructions.specs.declared.instruction.Op.{Op}
+use Rattle.mips_plain.specs.PlainMachine.{State as PlainState, fetch}
+use Rattle.mips_plain.specs.declared.outcome.Outcome.TheVariants as outcome
 use Rattle.mips_plain.specs.declared.outcome.Read.{Read}
-use Rattle.task_descriptor.specs.Listing.{Listing}
-use Rattle.machine_model.specs.Machine.{State}
+use Rattle.task_descriptor.specs.Listing.{Listing, input}
+use Rattle.task_graph.specs.Edges.{is_indirect}
+use Rattle.machine_model.specs.Machine.{Active, State, value}
 use Rattle.machine_model.specs.Replay.{Replays}
-use Rattle.machine_model.specs.Claims.{reads_of}
+use Rattle.machine_model.specs.Claims.{plain_of, reads_of}
+use Rattle.machine_events.specs.declared.event.Commit.{Commit}
 use Rattle.machine_events.specs.declared.event.Event.{Event}
+use Rattle.machine_events.specs.declared.event.Standing.{Standing}
+use Rattle.machine_events.specs.declared.event.Standing.TheVariants as standing
+use Rattle.demonstration.specs.declared.judge.Evidence.{Evidence}
+use Rattle.demonstration.specs.declared.judge.Harm.{Harm}
+use Rattle.demonstration.specs.declared.judge.Harm.TheVariants as harm
+
+-- what the head has read
+abbrev pub read_by_head : List Active → List Read
+read_by_head [] = []
+read_by_head (u ∷ us) = u.log
+
+-- what the retired tasks read, and after it what the head has read
+abbrev pub seen : State → List Read
+seen s = s.reads ++ read_by_head s.queue
+
+-- the reads are those of the plain machine's first steps
+abbrev pub AreRight : Listing → List Read → Type 0
+AreRight p reads = reads ≡ reads_of p (length reads)
 
 -- what the plain machine reads at its step of this number, 0 being the first; none where it has ended before
 abbrev pub plain_read : Listing → ℕ → Option Read
@@ -19,9 +42,68 @@ pub record IsFirstStale (p : Listing) (reads : List Read) (number : ℕ) (read :
   pub differs : right ≡ Some read → ⊥
   pub before : take number reads ≡ reads_of p number
 
--- the events are allowed, each where it comes, and after them this is the first retired read that is not the
--- plain machine's
-pub record IsShown (p : Listing) (units : ℕ) (events : List Event) (number : ℕ) (read : Read) (right : Option Read) : Type 0 where
+-- the instruction at an address names the place to which it goes: it is no jump to an address in a register
+pub record NamesItsPlace (p : Listing) (pc : ℕ) : Type 0 where
+  pub op : Op
+  pub is_there : fetch (input p).code pc ≡ Some op
+  pub is_direct : is_indirect op ≡ false
+
+-- the run has ended as unlisted behind these reads, the last of which is of an instruction that names the place
+-- to which it goes; and the plain machine goes on there
+pub record IsCutAt (p : Listing) (how : Standing) (reads : List Read) (plain : PlainState) (from at : ℕ) : Type 0 where
+  pub ends : how ≡ standing.Unlisted at
+  pub count : ℕ
+  pub last : Read
+  pub is_last : length reads ≡ suc count
+  pub is_read : slice_get reads count ≡ Some last
+  pub is_from : last.pc ≡ from
+  pub names : NamesItsPlace p from
+  pub goes_on : plain.outcome ≡ outcome.Running
+  pub is_there : plain.pc ≡ at
+
+-- what was read is right, and the run is cut off
+pub record IsCutOff (p : Listing) (s : State) (from at : ℕ) : Type 0 where
+  pub right : AreRight p (seen s)
+  pub cut : IsCutAt p s.outcome (seen s) (plain_of p (length (seen s))) from at
+
+-- a register of the head has a word that is not the plain machine's
+pub record HoldsWrong (s : State) (plain : PlainState) (r word right : ℕ) : Type 0 where
+  pub head : Active
+  pub is_head : slice_get s.queue 0 ≡ Some head
+  pub has_word : value head r ≡ Some word
+  pub is_right : plain.regs r ≡ right
+  pub differs : word ≡ right → ⊥
+
+-- what was read is right, and the head has a wrong word, the plain machine having made as many steps
+pub record HasStale (p : Listing) (s : State) (r word right : ℕ) : Type 0 where
+  pub right_so_far : AreRight p (seen s)
+  pub holds : HoldsWrong s (plain_of p (length (seen s))) r word right
+
+-- what a state shows that the sequential program never does
+abbrev pub DoesHarm : Listing → State → Harm → Type 0
+DoesHarm p s (harm.Stale stale) = IsFirstStale p (seen s) stale.number stale.read stale.right
+DoesHarm p s (harm.CutOff cut) = IsCutOff p s cut.from cut.at
+DoesHarm p s (harm.Held held) = HasStale p s held.register held.word held.right
+
+abbrev pub head_task : List Active → ℕ
+head_task [] = 0
+head_task (u ∷ us) = u.task
+
+-- the task that made the read of a number: a retired one, else the head's
+abbrev pub reading_task : List Commit → (head number : ℕ) → ℕ
+reading_task [] head number = head
+reading_task (commit ∷ commits) head number =
+    if nat_lt number commit.count then commit.task else reading_task commits head (number - commit.count)
+
+-- the task that a harm is done to
+abbrev pub harmed_task : State → Harm → ℕ
+harmed_task s (harm.Stale stale) = reading_task s.commits (head_task s.queue) stale.number
+harmed_task s (harm.CutOff cut) = head_task s.queue
+harmed_task s (harm.Held held) = head_task s.queue
+
+-- the events are allowed, each where it comes, and after them there is this harm
+pub record IsShown (p : Listing) (units : ℕ) (events : List Event) (it : Evidence) : Type 0 where
   pub after : State
   pub allowed : Replays p units events after
-  pub stale : IsFirstStale p after.reads number read right
+  pub harms : DoesHarm p after it.harm
+  pub task : it.task ≡ harmed_task after it.harm

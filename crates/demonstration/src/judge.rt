@@ -1,4 +1,5 @@
-//! Whether a list of events shows the harm of a wrong mark.
+//! Whether a list of events shows the harm of a wrong mark: what was read is compared with what the plain machine
+//! reads, and the end of the run with where the plain machine goes on.
 
 ghost use Rattle.std.specs.Prelude.{◌≡◌, ℕ, ◌<◌, ◌≤◌, Some, None, IfSome, IfNone, IfOk, IfErr, length, unwrap_or, option_to_list, IsTrue, ◌↔◌};
 ghost use Rattle.mips_plain.specs.PlainMachine.{reads_when};
@@ -7,15 +8,18 @@ ghost use Rattle.task_descriptor.specs.Listing.{input};
 ghost use Rattle.machine_model.specs.Replay.{Replays};
 ghost use Rattle.machine_model.specs.Machine.{State};
 ghost use Rattle.open_machine.specs.Machines.{state};
-ghost use Rattle.demonstration.specs.Shown.{IsFirstStale, IsShown};
+ghost use Rattle.mips_plain.specs.PlainView.{IsAfter};
+ghost use Rattle.task_graph.specs.Edges.{is_indirect as is_indirect_of};
+ghost use Rattle.demonstration.specs.Shown.{AreRight, IsFirstStale, IsCutAt, HoldsWrong, NamesItsPlace, DoesHarm, IsShown, harmed_task, head_task, reading_task, seen as seen_in};
 ghost use Rattle.machine_events.specs.declared.event.Refused.TheVariants as refused;
 ghost use Rattle.mips_plain.specs.declared.outcome.Outcome.TheVariants as outcome;
-ghost use Rattle.demonstration.specs.Judging.{AreRight, IsRefusedAt, reads_agree};
-ghost use Rattle.demonstration.specs.declared.judge.Stale.{Stale};
+ghost use Rattle.demonstration.specs.Judging.{IsRefusedAt, reads_agree};
+ghost use Rattle.demonstration.specs.declared.judge.Evidence.{Evidence};
 ghost use Rattle.demonstration.specs.declared.judge.Judgement.TheVariants as judged;
 
-use machine_events::event::{Event, Refused};
+use machine_events::event::{Commit, Event, Refused, Standing};
 use machine_model::laws::{answer_is_next, next_is_after, replays_join};
+use mips_instructions::instruction::Op;
 use mips_instructions::number::Reg;
 use mips_plain::outcome::{OutOfMemory, Outcome, Read};
 use mips_plain::plain::Plain;
@@ -23,10 +27,10 @@ use open_machine::machine::OpenMachine;
 use std::alloc::Global;
 use task_descriptor::program::Program;
 
-/// The first retired read that is not the plain machine's.
+/// The first read that is not the plain machine's.
 #[derive(Clone, Copy, Debug, PartialEq, Eq)]
 pub struct Stale {
-    /// The number of the read among the retired ones, 0 being the first.
+    /// The number of the instruction, counted from 0 in the order of the sequential program.
     pub number: usize,
     /// What was read.
     pub read: Read,
@@ -34,15 +38,55 @@ pub struct Stale {
     pub right: Option<Read>,
 }
 
+/// The end of a run at an exit that the program names and its task does not list.
+#[derive(Clone, Copy, Debug, PartialEq, Eq)]
+pub struct CutOff {
+    /// The address of the instruction that goes there.
+    pub from: u32,
+    /// The address at which the task has stopped, and where the plain machine goes on.
+    pub at: u32,
+}
+
+/// A register of the head with a word that the plain machine has not, after the same instructions.
+#[derive(Clone, Copy, Debug, PartialEq, Eq)]
+pub struct Held {
+    /// The register.
+    pub register: Reg,
+    /// The head's word.
+    pub word: u32,
+    /// The plain machine's.
+    pub right: u32,
+}
+
+/// What a list of events shows that the sequential program never does.
+#[derive(Clone, Copy, Debug, PartialEq, Eq)]
+pub enum Harm {
+    /// An instruction reads something else.
+    Stale(Stale),
+    /// The run ends where the sequential program goes on.
+    CutOff(CutOff),
+    /// A task has a wrong word in a register, which none of its instructions has read yet.
+    Held(Held),
+}
+
+/// A harm, and the task that it is done to.
+#[derive(Clone, Copy, Debug, PartialEq, Eq)]
+pub struct Evidence {
+    /// What is wrong.
+    pub harm: Harm,
+    /// The number of the task whose instruction reads, which ends there, or which has the word.
+    pub task: u32,
+}
+
 /// What a list of events shows.
 #[derive(Clone, Copy, Debug, PartialEq, Eq)]
 pub enum Judgement {
     /// The event at this index is not allowed.
     Refused(usize),
-    /// All events are allowed, and what retired is what the plain machine reads.
+    /// All events are allowed, and what was read is what the plain machine reads.
     Right,
-    /// All events are allowed, and this is the first retired read that is not the plain machine's.
-    Shown(Stale),
+    /// All events are allowed, and this is what they show.
+    Shown(Evidence),
 }
 
 /// Whether it is want of memory that refused an event.
@@ -129,21 +173,34 @@ fn next_read(program: &Program, plain: &Plain) -> Option<Read>
     })
 }
 
-/// The first of these reads that is not the plain machine's of the same number.
-fn first_stale(
+/// What the retired tasks read, and after it what the head has read.
+fn seen(alloc: Global, machine: &OpenMachine<'_>) -> Result<Vec<Read>, OutOfMemory>
+    ensures { IfOk result (λ reads. reads.items ≡ seen_in (state machine.now)) }
+{
+    let mut reads = Vec::new(alloc);
+    reads.extend_from_slice(machine.reads())?;
+    if let Some(head) = machine.unit(0) {
+        reads.extend_from_slice(head.reads())?;
+    }
+    Ok(reads)
+}
+
+/// The plain machine after as many steps as these are reads, where it reads the same; else the first read that is
+/// not its own.
+fn compare(
     alloc: Global,
     program: &Program,
     reads: &[Read],
-) -> Result<Option<Stale>, OutOfMemory>
-    ensures some { IfOk result (λ found. IfSome found (λ s. IsFirstStale program.now reads.now s.number s.read s.right)) }
-    ensures none { IfOk result (λ found. IfNone found (AreRight program.now reads.now)) }
+) -> Result<Result<Plain, Stale>, OutOfMemory>
+    ensures right { IfOk result (λ compared. IfOk compared (λ plain. IsAfter (input program.now) (length reads.now) plain × AreRight program.now reads.now)) }
+    ensures stale { IfOk result (λ compared. IfErr compared (λ s. IsFirstStale program.now reads.now s.number s.read s.right)) }
 {
     let mut plain = program.plain(alloc)?;
     for number in 0..reads.len() {
         let read = reads[number];
         let right = next_read(program, &plain);
         if !agrees(right, read) {
-            return Ok(Some(Stale {
+            return Ok(Err(Stale {
                 number,
                 read,
                 right,
@@ -151,7 +208,158 @@ fn first_stale(
         }
         plain.step()?;
     }
-    Ok(None)
+    Ok(Ok(plain))
+}
+
+/// Whether an instruction jumps to an address in a register.
+fn is_indirect(op: &Op) -> bool
+    ensures { result ≡ is_indirect_of op.now }
+{
+    matches!(op, Op::JumpReg(_) | Op::JumpLinkReg(_, _))
+}
+
+/// Whether the instruction at an address names the place to which it goes.
+fn names_its_place(program: &Program, pc: u32) -> bool
+    ensures { IsTrue result → NamesItsPlace program.now pc }
+{
+    match program.index(pc) {
+        Some(index) => !is_indirect(&program.code()[index as usize].op),
+        None => false,
+    }
+}
+
+/// Whether a run was cut off that stands so after these reads, the plain machine being there, too.
+fn cut_off(program: &Program, standing: Standing, reads: &[Read], plain: &Plain) -> Option<CutOff>
+    ensures { IfSome result (λ cut. IsCutAt program.now standing reads.now (machine_state plain.now) cut.from cut.at) }
+{
+    let Standing::Unlisted(at) = standing else {
+        return None;
+    };
+    if reads.is_empty() {
+        return None;
+    }
+    let from = reads[reads.len() - 1].pc;
+    if goes_on(plain) && plain.pc() == at && names_its_place(program, from) {
+        Some(CutOff { from, at })
+    } else {
+        None
+    }
+}
+
+/// The least register in which the head has not the plain machine's word.
+fn wrong_word(machine: &OpenMachine<'_>, plain: &Plain) -> Option<Held>
+    ensures { IfSome result (λ held. HoldsWrong (state machine.now) (machine_state plain.now) held.register held.word held.right) }
+{
+    let head = machine.unit(0)?;
+    for number in 0..34u8 {
+        let register = Reg::new(number)?;
+        let right = plain.reg(register);
+        if let Some(word) = head.value(register)
+            && word != right
+        {
+            return Some(Held {
+                register,
+                word,
+                right,
+            });
+        }
+    }
+    None
+}
+
+/// What the machine shows after events that it allowed, where all reads are the plain machine's, which has made as
+/// many steps.
+fn harm_after(
+    program: &Program,
+    machine: &OpenMachine<'_>,
+    reads: &[Read],
+    plain: &Plain,
+) -> Option<Harm>
+    requires right { AreRight program.now reads.now }
+    requires reads { reads.now ≡ seen_in (state machine.now) }
+    requires plain { IsAfter (input program.now) (length reads.now) plain.now }
+    ensures { IfSome result (λ harm. DoesHarm program.now (state machine.now) harm) }
+{
+    match cut_off(program, machine.outcome(), reads, plain) {
+        Some(cut) => Some(Harm::CutOff(cut)),
+        None => match wrong_word(machine, plain) {
+            Some(held) => Some(Harm::Held(held)),
+            None => None,
+        },
+    }
+}
+
+/// What the machine shows of a program after events that it allowed.
+fn harm_on(
+    alloc: Global,
+    program: &Program,
+    machine: &OpenMachine<'_>,
+) -> Result<Option<Harm>, OutOfMemory>
+    ensures some { IfOk result (λ found. IfSome found (λ harm. DoesHarm program.now (state machine.now) harm)) }
+    ensures none { IfOk result (λ found. IfNone found (AreRight program.now (seen_in (state machine.now)))) }
+{
+    let reads = seen(alloc, machine)?;
+    match compare(alloc, program, &reads)? {
+        Ok(plain) => Ok(harm_after(program, machine, &reads, &plain)),
+        Err(stale) => Ok(Some(Harm::Stale(stale))),
+    }
+}
+
+/// The number of the head's task; 0 where there is no head.
+fn task_of_head(machine: &OpenMachine<'_>) -> u32
+    ensures { result ≡ head_task (state machine.now).queue }
+{
+    match machine.unit(0) {
+        Some(head) => head.task(),
+        None => 0,
+    }
+}
+
+/// The number of the task that made the read of this number: a retired one, else the head's.
+fn task_of_read(commits: &[Commit], head: u32, number: usize) -> u32
+    ensures { result ≡ reading_task commits.now head number }
+{
+    let mut left = number;
+    for commit in commits {
+        if left < commit.count as usize {
+            return commit.task;
+        }
+        left -= commit.count as usize;
+    }
+    head
+}
+
+/// A harm with the task that it is done to.
+fn with_task(machine: &OpenMachine<'_>, harm: Harm) -> Evidence
+    ensures harm { result.harm ≡ harm }
+    ensures task { result.task ≡ harmed_task (state machine.now) harm }
+{
+    let head = task_of_head(machine);
+    let task = match harm {
+        Harm::Stale(stale) => task_of_read(machine.commits(), head, stale.number),
+        Harm::CutOff(_) | Harm::Held(_) => head,
+    };
+    Evidence { harm, task }
+}
+
+/// What the machine shows of a program after these events, which it allowed.
+#[tactic(auto, using(crate::proofs::Judging::shown_so, crate::proofs::Judging::right_so))]
+fn judge_allowed(
+    alloc: Global,
+    program: &Program,
+    units: u32,
+    events: &[Event],
+    machine: &OpenMachine<'_>,
+) -> Result<Judgement, OutOfMemory>
+    requires { Replays program.now units events.now (state machine.now) }
+    ensures refused { IfOk result (λ judgement. (index : ℕ) → judgement ≡ judged.Refused index → ⊥) }
+    ensures right { IfOk result (λ judgement. judgement ≡ judged.Right → (after : State) × Replays program.now units events.now after × AreRight program.now (seen_in after)) }
+    ensures shown { IfOk result (λ judgement. (it : Evidence) → judgement ≡ judged.Shown it → IsShown program.now units events.now it) }
+{
+    match harm_on(alloc, program, machine)? {
+        Some(harm) => Ok(Judgement::Shown(with_task(machine, harm))),
+        None => Ok(Judgement::Right),
+    }
 }
 
 /// Looks what a list of events shows of a program on so many units.
@@ -167,14 +375,11 @@ pub fn judge(
 ) -> Result<Judgement, OutOfMemory>
     requires { units ≤ 16 }
     ensures refused { IfOk result (λ judgement. (index : ℕ) → judgement ≡ judged.Refused index → IsRefusedAt program.now units events.now index) }
-    ensures right { IfOk result (λ judgement. judgement ≡ judged.Right → (after : State) × Replays program.now units events.now after × AreRight program.now after.reads) }
-    ensures shown { IfOk result (λ judgement. (stale : Stale) → judgement ≡ judged.Shown stale → IsShown program.now units events.now stale.number stale.read stale.right) }
+    ensures right { IfOk result (λ judgement. judgement ≡ judged.Right → (after : State) × Replays program.now units events.now after × AreRight program.now (seen_in after)) }
+    ensures shown { IfOk result (λ judgement. (it : Evidence) → judgement ≡ judged.Shown it → IsShown program.now units events.now it) }
 {
     match play(alloc, program, units, events)? {
-        Ok(machine) => match first_stale(alloc, program, machine.reads())? {
-            Some(stale) => Ok(Judgement::Shown(stale)),
-            None => Ok(Judgement::Right),
-        },
+        Ok(machine) => judge_allowed(alloc, program, units, events, &machine),
         Err(index) => Ok(Judgement::Refused(index)),
     }
 }

@@ -1,13 +1,14 @@
 //! A search for a list of events that shows the harm of a wrong mark. Nothing is claimed of it but that what it
 //! answers is shown: the judge says so.
 
-ghost use Rattle.std.specs.Prelude.{◌≤◌, IfSome, IfOk};
+ghost use Rattle.std.specs.Prelude.{◌≡◌, ◌<◌, ◌≤◌, IfSome, IfOk};
 ghost use Rattle.demonstration.specs.Shown.{IsShown};
 
-use crate::judge::{Judgement, Stale, judge};
+use crate::judge::{Evidence, Harm, Judgement, judge};
 use machine_events::event::{Event, Refused, Spot};
 use mips_instructions::number::Reg;
 use mips_plain::outcome::OutOfMemory;
+use mips_plain::plain::Plain;
 use open_machine::machine::OpenMachine;
 use std::alloc::Global;
 use task_descriptor::program::Program;
@@ -19,11 +20,11 @@ pub struct Demonstration {
     pub units: u32,
     /// The events, the first one first.
     pub events: Vec<Event>,
-    /// The first retired read that is not the plain machine's.
-    pub stale: Stale,
+    /// What they show.
+    pub evidence: Evidence,
 }
 
-/// Which task is assigned behind a tail that has not stopped.
+/// Which task is assigned after a tail that has not stopped.
 #[derive(Clone, Copy)]
 enum Guess<'a> {
     /// None: a task begins only once it is known.
@@ -36,8 +37,10 @@ enum Guess<'a> {
     Known(&'a [u32]),
 }
 
-/// Looks for events that show the harm of a wrong mark, on 2 to `most_units` units, in runs of at most `steps`
-/// events.
+/// From this many events on a list is not made shorter event by event, which takes a run for each.
+const MOST_TRIED: usize = 2_000;
+
+/// Looks for events that show the harm of a wrong mark, on 2 to `most_units` units, in runs of about `steps` events.
 ///
 /// # Errors
 ///
@@ -49,83 +52,226 @@ pub fn demonstrate(
     steps: u32,
 ) -> Result<Option<Demonstration>, OutOfMemory>
     requires { most_units ≤ 16 }
-    ensures { IfOk result (λ found. IfSome found (λ d. IsShown program.now d.units d.events.items d.stale.number d.stale.read d.stale.right)) }
+    ensures { IfOk result (λ found. IfSome found (λ d. IsShown program.now d.units d.events.items d.evidence)) }
 {
     let tasks = tasks_in_order(alloc, program, steps)?;
-    for units in 2..most_units + 1 {
-        if let Some(found) = shown_on(alloc, program, units, &tasks, steps)? {
+    for units in most_units.min(2)..most_units + 1 {
+        if let Some(found) = shown_on(alloc, program, units, Guess::Known(&tasks), steps)? {
+            return Ok(Some(found));
+        }
+    }
+    for guess in [Guess::First, Guess::Last] {
+        if let Some(found) = shown_on(alloc, program, most_units, guess, steps)? {
             return Ok(Some(found));
         }
     }
     Ok(None)
 }
 
-/// The same on so many units.
+/// The same on so many units, with guesses of one kind. A read or an end is looked for before a wrong word that
+/// no instruction reads.
 fn shown_on(
     alloc: Global,
     program: &Program,
     units: u32,
-    tasks: &[u32],
+    guess: Guess<'_>,
     steps: u32,
 ) -> Result<Option<Demonstration>, OutOfMemory>
     requires { units ≤ 16 }
-    ensures { IfOk result (λ found. IfSome found (λ d. IsShown program.now d.units d.events.items d.stale.number d.stale.read d.stale.right)) }
+    ensures { IfOk result (λ found. IfSome found (λ d. IsShown program.now d.units d.events.items d.evidence)) }
 {
-    for guess in [Guess::Known(tasks), Guess::First, Guess::Last] {
-        let events = drive(alloc, program, units, guess, steps)?;
-        if let Judgement::Shown(stale) = judge(alloc, program, units, &events)? {
-            return Ok(Some(shortened(alloc, program, units, events, stale)?));
+    let events = drive(alloc, program, units, guess, steps)?;
+    match judge(alloc, program, units, &events)? {
+        Judgement::Shown(evidence) if !matches!(evidence.harm, Harm::Held(_)) => {
+            let found = Demonstration {
+                units,
+                events,
+                evidence,
+            };
+            Ok(Some(shortened(alloc, program, found)?))
         }
+        Judgement::Shown(_) | Judgement::Right => {
+            let few = until_held(alloc, program, units, &events)?;
+            match of_events(alloc, program, units, few)? {
+                Some(found) => Ok(Some(shortened(alloc, program, found)?)),
+                None => Ok(None),
+            }
+        }
+        Judgement::Refused(_) => Ok(None),
     }
-    Ok(None)
 }
 
-/// The same demonstration without the events that come after the stale read has retired.
-fn shortened(
+/// A demonstration with these events, where they show something.
+fn of_events(
     alloc: Global,
     program: &Program,
     units: u32,
     events: Vec<Event>,
-    stale: Stale,
-) -> Result<Demonstration, OutOfMemory>
-    requires units { units ≤ 16 }
-    requires shown { IsShown program.now units events.items stale.number stale.read stale.right }
-    ensures { IfOk result (λ d. IsShown program.now d.units d.events.items d.stale.number d.stale.read d.stale.right) }
+) -> Result<Option<Demonstration>, OutOfMemory>
+    requires { units ≤ 16 }
+    ensures { IfOk result (λ found. IfSome found (λ d. IsShown program.now d.units d.events.items d.evidence × d.units ≡ units)) }
 {
-    let few = until_retired(alloc, program, units, &events, stale.number)?;
-    match judge(alloc, program, units, &few)? {
-        Judgement::Shown(stale) => Ok(Demonstration {
-            units,
-            events: few,
-            stale,
-        }),
-        _ => Ok(Demonstration {
+    match judge(alloc, program, units, &events)? {
+        Judgement::Shown(evidence) => Ok(Some(Demonstration {
             units,
             events,
-            stale,
-        }),
+            evidence,
+        })),
+        _ => Ok(None),
     }
 }
 
-/// The first of these events, up to the one that retires the read of this number.
-fn until_retired(
+/// The same demonstration without the events that it does not need, as far as they are found.
+fn shortened(
     alloc: Global,
     program: &Program,
-    units: u32,
-    events: &[Event],
-    number: usize,
-) -> Result<Vec<Event>, OutOfMemory>
-    requires { units ≤ 16 }
+    found: Demonstration,
+) -> Result<Demonstration, OutOfMemory>
+    requires units { found.units ≤ 16 }
+    requires shown { IsShown program.now found.units found.events.items found.evidence }
+    ensures { IfOk result (λ d. IsShown program.now d.units d.events.items d.evidence) }
 {
-    let mut machine = OpenMachine::new(alloc, program, units)?;
+    let found = without_rest(alloc, program, found)?;
+    let found = without_each(alloc, program, found, 64)?;
+    let found = without_each(alloc, program, found, 8)?;
+    without_each(alloc, program, found, 1)
+}
+
+/// The same demonstration without the events after its harm.
+fn without_rest(
+    alloc: Global,
+    program: &Program,
+    found: Demonstration,
+) -> Result<Demonstration, OutOfMemory>
+    requires units { found.units ≤ 16 }
+    requires shown { IsShown program.now found.units found.events.items found.evidence }
+    ensures units { IfOk result (λ d. d.units ≡ found.units) }
+    ensures shown { IfOk result (λ d. IsShown program.now d.units d.events.items d.evidence) }
+{
+    let few = until_harm(alloc, program, &found)?;
+    match of_events(alloc, program, found.units, few)? {
+        Some(shorter) => Ok(shorter),
+        None => Ok(found),
+    }
+}
+
+/// The same demonstration without each group of so many events that can be left out, the last groups first.
+fn without_each(
+    alloc: Global,
+    program: &Program,
+    found: Demonstration,
+    size: usize,
+) -> Result<Demonstration, OutOfMemory>
+    requires size { 0 < size }
+    requires units { found.units ≤ 16 }
+    requires shown { IsShown program.now found.units found.events.items found.evidence }
+    ensures units { IfOk result (λ d. d.units ≡ found.units) }
+    ensures shown { IfOk result (λ d. IsShown program.now d.units d.events.items d.evidence) }
+{
+    let groups = found.events.len() / size;
+    let mut found = found;
+    if groups > MOST_TRIED {
+        return Ok(found);
+    }
+    for done in 0..groups + 1 {
+        let few = without(alloc, &found.events, (groups - done) * size, size)?;
+        if let Some(shorter) = of_events(alloc, program, found.units, few)? {
+            found = shorter;
+        }
+    }
+    Ok(found)
+}
+
+/// These events without so many from an index on.
+fn without(
+    alloc: Global,
+    events: &[Event],
+    index: usize,
+    size: usize,
+) -> Result<Vec<Event>, OutOfMemory> {
     let mut few = Vec::new(alloc);
-    for event in events {
+    for place in 0..events.len() {
+        if place < index || place - index >= size {
+            few.push(events[place])?;
+        }
+    }
+    Ok(few)
+}
+
+/// The first of a demonstration's events, up to the one after which its harm is there.
+fn until_harm(
+    alloc: Global,
+    program: &Program,
+    found: &Demonstration,
+) -> Result<Vec<Event>, OutOfMemory>
+    requires { found.now.units ≤ 16 }
+{
+    let mut machine = OpenMachine::new(alloc, program, found.units)?;
+    let mut few = Vec::new(alloc);
+    for event in &found.events {
         try_event(&mut machine, &mut few, *event)?;
-        if machine.reads().len() > number {
+        if is_read(&machine, found.evidence.harm) {
             break;
         }
     }
     Ok(few)
+}
+
+/// How many instructions the retired tasks and the head have executed.
+fn executed(machine: &OpenMachine<'_>) -> usize {
+    let by_head = match machine.unit(0) {
+        Some(head) => head.reads().len(),
+        None => 0,
+    };
+    machine.reads().len().saturating_add(by_head)
+}
+
+/// Whether the stale read of a harm has been made.
+fn is_read(machine: &OpenMachine<'_>, harm: Harm) -> bool {
+    match harm {
+        Harm::Stale(stale) => executed(machine) > stale.number,
+        _ => false,
+    }
+}
+
+/// The first of these events, up to the one after which the head has a wrong word.
+fn until_held(
+    alloc: Global,
+    program: &Program,
+    units: u32,
+    events: &[Event],
+) -> Result<Vec<Event>, OutOfMemory>
+    requires { units ≤ 16 }
+{
+    let mut machine = OpenMachine::new(alloc, program, units)?;
+    let mut plain = program.plain(alloc)?;
+    let mut few = Vec::new(alloc);
+    for event in events {
+        try_event(&mut machine, &mut few, *event)?;
+        catch_up(&mut plain, executed(&machine) as u64)?;
+        if has_wrong_word(&machine, &plain) {
+            break;
+        }
+    }
+    Ok(few)
+}
+
+/// Makes steps until there were so many.
+fn catch_up(plain: &mut Plain, count: u64) -> Result<(), OutOfMemory> {
+    if plain.count() < count {
+        plain.run(count - plain.count())?;
+    }
+    Ok(())
+}
+
+/// Whether the head has a word that the plain machine has not.
+fn has_wrong_word(machine: &OpenMachine<'_>, plain: &Plain) -> bool {
+    let Some(head) = machine.unit(0) else {
+        return false;
+    };
+    (0u8..34).filter_map(Reg::new).any(|register| head
+        .value(register)
+        .is_some_and(|word| word != plain.reg(register)))
 }
 
 /// The tasks of a run of at most `steps` events in which each begins only once it is known.
@@ -196,16 +342,24 @@ fn try_registers(
     events: &mut Vec<Event>,
     position: u32,
 ) -> Result<(), OutOfMemory> {
+    let has_stopped = match machine.unit(position) {
+        Some(unit) => matches!(unit.spot(), Spot::Stopped(_)),
+        None => return Ok(()),
+    };
     for number in 0u8..34 {
         if let Some(register) = Reg::new(number) {
-            try_event(machine, events, Event::Transfer(position, register))?;
-            try_event(machine, events, Event::Drain(position, register))?;
+            if position > 0 {
+                try_event(machine, events, Event::Transfer(position, register))?;
+            }
+            if has_stopped {
+                try_event(machine, events, Event::Drain(position, register))?;
+            }
         }
     }
     Ok(())
 }
 
-/// Applies an event, and puts it behind the others, if it is allowed.
+/// Applies an event, and puts it after the others, if it is allowed.
 fn try_event(
     machine: &mut OpenMachine<'_>,
     events: &mut Vec<Event>,
@@ -219,7 +373,7 @@ fn try_event(
     Ok(())
 }
 
-/// Whether the unit behind all others has not stopped.
+/// Whether there is a tail that has not stopped.
 fn is_guess(machine: &OpenMachine<'_>) -> bool {
     match machine.unit(machine.active().saturating_sub(1)) {
         Some(tail) => matches!(tail.spot(), Spot::Inside(_)),

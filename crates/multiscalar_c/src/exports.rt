@@ -3,12 +3,14 @@ ghost use Rattle.std.specs.Prelude.{◌≡◌, ⊤, IsSome, slice_get};
 ghost use Rattle.multiscalar_c.specs.Answers.{Answers, Made};
 ghost use Rattle.multiscalar_c.specs.Codes.{IsBudget, IsUnits, curve_emits, emits, run_emits};
 ghost use Rattle.multiscalar_c.specs.Jobs.{ExplainTakes, IsAnnotated, IsChecked, IsCurve, IsExplained, IsReplayed, IsReplayedStrictly, IsRun, ReplayTakes, RunTakes, file_of};
+ghost use Rattle.demonstration_text.specs.DemonstrateText.{IsDemonstrateReport};
 ghost use Rattle.report_texts.specs.PrintText.{print_text};
 ghost use Rattle.report_texts.specs.SeqText.{seq_text};
 
 use crate::answer::{Fault, hand_out};
 use crate::codes;
 use crate::texts::{name, texts};
+use demonstration_text::report::demonstrate;
 use jobs::job::Colors;
 use jobs::ranges::{Budget, Units};
 use report_texts::annotating::annotate;
@@ -357,4 +359,28 @@ fn curve_of(
     let texts = texts(alloc, program, certificate, b"")?;
     let source = codes::source(is_least);
     Ok(curve(alloc, units, budget, &predict, emit, source, &texts)?)
+}
+
+/// `demonstrate`: looks for a run that shows what a wrong annotation does, on machines of 2 units, of 3, and so on up to
+/// this many, 1..=16, each run up to `steps` events, 1..=1,000,000.
+#[unsafe(no_mangle)]
+pub extern "C" fn multiscalar_c_demonstrate(
+    alloc: Global,
+    units: u32,
+    steps: u32,
+    program: &[u8],
+    out: &mut [u8],
+    len: &mut usize,
+) -> u32
+    ensures { Answers (IsUnits units × IsBudget steps) (IsDemonstrateReport units steps program.now) result out.old out.new len.new }
+{
+    hand_out(demonstrate_of(alloc, units, steps, program), out, len)
+}
+
+fn demonstrate_of(alloc: Global, units: u32, steps: u32, program: &[u8]) -> Result<Report, Fault>
+    ensures { Made (IsUnits units × IsBudget steps) (IsDemonstrateReport units steps program.now) result }
+{
+    let units = Units::new(units).ok_or(Fault::Range)?;
+    let steps = Budget::new(steps).ok_or(Fault::Range)?;
+    Ok(demonstrate(alloc, units, steps, program)?)
 }

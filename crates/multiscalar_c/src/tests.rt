@@ -1,8 +1,9 @@
 //! Each call once: what a caller finds in its buffer.
 
 use crate::exports::{
-    multiscalar_c_annotate, multiscalar_c_check, multiscalar_c_curve, multiscalar_c_explain,
-    multiscalar_c_print, multiscalar_c_replay, multiscalar_c_run_steps, multiscalar_c_seq,
+    multiscalar_c_annotate, multiscalar_c_check, multiscalar_c_curve, multiscalar_c_demonstrate,
+    multiscalar_c_explain, multiscalar_c_print, multiscalar_c_replay, multiscalar_c_run_steps,
+    multiscalar_c_seq,
 };
 
 // Two rounds are left out of the register that the mask lacks: rule 5 refuses it.
@@ -119,4 +120,14 @@ fn runs_machines(rt: HostRuntime) {
         &mut len,
     );
     assert!(rt; status < 4);
+}
+
+#[test]
+fn shows_nothing_of_right_marks(rt: HostRuntime) {
+    let (mut out, mut len) = ([0u8; 64], 0);
+    let status = multiscalar_c_demonstrate(rt.alloc(), 2, 100, RIGHT, &mut out, &mut len);
+    assert!(rt; status == 0 && len == 49);
+    assert!(rt;
+        out.as_slice().starts_with(b"the annotations are right: no run shows anything\n".as_slice())
+    );
 }

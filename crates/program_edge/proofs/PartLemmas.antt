@@ -6,7 +6,7 @@ use Rattle.std.specs.declared.string.String.{String}
 use Rattle.jobs.specs.declared.job.Colors.{Colors}
 use Rattle.jobs.specs.declared.job.Format.{Format}
 use Rattle.jobs.specs.declared.job.Job.{Job}
-use Rattle.jobs.specs.declared.job.Job.TheVariants.{Annotate, Check, Curve, Explain, Print, Replay, ReplayStrictly, Run, Seq}
+use Rattle.jobs.specs.declared.job.Job.TheVariants.{Annotate, Check, Curve, Demonstrate, Explain, Print, Replay, ReplayStrictly, Run, Seq}
 use Rattle.jobs.specs.declared.job.Texts.{Texts}
 use Rattle.report_texts.specs.OutputTexts.{Report}
 use Rattle.verdict_report.specs.JobTexts.{IsReportOf}
@@ -66,6 +66,7 @@ job_itself (Replay source units emit) name other = refl
 job_itself (ReplayStrictly source units) name other = refl
 job_itself (Run source schedule units workers budget predict emit) name other = refl
 job_itself (Curve source units budget predict emit) name other = refl
+job_itself (Demonstrate units steps) name other = refl
 
 pub reported_itself : (t : Bool) (asked : Job) (name : List ℕ) (texts : Texts) (r : Result Made ServeFault)
     → ((first : String Global) (certificate script : Option (String Global)) (warnings : Bool) (format : Format) (colors : Colors) → asked ≡ Explain first certificate script warnings format colors → ⊥)

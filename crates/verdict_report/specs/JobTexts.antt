@@ -13,6 +13,7 @@ use Rattle.verdict_report.specs.CurveText.{IsCurveText}
 use Rattle.verdict_report.specs.Writing.{Begins}
 use Rattle.report_texts.specs.AnnotateText.{IsAnnotateReport}
 use Rattle.report_texts.specs.CertificateTexts.{OfCertificate}
+use Rattle.demonstration_text.specs.DemonstrateText.{IsDemonstrateReport}
 use Rattle.explain_report.specs.ExplainText.{IsExplainReport}
 use Rattle.strict_replay.specs.StrictReplay.{strict_text}
 use Rattle.explain_report.specs.LogText.{IsJsonReport, IsLogReport}
@@ -20,7 +21,7 @@ use Rattle.jobs.specs.declared.job.Colors.{Colors}
 use Rattle.jobs.specs.declared.job.Format.{Format}
 use Rattle.jobs.specs.declared.job.Format.TheVariants.{Text, Sarif, Json}
 use Rattle.jobs.specs.declared.job.Job.{Job}
-use Rattle.jobs.specs.declared.job.Job.TheVariants.{Seq, Print, Annotate, Explain, Check, Replay, ReplayStrictly, Run, Curve}
+use Rattle.jobs.specs.declared.job.Job.TheVariants.{Seq, Print, Annotate, Explain, Check, Replay, ReplayStrictly, Run, Curve, Demonstrate}
 use Rattle.jobs.specs.declared.job.Texts.{Texts}
 
 -- what `explain` writes in a format
@@ -53,6 +54,7 @@ IsReportOf (Run source schedule units workers budget predict emit) texts report 
 IsReportOf (Curve source units budget predict emit) texts report =
     OfCertificate source texts.program.items texts.certificate (λ certificate.
     IsCurveText units budget predict emit texts.program.items certificate report)
+IsReportOf (Demonstrate units steps) texts report = IsDemonstrateReport units steps texts.program.items report
 
 -- a job is done: a report of it was added to what the writer holds, and the status is its
 pub record IsDone (job : Job) (texts : Texts) (status : ℕ) (old new : Option (List ℕ)) : Type 0 where

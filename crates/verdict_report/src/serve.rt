@@ -13,6 +13,7 @@ use crate::ran::Extent;
 use crate::replaying::replay;
 use crate::running::run;
 use crate::writing::write_bytes;
+use demonstration_text::report::demonstrate;
 use explain_report::explaining::explain;
 use explain_report::logging::{explain_json, explain_log};
 use jobs::job::{Colors, Format, Job, Texts};
@@ -167,6 +168,7 @@ fn report_of<R: Threads + Wait + Sync>(
             predict,
             emit,
         } => Ok(curve(alloc, *units, *budget, predict, *emit, *certificate, texts)?),
+        Job::Demonstrate { units, steps } => Ok(demonstrate(alloc, *units, *steps, program)?),
     }
 }
 

@@ -1,12 +1,14 @@
 //! The table of a run's waits.
 
-ghost use Rattle.std.specs.Prelude.{◌≡◌, ◌<◌, ◌≤◌, ◌++◌, length, IfOk, OnOk};
+ghost use Rattle.std.specs.Prelude.{◌≡◌, ◌<◌, ◌≤◌, ◌++◌, codes, length, IfOk, OnOk};
 ghost use Rattle.std.specs.String.{string_bytes};
 ghost use Rattle.machine_model.specs.Machine.{State};
 ghost use Rattle.machine_model.specs.Answer.{most_events};
 ghost use Rattle.machine_model.specs.Replay.{Replays};
 ghost use Rattle.event_trace.specs.Entries.{places_of};
 ghost use Rattle.unit_waits.specs.Counts.{all_waits as all_waits_of};
+ghost use Rattle.wait_table.specs.Kinds.{waits_passing as waits_passing_of};
+ghost use Rattle.wait_table.specs.Sums.{test_of};
 ghost use Rattle.wait_table.specs.TableText.{counts_text, row_text, rows_text, sums_text, waiting_text, waits_text};
 
 use crate::kinds::{Kind, all_waits, waits_of};
@@ -59,18 +61,46 @@ fn write_sum(text: &mut String, waits: u32, name: &str) -> Result<(), AllocError
     writeln!(text, "  {name}")
 }
 
+/// Adds a row: how many waits are of a kind.
+fn write_kind(
+    text: &mut String,
+    kind: &Kind,
+    counts: &[Count],
+    name: &str,
+) -> Result<(), AllocError>
+    requires { all_waits_of counts.now ≤ 16000000 }
+    ensures { OnOk result (string_bytes text.new ≡ string_bytes text.old ++ row_text (waits_passing_of (test_of kind.now) counts.now) name.now) }
+{
+    write_sum(text, waits_of(kind, counts), name)
+}
+
+/// Adds a row: how many waits there are.
+fn write_all(text: &mut String, counts: &[Count]) -> Result<(), AllocError>
+    requires { all_waits_of counts.now ≤ 16000000 }
+    ensures { OnOk result (string_bytes text.new ≡ string_bytes text.old ++ row_text (all_waits_of counts.now) (codes "(all)")) }
+{
+    write_sum(text, all_waits(counts), "(all)")
+}
+
 /// Adds a row for each kind of reason, and one for all.
 fn write_sums(text: &mut String, counts: &[Count]) -> Result<(), AllocError>
     requires { all_waits_of counts.now ≤ 16000000 }
     ensures { OnOk result (string_bytes text.new ≡ string_bytes text.old ++ sums_text counts.now) }
 {
-    let unsent = waits_of(&Kind::Unsent, counts);
-    let sent = waits_of(&Kind::Sent, counts);
-    let head = waits_of(&Kind::Head, counts);
-    write_sum(text, unsent, "(all for registers that were not sent)")?;
-    write_sum(text, sent, "(all for registers on their way)")?;
-    write_sum(text, head, "(all for the head's turn)")?;
-    write_sum(text, all_waits(counts), "(all)")
+    write_kind(
+        text,
+        &Kind::Unsent,
+        counts,
+        "(all for registers that were not sent)",
+    )?;
+    write_kind(
+        text,
+        &Kind::Sent,
+        counts,
+        "(all for registers on their way)",
+    )?;
+    write_kind(text, &Kind::Head, counts, "(all for the head's turn)")?;
+    write_all(text, counts)
 }
 
 /// The table of some counts.

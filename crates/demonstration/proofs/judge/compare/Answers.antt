@@ -6,13 +6,13 @@ use Rattle.mips_plain.specs.declared.outcome.Read.{Read}
 use Rattle.task_descriptor.specs.Listing.{input}
 use Rattle.demonstration.proofs.PlainReads.{reads_zero}
 use Rattle.demonstration.proofs.Judging.{item_at, right_there, one_more_read, agreed, not_agreed}
-use Rattle.demonstration.proofs.judge.first_stale.Goals as goal
+use Rattle.demonstration.proofs.judge.compare.Goals as goal
 
 pub loop-number-init : goal.loop-number-init
 loop-number-init c = record { plain = c.in_ok-plain.ensures; right = sym (reads_zero (input c.args.program.now)) }
 
-pub returns-then-not-agrees-clause-some : goal.returns-then-not-agrees-clause-some
-returns-then-not-agrees-clause-some c =
+pub returns-then-not-agrees-clause-stale : goal.returns-then-not-agrees-clause-stale
+returns-then-not-agrees-clause-stale c =
     let p = c.args.program.now in
     let reads = c.args.reads.now in
     let number = c.loop-number.number in

@@ -3,7 +3,7 @@ use Rattle.std.specs.Prelude.{◌≡◌, take}
 use Rattle.mips_plain.specs.PlainView.{IsAfter}
 use Rattle.task_descriptor.specs.Listing.{input}
 use Rattle.machine_model.specs.Claims.{reads_of}
-use Rattle.demonstration.proofs.judge.first_stale.Given as goal
+use Rattle.demonstration.proofs.judge.compare.Given as goal
 
 abbrev pub invariant-loop-number : goal.invariant-loop-number
 invariant-loop-number l = record {
