@@ -128,7 +128,7 @@ def counts(few, many):
     """By how much each count that a program writes is greater for many events than for few."""
     written = [subprocess.run([*map(str, words)], capture_output=True, check=True, text=True).stdout for words in (few, many)]
     base, full = ([int(word) for word in text.split()] for text in written)
-    # Of events behind the head the proved program writes a time, too.
+    # Of events ahead of the head the proved program writes a time, too.
     kept = 1 if "single" in many or "bursts" in many else len(full)
     return [after - before for before, after in zip(base[:kept], full)]
 
@@ -145,7 +145,7 @@ def event_row(rounds, ours, theirs):
 
 
 def events(rounds, builds, proved, folder):
-    """Events round the ring; events of a unit behind the head, and a lease, a burst and its check-in; short tasks."""
+    """Events round the ring; events of a unit ahead of the head, and a lease, a burst and its check-in; short tasks."""
     folder = pathlib.Path(folder)
     own, plain = linked(proved, folder, builds), [compiled("machine", folder, build) for build in range(builds)]
     programs = {"small": machine.SMALL, "registers": machine.REGISTERS, "loop": machine.LOOP, "sending": machine.SENDING}

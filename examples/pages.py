@@ -40,7 +40,7 @@ def commands(text):
 
 def answers(program, folder, lines):
     """What each of the commands says, on both streams, in one shell and in this folder."""
-    # A command behind another one may ask for its status, `echo $?`.
+    # A command after another one may ask for its status, `echo $?`.
     script = "".join(f"{line}\nstatus=$?; echo '{END}'; (exit $status)\n" for line in lines)
     with tempfile.TemporaryDirectory() as name:
         (pathlib.Path(name) / "multiscalar").symlink_to(program)

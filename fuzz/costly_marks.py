@@ -116,7 +116,7 @@ def told(program, text):
 
 
 def said_of(results):
-    """The same of a log."""
+    """What a log says, in that form."""
     return [(it["ruleId"], region_of(it["locations"][0]), it["message"]["text"]) for it in results if it["ruleId"] != "more"]
 
 

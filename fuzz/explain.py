@@ -364,7 +364,7 @@ def plant_fault(text):
 
 
 def laid_out(text):
-    """The same program in another layout."""
+    """The program in another layout."""
     lines, held = [], ""
     for line in text.split("\n")[:-1]:
         if line.endswith(":") and R.random() < .5:

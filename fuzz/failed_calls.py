@@ -55,8 +55,8 @@ EXPECTED = {
     "positioned reads: short": "of 1, 7, 100 or 4,096 bytes: the answer of one worker",
     "positioned reads: failed or interrupted": "one, all from one on, or one in some: the answer of one worker, since one thread then reads the file from its beginning",
     "positioned reads: one fails, then a read": "status 2, nothing on standard output, `multiscalar: file PATH` of that file, for `explain` with the reason; as ever, where not so many are made",
-    "positioned reads: the end too early": "in a part: the answer of one worker, as before; behind the parts: the answer for the bytes that were read",
-    "positioned reads: the file is cut": "the answer for the bytes that were read: those that are left, where a part was short; else all parts and what was read behind them",
+    "positioned reads: the end too early": "in a part: the answer of one worker, as before; after the parts: the answer for the bytes that were read",
+    "positioned reads: the file is cut": "the answer for the bytes that were read: those that are left, where a part was short; else all parts and what was read after them",
     "positioned reads: the file grows": "the answer for the longer file",
     "positioned reads: files about as long as those that threads fetch": "the answer of one worker, from 262,142 to 262,146 bytes",
     "the size of a file is refused": "the answer as ever, also where the file is said to be a pipe",
@@ -582,7 +582,7 @@ def failing_pread_and_read(part, every, draw):
 
 
 def told_sizes(case):
-    """The size as it is, and smaller ones, so that more is read behind the parts."""
+    """The size as it is, and smaller ones, so that more is read after the parts."""
     return len(case.text), 300000, 262144
 
 

@@ -170,7 +170,7 @@ def asked(words):
                     return None
                 value, at = rest[at], at + 1
             if not is_value(name, key, value):
-                # a number is judged where it stands, the other values behind all words
+                # a number is judged where it stands, the other values after all words
                 if key in NUMBERS:
                     return None
                 value = None
@@ -628,7 +628,7 @@ def backwards(count):
     return f".task A create={ALL} targets=A\n" + "\n".join(lines) + "\n"
 
 
-# With the standard library's FoldHasher from its own seed, all names of 32 letters that begin so have one hash: its state behind the
+# With the standard library's FoldHasher from its own seed, all names of 32 letters that begin so have one hash: its state after the
 # first 16 letters is the 8 letters that follow, and so the next factor is zero, whatever the last 8 letters are.
 ALIKE = "XhORumEyUXRDkdbRzxW4OGOA{:08}"
 

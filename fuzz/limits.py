@@ -34,7 +34,7 @@ BOUNDS = {"seq": 410, "print": 410, "annotate": 410, "explain": 490, "check": 54
 # 48: 4.2 + 201.3 + 67.1 + 201.3 MB. Where a label stands a second time, each label with its place has 112 bytes: 4.2 +
 # 201.3 + 234.9 MB. The process takes 3 MB, and of what was given back before, the C library keeps up to 10 MB.
 # With a certificate it takes what `check` takes.
-# The same where a trace is written, and where it is written as lines of JSON.
+# What a trace takes, as text and as lines of JSON.
 TRACED = {"run": 700, "replay": 1900}
 AS_JSON = {"run": 1020, "replay": 3450}
 EMITS = ("report", "script", "summary", "svg", "trace")

@@ -123,7 +123,7 @@ def joined(words):
 
 
 def respelled(words):
-    """The same tokens with other names of registers, and the marks in either order."""
+    """A statement with other names of its registers, and its marks in either order."""
     words = [programs.reg(int(w[1:])) if re.fullmatch(r"\$\d+", w) else w for w in words]
     marks = [w for w in words if w.startswith("!")]
     if len(marks) == 2 and R.random() < .5:
@@ -143,7 +143,7 @@ def loaded(match):
 
 
 def laid_out(text):
-    """The same program in another layout."""
+    """The program in another layout."""
     lines, held = [], ""
     for line in PAIR.sub(loaded, text).split("\n")[:-1]:
         words = [token for token, _, _ in pieces(line)]

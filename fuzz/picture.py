@@ -39,7 +39,7 @@ def history_of(text, units):
     for number, line in enumerate(text.splitlines(), 1):
         word, *rest = line.split()
         if word == "assign":
-            # the unit behind that of the youngest task, or where the last head was
+            # the unit after that of the youngest task, or where the last head was
             unit = (queue[-1]["unit"] + 1) % units if queue else history_of.next
             life = dict(task=rest[0], unit=unit, first=number, last=0, executed=0, ending="unfinished")
             lives.append(life)

@@ -6,7 +6,7 @@
 It puts the modules of crates/test_growths and calls.rt.txt into the repository as a crate of its own, builds it (proved over the
 libraries that `rt ci` left, which takes some ten minutes, or with --unproved by `rt try` and clang), and takes it away again; --keep
 keeps the built program, and --program takes one that was kept. That program makes one public call on the texts of an example. A library that is
-loaded before the C library refuses the growths inside the call: each alone, and each with the four behind it.
+loaded before the C library refuses the growths inside the call: each alone, and each with the four after it.
 Where the call then says that memory ran out, what it was given must be as its contract says (as a rule
 unchanged), and the same call made again must answer, and leave, what it does with ample memory. Calls that make
 threads are tried three times for each growth, since threads take memory in no fixed order. A table tells how

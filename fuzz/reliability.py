@@ -98,8 +98,7 @@ sys.path.insert(0, str(HERE))
 
 # Scripts with a model of their own beside that of fuzz.py, and what each looks at.
 BESIDE = {"explain.py": "findings and refused texts, explained", "costly_marks.py": "warnings", "sarif.py": "logs of `explain`",
-          "marks.py": "marks in the text", "curve.py": "tables of `curve`", "curve_picture.py": "pictures of `curve`",
-          "waits.py": "tables of waits"}
+          "marks.py": "marks in the text", "curve.py": "tables of `curve`", "curve_picture.py": "pictures of `curve`"}
 
 
 def beside_models(program, minutes, seed):

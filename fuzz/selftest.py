@@ -314,7 +314,7 @@ def threads(planted):
 def beside_the_model(planted):
     """fuzz.py, explain.py, picture.py and the others that are beside the model: another digit."""
     for name, needed in (("run in steps", "run steps"), ("run, trace", "run trace"), ("replay", "replay"), ("check --least", "check --least"), ("curve", "curve"),
-                         ("annotate, marks", "annotate marks"), ("run, JSON", "run json"), ("replay, JSON", "replay json")):
+                         ("annotate, marks", "annotate marks"), ("run, JSON", "run json"), ("replay, JSON", "replay json"), ("run, waits", "run waits")):
         with tempfile.TemporaryDirectory() as folder:
             done = subprocess.run([sys.executable, str(HERE / "fuzz.py"), planted.plant("digit", needed), "--seconds", str(20 * patience), "--seed", "1", "--max", "1",
                                    "--subs", needed.split()[0], "--out", f"{folder}/findings"], capture_output=True)
@@ -323,8 +323,7 @@ def beside_the_model(planted):
         runner = planted.plant("digit", needed)
         done = subprocess.run([sys.executable, str(HERE / "explain.py"), runner, "--seconds", str(20 * patience), "--seed", "1"], capture_output=True)
         yield f"explain.py: {name}", "another digit", done.returncode == 1
-    for name, needed in (("curve.py", "curve"), ("curve_picture.py", "curve svg"), ("costly_marks.py", "explain"), ("marks.py", "annotate marks"), ("sarif.py", "explain sarif"),
-                         ("waits.py", "run waits")):
+    for name, needed in (("curve.py", "curve"), ("curve_picture.py", "curve svg"), ("costly_marks.py", "explain"), ("marks.py", "annotate marks"), ("sarif.py", "explain sarif")):
         runner = planted.plant("digit", needed)
         done = subprocess.run([sys.executable, str(HERE / name), runner, "--seconds", str(20 * patience), "--seed", "1"], capture_output=True)
         yield f"{name}: {needed.split()[0]}", "another digit", done.returncode == 1

@@ -1,6 +1,6 @@
 #!/usr/bin/env bash
 # Tries all that a release holds beside the proofs, over the program and the core that are proved and built here: the
-# page, the library, the Python module, the tarball and the package. Each step is one command; how long it took is told.
+# page, the library, the Python module, the tarball and the package. Each step is one command; and how long it took is printed.
 #
 #     release/try_all.sh [STEP..]            all steps, in this order, where none is named
 #

@@ -1,4 +1,4 @@
-"""Two headless browsers behind one face: Chromium by chromedriver, Firefox by Marionette. Only the standard library is needed.
+"""Two headless browsers with the same calls: Chromium by chromedriver, Firefox by Marionette. Only the standard library is needed.
 
 Debian's packages: chromium, chromium-driver, firefox-esr.
 """

@@ -26,7 +26,7 @@ def linked(toolchain, room):
 
 
 def start_with(toolchain, copy):
-    """Has each program that is started take the copy in the place of the toolchain."""
+    """Has each program that is started take the copy instead of the toolchain."""
     class Started(subprocess.Popen):
         def __init__(self, words, *rest, **how):
             if isinstance(words, (list, tuple)):

@@ -24,7 +24,7 @@ static size rounded(size length) {
     return (length + UNIT - 1) & ~(size)(UNIT - 1);
 }
 
-/* A block behind all that was ever handed out, or NULL. */
+/* A block after all that were ever handed out, or NULL. */
 static struct block *fresh(size length) {
     if (used_to == 0) used_to = rounded((size)&__heap_base);
     size end = used_to + length, have = __builtin_wasm_memory_size(0) * PAGE;

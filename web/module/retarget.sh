@@ -1,5 +1,5 @@
 #!/usr/bin/env bash
-# Compiles the core's LLVM module, which is one for x86-64, for wasm64, with heap.c and allocation.ll in the place of
+# Compiles the core's LLVM module, which is one for x86-64, for wasm64, with heap.c and allocation.ll instead of
 # the C library. Both targets have little-endian pointers of 64 bits; the layout of data is replaced by text.
 #
 #     web/module/retarget.sh CORE.bc MODULE.wasm          (CORE may be text, CORE.ll)

@@ -17,7 +17,7 @@ function transfersOf(unit, position, masks) {
 function eventsAtStop(unit, position, create) {
   const owed = create.filter(it => !(it in unit.sent));
   const drains = owed.map(it => ({ line: `drain ${position} $${it}`, says: `unit ${unit.seat} sends ${registerName(it)}` }));
-  const squash = { line: `squash ${position}`, says: `unit ${unit.seat} squashes the units behind it` };
+  const squash = { line: `squash ${position}`, says: `unit ${unit.seat} squashes the units after it` };
   if (position > 0) return [...drains, squash];
   return [...drains, squash, { line: 'retire', says: `unit ${unit.seat} retires ${unit.task}` }, { line: 'fault', says: 'the run ends as unlisted' }];
 }
@@ -35,9 +35,9 @@ function groupsOf(state, tasks) {
   const youngest = state.queue.at(-1);
   const seat = (state.head + state.queue.length) % state.units;
   const assigns = [...tasks.keys()].slice(0, MOST_TASKS).map(name => ({ line: `assign ${name}`, says: `unit ${seat} takes task ${name}` }));
-  const drops = state.queue.slice(1).map((unit, at) => ({ line: `drop ${at + 1}`, says: `unit ${unit.seat} and all behind it give up` }));
+  const drops = state.queue.slice(1).map((unit, at) => ({ line: `drop ${at + 1}`, says: `unit ${unit.seat} and all after it give up` }));
   const units = state.queue.map((unit, position) => eventsOfUnit(unit, position, tasks, masks));
-  const next = youngest ? `A next task behind ${youngest.task}` : 'A first task';
+  const next = youngest ? `A next task after ${youngest.task}` : 'A first task';
   return [...units, { title: next, events: assigns }, { title: 'Give up', events: drops }];
 }
 
