@@ -60,7 +60,7 @@ pub fn demonstrate(
             return Ok(Some(found));
         }
     }
-    for guess in [Guess::First, Guess::Last] {
+    for guess in [Guess::Wait, Guess::First, Guess::Last] {
         if let Some(found) = shown_on(alloc, program, most_units, guess, steps)? {
             return Ok(Some(found));
         }
@@ -82,7 +82,7 @@ fn shown_on(
 {
     let events = drive(alloc, program, units, guess, steps)?;
     match judge(alloc, program, units, &events)? {
-        Judgement::Shown(evidence) if !matches!(evidence.harm, Harm::Held(_)) => {
+        Judgement::Shown(evidence) if !is_held(evidence.harm) => {
             let found = Demonstration {
                 units,
                 events,
@@ -92,7 +92,7 @@ fn shown_on(
         }
         Judgement::Shown(_) | Judgement::Right => {
             let few = until_held(alloc, program, units, &events)?;
-            match of_events(alloc, program, units, few)? {
+            match of_events(alloc, program, units, few, true)? {
                 Some(found) => Ok(Some(shortened(alloc, program, found)?)),
                 None => Ok(None),
             }
@@ -101,22 +101,26 @@ fn shown_on(
     }
 }
 
-/// A demonstration with these events, where they show something.
+/// A demonstration with these events, where they show something: a wrong word that no instruction has read only
+/// where that is enough.
 fn of_events(
     alloc: Global,
     program: &Program,
     units: u32,
     events: Vec<Event>,
+    is_enough: bool,
 ) -> Result<Option<Demonstration>, OutOfMemory>
     requires { units ≤ 16 }
     ensures { IfOk result (λ found. IfSome found (λ d. IsShown program.now d.units d.events.items d.evidence × d.units ≡ units)) }
 {
     match judge(alloc, program, units, &events)? {
-        Judgement::Shown(evidence) => Ok(Some(Demonstration {
-            units,
-            events,
-            evidence,
-        })),
+        Judgement::Shown(evidence) if is_enough || !is_held(evidence.harm) => {
+            Ok(Some(Demonstration {
+                units,
+                events,
+                evidence,
+            }))
+        }
         _ => Ok(None),
     }
 }
@@ -149,10 +153,21 @@ fn without_rest(
     ensures shown { IfOk result (λ d. IsShown program.now d.units d.events.items d.evidence) }
 {
     let few = until_harm(alloc, program, &found)?;
-    match of_events(alloc, program, found.units, few)? {
+    let is_enough = shows_word_alone(&found);
+    match of_events(alloc, program, found.units, few, is_enough)? {
         Some(shorter) => Ok(shorter),
         None => Ok(found),
     }
+}
+
+/// Whether a demonstration shows only a wrong word that no instruction has read.
+fn shows_word_alone(found: &Demonstration) -> bool {
+    is_held(found.evidence.harm)
+}
+
+/// Whether a harm is a wrong word that no instruction has read.
+fn is_held(harm: Harm) -> bool {
+    matches!(harm, Harm::Held(_))
 }
 
 /// The same demonstration without each group of so many events that can be left out, the last groups first.
@@ -175,7 +190,8 @@ fn without_each(
     }
     for done in 0..groups + 1 {
         let few = without(alloc, &found.events, (groups - done) * size, size)?;
-        if let Some(shorter) = of_events(alloc, program, found.units, few)? {
+        let is_enough = shows_word_alone(&found);
+        if let Some(shorter) = of_events(alloc, program, found.units, few, is_enough)? {
             found = shorter;
         }
     }
