@@ -5,7 +5,8 @@ Takes random programs whose marks are right, and plants wrong marks. The events 
 by the model's machine, each where it comes, and what the last line says must be so: the first word that was read and
 is not the plain run's, the exit that is not listed, or the word of the head. Of right marks it must say that they are
 right. The model looks for a harm of its own, in the run in which one task follows another: each that it finds must be
-shown. PROGRAM is the built `multiscalar`.
+shown. Programs with a jump to a register that does not end its task are passed over: the model has none. PROGRAM is the
+built `multiscalar`.
 """
 import argparse
 import collections
@@ -138,15 +139,19 @@ class Bench:
             program = assemble(text.encode("latin-1"))
         except Fault:
             return None
+        findings = verdict(program, certify(program))
+        if any(finding[2] == 11 for finding in findings):
+            return None
         said, status = self.call(text)
-        if not verdict(program, certify(program)):
+        if not findings:
             self.counts["right"] += 1
             return None if (said, status) == ("the annotations are right: no run shows anything\n", 0) else "right marks"
         harm = own_harm(program)
         self.counts["wrong"] += 1
         self.counts["of these the model shows"] += harm is not None
         if status == 3:
-            return f"the model shows what {harm}" if harm else None
+            self.counts[f"not shown: a task {harm}"] += harm is not None
+            return "a stale word or an end is not shown" if harm in ("reads", "ends") else None
         lines = said.split("\n")
         kind = next((kind for kind in (" reads ", " goes on to ", " has ") if kind in lines[-2]), " none ").split()[0]
         self.counts[f"shown: a task {kind}"] += 1
