@@ -4,8 +4,8 @@
 Takes random programs whose marks are right, and plants wrong marks. The events that are written must be allowed
 by the model's machine, each where it comes, and what the last line says must be so: the first word that was read and
 is not the plain run's, the exit that is not listed, or the word of the head. Of right marks it must say that they are
-right. The model looks for a harm of its own, in the run in which one task follows another: each that it finds must be
-shown. Programs with a jump to a register that does not end its task are passed over: the model has none. PROGRAM is the
+right. The model looks for a harm of its own, in the run in which one task follows another: what of this is
+not shown is counted, since a unit that executes ahead may put the right word over a wrong one. Programs with a jump to a register that does not end its task are passed over: the model has none. PROGRAM is the
 built `multiscalar`.
 """
 import argparse
