@@ -22,7 +22,7 @@
  * Threads. Nothing is kept between calls, so any number of threads may call at once. No call starts a thread,
  * takes a lock, reads a file or writes anywhere but to memory.
  *
- * Stack. Give a thread 256 KiB: no call took more than 200 KiB in any test (library/test/stack.c), and it hardly
+ * Stack. Give a thread 256 KiB: no call took more than 160 KiB in any test (library/test/stack.c), and it hardly
  * depends on the texts. With too little the system ends the process.
  *
  * What the caller owes and nothing checks: that each text has its length in bytes (a text of length 0 may be NULL),

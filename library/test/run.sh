@@ -20,8 +20,8 @@ cd "$work"
 
 count=$top/examples/count/program.s
 diamond=$top/examples/diamond/program.s
-# What multiscalar.h says that a call takes at most: 200 KiB.
-most_stack=204800
+# What multiscalar.h says that a call takes at most: 160 KiB.
+most_stack=163840
 flags=(-std=gnu11 -Wall -Wextra -O2 -I "$top/library")
 
 build() { gcc "${flags[@]}" "$here/$1.c" "${@:2}" "$library/libmultiscalar.a" -lpthread -o "$1"; }

@@ -1,6 +1,6 @@
 -- What `demonstrate` may write of a program text: a run that shows what a wrong annotation does; that there is
 -- none, since the annotations are sound; or that none was found.
-use Rattle.std.specs.Prelude.{◌≡◌, ◌⊎◌, ℕ, List, [], ◌∷◌, ◌++◌, Result, Ok, Err, codes}
+use Rattle.std.specs.Prelude.{◌≡◌, ◌⊎◌, ℕ, nat_eq, if◌then◌else◌, List, [], ◌∷◌, ◌++◌, Result, Ok, Err, codes}
 use Rattle.std.specs.Fmt.{decimal}
 use Rattle.task_descriptor.specs.Listing.{Listing}
 use Rattle.annotated_asm.specs.declared.fault.AsmFault.{AsmFault}
@@ -28,10 +28,18 @@ nothing_found_text units steps =
 abbrev pub nothing_found : (units steps : ℕ) → Report
 nothing_found units steps = record { bytes = nothing_found_text units steps; status = 3 }
 
+-- what follows a word for a number of things
+abbrev pub plural : ℕ → List ℕ
+plural n = if nat_eq n 1 then [] else codes "s"
+
+-- how many units the machine has
+abbrev pub units_text : (units : ℕ) → List ℕ
+units_text units = codes "on " ++ (decimal units ++ (codes " unit" ++ (plural units ++ codes ":")))
+
 -- a run: how many units the machine has, the events, one on a line, and what they show
 abbrev pub shown_text : Listing → List Position → (units : ℕ) → List Event → Evidence → List ℕ
 shown_text p places units events it =
-    codes "on " ++ (decimal units ++ (codes " units:" ++ 10 ∷ (script_text p events ++ (harm_text p places it ++ 10 ∷ []))))
+    units_text units ++ 10 ∷ (script_text p events ++ (harm_text p places it ++ 10 ∷ []))
 
 -- it tells of events that show something
 pub record TellsOfRun (p : Listing) (places : List Position) (report : Report) : Type 0 where

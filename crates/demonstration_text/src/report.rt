@@ -6,7 +6,7 @@ ghost use Rattle.task_graph.specs.Soundness.{Sound};
 ghost use Rattle.event_script.specs.ScriptText.{line_text, script_text};
 ghost use Rattle.event_trace.specs.Entries.{places_of};
 ghost use Rattle.demonstration.specs.Shown.{IsShown};
-ghost use Rattle.demonstration_text.specs.DemonstrateText.{IsDemonstrateReport, IsDemonstrated, TellsOfRun, nothing_found as nothing_found_report, nothing_found_text, nothing_to_show as nothing_to_show_report, shown_text};
+ghost use Rattle.demonstration_text.specs.DemonstrateText.{IsDemonstrateReport, IsDemonstrated, TellsOfRun, nothing_found as nothing_found_report, nothing_found_text, nothing_to_show as nothing_to_show_report, plural as plural_of, shown_text, units_text};
 
 use crate::harm_text::write_harm;
 use annotated_asm::assembler::assemble;
@@ -122,13 +122,28 @@ fn shown(
 ) -> Result<String, AllocError>
     ensures { IfOk result (λ text. string_bytes text ≡ shown_text program.now places.now found.now.units found.now.events.items found.now.evidence) }
 {
-    let units = found.units;
     let mut text = String::new(alloc);
-    writeln!(text, "on {units} units:")?;
+    write_units(&mut text, found.units)?;
+    writeln!(text, "")?;
     write_events(&mut text, program, found.events.as_slice())?;
     write_harm(&mut text, program, places, &found.evidence)?;
     writeln!(text, "")?;
     Ok(text)
+}
+
+/// Adds how many units the machine has.
+fn write_units(text: &mut String, units: u32) -> Result<(), AllocError>
+    ensures { OnOk result (string_bytes text.new ≡ string_bytes text.old ++ units_text units) }
+{
+    let s = plural(units);
+    write!(text, "on {units} unit{s}:")
+}
+
+/// What follows a word for a number of things.
+fn plural(count: u32) -> &'static str
+    ensures { result.now ≡ plural_of count }
+{
+    if count == 1 { "" } else { "s" }
 }
 
 /// Adds each event, on a line of its own.
