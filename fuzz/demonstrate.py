@@ -150,9 +150,7 @@ class Bench:
         self.counts["wrong"] += 1
         self.counts["of these the model shows"] += harm is not None
         if status == 3:
-            if harm:
-                self.counts[f"not shown: a task {harm}"] += 1
-            return "a stale word or an end is not shown" if harm in ("reads", "ends") else None
+            return f"not shown: a task {harm}" if harm else None
         lines = said.split("\n")
         kind = next((kind for kind in (" reads ", " goes on to ", " has ") if kind in lines[-2]), " none ").split()[0]
         self.counts[f"shown: a task {kind}"] += 1

@@ -29,10 +29,6 @@ pub struct Demonstration {
 enum Guess<'a> {
     /// None: a task begins only once it is known.
     Wait,
-    /// The first task that may follow.
-    First,
-    /// The last task that may follow.
-    Last,
     /// The task that follows in the run that waits, whose tasks these are.
     Known(&'a [u32]),
 }
@@ -40,7 +36,8 @@ enum Guess<'a> {
 /// From this many events on a list is not made shorter event by event, which takes a run for each.
 const MOST_TRIED: usize = 2_000;
 
-/// Looks for events that show the harm of a wrong mark, on 2 to `most_units` units, in runs of about `steps` events.
+/// Looks for events that show the harm of a wrong mark, on 2 to `most_units` units, and on one unit for a wrong word
+/// that no instruction reads; in runs of about `steps` events.
 ///
 /// # Errors
 ///
@@ -60,16 +57,10 @@ pub fn demonstrate(
             return Ok(Some(found));
         }
     }
-    for guess in [Guess::Wait, Guess::First, Guess::Last] {
-        if let Some(found) = shown_on(alloc, program, most_units, guess, steps)? {
-            return Ok(Some(found));
-        }
-    }
-    Ok(None)
+    word_shown(alloc, program, steps)
 }
 
-/// The same on so many units, with guesses of one kind. A read or an end is looked for before a wrong word that
-/// no instruction reads.
+/// A wrong read or end, on so many units, with guesses of one kind.
 fn shown_on(
     alloc: Global,
     program: &Program,
@@ -81,23 +72,26 @@ fn shown_on(
     ensures { IfOk result (λ found. IfSome found (λ d. IsShown program.now d.units d.events.items d.evidence)) }
 {
     let events = drive(alloc, program, units, guess, steps)?;
-    match judge(alloc, program, units, &events)? {
-        Judgement::Shown(evidence) if !is_held(evidence.harm) => {
-            let found = Demonstration {
-                units,
-                events,
-                evidence,
-            };
-            Ok(Some(shortened(alloc, program, found)?))
-        }
-        Judgement::Shown(_) | Judgement::Right => {
-            let few = until_held(alloc, program, units, &events)?;
-            match of_events(alloc, program, units, few, true)? {
-                Some(found) => Ok(Some(shortened(alloc, program, found)?)),
-                None => Ok(None),
-            }
-        }
-        Judgement::Refused(_) => Ok(None),
+    match of_events(alloc, program, units, events, false)? {
+        Some(found) => Ok(Some(shortened(alloc, program, found)?)),
+        None => Ok(None),
+    }
+}
+
+/// A wrong word with which a task begins, on one unit: where no unit executes ahead, no task can have put the right
+/// word over it before it is the head.
+fn word_shown(
+    alloc: Global,
+    program: &Program,
+    steps: u32,
+) -> Result<Option<Demonstration>, OutOfMemory>
+    ensures { IfOk result (λ found. IfSome found (λ d. IsShown program.now d.units d.events.items d.evidence)) }
+{
+    let events = drive(alloc, program, 1, Guess::Wait, steps)?;
+    let few = until_held(alloc, program, 1, &events)?;
+    match of_events(alloc, program, 1, few, true)? {
+        Some(found) => Ok(Some(shortened(alloc, program, found)?)),
+        None => Ok(None),
     }
 }
 
@@ -404,12 +398,10 @@ fn assign(
     guess: Guess<'_>,
 ) -> Result<(), OutOfMemory> {
     if !is_guess(machine) {
-        return assign_any(machine, events, false);
+        return assign_any(machine, events);
     }
     match guess {
         Guess::Wait => Ok(()),
-        Guess::First => assign_any(machine, events, false),
-        Guess::Last => assign_any(machine, events, true),
         Guess::Known(tasks) => {
             let place = machine
                 .commits()
@@ -423,20 +415,10 @@ fn assign(
     }
 }
 
-/// A unit that is free begins with the first task that may follow, or with the last one.
-fn assign_any(
-    machine: &mut OpenMachine<'_>,
-    events: &mut Vec<Event>,
-    from_last: bool,
-) -> Result<(), OutOfMemory> {
-    let count = machine.program().tasks().len() as u32;
+/// A unit that is free begins with the first task that may follow.
+fn assign_any(machine: &mut OpenMachine<'_>, events: &mut Vec<Event>) -> Result<(), OutOfMemory> {
     let before = events.len();
-    for number in 0..count {
-        let task = if from_last {
-            count - 1 - number
-        } else {
-            number
-        };
+    for task in 0..machine.program().tasks().len() as u32 {
         try_event(machine, events, Event::Assign(task))?;
         if events.len() > before {
             break;
