@@ -1,5 +1,5 @@
 -- The text of `explain` (own choice).
-use Rattle.std.specs.Prelude.{◌≡◌, ℕ, Bool, List, Option}
+use Rattle.std.specs.Prelude.{◌≡◌, ℕ, Bool, true, false, List, [], ◌++◌, codes, Option}
 use Rattle.jobs.specs.declared.job.Colors.{Colors}
 use Rattle.jobs.specs.declared.job.Colors.TheVariants as colors
 use Rattle.program_tokens.specs.Lines.{lines}
@@ -32,10 +32,15 @@ abbrev pub explained_text : Colour → (name : List ℕ) → (cert_file script_f
 explained_text colour name cert_file script_file text certificate script said =
     text_form colour (named_texts name cert_file script_file text certificate script) said
 
+-- the last line where marks of a program in a file of this name are wrong: the command that looks for a run that goes wrong
+abbrev pub harm_line : (has_wrong_marks : Bool) → (name : List ℕ) → List ℕ
+harm_line false name = []
+harm_line true name = codes "to look for a run that goes wrong: multiscalar demonstrate " ++ (name ++ codes "\n")
+
 -- what `explain` writes of a program text, whose file has this name, with warnings or without, and of a certificate and of a
 -- script, if a file is named
 pub record IsExplainReport (name : List ℕ) (cert_file script_file : Option (List ℕ)) (warnings : Bool) (asked : Colors) (text certificate script : List ℕ) (report : Report) : Type 0 where
   pub explained : Explanation
   pub is : IsExplained cert_file script_file warnings text certificate script explained
-  pub bytes : report.bytes ≡ explained_text (colour_of asked) name cert_file script_file text certificate script explained.said
+  pub bytes : report.bytes ≡ explained_text (colour_of asked) name cert_file script_file text certificate script explained.said ++ harm_line explained.has_wrong_marks name
   pub status : report.status ≡ explained.status

@@ -1,6 +1,6 @@
 -- What `explain` says: what is wrong with a program text, or with the marks of its program, what could be better about
 -- them, and what is wrong with a certificate and with an event script that are given beside it (own choice).
-use Rattle.std.specs.Prelude.{◌≡◌, ℕ, Bool, true, false, ◌&&◌, List, [], ◌∷◌, ◌++◌, Option, Some, None, Result, Ok, Err}
+use Rattle.std.specs.Prelude.{◌≡◌, ℕ, Bool, true, false, not, ◌&&◌, List, [], ◌∷◌, ◌++◌, Option, Some, None, Result, Ok, Err}
 use Rattle.task_descriptor.specs.Listing.{Listing}
 use Rattle.annotated_asm.specs.declared.fault.AsmFault.{AsmFault}
 use Rattle.annotated_asm.specs.ProgramText.{parse}
@@ -39,12 +39,13 @@ pub record IsProgramExplained (cert_file script_file : Option (List ℕ)) (warni
   pub beside : List Diagnostic
   pub certified : IsCertificateSaid cert_file text p certificate beside
   pub said : e.said ≡ in_order (errors ++ (warned ++ (beside ++ script_said script_file p script)))
+  pub marked : e.has_wrong_marks ≡ not (is_silent errors)
   pub status : e.status ≡ said_status (errors ++ (beside ++ script_said script_file p script))
 
 abbrev pub IsReadExplained : (cert_file script_file : Option (List ℕ)) → (warnings : Bool) → (text certificate script : List ℕ) → Result Listing AsmFault → Explanation → Type 0
 IsReadExplained cert_file script_file warnings text certificate script (Ok p) e =
     IsProgramExplained cert_file script_file warnings text certificate script p e
-IsReadExplained cert_file script_file warnings text certificate script (Err fault) e = e ≡ record { said = in_order (refusal text fault); status = 1 }
+IsReadExplained cert_file script_file warnings text certificate script (Err fault) e = e ≡ record { said = in_order (refusal text fault); has_wrong_marks = false; status = 1 }
 
 -- what is said of a program text, with warnings or without, and of a certificate and of a script, if a file of one is named
 abbrev pub IsExplained : (cert_file script_file : Option (List ℕ)) → (warnings : Bool) → (text certificate script : List ℕ) → Explanation → Type 0

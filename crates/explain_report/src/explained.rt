@@ -1,5 +1,5 @@
 //! What `explain` says, as diagnostics, of which each form is made.
-ghost use Rattle.std.specs.Prelude.{◌≡◌, ◌&&◌, ◌++◌, Ok, true, IfOk};
+ghost use Rattle.std.specs.Prelude.{◌≡◌, ◌&&◌, ◌++◌, Ok, not, false, true, IfOk};
 ghost use Rattle.std.specs.Option.{option_map};
 ghost use Rattle.std.specs.String.{string_bytes};
 ghost use Rattle.annotated_asm.specs.ProgramText.{parse};
@@ -63,11 +63,12 @@ pub fn explained(
 
 // What is said of a text that spells no program.
 fn refusal_explained(alloc: Global, text: &[u8], fault: AsmFault) -> Result<Explanation, AllocError>
-    ensures { IfOk result (λ explained. explained ≡ record { said = in_order (refusal text.now fault); status = 1 }) }
+    ensures { IfOk result (λ explained. explained ≡ record { said = in_order (refusal text.now fault); has_wrong_marks = false; status = 1 }) }
 {
     let said = in_order(alloc, refusal(alloc, text, fault)?)?;
     Ok(Explanation {
         said: Listed::new(said),
+        has_wrong_marks: false,
         status: 1,
     })
 }
@@ -121,13 +122,16 @@ fn explained_by(
     beside: Vec<Diagnostic>,
 ) -> Result<Explanation, AllocError>
     ensures said { IfOk result (λ explained. explained.said ≡ in_order (errors.items ++ (warned.items ++ beside.items))) }
+    ensures wrong { IfOk result (λ explained. explained.has_wrong_marks ≡ not (is_silent errors.items)) }
     ensures status { IfOk result (λ explained. explained.status ≡ said_status (errors.items ++ beside.items)) }
 {
     let status = status_of(&errors, &beside);
+    let has_wrong_marks = !is_silent(&errors);
     let all = both(errors, both(warned, beside)?)?;
     let said = in_order(alloc, all)?;
     Ok(Explanation {
         said: Listed::new(said),
+        has_wrong_marks,
         status,
     })
 }

@@ -1,8 +1,8 @@
 //! The job `explain`, where it writes text.
-ghost use Rattle.std.specs.Prelude.{◌≡◌, IfOk};
+ghost use Rattle.std.specs.Prelude.{◌≡◌, ◌++◌, IfOk, OnOk};
 ghost use Rattle.std.specs.Option.{option_map};
 ghost use Rattle.std.specs.String.{string_bytes};
-ghost use Rattle.explain_report.specs.ExplainText.{IsExplainReport, colour_of, explained_text};
+ghost use Rattle.explain_report.specs.ExplainText.{IsExplainReport, colour_of, explained_text, harm_line};
 
 use crate::explained::explained;
 use crate::inputs::{file_lines, file_name, joined, lines_of};
@@ -46,7 +46,7 @@ pub fn explain(
         &certificate,
         script,
     )?;
-    let said = explained_text(
+    let mut said = explained_text(
         alloc,
         colour_of(asked),
         name,
@@ -57,7 +57,21 @@ pub fn explain(
         script,
         explained.said.as_slice(),
     )?;
+    write_harm_line(&mut said, explained.has_wrong_marks, name)?;
     Ok(Report::new(said.into_bytes(), explained.status))
+}
+
+// Adds the command that looks for a run that goes wrong, where marks are wrong.
+fn write_harm_line(text: &mut String, has_wrong_marks: bool, name: &str) -> Result<(), AllocError>
+    ensures { OnOk result (string_bytes text.new ≡ string_bytes text.old ++ harm_line has_wrong_marks name.now) }
+{
+    if has_wrong_marks {
+        writeln!(
+            text,
+            "to look for a run that goes wrong: multiscalar demonstrate {name}"
+        )?;
+    }
+    Ok(())
 }
 
 // Whether the text has colours.

@@ -3,11 +3,13 @@
 use diagnostics::diagnostic::Diagnostic;
 use diagnostics::listed::Listed;
 
-/// What is said of the texts of `explain`, and the status of the program.
+/// What is said of the texts of `explain`, whether marks are wrong, and the status of the program.
 #[derive(Debug, Drop)]
 pub struct Explanation {
     /// What is said.
     pub said: Listed<Diagnostic>,
+    /// Whether a mark of the program is wrong, so that a run may show its harm.
+    pub has_wrong_marks: bool,
     /// 1 where something is wrong, else 0.
     pub status: u8,
 }
