@@ -30,7 +30,7 @@ complete -c multiscalar -n '__fish_seen_subcommand_from annotate' -l emit -x -a 
 complete -c multiscalar -n '__fish_seen_subcommand_from replay' -l strict -d 'judge a script with expectations'
 complete -c multiscalar -n '__fish_seen_subcommand_from replay' -l emit -x -a 'answers summary svg trace json' -d 'what is written'
 complete -c multiscalar -n '__fish_seen_subcommand_from run' -l with-values -d 'say what each event did'
-complete -c multiscalar -n '__fish_seen_subcommand_from run' -l emit -x -a 'report script summary svg trace json waits' -d 'what is written'
+complete -c multiscalar -n '__fish_seen_subcommand_from run' -l emit -x -a 'report script summary svg trace json waits vcd' -d 'what is written'
 complete -c multiscalar -n '__fish_seen_subcommand_from curve' -l emit -x -a 'table svg' -d 'what is written'
 complete -c multiscalar -n '__fish_seen_subcommand_from curve' -l progress -d 'say when a run is done'
 complete -c multiscalar -n '__fish_seen_subcommand_from demonstrate' -l steps -x -d 'when to end each run'

@@ -120,7 +120,8 @@ typedef enum {
     MULTISCALAR_RUN_TRACE,
     MULTISCALAR_RUN_JSON,
     MULTISCALAR_RUN_SCRIPT_WITH_VALUES,
-    MULTISCALAR_RUN_WAITS
+    MULTISCALAR_RUN_WAITS,
+    MULTISCALAR_RUN_VCD
 } multiscalar_run_emit;
 
 int multiscalar_run_in_steps(multiscalar_text program, multiscalar_text certificate, uint32_t units, uint32_t budget,

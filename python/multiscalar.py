@@ -74,6 +74,7 @@ class RunEmit(IntEnum):
     JSON = 5
     SCRIPT_WITH_VALUES = 6
     WAITS = 7
+    VCD = 8
 
 
 class CurveEmit(IntEnum):

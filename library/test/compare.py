@@ -16,7 +16,7 @@ PROGRAM, TEXTS = sys.argv[1], int(sys.argv[2])
 EMITS = {
     "annotate": (multiscalar.AnnotateEmit, ["text", "cert", "keep", "marks"]),
     "replay": (multiscalar.ReplayEmit, ["answers", "summary", "svg", "trace", "json"]),
-    "run": (multiscalar.RunEmit, ["report", "script", "summary", "svg", "trace", "json", "script --with-values", "waits"]),
+    "run": (multiscalar.RunEmit, ["report", "script", "summary", "svg", "trace", "json", "script --with-values", "waits", "vcd"]),
     "curve": (multiscalar.CurveEmit, ["table", "svg"]),
 }
 PREDICTIONS = {"first": multiscalar.FIRST, "last": multiscalar.LAST, "1,0": [1, 0]}

@@ -27,7 +27,7 @@ use Rattle.jobs.specs.declared.job.Colors.{Colors}
 use Rattle.jobs.specs.declared.job.ReplayEmit.{ReplayEmit}
 use Rattle.jobs.specs.declared.job.ReplayEmit.TheVariants.{Answers}
 use Rattle.jobs.specs.declared.job.RunEmit.{RunEmit}
-use Rattle.jobs.specs.declared.job.RunEmit.TheVariants.{Script, ScriptWithValues, Waits}
+use Rattle.jobs.specs.declared.job.RunEmit.TheVariants.{Script, ScriptWithValues, Waits, Waveform}
 use Rattle.jobs.specs.declared.job.CurveEmit.{CurveEmit}
 use Rattle.jobs.specs.declared.job.Schedule.{Schedule}
 use Rattle.jobs.specs.declared.job.Schedule.TheVariants.{Steps}
@@ -86,13 +86,15 @@ with_values false emit = emit
 with_values true (Some Script) = Some ScriptWithValues
 with_values true other = None
 
--- `--emit waits` goes with `--schedule steps` alone
-abbrev pub waits_in_steps : Option Schedule → Option RunEmit
-waits_in_steps (Some Steps) = Some Waits
-waits_in_steps other = None
+-- what is written of a run in steps alone
+abbrev pub in_steps : RunEmit → Option Schedule → Option RunEmit
+in_steps emit (Some Steps) = Some emit
+in_steps emit other = None
 
+-- `--emit waits` and `--emit vcd` go with `--schedule steps` alone
 abbrev pub in_schedule : Option Schedule → Option RunEmit → Option RunEmit
-in_schedule schedule (Some Waits) = waits_in_steps schedule
+in_schedule schedule (Some Waits) = in_steps Waits schedule
+in_schedule schedule (Some Waveform) = in_steps Waveform schedule
 in_schedule schedule other = other
 
 abbrev pub emit_with_values : List Row → Option RunEmit

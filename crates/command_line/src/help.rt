@@ -245,6 +245,8 @@ with how many steps the run took and how many instructions retired in them: how 
 tasks overlap. It is no model of the time of a processor.
 With `--emit waits` it writes why units waited, the most frequent first: in how many steps which task stood
 where, and needed which register, owed by which task, or had to be the head.
+With `--emit vcd` it writes what each unit does in each step as a value change dump, which viewers of waveforms
+show.
 
 With `--least` it makes the certificate itself, that of `annotate --emit keep`.
 
@@ -257,6 +259,7 @@ For example:
   ./multiscalar run --least --emit svg examples/count/program.s > count.svg
   ./multiscalar run --least --schedule steps --emit summary examples/count/program.s
   ./multiscalar run --least --schedule steps --emit waits examples/count/program.s
+  ./multiscalar run --least --schedule steps --emit vcd examples/count/program.s > count.vcd
   ./multiscalar run --least --units 8 --predict last --emit summary examples/diamond/program.s";
 
 /// `curve`, in one line.
@@ -333,7 +336,8 @@ pub const RUN_EMIT: &str =
     "What is written: report (the words that were put out, and how the run ended), script (the events
 of the run), summary (how often each task was assigned, and how that ended), svg (a picture), trace (each
 event with what it changed), json (the same in JSON, an object on each line) or, with --schedule steps, waits
-(in how many steps which task waited where, and for what)";
+(in how many steps which task waited where, and for what) or vcd (what each unit does in each step, for a
+viewer of waveforms)";
 
 /// `--emit` of `curve`.
 pub const CURVE_EMIT: &str =
@@ -449,7 +453,7 @@ pub const NO_REPLAY_EMIT: &str = "the value of --emit is answers, summary, svg, 
 
 /// Why another value of `--emit` of `run` gives no job.
 pub const NO_RUN_EMIT: &str =
-    "the value of --emit is report, script, summary, svg, trace, json or, with --schedule steps, waits; --with-values goes with script";
+    "the value of --emit is report, script, summary, svg, trace, json or, with --schedule steps, waits or vcd; --with-values goes with script";
 
 /// Why another value of `--emit` of `curve` gives no job.
 pub const NO_CURVE_EMIT: &str = "the value of --emit is table or svg";

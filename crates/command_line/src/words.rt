@@ -4,7 +4,7 @@ ghost use Rattle.std.specs.String.{string_bytes};
 ghost use Rattle.std.specs.List.{slice_split};
 ghost use Rattle.clap.specs.Words.{first_of};
 ghost use Rattle.clap.specs.declared.error.kind.ErrorKind.TheVariants.{ArgumentConflict, InvalidValue, MissingSubcommand};
-ghost use Rattle.command_line.specs.Asked.{AskFor, IsCheckMisfit, IsCheckSource, IsFaultOf, IsFrom, IsLack, IsMisfit, IsNoNumber, IsNoValue, IsOutside, IsOfKind, IsSource, Reads, ReadsRequest, IsDestination, destination_in, is_in_place, is_given, is_strict, colors_in, curve_emit_in, fits_in_place, further_in, goes_together, emit_in, emit_with_values, format_in, in_schedule, number_at, predict_in, repeats, replay_emit_in, run_emit_in, schedule_in, values_at, values_in, waits_in_steps, with_values};
+ghost use Rattle.command_line.specs.Asked.{AskFor, IsCheckMisfit, IsCheckSource, IsFaultOf, IsFrom, IsLack, IsMisfit, IsNoNumber, IsNoValue, IsOutside, IsOfKind, IsSource, Reads, ReadsRequest, IsDestination, destination_in, is_in_place, is_given, is_strict, colors_in, curve_emit_in, fits_in_place, further_in, goes_together, emit_in, emit_with_values, format_in, in_schedule, number_at, predict_in, repeats, replay_emit_in, run_emit_in, schedule_in, in_steps, values_at, values_in, with_values};
 ghost use Rattle.command_line.specs.Words.{listed_number, listed_numbers, all_there, colors_of, curve_emit_of, emit_of, format_of, prediction_of, replay_emit_of, run_emit_of, schedule_of};
 ghost use Rattle.jobs.specs.Files.{HasFilesOf, is_in_file};
 ghost use Rattle.jobs.specs.declared.job.Job.TheVariants.{Replay, ReplayStrictly};
@@ -31,7 +31,7 @@ pub enum UsageFault {
     /// certificate nor `--least`, or both but for `check`, or `check` has two certificates; or the value of an
     /// option is none: of `--schedule` neither `threads` nor `steps`; of `--format` none of `text`, `sarif` and `json`;
     /// of `--color` none of `auto`, `always` and `never`; of `--emit` for `replay` none of `answers`, `summary`, `svg`, `trace` and `json`, for `run` none of `report`,
-    /// `script`, `summary`, `svg`, `trace` and `json`, for `curve` neither `table` nor `svg`; of `--predict` for
+    /// `script`, `summary`, `svg`, `trace`, `json` and, in steps, `waits` and `vcd`, for `curve` neither `table` nor `svg`; of `--predict` for
     /// `curve` as below; or `--in-place` stands beside `--output` or a certificate that is to be written, or the
     /// program is standard input; or there are several programs beside a file for the result, `--certificate`,
     /// `--script` or a log for machines. The fault is `clap`'s, with its text.
@@ -772,22 +772,23 @@ fn emit_with_values(values: &ArgMatches<'_>) -> Option<RunEmit>
     with_values(is_given(values, "with-values"), emit)
 }
 
-// What is written of a run with this schedule: the waits of a run in steps alone.
+// What is written of a run with this schedule: the waits and the waveform of a run in steps alone.
 fn in_schedule(schedule: Option<Schedule>, emit: Option<RunEmit>) -> Option<RunEmit>
     ensures { result ≡ in_schedule schedule emit }
 {
     match emit {
-        Some(RunEmit::Waits) => waits_in_steps(schedule),
+        Some(RunEmit::Waits) => in_steps(RunEmit::Waits, schedule),
+        Some(RunEmit::Waveform) => in_steps(RunEmit::Waveform, schedule),
         _ => emit,
     }
 }
 
-// The waits, where the run goes in steps.
-fn waits_in_steps(schedule: Option<Schedule>) -> Option<RunEmit>
-    ensures { result ≡ waits_in_steps schedule }
+// What is written, where the run goes in steps.
+fn in_steps(emit: RunEmit, schedule: Option<Schedule>) -> Option<RunEmit>
+    ensures { result ≡ in_steps emit schedule }
 {
     match schedule {
-        Some(Schedule::Steps) => Some(RunEmit::Waits),
+        Some(Schedule::Steps) => Some(emit),
         _ => None,
     }
 }
@@ -937,6 +938,7 @@ fn read_run_emit(text: &str) -> Option<RunEmit>
         "trace" => Some(RunEmit::Trace),
         "json" => Some(RunEmit::Json),
         "waits" => Some(RunEmit::Waits),
+        "vcd" => Some(RunEmit::Waveform),
         _ => None,
     }
 }

@@ -66,6 +66,8 @@ pub enum RunEmit {
     Json,
     /// In how many steps which task waited where, and for what: of a run in steps.
     Waits,
+    /// What each unit does in each step, as a value change dump: of a run in steps.
+    Waveform,
 }
 
 /// What `replay` writes of a script.

@@ -57,6 +57,7 @@ pub(crate) fn run_emit(code: u32) -> Option<RunEmit>
         5 => Some(RunEmit::Json),
         6 => Some(RunEmit::ScriptWithValues),
         7 => Some(RunEmit::Waits),
+        8 => Some(RunEmit::Waveform),
         _ => None,
     }
 }

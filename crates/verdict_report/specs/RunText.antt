@@ -16,6 +16,7 @@ use Rattle.run_picture.specs.Picture.{picture_text}
 use Rattle.event_trace.specs.Entries.{places_of}
 use Rattle.event_trace.specs.Trace.{trace_text}
 use Rattle.wait_table.specs.TableText.{waits_text}
+use Rattle.run_waveform.specs.Waveform.{waveform_text}
 use Rattle.event_json.specs.Json.{json_text}
 use Rattle.threaded_runner.specs.declared.report.How.{How}
 use Rattle.threaded_runner.specs.declared.report.How.TheVariants.{Ended, OutOfBudget}
@@ -82,7 +83,7 @@ steps_text (Some count) s = codes "steps " ++ (decimal count ++ (codes ", retire
 
 -- what is written of a run: its end; its history as a script, which is read as that history; or what the
 -- tasks that it assigned came to, and its steps; or a picture of its history; or the trace of its history, by
--- the lines of the program text, or the same in JSON; or the table of its waits
+-- the lines of the program text, or the same in JSON; or the table of its waits, or its waveform
 abbrev pub IsWrittenOf : RunEmit → (units : ℕ) → (text : List ℕ) → Listing → Run → List ℕ → Type 0
 IsWrittenOf emit.Report units text p run bytes = bytes ≡ ending_text run.how run.state
 IsWrittenOf emit.Script units text p run bytes = (bytes ≡ script_text p run.history) × (script_of p bytes ≡ Ok run.history)
@@ -92,6 +93,7 @@ IsWrittenOf emit.Picture units text p run bytes = bytes ≡ picture_text p units
 IsWrittenOf emit.Trace units text p run bytes = bytes ≡ trace_text p (places_of text) units run.history
 IsWrittenOf emit.Json units text p run bytes = bytes ≡ json_text p (places_of text) units run.history
 IsWrittenOf emit.Waits units text p run bytes = bytes ≡ waits_text p (places_of text) units run.history
+IsWrittenOf emit.Waveform units text p run bytes = bytes ≡ waveform_text p units run.history
 
 -- the report of some run of a program in which nothing is found, and which this text spells
 pub record IsRunReport (schedule : Schedule) (units budget : ℕ) (predict : Prediction) (emitted : RunEmit) (text : List ℕ) (p : Listing) (report : Report) : Type 0 where

@@ -10,6 +10,7 @@ ghost use Rattle.run_summary.specs.SummaryText.{summary_text};
 ghost use Rattle.event_script.specs.EventScript.{script_of};
 ghost use Rattle.event_trace.specs.Entries.{places_of};
 ghost use Rattle.wait_table.specs.TableText.{waits_text};
+ghost use Rattle.run_waveform.specs.Waveform.{waveform_text};
 ghost use Rattle.event_script.specs.ScriptText.{script_text};
 
 use crate::fault::ServeFault;
@@ -26,6 +27,7 @@ use report_texts::judging::{Judged, judge};
 use report_texts::plain_text::write_words;
 use report_texts::report::Report;
 use run_picture::events::single_events;
+use run_waveform::waveform::waveform;
 use std::alloc::{AllocError, Global};
 use std::sync::Wait;
 use std::thread::Threads;
@@ -111,6 +113,7 @@ pub(crate) fn report_of_run(
             lines_of(alloc, units, accepted, text, &events)?
         }
         RunEmit::Waits => waits_of(alloc, units, ran, accepted, text)?,
+        RunEmit::Waveform => waveform_of(alloc, units, ran, accepted)?,
     };
     Ok(Report::new(bytes, ending_status_of(ran)))
 }
@@ -176,6 +179,23 @@ fn waits_of(
     let events = single_events(alloc, ran.machine.history())?;
     let waits = table(alloc, accepted, units.get(), text, &events)?;
     Ok(waits.into_bytes())
+}
+
+// What each unit does in each step.
+fn waveform_of(
+    alloc: Global,
+    units: Units,
+    ran: &Ran<'_>,
+    accepted: &Accepted,
+) -> Result<Vec<u8>, AllocError>
+    requires over { ran.now.machine.accepted ≡ accepted.now }
+    requires units { (units_of ran.now.machine ≤ 16) × (units_of ran.now.machine ≡ units) }
+    ensures { IfOk result (λ bytes. bytes.items
+        ≡ waveform_text accepted.now.program units ran.now.machine.history) }
+{
+    let events = single_events(alloc, ran.machine.history())?;
+    let dump = waveform(alloc, accepted, units.get(), &events)?;
+    Ok(dump.into_bytes())
 }
 
 // The history of the run, as a script.
