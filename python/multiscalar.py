@@ -61,6 +61,7 @@ class ReplayEmit(IntEnum):
     SVG = 2
     TRACE = 3
     JSON = 4
+    PERFETTO = 5
 
 
 class RunEmit(IntEnum):
@@ -75,6 +76,7 @@ class RunEmit(IntEnum):
     SCRIPT_WITH_VALUES = 6
     WAITS = 7
     VCD = 8
+    PERFETTO = 9
 
 
 class CurveEmit(IntEnum):

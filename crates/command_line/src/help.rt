@@ -202,7 +202,8 @@ status 1; or, with status 0,
 With `--emit summary` it writes a table instead of the answers and of how the run stands: that of
 `run --emit summary`, of the events that were allowed. With `--emit trace` it writes below each answer what
 the event changed, and with `--emit json` the same for machines, an object of JSON on each line. With
-`--least` it makes the certificate itself, that of `annotate --emit keep`.
+`--emit perfetto` it writes the allowed events as a timeline in JSON, which ui.perfetto.dev and other viewers of
+traces show. With `--least` it makes the certificate itself, that of `annotate --emit keep`.
 
 For example:
   ./multiscalar replay --least --units 2 examples/count/program.s examples/count/script.events";
@@ -252,11 +253,13 @@ With `--least` it makes the certificate itself, that of `annotate --emit keep`.
 
 With `--emit svg` it writes a picture of the run, a lane for each unit and a bar for each task on it. With
 `--emit trace` it writes each event and, below it, what it changed; with `--emit json` the same for machines,
-an object of JSON on each line.
+an object of JSON on each line. With `--emit perfetto` it writes the bars of the picture as a timeline in JSON, which
+ui.perfetto.dev and other viewers of traces show: it goes by steps where the run does, else by events.
 
 For example:
   ./multiscalar run --least examples/count/program.s
   ./multiscalar run --least --emit svg examples/count/program.s > count.svg
+  ./multiscalar run --least --emit perfetto examples/count/program.s > count.json
   ./multiscalar run --least --schedule steps --emit summary examples/count/program.s
   ./multiscalar run --least --schedule steps --emit waits examples/count/program.s
   ./multiscalar run --least --schedule steps --emit vcd examples/count/program.s > count.vcd
@@ -329,14 +332,15 @@ pub const NOT_IN_PLACE: &str =
 pub const REPLAY_EMIT: &str =
     "What is written: answers (what the machine says of each event, and how it then stands), summary
 (how often each task was assigned, and how that ended), svg (the allowed events as a picture), trace (each
-event with its answer and what it changed) or json (the same in JSON, an object on each line)";
+event with its answer and what it changed), json (the same in JSON, an object on each line) or perfetto (a
+timeline for viewers of traces)";
 
 /// `--emit` of `run`.
 pub const RUN_EMIT: &str =
     "What is written: report (the words that were put out, and how the run ended), script (the events
 of the run), summary (how often each task was assigned, and how that ended), svg (a picture), trace (each
-event with what it changed), json (the same in JSON, an object on each line) or, with --schedule steps, waits
-(in how many steps which task waited where, and for what) or vcd (what each unit does in each step, for a
+event with what it changed), json (the same in JSON, an object on each line), perfetto (a timeline for viewers
+of traces) or, with --schedule steps, waits (in how many steps which task waited where, and for what) or vcd (what each unit does in each step, for a
 viewer of waveforms)";
 
 /// `--emit` of `curve`.
@@ -449,11 +453,11 @@ pub const STRICT: &str = "Judges a script that says what its events must have do
 pub const STRICT_EMITS: &str = "with --strict there is no other --emit";
 
 /// Why another value of `--emit` of `replay` gives no job.
-pub const NO_REPLAY_EMIT: &str = "the value of --emit is answers, summary, svg, trace or json";
+pub const NO_REPLAY_EMIT: &str = "the value of --emit is answers, summary, svg, trace, json or perfetto";
 
 /// Why another value of `--emit` of `run` gives no job.
 pub const NO_RUN_EMIT: &str =
-    "the value of --emit is report, script, summary, svg, trace, json or, with --schedule steps, waits or vcd; --with-values goes with script";
+    "the value of --emit is report, script, summary, svg, trace, json, perfetto or, with --schedule steps, waits or vcd; --with-values goes with script";
 
 /// Why another value of `--emit` of `curve` gives no job.
 pub const NO_CURVE_EMIT: &str = "the value of --emit is table or svg";

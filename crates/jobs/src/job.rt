@@ -68,6 +68,8 @@ pub enum RunEmit {
     Waits,
     /// What each unit does in each step, as a value change dump: of a run in steps.
     Waveform,
+    /// The tasks on each unit as a timeline, in the JSON that viewers of traces read.
+    Timeline,
 }
 
 /// What `replay` writes of a script.
@@ -83,6 +85,8 @@ pub enum ReplayEmit {
     Trace,
     /// The same in JSON, an object on each line, for machines.
     Json,
+    /// The events that were allowed as a timeline, in the JSON that viewers of traces read.
+    Timeline,
 }
 
 /// How `curve` lays out what its runs come to.

@@ -58,6 +58,7 @@ pub(crate) fn run_emit(code: u32) -> Option<RunEmit>
         6 => Some(RunEmit::ScriptWithValues),
         7 => Some(RunEmit::Waits),
         8 => Some(RunEmit::Waveform),
+        9 => Some(RunEmit::Timeline),
         _ => None,
     }
 }
@@ -72,6 +73,7 @@ pub(crate) fn replay_emit(code: u32) -> Option<ReplayEmit>
         2 => Some(ReplayEmit::Picture),
         3 => Some(ReplayEmit::Trace),
         4 => Some(ReplayEmit::Json),
+        5 => Some(ReplayEmit::Timeline),
         _ => None,
     }
 }

@@ -14,6 +14,8 @@ use Rattle.event_script.specs.EventScript.{script_of}
 use Rattle.task_lives.specs.Lives.{lives_of}
 use Rattle.run_summary.specs.SummaryText.{summary_text}
 use Rattle.run_picture.specs.Picture.{picture_text}
+use Rattle.run_timeline.specs.Timeline.{timeline_text}
+use Rattle.run_timeline.specs.declared.clock.Clock.TheVariants as clock
 use Rattle.event_trace.specs.Entries.{places_of}
 use Rattle.event_trace.specs.Trace.{trace_text}
 use Rattle.event_json.specs.Json.{json_text}
@@ -50,13 +52,15 @@ allowed (event ∷ events) (Err refusal ∷ answers) = allowed events answers
 
 -- what is written of events that were played: the answers, and how the machine stands; or what the tasks
 -- came to that the allowed events assigned, as `run` sums them up; or a picture of the allowed events; or
--- the trace of the events, by the lines of the program text, or the same in JSON
+-- the trace of the events, by the lines of the program text, or the same in JSON; or a timeline of the allowed
+-- events
 abbrev pub played_text : ReplayEmit → (units : ℕ) → (text : List ℕ) → Listing → List Event → Played → List ℕ
 played_text emit.Answers units text p events played = answers_text played.answers ++ machine_text played.state
 played_text emit.Summary units text p events played = summary_text p (lives_of units (allowed events played.answers))
 played_text emit.Picture units text p events played = picture_text p units (allowed events played.answers)
 played_text emit.Trace units text p events played = trace_text p (places_of text) units events
 played_text emit.Json units text p events played = json_text p (places_of text) units events
+played_text emit.Timeline units text p events played = timeline_text p units clock.Events (allowed events played.answers)
 
 -- what `replay` writes of the events of a script, where an event that is refused changes nothing
 abbrev pub events_report : ReplayEmit → (units : ℕ) → (text : List ℕ) → Listing → List Event → Report

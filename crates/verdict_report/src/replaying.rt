@@ -11,7 +11,7 @@ ghost use Rattle.verdict_report.specs.ReplayText.{allowed, answers_text, events_
 
 use crate::event_text::{refused_script, write_answers};
 use crate::machine_text::{
-    lines_of, picture_of, standing_status_of, summary_of, trace_of, write_machine,
+    lines_of, picture_of, standing_status_of, summary_of, timeline_of, trace_of, write_machine,
 };
 use event_script::fault::ScriptFault;
 use event_script::reading::read;
@@ -22,6 +22,7 @@ use machine_model::laws::next_is_after;
 use mark_checker::accept::Accepted;
 use report_texts::judging::{Judged, judge};
 use report_texts::report::Report;
+use run_timeline::clock::Clock;
 use sequencer::machine::{Machine, MachineFault};
 use std::alloc::{AllocError, Global};
 
@@ -86,6 +87,9 @@ fn bytes_of(
         ReplayEmit::Picture => picture_of(alloc, units, machine, accepted.program()),
         ReplayEmit::Trace => trace_of(alloc, units, accepted, text, events),
         ReplayEmit::Json => lines_of(alloc, units, accepted, text, events),
+        ReplayEmit::Timeline => {
+            timeline_of(alloc, units, Clock::Events, machine, accepted.program())
+        }
     }
 }
 

@@ -2,7 +2,7 @@
 ghost use Rattle.std.specs.Prelude.{◌≡◌, ◌≢◌, ◌≤◌, ◌++◌, Err, Ok, IfOk};
 ghost use Rattle.std.specs.String.{string_bytes};
 ghost use Rattle.sequencer.specs.Machines.{state, units_of};
-ghost use Rattle.verdict_report.specs.RunText.{IsRunReport, IsRunText, IsWrittenOf, ending_status, ending_text, steps_text};
+ghost use Rattle.verdict_report.specs.RunText.{IsRunReport, IsRunText, IsWrittenOf, clock_of, ending_status, ending_text, steps_text};
 ghost use Rattle.report_texts.specs.CertificateTexts.{OfCertificate};
 ghost use Rattle.verdict_report.specs.Runs.{run_of};
 ghost use Rattle.task_lives.specs.Lives.{lives_of};
@@ -15,7 +15,7 @@ ghost use Rattle.event_script.specs.ScriptText.{script_text};
 
 use crate::fault::ServeFault;
 use crate::machine_text::{
-    lines_of, picture_of, standing_status_of, summary_of, trace_of, write_machine,
+    lines_of, picture_of, standing_status_of, summary_of, timeline_of, trace_of, write_machine,
 };
 use crate::ran::{Extent, Ran};
 use crate::scheduled::run_scheduled;
@@ -27,6 +27,7 @@ use report_texts::judging::{Judged, judge};
 use report_texts::plain_text::write_words;
 use report_texts::report::Report;
 use run_picture::events::single_events;
+use run_timeline::clock::Clock;
 use run_waveform::waveform::waveform;
 use std::alloc::{AllocError, Global};
 use std::sync::Wait;
@@ -114,6 +115,9 @@ pub(crate) fn report_of_run(
         }
         RunEmit::Waits => waits_of(alloc, units, ran, accepted, text)?,
         RunEmit::Waveform => waveform_of(alloc, units, ran, accepted)?,
+        RunEmit::Timeline => {
+            timeline_of(alloc, units, clock_of(ran), &ran.machine, accepted.program())?
+        }
     };
     Ok(Report::new(bytes, ending_status_of(ran)))
 }
@@ -196,6 +200,16 @@ fn waveform_of(
     let events = single_events(alloc, ran.machine.history())?;
     let dump = waveform(alloc, accepted, units.get(), &events)?;
     Ok(dump.into_bytes())
+}
+
+// The clock of a run: its steps, if it went in steps, or else its events.
+fn clock_of(ran: &Ran<'_>) -> Clock
+    ensures { result ≡ clock_of ran.now.steps }
+{
+    match ran.steps {
+        None => Clock::Events,
+        Some(_) => Clock::Steps,
+    }
 }
 
 // The history of the run, as a script.
