@@ -17,7 +17,7 @@ _multiscalar_options() {
 _multiscalar_values() {
     case $1:$2 in
         annotate:--emit) echo "text cert keep marks" ;;
-        replay:--emit) echo "answers summary svg trace json perfetto" ;;
+        replay:--emit) echo "answers summary svg trace json perfetto state" ;;
         run:--emit) echo "report script summary svg trace json perfetto waits vcd" ;;
         curve:--emit) echo "table svg" ;;
         explain:--format) echo "text sarif json" ;;

@@ -28,7 +28,7 @@ complete -c multiscalar -n '__fish_seen_subcommand_from run curve' -l predict -x
 complete -c multiscalar -n '__fish_seen_subcommand_from run' -l schedule -x -a 'threads steps' -d 'how the units take turns'
 complete -c multiscalar -n '__fish_seen_subcommand_from annotate' -l emit -x -a 'text cert keep marks' -d 'what is written'
 complete -c multiscalar -n '__fish_seen_subcommand_from replay' -l strict -d 'judge a script with expectations'
-complete -c multiscalar -n '__fish_seen_subcommand_from replay' -l emit -x -a 'answers summary svg trace json perfetto' -d 'what is written'
+complete -c multiscalar -n '__fish_seen_subcommand_from replay' -l emit -x -a 'answers summary svg trace json perfetto state' -d 'what is written'
 complete -c multiscalar -n '__fish_seen_subcommand_from run' -l with-values -d 'say what each event did'
 complete -c multiscalar -n '__fish_seen_subcommand_from run' -l emit -x -a 'report script summary svg trace json perfetto waits vcd' -d 'what is written'
 complete -c multiscalar -n '__fish_seen_subcommand_from curve' -l emit -x -a 'table svg' -d 'what is written'

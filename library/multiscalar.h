@@ -101,7 +101,8 @@ typedef enum {
     MULTISCALAR_REPLAY_SVG,
     MULTISCALAR_REPLAY_TRACE,
     MULTISCALAR_REPLAY_JSON,
-    MULTISCALAR_REPLAY_PERFETTO
+    MULTISCALAR_REPLAY_PERFETTO,
+    MULTISCALAR_REPLAY_STATE
 } multiscalar_replay_emit;
 
 int multiscalar_replay(multiscalar_text program, multiscalar_text certificate, multiscalar_text script, uint32_t units,

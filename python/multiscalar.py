@@ -62,6 +62,7 @@ class ReplayEmit(IntEnum):
     TRACE = 3
     JSON = 4
     PERFETTO = 5
+    STATE = 6
 
 
 class RunEmit(IntEnum):

@@ -97,7 +97,8 @@ replay_emit_of text =
     else (if bytes_eq text (codes "svg") then Some replay.Picture
     else (if bytes_eq text (codes "trace") then Some replay.Trace
     else (if bytes_eq text (codes "json") then Some replay.Json
-    else (if bytes_eq text (codes "perfetto") then Some replay.Timeline else None)))))
+    else (if bytes_eq text (codes "perfetto") then Some replay.Timeline
+    else (if bytes_eq text (codes "state") then Some replay.State else None))))))
 
 -- the value of `--emit` of `curve`
 abbrev pub curve_emit_of : List ℕ → Option CurveEmit

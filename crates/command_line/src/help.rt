@@ -203,7 +203,13 @@ With `--emit summary` it writes a table instead of the answers and of how the ru
 `run --emit summary`, of the events that were allowed. With `--emit trace` it writes below each answer what
 the event changed, and with `--emit json` the same for machines, an object of JSON on each line. With
 `--emit perfetto` it writes the allowed events as a timeline in JSON, which ui.perfetto.dev and other viewers of
-traces show. With `--least` it makes the certificate itself, that of `annotate --emit keep`.
+traces show.
+
+With `--emit state` it writes the words, what retired and how the run stands, and then of each unit where it
+stands, the registers that it has, that arrived and that it sent, and those that it waits for. For machines, the
+last line of `--emit json` says how the run, the oldest task's registers and the memory stand.
+
+With `--least` it makes the certificate itself, that of `annotate --emit keep`.
 
 For example:
   ./multiscalar replay --least --units 2 examples/count/program.s examples/count/script.events";
@@ -332,8 +338,9 @@ pub const NOT_IN_PLACE: &str =
 pub const REPLAY_EMIT: &str =
     "What is written: answers (what the machine says of each event, and how it then stands), summary
 (how often each task was assigned, and how that ended), svg (the allowed events as a picture), trace (each
-event with its answer and what it changed), json (the same in JSON, an object on each line) or perfetto (a
-timeline for viewers of traces)";
+event with its answer and what it changed), json (the same in JSON, an object on each line), perfetto (a
+timeline for viewers of traces) or state (how the run and each unit stand at the end; the last line of json says
+it for machines)";
 
 /// `--emit` of `run`.
 pub const RUN_EMIT: &str =
@@ -453,7 +460,7 @@ pub const STRICT: &str = "Judges a script that says what its events must have do
 pub const STRICT_EMITS: &str = "with --strict there is no other --emit";
 
 /// Why another value of `--emit` of `replay` gives no job.
-pub const NO_REPLAY_EMIT: &str = "the value of --emit is answers, summary, svg, trace, json or perfetto";
+pub const NO_REPLAY_EMIT: &str = "the value of --emit is answers, summary, svg, trace, json, perfetto or state";
 
 /// Why another value of `--emit` of `run` gives no job.
 pub const NO_RUN_EMIT: &str =

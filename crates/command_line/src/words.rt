@@ -30,7 +30,7 @@ pub enum UsageFault {
     /// 1: the words are none of the program's, or ask for help or for the version; or there is neither a
     /// certificate nor `--least`, or both but for `check`, or `check` has two certificates; or the value of an
     /// option is none: of `--schedule` neither `threads` nor `steps`; of `--format` none of `text`, `sarif` and `json`;
-    /// of `--color` none of `auto`, `always` and `never`; of `--emit` for `replay` none of `answers`, `summary`, `svg`, `trace`, `json` and `perfetto`, for `run` none of `report`,
+    /// of `--color` none of `auto`, `always` and `never`; of `--emit` for `replay` none of `answers`, `summary`, `svg`, `trace`, `json`, `perfetto` and `state`, for `run` none of `report`,
     /// `script`, `summary`, `svg`, `trace`, `json`, `perfetto` and, in steps, `waits` and `vcd`, for `curve` neither `table` nor `svg`; of `--predict` for
     /// `curve` as below; or `--in-place` stands beside `--output` or a certificate that is to be written, or the
     /// program is standard input; or there are several programs beside a file for the result, `--certificate`,
@@ -923,6 +923,7 @@ fn read_replay_emit(text: &str) -> Option<ReplayEmit>
         "trace" => Some(ReplayEmit::Trace),
         "json" => Some(ReplayEmit::Json),
         "perfetto" => Some(ReplayEmit::Timeline),
+        "state" => Some(ReplayEmit::State),
         _ => None,
     }
 }

@@ -87,6 +87,8 @@ pub enum ReplayEmit {
     Json,
     /// The events that were allowed as a timeline, in the JSON that viewers of traces read.
     Timeline,
+    /// How the machine stands after the events, and each of its units.
+    State,
 }
 
 /// How `curve` lays out what its runs come to.

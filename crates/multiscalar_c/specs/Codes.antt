@@ -35,7 +35,7 @@ run_emits = run.Report ∷ run.Script ∷ run.Summary ∷ run.Picture ∷ run.Tr
 
 -- what `replay` writes, from 0 on
 abbrev pub replay_emits : List ReplayEmit
-replay_emits = replay.Answers ∷ replay.Summary ∷ replay.Picture ∷ replay.Trace ∷ replay.Json ∷ replay.Timeline ∷ []
+replay_emits = replay.Answers ∷ replay.Summary ∷ replay.Picture ∷ replay.Trace ∷ replay.Json ∷ replay.Timeline ∷ replay.State ∷ []
 
 -- what `curve` writes, from 0 on
 abbrev pub curve_emits : List CurveEmit

@@ -74,6 +74,7 @@ pub(crate) fn replay_emit(code: u32) -> Option<ReplayEmit>
         3 => Some(ReplayEmit::Trace),
         4 => Some(ReplayEmit::Json),
         5 => Some(ReplayEmit::Timeline),
+        6 => Some(ReplayEmit::State),
         _ => None,
     }
 }

@@ -173,7 +173,8 @@ fn explain_of(
 }
 
 /// `replay`: plays a script of events on a machine of this many units, 1..=16. `emit` is 0 for the answers, 1 for
-/// the summary, 2 for the picture, 3 for the trace, 4 for lines of JSON, 5 for the timeline.
+/// the summary, 2 for the picture, 3 for the trace, 4 for lines of JSON, 5 for the timeline, 6 for how the machine and
+/// its units stand.
 #[unsafe(no_mangle)]
 pub extern "C" fn multiscalar_c_replay(
     alloc: Global,

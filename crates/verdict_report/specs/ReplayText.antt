@@ -19,6 +19,7 @@ use Rattle.run_timeline.specs.declared.clock.Clock.TheVariants as clock
 use Rattle.event_trace.specs.Entries.{places_of}
 use Rattle.event_trace.specs.Trace.{trace_text}
 use Rattle.event_json.specs.Json.{json_text}
+use Rattle.strict_replay.specs.StandText.{stand_text}
 use Rattle.jobs.specs.declared.job.ReplayEmit.{ReplayEmit}
 use Rattle.jobs.specs.declared.job.ReplayEmit.TheVariants as emit
 use Rattle.report_texts.specs.OutputTexts.{Report}
@@ -53,7 +54,7 @@ allowed (event ∷ events) (Err refusal ∷ answers) = allowed events answers
 -- what is written of events that were played: the answers, and how the machine stands; or what the tasks
 -- came to that the allowed events assigned, as `run` sums them up; or a picture of the allowed events; or
 -- the trace of the events, by the lines of the program text, or the same in JSON; or a timeline of the allowed
--- events
+-- events; or how the machine stands, and its units
 abbrev pub played_text : ReplayEmit → (units : ℕ) → (text : List ℕ) → Listing → List Event → Played → List ℕ
 played_text emit.Answers units text p events played = answers_text played.answers ++ machine_text played.state
 played_text emit.Summary units text p events played = summary_text p (lives_of units (allowed events played.answers))
@@ -61,6 +62,7 @@ played_text emit.Picture units text p events played = picture_text p units (allo
 played_text emit.Trace units text p events played = trace_text p (places_of text) units events
 played_text emit.Json units text p events played = json_text p (places_of text) units events
 played_text emit.Timeline units text p events played = timeline_text p units clock.Events (allowed events played.answers)
+played_text emit.State units text p events played = machine_text played.state ++ stand_text p (places_of text) played.state
 
 -- what `replay` writes of the events of a script, where an event that is refused changes nothing
 abbrev pub events_report : ReplayEmit → (units : ℕ) → (text : List ℕ) → Listing → List Event → Report

@@ -4,7 +4,9 @@ ghost use Rattle.machine_model.specs.Answer.{play, play_event};
 ghost use Rattle.machine_model.specs.Machine.{opening};
 ghost use Rattle.machine_events.specs.declared.event.Refused.{Refused};
 ghost use Rattle.sequencer.specs.Machines.{SameRing, state, units_of};
+ghost use Rattle.event_trace.specs.Entries.{places_of};
 ghost use Rattle.report_texts.specs.CertificateTexts.{OfCertificate};
+ghost use Rattle.strict_replay.specs.StandText.{stand_text};
 ghost use Rattle.verdict_report.specs.MachineText.{machine_text};
 ghost use Rattle.verdict_report.specs.Playing.{played_so_far};
 ghost use Rattle.verdict_report.specs.ReplayText.{allowed, answers_text, events_report, played_text, replay_text, script_report};
@@ -25,6 +27,7 @@ use report_texts::report::Report;
 use run_timeline::clock::Clock;
 use sequencer::machine::{Machine, MachineFault};
 use std::alloc::{AllocError, Global};
+use strict_replay::stand::stand;
 
 /// What `replay` writes of a program text, the text of its certificate and the text of a script, on a
 /// machine of so many units.
@@ -90,6 +93,7 @@ fn bytes_of(
         ReplayEmit::Timeline => {
             timeline_of(alloc, units, Clock::Events, machine, accepted.program())
         }
+        ReplayEmit::State => state_of(alloc, text, accepted, machine),
     }
 }
 
@@ -142,6 +146,23 @@ fn answers_of(
     write_answers(&mut text, answers)?;
     write_machine(&mut text, machine)?;
     Ok(text.into_bytes())
+}
+
+// How the machine stands that runs an accepted program with this text, and its units.
+fn state_of(
+    alloc: Global,
+    text: &[u8],
+    accepted: &Accepted,
+    machine: &Machine<'_>,
+) -> Result<Vec<u8>, AllocError>
+    ensures { IfOk result (λ bytes. bytes.items ≡ machine_text (state machine.now)
+        ++ stand_text accepted.now.program (places_of text.now) (state machine.now)) }
+{
+    let mut told = String::new(alloc);
+    write_machine(&mut told, machine)?;
+    let units = stand(alloc, accepted.program(), text, machine)?;
+    told.push_str(units.as_str())?;
+    Ok(told.into_bytes())
 }
 
 // Applies the events to a machine at its start. What it answers to each.
