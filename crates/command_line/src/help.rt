@@ -207,7 +207,8 @@ traces show.
 
 With `--emit state` it writes the words, what retired and how the run stands, and then of each unit where it
 stands, the registers that it has, that arrived and that it sent, and those that it waits for. For machines, the
-last line of `--emit json` says how the run, the oldest task's registers and the memory stand.
+last line of `--emit json` says how the run, the oldest task's registers and the memory stand. With `--until N`
+only the first N events are played, and whatever is written is of these.
 
 With `--least` it makes the certificate itself, that of `annotate --emit keep`.
 
@@ -453,14 +454,23 @@ pub const NO_SCHEDULE: &str = "the value of --schedule is threads or steps";
 pub const WITH_VALUES: &str =
     "With --emit script: says of each event what it did, for replay --strict";
 
+/// `--until`.
+pub const UNTIL: &str = "Plays the first N events of the script alone, 1 to 1000000
+
+[default: all events]";
+
 /// `--strict`.
 pub const STRICT: &str = "Judges a script that says what its events must have done";
 
 /// Why `--strict` with another `--emit` gives no job.
 pub const STRICT_EMITS: &str = "with --strict there is no other --emit";
 
+/// Why `--strict` with `--until` gives no job.
+pub const STRICT_UNTIL: &str = "with --strict there is no --until";
+
 /// Why another value of `--emit` of `replay` gives no job.
-pub const NO_REPLAY_EMIT: &str = "the value of --emit is answers, summary, svg, trace, json, perfetto or state";
+pub const NO_REPLAY_EMIT: &str =
+    "the value of --emit is answers, summary, svg, trace, json, perfetto or state";
 
 /// Why another value of `--emit` of `run` gives no job.
 pub const NO_RUN_EMIT: &str =

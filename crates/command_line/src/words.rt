@@ -1,5 +1,5 @@
 //! From the words of a command line to a job.
-ghost use Rattle.std.specs.Prelude.{◌≡◌, ◌≢◌, ◌≤◌, ◌==◌, ◌&&◌, ◌⊎◌, IfErr, IfOk, IfSome, MatchOption, MatchResult, All, Some, None, true, false, if◌then◌else◌, map, length, option_map, option_and_then, is_none, unwrap_or, vec_len, [], codes};
+ghost use Rattle.std.specs.Prelude.{◌≡◌, ◌≢◌, ◌≤◌, ◌==◌, ◌&&◌, ◌⊎◌, IfErr, IfOk, IfSome, IsSome, MatchOption, MatchResult, All, Some, None, true, false, if◌then◌else◌, map, length, option_map, option_and_then, is_none, unwrap_or, vec_len, [], codes};
 ghost use Rattle.std.specs.String.{string_bytes};
 ghost use Rattle.std.specs.List.{slice_split};
 ghost use Rattle.clap.specs.Words.{first_of};
@@ -577,38 +577,79 @@ fn read_replay(alloc: Global, values: &ArgMatches<'_>) -> Result<(Job, Paths), U
     let certificate = read_source(alloc, "replay", values, "script")?;
     let units = read_units(alloc, values)?;
     let emit = replay_emit(alloc, values)?;
-    let job = replay_of(alloc, values, certificate, units, emit)?;
+    let until = read_until(alloc, values)?;
+    let job = replay_of(alloc, values, certificate, units, emit, until)?;
     Ok((job, replayed_paths(alloc, values, certificate)?))
 }
 
-// The job of `replay`: with `--strict` nothing but the verdict is written.
+// How many events are played, if not all.
+fn read_until(alloc: Global, values: &ArgMatches<'_>) -> Result<Option<Budget>, UsageFault>
+    ensures { MatchResult result (λ u. number_at (codes "until") (values_in values.now) ≡ u)
+        (IsLack (IsOutside 1000000 (number_at (codes "until") (values_in values.now)))) }
+{
+    match number(values, "until") {
+        None => Ok(None),
+        Some(most) => match Budget::new(most) {
+            Some(until) => Ok(Some(until)),
+            None => Err(no_job(alloc)),
+        },
+    }
+}
+
+// The job of `replay`.
 fn replay_of(
     alloc: Global,
     values: &ArgMatches<'_>,
     certificate: CertificateSource,
     units: Units,
     emit: ReplayEmit,
+    until: Option<Budget>,
 ) -> Result<Job, UsageFault>
     ensures { MatchResult result
-        (λ job. ((is_strict (values_in values.now) ≡ false) × (job ≡ Replay certificate units emit))
-        ⊎ ((is_strict (values_in values.now) ≡ true) × (emit ≡ Answers) × (job ≡ ReplayStrictly certificate units)))
-        (λ fault. IsOfKind ArgumentConflict fault × (is_strict (values_in values.now) ≡ true) × (emit ≢ Answers)) }
+        (λ job. ((is_strict (values_in values.now) ≡ false) × (job ≡ Replay certificate units emit until))
+        ⊎ ((is_strict (values_in values.now) ≡ true) × (emit ≡ Answers) × (until ≡ None) × (job ≡ ReplayStrictly certificate units)))
+        (λ fault. IsOfKind ArgumentConflict fault × (is_strict (values_in values.now) ≡ true) × ((emit ≢ Answers) ⊎ IsSome until)) }
 {
-    if !is_given(values, "strict") {
-        return Ok(Job::Replay {
+    if is_given(values, "strict") {
+        strict_replay_of(alloc, certificate, units, emit, until)
+    } else {
+        Ok(Job::Replay {
             certificate,
             units,
             emit,
-        });
+            until,
+        })
     }
+}
+
+// The job of `replay --strict`: nothing but the verdict is written, and it is of the whole script.
+fn strict_replay_of(
+    alloc: Global,
+    certificate: CertificateSource,
+    units: Units,
+    emit: ReplayEmit,
+    until: Option<Budget>,
+) -> Result<Job, UsageFault>
+    ensures { MatchResult result
+        (λ job. (emit ≡ Answers) × (until ≡ None) × (job ≡ ReplayStrictly certificate units))
+        (λ fault. IsOfKind ArgumentConflict fault × ((emit ≢ Answers) ⊎ IsSome until)) }
+{
+    match why_not_strict(emit, until) {
+        Some(message) => Err(fault_of_kind(alloc, "replay", ErrorKind::ArgumentConflict, message)),
+        None => Ok(Job::ReplayStrictly { certificate, units }),
+    }
+}
+
+// Why `--strict` cannot be meant, if it cannot.
+fn why_not_strict(emit: ReplayEmit, until: Option<Budget>) -> Option<&'static str>
+    ensures { MatchOption result ((emit ≡ Answers) × (until ≡ None)) (λ message. (emit ≢ Answers) ⊎ IsSome until) }
+{
     match emit {
-        ReplayEmit::Answers => Ok(Job::ReplayStrictly { certificate, units }),
-        _ => Err(fault_of_kind(
-            alloc,
-            "replay",
-            ErrorKind::ArgumentConflict,
-            help::STRICT_EMITS,
-        )),
+        ReplayEmit::Answers => match until {
+            None => None,
+            Some(_) => Some(help::STRICT_UNTIL),
+        },
+        _ => Some(help::STRICT_EMITS),
     }
 }
 

@@ -153,11 +153,12 @@ pub enum Job {
         certificate: CertificateSource,
         workers: Workers,
     },
-    /// Applies the events of a script to a machine of this many units.
+    /// Applies the events of a script to a machine of this many units: all, or the first so many.
     Replay {
         certificate: CertificateSource,
         units: Units,
         emit: ReplayEmit,
+        until: Option<Budget>,
     },
     /// Applies the events of a script with expectations to a machine of this many units, up to the first that is not allowed
     /// or does not do what is expected.

@@ -207,7 +207,7 @@ fn replay_of(
     let units = Units::new(units).ok_or(Fault::Range)?;
     let emit = codes::replay_emit(emit).ok_or(Fault::Range)?;
     let texts = texts(alloc, program, certificate, script)?;
-    Ok(replay(alloc, codes::source(is_least), units, emit, &texts)?)
+    Ok(replay(alloc, codes::source(is_least), units, emit, None, &texts)?)
 }
 
 /// `replay --strict`: judges a script with expectations on a machine of this many units, 1..=16.

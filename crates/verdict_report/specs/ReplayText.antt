@@ -1,6 +1,6 @@
 -- The text of `replay`: what a machine answers to each event of a script, and how it then stands; or what
 -- the tasks came to that the script assigned (own choice).
-use Rattle.std.specs.Prelude.{ℕ, List, [], ◌∷◌, ◌++◌, Result, Ok, Err, codes, flat_map}
+use Rattle.std.specs.Prelude.{ℕ, List, [], ◌∷◌, ◌++◌, Option, None, Some, Result, Ok, Err, codes, flat_map, take}
 use Rattle.std.specs.List.{enumerate_from}
 use Rattle.std.specs.Fmt.{decimal}
 use Rattle.task_descriptor.specs.Listing.{Listing}
@@ -73,14 +73,19 @@ events_report emitted units text p events =
       status = standing_status played.state.outcome;
     }
 
-abbrev pub script_read : ReplayEmit → (units : ℕ) → (text : List ℕ) → Listing → Result (List Event) ScriptFault → Report
-script_read emitted units text p (Ok events) = events_report emitted units text p events
-script_read emitted units text p (Err fault) = script_refused fault
+-- the events that are played: all, or the first so many
+abbrev pub first_events : (until : Option ℕ) → List Event → List Event
+first_events None events = events
+first_events (Some most) events = take most events
+
+abbrev pub script_read : ReplayEmit → (units : ℕ) → (until : Option ℕ) → (text : List ℕ) → Listing → Result (List Event) ScriptFault → Report
+script_read emitted units until text p (Ok events) = events_report emitted units text p (first_events until events)
+script_read emitted units until text p (Err fault) = script_refused fault
 
 -- what `replay` writes of the text of a program in which nothing is found, and the text of a script
-abbrev pub script_report : ReplayEmit → (units : ℕ) → (text script : List ℕ) → Listing → Report
-script_report emitted units text script p = script_read emitted units text p (script_of p script)
+abbrev pub script_report : ReplayEmit → (units : ℕ) → (until : Option ℕ) → (text script : List ℕ) → Listing → Report
+script_report emitted units until text script p = script_read emitted units until text p (script_of p script)
 
 -- what `replay` writes of a program text, the text of its certificate and the text of a script
-abbrev pub replay_text : ReplayEmit → (units : ℕ) → (program certificate script : List ℕ) → Report
-replay_text emitted units program certificate script = judged (script_report emitted units program script) program certificate
+abbrev pub replay_text : ReplayEmit → (units : ℕ) → (until : Option ℕ) → (program certificate script : List ℕ) → Report
+replay_text emitted units until program certificate script = judged (script_report emitted units until program script) program certificate

@@ -116,7 +116,13 @@ pub(crate) fn report_of_run(
         RunEmit::Waits => waits_of(alloc, units, ran, accepted, text)?,
         RunEmit::Waveform => waveform_of(alloc, units, ran, accepted)?,
         RunEmit::Timeline => {
-            timeline_of(alloc, units, clock_of(ran), &ran.machine, accepted.program())?
+            timeline_of(
+                alloc,
+                units,
+                clock_of(ran),
+                &ran.machine,
+                accepted.program(),
+            )?
         }
     };
     Ok(Report::new(bytes, ending_status_of(ran)))
