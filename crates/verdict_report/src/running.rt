@@ -11,6 +11,7 @@ ghost use Rattle.event_script.specs.EventScript.{script_of};
 ghost use Rattle.event_trace.specs.Entries.{places_of};
 ghost use Rattle.wait_table.specs.TableText.{waits_text};
 ghost use Rattle.run_waveform.specs.Waveform.{waveform_text};
+ghost use Rattle.run_timeline.specs.Timeline.{timeline_text};
 ghost use Rattle.event_script.specs.ScriptText.{script_text};
 
 use crate::fault::ServeFault;
@@ -115,15 +116,7 @@ pub(crate) fn report_of_run(
         }
         RunEmit::Waits => waits_of(alloc, units, ran, accepted, text)?,
         RunEmit::Waveform => waveform_of(alloc, units, ran, accepted)?,
-        RunEmit::Timeline => {
-            timeline_of(
-                alloc,
-                units,
-                clock_of(ran),
-                &ran.machine,
-                accepted.program(),
-            )?
-        }
+        RunEmit::Timeline => timeline(alloc, units, ran, accepted)?,
     };
     Ok(Report::new(bytes, ending_status_of(ran)))
 }
@@ -206,6 +199,27 @@ fn waveform_of(
     let events = single_events(alloc, ran.machine.history())?;
     let dump = waveform(alloc, accepted, units.get(), &events)?;
     Ok(dump.into_bytes())
+}
+
+// The tasks on each unit, by the clock of the run.
+fn timeline(
+    alloc: Global,
+    units: Units,
+    ran: &Ran<'_>,
+    accepted: &Accepted,
+) -> Result<Vec<u8>, AllocError>
+    requires over { ran.now.machine.accepted ≡ accepted.now }
+    requires units { units_of ran.now.machine ≡ units }
+    ensures { IfOk result (λ bytes. bytes.items
+        ≡ timeline_text accepted.now.program units (clock_of ran.now.steps) ran.now.machine.history) }
+{
+    timeline_of(
+        alloc,
+        units,
+        clock_of(ran),
+        &ran.machine,
+        accepted.program(),
+    )
 }
 
 // The clock of a run: its steps, if it went in steps, or else its events.
