@@ -52,6 +52,7 @@ export class Demonstration {
     const program = this.editor.text;
     this.program = program;
     this.show(LOOKING);
+    announce(LOOKING.sentence);
     await new Promise(done => setTimeout(done, 30));
     if (this.program !== program) return;
     const shown = readDemonstration(this.jobs.demonstrate(program, EVERYWHERE).text);
