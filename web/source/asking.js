@@ -104,6 +104,12 @@ export function tasksOf(jobs, program) {
   return tasks;
 }
 
+// The number of the line that declares a task; null where none does.
+export function declarationOf(task, program) {
+  const at = program.split('\n').findIndex(it => it.trim().split(/\s+/, 2).join(' ') === `.task ${task}`);
+  return at < 0 ? null : at + 1;
+}
+
 // The number of a register as it stands in a text.
 export function numberOf(register) {
   if (register === '$hi') return 32;
@@ -113,4 +119,9 @@ export function numberOf(register) {
 
 export function registerName(number) {
   return number === 32 ? '$hi' : number === 33 ? '$lo' : `$${number}`;
+}
+
+// A sentence of the machine in which registers have their names.
+export function withNames(sentence) {
+  return sentence.replace(/\$(\d+)/g, (_, number) => registerName(Number(number)));
 }

@@ -48,7 +48,7 @@ export class Editor {
     this.units = new Map();
     this.head = null;
     this.mayApply = true; // not in an exercise: there one changes the text oneself
-    this.pointed = null; // a line that a table names
+    this.pointed = null; // a line that a table or a sentence names
     this.isTyping = false; // whether the arrow keys move in the text; after a click they step the run until one types
     let waiting;
     this.area.addEventListener('input', () => {
@@ -98,15 +98,21 @@ export class Editor {
     this.isTyping = false;
   }
 
-  // Marks a line, and scrolls to it.
-  point(number) {
+  // Marks a line, and scrolls to it; null marks none. Answers the line, if there is one.
+  mark(number) {
     this.pointed = number;
     this.paint();
     const line = find('marked').children[number - 1];
-    if (!line) return;
+    if (!line) return null;
     const { clientHeight } = find('editor');
     find('editor').scrollTop = line.offsetTop - (clientHeight - line.offsetHeight) / 2;
-    announce(`Line ${number}: ${line.textContent.trim()}`);
+    return line;
+  }
+
+  // Marks a line, and reads it out.
+  point(number) {
+    const line = this.mark(number);
+    if (line) announce(`Line ${number}: ${line.textContent.trim()}`);
   }
 
   kindsOf(number) {

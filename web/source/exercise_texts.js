@@ -114,7 +114,7 @@ export const EXERCISES = [
     program: STALE,
     text: [
       'Each round adds its number, 1 to 4, to the sum in $9, and does so twice. But one !f sends $9 too early, before its last write. A machine without a checker would run this, and the second round would begin with a stale sum.',
-      'Work out which word the second round would get for $9, and which one is right. Registers are 0 at the start. Then mend the mark.',
+      'Work out which word the second round would get for $9, and which one is right. Registers are 0 at the start. Once you have both, a button beside the findings shows a run in which that happens. Then mend the mark.',
     ],
     fields: [
       { name: 'stale', label: 'Stale word of $9 in the second round', expected: 1 },

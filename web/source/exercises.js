@@ -78,6 +78,12 @@ export class Exercises {
     this.check();
   }
 
+  // Whether all words that the exercise asks for are found. Before that, the page does not show them.
+  get hasAnswered() {
+    const asked = this.number ? this.exercise.goals.filter(it => it.kind === 'answer') : [];
+    return asked.every(it => isReached(it, this.judged(this.number)));
+  }
+
   // The work on an exercise with what its goals ask.
   judged(number) {
     const exercise = EXERCISES[number - 1];

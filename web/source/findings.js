@@ -89,6 +89,11 @@ export function applyEdits(text, edits) {
   return stretches.reduce((made, it) => made.slice(0, it.from) + it.inserted + made.slice(it.to), text);
 }
 
+// Whether there is a wrong mark among the findings.
+export function hasWrongMarks(findings) {
+  return findings.some(it => /^rule\d/.test(it.code));
+}
+
 // What a finding is called: a rule of the checker, a fault of the text, or a warning.
 export function nameOf(code) {
   const rule = /^rule(\d+)$/.exec(code);

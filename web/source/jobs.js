@@ -69,4 +69,9 @@ export class Jobs {
     const words = [LEAST, units, budget, ...prediction(predict), code(CURVE, emit), encoder.encode(program), nothing];
     return this.ask('curve', words);
   }
+
+  // Looks for a run that shows what a wrong mark does: on 2 units, on 3, and so on up to so many, in runs of so many events.
+  demonstrate(program, { units, events }) {
+    return this.ask('demonstrate', [units, events, encoder.encode(program)]);
+  }
 }

@@ -1,11 +1,12 @@
 // The page: what happens when the text, the settings, the position or the view changes.
 
 import { Compare } from './compare.js';
+import { Demonstration } from './demonstration.js';
 import { Editor, showFindings, verdictOf } from './editor.js';
 import { copy, download, find, make } from './elements.js';
 import { EXAMPLES, moduleBytes } from './embedded.js';
 import { Exercises } from './exercises.js';
-import { readFindings } from './findings.js';
+import { hasWrongMarks, readFindings } from './findings.js';
 import { Hand } from './hand.js';
 import { Jobs } from './jobs.js';
 import { readLink, writeLink } from './link.js';
@@ -21,12 +22,13 @@ class Page {
     this.kept = null;
     this.editor = new Editor(() => this.textChanged());
     this.proposal = new Proposal(jobs, this.editor);
+    this.demonstration = new Demonstration(jobs, this.editor);
     this.stage = new Stage(jobs, (state, ask) => this.moved(state, ask), line => this.editor.point(line));
     this.hand = new Hand(() => this.playHand(Infinity));
     this.compare = new Compare(jobs, () => this.otherText(), line => this.editor.point(line));
     this.tabs = new Tabs(['run', 'hand', 'compare'], () => this.viewChanged());
     this.exercises = new Exercises(jobs, (exercise, work) => this.exerciseOpened(exercise, work));
-    this.exercises.answered = () => this.saveLink();
+    this.exercises.answered = () => this.answered();
     this.listen();
   }
 
@@ -78,6 +80,7 @@ class Page {
     this.listScripts();
     find('proposal-section').hidden = exercise !== null;
     this.editor.mayApply = exercise === null;
+    this.offerDemonstration();
     if (!exercise) return this.saveLink();
     find('example-choice').value = '';
     writeSettings({ units: exercise.units, predict: 'first' });
@@ -99,6 +102,17 @@ class Page {
     this.listOthers();
     this.viewChanged();
     this.exercises.take(this.editor.text, this.hand.script);
+    this.offerDemonstration();
+  }
+
+  answered() {
+    this.offerDemonstration();
+    this.saveLink();
+  }
+
+  // Wrong marks are offered a run in which they do harm; in an exercise only after one has found what it shows.
+  offerDemonstration() {
+    this.demonstration.offer(this.editor.text, hasWrongMarks(this.editor.findings) && this.exercises.hasAnswered);
   }
 
   settingsChanged() {

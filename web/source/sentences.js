@@ -1,5 +1,7 @@
 // What the machine's answers are in words.
 
+import { withNames } from './asking.js';
+
 // Each refusal of an event, by its name.
 const REFUSALS = {
   Ended: 'the run has ended',
@@ -70,6 +72,42 @@ export function eventSentence(state) {
   const phrases = event.changes.filter(it => it.change !== 'squashed' && isShown(it, event)).map(it => PHRASES[it.change]?.(it) ?? it.change);
   if (lost.length) phrases.push(`squashes what stands after it (${lost.join(', ')})`);
   return `${actorOf(state, event)}: ${phrases.join('; ')}`;
+}
+
+// What an event of a script is in words, from its line alone: who acts, and the word of a task or a register.
+const SAYINGS = {
+  assign: (_, task) => `a free unit takes task ${task}`,
+  exec: who => `${who} executes`,
+  transfer: (who, register) => `${who} takes ${register} from the unit before it`,
+  drain: (who, register) => `${who} sends ${register}`,
+  squash: who => `${who} squashes what stands after it`,
+  drop: who => `${who} gives up, and all after it`,
+  retire: who => `${who} retires`,
+  fault: who => `${who} goes on to none of its targets, and the run ends`,
+};
+
+// The tasks of the units after an event, the head's first.
+const QUEUES = {
+  assign: (queue, _, task) => [...queue, task],
+  squash: (queue, position) => queue.slice(0, position + 1),
+  drop: (queue, position) => queue.slice(0, position),
+  retire: queue => queue.slice(1),
+};
+
+function whoAt(queue, position) {
+  return position === 0 ? `the head, ${queue[0]},` : `position ${position}, ${queue[position]},`;
+}
+
+// What the events of a script are in words, where each of them is allowed.
+export function scriptSentences(script) {
+  let queue = [];
+  return script.map(line => {
+    const [kind, ...words] = line.split(' ');
+    const position = kind === 'assign' ? queue.length : Number(words[0] ?? 0);
+    const said = SAYINGS[kind](whoAt(queue, position), withNames(words.at(-1) ?? ''));
+    queue = QUEUES[kind]?.(queue, position, words[0]) ?? queue;
+    return said;
+  });
 }
 
 // What a squash means: who was wrong, and what is lost.

@@ -2,7 +2,7 @@
 // and for what.
 
 import { make, plural } from './elements.js';
-import { registerName } from './asking.js';
+import { declarationOf, withNames } from './asking.js';
 
 const WAIT_HEADING = /^ *waits /;
 const WAIT_ROW = /^ *(\d+) {2}([^\s,]+), (stopped|line (\d+)|[^:]*): (.*)$/;
@@ -13,10 +13,6 @@ const MOST_ROWS = 30;
 function kindOfWait(reason) {
   if (/not sent yet by/.test(reason)) return 'unsent';
   return /on its way from/.test(reason) ? 'sent' : 'head';
-}
-
-function withNames(reason) {
-  return reason.replace(/\$(\d+)/g, (_, number) => registerName(Number(number)));
 }
 
 function readRow([, count, task, where, line, reason]) {
@@ -47,14 +43,12 @@ export function waitsOf(jobs, program, settings) {
 }
 
 // The line of a row in the program text: where the task waits, or, where it has stopped, the line that declares it.
-function lineOf(row, lines) {
-  if (row.line) return row.line;
-  const at = lines.findIndex(it => it.trim().split(/\s+/, 2).join(' ') === `.task ${row.task}`);
-  return at < 0 ? null : at + 1;
+function lineOf(row, program) {
+  return row.line ?? declarationOf(row.task, program);
 }
 
-function waitRow(row, most, lines, name, choose) {
-  const line = lineOf(row, lines);
+function waitRow(row, most, program, name, choose) {
+  const line = lineOf(row, program);
   const place = `${row.task}, ${row.where}`;
   const bar = make('span', { class: 'bar', style: `width: ${Math.max(2, Math.round((100 * row.count) / most))}%` });
   const button = make('button', { class: 'place', 'data-key': `wait-${name}-${place}-${row.reason}`, 'aria-label': `${place}: show line ${line}` }, place);
@@ -78,9 +72,8 @@ function moreRow(rows) {
 export function waitsTable(waits, { caption, program, name, most, choose }) {
   if (!waits) return make('p', { class: 'quiet' }, 'A program that does not run has no waits.');
   if (!waits.rows.length) return make('p', {}, `${caption}: none. Each unit that has a task does something in every step.`);
-  const lines = program.split('\n');
   const head = ['steps', '', 'task and place', 'why'].map(it => make(it ? 'th' : 'td', it ? { scope: 'col' } : { class: 'share', 'aria-hidden': 'true' }, it));
   return make('table', { class: 'waits' }, make('caption', {}, caption), make('tr', {}, head),
-    waits.rows.slice(0, MOST_ROWS).map(it => waitRow(it, most ?? waits.rows[0].count, lines, name, choose)),
+    waits.rows.slice(0, MOST_ROWS).map(it => waitRow(it, most ?? waits.rows[0].count, program, name, choose)),
     moreRow(waits.rows.slice(MOST_ROWS)), waits.sums.map(sumRow));
 }

@@ -1,0 +1,80 @@
+// A run in which a wrong mark does harm: a button beside the findings asks for it, and `demonstrate` looks for one.
+
+import { announce, find, make, plural, put } from './elements.js';
+import { declarationOf, withNames } from './asking.js';
+import { scriptSentences } from './sentences.js';
+
+// Where the program looks if nothing else is said.
+const EVERYWHERE = { units: 16, events: 10000 };
+const LOOKING = { units: null, events: [], sentence: 'Looking for a run …' };
+
+// What `demonstrate` writes: on how many units, which events, and what they show. Where it shows no run there is a
+// sentence alone.
+function readDemonstration(text) {
+  const lines = text.trimEnd().split('\n');
+  const heading = /^on (\d+) units?:$/.exec(lines[0]);
+  if (!heading) return { units: null, events: [], sentence: lines.join(' ') };
+  return { units: Number(heading[1]), events: lines.slice(1, -1), sentence: lines.at(-1) };
+}
+
+// The line that a sentence names; where it names a task alone, the line that declares it.
+function lineNamed(sentence, program) {
+  const [, line, task] = /^(?:(?:line (\d+)|[^:]*): )?task (\S+) /.exec(sentence) ?? [];
+  return line ? Number(line) : declarationOf(task, program);
+}
+
+function eventRows(events) {
+  const sentences = scriptSentences(events);
+  return events.map((line, at) => make('li', { class: 'event' },
+    make('span', { class: 'event-number' }, String(at + 1)), make('code', {}, line), make('span', {}, sentences[at])));
+}
+
+export class Demonstration {
+  constructor(jobs, editor) {
+    this.jobs = jobs;
+    this.editor = editor;
+    this.program = null; // the text of which something is shown
+    find('demonstrate').addEventListener('click', () => this.look());
+    find('demonstration-close').addEventListener('click', () => {
+      this.close();
+      find('demonstrate').focus();
+    });
+  }
+
+  // Offers a run of a text, if its marks are wrong. What is shown of another text goes.
+  offer(program, isWrong) {
+    find('demonstrate').hidden = !isWrong;
+    if (!isWrong || program !== this.program) this.close();
+  }
+
+  // Looks for a run, after the browser has drawn that it does: it can take a moment.
+  async look() {
+    const program = this.editor.text;
+    this.program = program;
+    this.show(LOOKING);
+    announce(LOOKING.sentence);
+    await new Promise(done => setTimeout(done, 30));
+    if (this.program !== program) return;
+    const shown = readDemonstration(this.jobs.demonstrate(program, EVERYWHERE).text);
+    this.show(shown);
+    this.editor.mark(lineNamed(shown.sentence, program));
+    announce(`${find('demonstration-units').textContent} ${find('harm').textContent}`.trim());
+  }
+
+  show({ units, events, sentence }) {
+    const isRun = units !== null;
+    find('demonstration').hidden = false;
+    find('demonstration-units').textContent = isRun ? `On ${plural(units, 'unit')}, ${plural(events.length, 'event')}.` : '';
+    find('demonstration-units').hidden = find('demonstration-events').hidden = !isRun;
+    put(find('demonstration-events').firstElementChild, eventRows(events));
+    find('demonstration-events').scrollTop = 0;
+    find('harm').textContent = withNames(sentence);
+    find('harm').className = isRun ? 'harm' : '';
+  }
+
+  close() {
+    if (this.program !== null) this.editor.mark(null);
+    this.program = null;
+    find('demonstration').hidden = true;
+  }
+}
