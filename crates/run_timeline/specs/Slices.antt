@@ -1,6 +1,6 @@
 -- A slice for the life of each task: a complete entry (kind X), on the unit's lane, from the time of the event that
 -- begins the life to the end of that of its last one.
-use Rattle.std.specs.Prelude.{ℕ, ◌+◌, ◌-◌, List, [], ◌∷◌, map, slice_get, codes}
+use Rattle.std.specs.Prelude.{ℕ, ◌+◌, ◌-◌, List, [], ◌∷◌, map, slice_get, max, codes}
 use Rattle.json.specs.Json.{Json}
 use Rattle.task_descriptor.specs.Listing.{Listing}
 use Rattle.event_script.specs.ScriptText.{name_at}
@@ -16,9 +16,9 @@ life_fields name life =
     text_field (codes "task") name ∷ number_field (codes "instructions") life.executed
     ∷ text_field (codes "ending") (ending_text life.ending) ∷ []
 
--- how many microseconds a life takes: one or more, since its last event is not before its first one
+-- how many microseconds a life takes, at least 1: its last event counts
 abbrev pub duration_of : (times : List ℕ) → Life → ℕ
-duration_of times life = time_at times life.last + 1 - time_at times life.first
+duration_of times life = max (time_at times life.last + 1 - time_at times life.first) 1
 
 abbrev pub slice : (times : List ℕ) → (name : List ℕ) → Life → Json
 slice times name life =

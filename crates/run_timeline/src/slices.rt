@@ -47,12 +47,13 @@ fn write_slice(
     out.end_object()
 }
 
-/// How many microseconds a life takes.
+/// How many microseconds a life takes, at least 1.
 fn duration(times: &[u32], life: &Life) -> usize
     ensures { result ≡ duration_of times.now life.now }
 {
     let end = time_at(times, life.last) as usize + 1;
-    end.saturating_sub(time_at(times, life.first) as usize)
+    let begin = time_at(times, life.first) as usize;
+    end.saturating_sub(begin).max(1)
 }
 
 /// Adds what is told of a life of a task of this name.

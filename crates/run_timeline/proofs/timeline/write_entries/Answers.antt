@@ -1,4 +1,4 @@
--- The name of the run, the lanes, the slices and the marks, one behind the other.
+-- The name of the run, the lanes, the slices and the marks, one after another.
 use Rattle.std.proofs.Common.{◌≡◌, ℕ, List, ◌++◌, ◌∙◌, ap, sym, append_assoc}
 use Rattle.std.specs.Prelude.{flat_map, map}
 use Rattle.std.specs.List.{range_with_len}
