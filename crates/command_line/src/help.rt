@@ -253,15 +253,15 @@ with how many steps the run took and how many instructions retired in them: how 
 tasks overlap. It is no model of the time of a processor.
 With `--emit waits` it writes why units waited, the most frequent first: in how many steps which task stood
 where, and needed which register, owed by which task, or had to be the head.
-With `--emit vcd` it writes what each unit does in each step as a value change dump, which viewers of waveforms
-show.
+With `--emit vcd` it writes how each unit stands in each step, and why it waits, as a value change dump, which
+viewers of waveforms show.
 
 With `--least` it makes the certificate itself, that of `annotate --emit keep`.
 
 With `--emit svg` it writes a picture of the run, a lane for each unit and a bar for each task on it. With
 `--emit trace` it writes each event and, below it, what it changed; with `--emit json` the same for machines,
-an object of JSON on each line. With `--emit perfetto` it writes the bars of the picture as a timeline in JSON, which
-ui.perfetto.dev and other viewers of traces show: it goes by steps where the run does, else by events.
+an object of JSON on each line. With `--emit perfetto` it writes the bars of the picture as a timeline in JSON,
+which ui.perfetto.dev and other viewers of traces show: by steps where the run goes in steps, else by events.
 
 For example:
   ./multiscalar run --least examples/count/program.s
@@ -340,16 +340,16 @@ pub const REPLAY_EMIT: &str =
     "What is written: answers (what the machine says of each event, and how it then stands), summary
 (how often each task was assigned, and how that ended), svg (the allowed events as a picture), trace (each
 event with its answer and what it changed), json (the same in JSON, an object on each line), perfetto (a
-timeline for viewers of traces) or state (how the run and each unit stand at the end; the last line of json says
-it for machines)";
+timeline for viewers of traces) or state (how the run and each unit stand at the end; the last line of json
+says it for machines)";
 
 /// `--emit` of `run`.
 pub const RUN_EMIT: &str =
     "What is written: report (the words that were put out, and how the run ended), script (the events
 of the run), summary (how often each task was assigned, and how that ended), svg (a picture), trace (each
 event with what it changed), json (the same in JSON, an object on each line), perfetto (a timeline for viewers
-of traces) or, with --schedule steps, waits (in how many steps which task waited where, and for what) or vcd (what each unit does in each step, for a
-viewer of waveforms)";
+of traces) or, with --schedule steps, waits (in how many steps which task waited where, and for what) or vcd
+(how each unit stands in each step, for viewers of waveforms)";
 
 /// `--emit` of `curve`.
 pub const CURVE_EMIT: &str =
