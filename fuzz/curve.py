@@ -110,8 +110,8 @@ def table(rows):
     """The text and the status of some rows, of which the first is that of one unit."""
     text, one = HEADING, rows[0]
     for units, (steps, retired, wasted, end) in enumerate(rows, 1):
-        ended = "out of budget" not in (one[3], end)
-        speed = ratio(one[0], steps) if ended else "-"
+        same = "out of budget" not in (one[3], end) and retired > 0
+        speed = ratio(one[0], steps) if same else "-"
         share = ratio(100 * wasted, retired + wasted)
         text += f"{units:5}{steps:9}{retired:9}{ratio(retired, steps):>10}{speed:>10}{share:>8}%  {end}\n"
     return text, next((STATUS[row[3]] for row in rows if row[3] != "halted"), 0)

@@ -30,7 +30,7 @@ TOP = pathlib.Path(__file__).resolve().parent.parent
 SHEET = (TOP / "crates/curve_picture/src/sheet.rt").read_text().split('"', 1)[1].rsplit('"', 1)[0]
 SVG = "{http://www.w3.org/2000/svg}"
 LEFT, WIDTH = 88, 1160
-ZERO, HEIGHT = 488, 352
+ZERO, SPACE = 488, 88
 FOOT, MOST = 630, 80
 
 
@@ -43,15 +43,28 @@ def ratio(part, whole):
 def picture(rows):
     """The file of some rows: units, steps, retired and wasted instructions, and the end in words."""
     rates = [ratio(retired, steps) for _, steps, retired, _, _ in rows]
+    speeds = [speed_up(rows[0], row) for row in rows]
     # the top of the scale is a multiple of a fifth
-    fifths = [(rate * 5).to_integral_value(ROUND_CEILING) for rate in rates]
+    fifths = [(number * 5).to_integral_value(ROUND_CEILING) for number in rates + speeds if number is not None]
     top = max(fifths + [Decimal(1)]) / 5
-    places = [(LEFT + (2 * row[0] - 1) * WIDTH // (2 * len(rows)), ZERO - int(HEIGHT * rate / top)) for row, rate in zip(rows, rates)]
+    middles = [LEFT + (2 * row[0] - 1) * WIDTH // (2 * len(rows)) for row in rows]
     text = SHEET
     for quarter in range(5):
-        text += label("scale", 78, ZERO + 4 - quarter * HEIGHT // 4, cut(top * quarter / 4))
-    text += f"<polyline class='curve' points='{''.join(f'{x},{y} ' for x, y in places)}'/>\n"
-    return text + "".join(map(column, rows, rates, places)) + "</svg>\n"
+        text += label("scale", 78, ZERO + 4 - quarter * SPACE, cut(top * quarter / 4))
+    for style, numbers in (("curve", rates), ("speed", speeds)):
+        points = (f"{x},{height(number, top)} " for x, number in zip(middles, numbers) if number is not None)
+        text += f"<polyline class='{style}' points='{''.join(points)}'/>\n"
+    return text + "".join(column(*of_run, top) for of_run in zip(rows, middles, rates, speeds)) + "</svg>\n"
+
+
+def speed_up(one, row):
+    """How many times as many steps the run on one unit took, if both did the same work, and some."""
+    ended = "out of budget" not in (one[4], row[4])
+    return ratio(one[1], row[1]) if ended and row[2] > 0 else None
+
+
+def height(number, top):
+    return ZERO - int(SPACE * 4 * number / top)
 
 
 def cut(number):
@@ -63,19 +76,30 @@ def label(style, x, y, words):
     return f"<text class='{style}' x='{x}' y='{y}'>{words}</text>\n"
 
 
-def column(row, rate, place):
-    """A run: what is said of it, its bar, its point, and its numbers."""
-    (units, steps, retired, wasted, end), (x, y) = row, place
+def free(y, step):
+    """The first foot of a number, from this one on, that no line of the upper scale comes near."""
+    while any(y - 12 <= line <= y + 3 for line in range(ZERO, 0, -SPACE)):
+        y += step
+    return y
+
+
+def column(row, x, rate, speed, top):
+    """A run: what is said of it, its bar, its points, and its numbers."""
+    units, steps, retired, wasted, end = row
     share = ratio(100 * wasted, retired + wasted)
-    high = int(share * MOST / 100)
+    high = max(int(share * MOST / 100), 1 if wasted else 0)
+    y = height(rate, top)
+    under = free(y + 22, 1)
     mark = f"<circle class='halted' cx='0' cy='{y}' r='7'/>" if end == "halted" else f"<path class='other' d='M-9 {y}l9-9 9 9-9 9z'/>"
-    return (
-        f"<g transform='translate({x} 0)'>"
-        f"<title>units: {units}, steps: {steps}, instructions retired: {retired}, thrown away: {wasted}, {end}</title>\n"
-        f"<path class='grid' d='M0 {y}V{FOOT}'/><rect class='wasted' x='-12' y='{FOOT - high}' width='24' height='{high}'/>\n"
-        f"{mark}\n{label('value', 0, y - 16, rate)}{label('value', 0, FOOT - 8 - high, f'{share}%')}"
-        f"<text class='number' x='0' y='656'>{units}</text></g>\n"
+    text = (
+        f"<g transform='translate({x} 0)'><title>units: {units}, steps: {steps}, speed-up: {'-' if speed is None else speed}"
+        f", instructions retired: {retired}, thrown away: {wasted}, {end}</title>\n"
+        f"<path class='grid' d='M0 {under + 6}V{FOOT}'/><rect class='wasted' x='-12' y='{FOOT - high}' width='24' height='{high}'/>\n{mark}\n"
     )
+    if speed is not None:
+        above = height(speed, top)
+        text += f"<path class='faster' d='M-4 {above}v-4h8v8h-8z'/>\n{label('value', 0, free(above - 12, -1), speed)}"
+    return text + label("value", 0, under, rate) + label("value", 0, 648, f"{share}%") + f"<text class='number' x='0' y='672'>{units}</text></g>\n"
 
 
 def foreign(svg):

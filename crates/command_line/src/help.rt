@@ -287,13 +287,13 @@ more the annotations let tasks overlap:
   units  steps  retired  per step  speed-up  wasted  end
 `retired` counts the instructions of the tasks that retired, and `per step` how many of them there are for
 each step. `speed-up` says how many times as many steps the run on one unit took; it is - unless both runs
-ended. `wasted` is the share of instructions that were thrown away: of those of tasks that retired, were
-squashed or were dropped, how many in a hundred were of tasks that were squashed or dropped. `end` is
-halted, trapped, unlisted (an address that is not listed) or out of budget; `run` says more. Numbers with
-decimals are rounded to the nearest.
+ended and an instruction retired. `wasted` is the share of instructions that were thrown away: of those of
+tasks that retired, were squashed or were dropped, how many in a hundred were of tasks that were squashed or
+dropped. `end` is halted, trapped, unlisted (an address that is not listed) or out of budget; `run` says more.
+Numbers with decimals are rounded to the nearest.
 
-With `--emit svg` it draws a picture instead: for each run how many instructions retired for each step, and
-the share that was thrown away.
+With `--emit svg` it draws a picture instead: for each run how many instructions retired for each step, its
+speed-up, and the share that was thrown away.
 
 With `--progress` standard error is told of each run when it is done, since many units and a great budget take
 their time:

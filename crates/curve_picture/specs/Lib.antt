@@ -1,3 +1,4 @@
 pub mod Scales
 pub mod FixedText
 pub mod CurvePicture
+pub mod Examples

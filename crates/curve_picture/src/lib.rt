@@ -1,5 +1,5 @@
 //! What runs in steps came to on 1, 2, 3 units and more, drawn as one SVG file: above, how many instructions
-//! retired in a step; below, the share of instructions that were thrown away.
+//! retired in a step, and the speed-up over one unit; below, the share of instructions that were thrown away.
 #![tactic(auto)]
 
 mod columns;

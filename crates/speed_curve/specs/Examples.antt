@@ -8,7 +8,7 @@ use Rattle.mips_plain.specs.MemoryMap.{region, effective}
 use Rattle.machine_model.specs.Answer.{least}
 use Rattle.machine_model.specs.Examples.{count}
 use Rattle.machine_events.specs.declared.event.Standing.{Standing}
-use Rattle.machine_events.specs.declared.event.Standing.TheVariants.{Running, Halted}
+use Rattle.machine_events.specs.declared.event.Standing.TheVariants.{Running, Halted, Unlisted}
 use Rattle.unit_turns.specs.FirstAllowed.{registers, first_allowed}
 use Rattle.synchronous_runner.specs.declared.predictor.Predictor.TheVariants as predictor
 use Rattle.synchronous_runner.specs.Steps.{beginning, after_steps}
@@ -53,6 +53,12 @@ pub no_speed_up : rows_text (row 1 31 16 0 Halted ∷ row 2 19 12 1 Running ∷ 
     codes "    1       31       16      0.52      1.00    0.00%  halted" ++ (10 ∷ codes "    2       19       12      0.63         -    7.69%  out of budget" ++ 10 ∷ [])
 unfolding digits
 no_speed_up = refl
+
+-- nor has one in which nothing retired
+pub nothing_to_compare : rows_text (row 1 5 0 0 (Unlisted 0x400014) ∷ []) ≡
+    codes "    1        5        0      0.00         -    0.00%  unlisted" ++ 10 ∷ []
+unfolding digits
+nothing_to_compare = refl
 
 -- in the seventh step of `count` on two units the first round retires, with its four instructions
 pub seven_steps : row_after 2 7 (after_steps count 2 100 7 (beginning count predictor.First)) ≡ row 2 7 4 0 Running

@@ -1,5 +1,5 @@
 -- The table of some runs: a heading, and a row for each (own choice).
-use Rattle.std.specs.Prelude.{ℕ, ◌+◌, ◌-◌, ◌*◌, ◌/◌, ◌%◌, List, [], ◌∷◌, ◌++◌, Bool, true, false, ◌&&◌, nat_eq, if◌then◌else◌, codes, flat_map}
+use Rattle.std.specs.Prelude.{ℕ, ◌+◌, ◌-◌, ◌*◌, ◌/◌, ◌%◌, Option, Some, None, List, [], ◌∷◌, ◌++◌, Bool, true, false, ◌&&◌, nat_eq, nat_lt, if◌then◌else◌, codes, flat_map}
 use Rattle.std.specs.Fmt.{decimal}
 use Rattle.machine_events.specs.declared.event.Standing.{Standing}
 use Rattle.machine_events.specs.declared.event.Standing.TheVariants.{Running, Halted, Trapped, Unlisted}
@@ -26,10 +26,16 @@ abbrev pub has_ended : Standing → Bool
 has_ended Running = false
 has_ended _ = true
 
--- how many times as many steps the run on one unit took; `-` unless both runs ended, since then they did the
--- same work
-abbrev pub speed_text : (one row : Row) → List ℕ
-speed_text one row = if has_ended one.standing && has_ended row.standing then decimals 10 (hundredths one.steps row.steps) else codes "         -"
+-- how many times as many steps the run on one unit took, in hundredths; none unless both runs ended, since then
+-- they did the same work, and some of it retired
+abbrev pub speed_up : (one row : Row) → Option ℕ
+speed_up one row =
+    if has_ended one.standing && (has_ended row.standing && nat_lt 0 row.retired) then Some (hundredths one.steps row.steps) else None
+
+-- `-` where there is none
+abbrev pub speed_text : Option ℕ → List ℕ
+speed_text None = codes "         -"
+speed_text (Some speed) = decimals 10 speed
 
 -- of the instructions of tasks that retired, were squashed or were dropped, how many in a hundred were of
 -- tasks that were squashed or dropped, in hundredths
@@ -49,7 +55,7 @@ end_text (Unlisted at) = codes "unlisted"
 -- a row, beside that of the run on one unit
 abbrev pub row_text : (one row : Row) → List ℕ
 row_text one row =
-    column 5 row.units ++ (column 9 row.steps ++ (column 9 row.retired ++ (rate_text row ++ (speed_text one row
+    column 5 row.units ++ (column 9 row.steps ++ (column 9 row.retired ++ (rate_text row ++ (speed_text (speed_up one row)
     ++ (wasted_text row ++ (codes "  " ++ (end_text row.standing ++ 10 ∷ [])))))))
 
 abbrev pub heading : List ℕ

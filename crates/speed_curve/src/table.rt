@@ -1,9 +1,9 @@
 //! The text of a table.
 
-ghost use Rattle.std.specs.Prelude.{◌≡◌, ◌<◌, ◌^◌, ◌++◌, IfOk, OnOk, flat_map};
+ghost use Rattle.std.specs.Prelude.{◌≡◌, ◌<◌, ◌^◌, ◌++◌, IfOk, IfSome, OnOk, flat_map};
 ghost use Rattle.std.specs.String.{string_bytes};
 ghost use Rattle.run_summary.specs.SummaryText.{column};
-ghost use Rattle.speed_curve.specs.TableText.{decimals, end_text, has_ended as has_ended_by, heading, hundredths as hundredths_of, rate as rate_of, rate_text, row_text, rows_text, share as share_of, speed_text, table_text, wasted_text};
+ghost use Rattle.speed_curve.specs.TableText.{decimals, end_text, has_ended as has_ended_by, heading, hundredths as hundredths_of, rate as rate_of, rate_text, row_text, rows_text, share as share_of, speed_text, speed_up as speed_up_of, table_text, wasted_text};
 
 use crate::row::Row;
 use machine_events::event::Standing;
@@ -12,8 +12,8 @@ use std::alloc::{AllocError, Global};
 /// The table of some runs of a program, of which the first is the one on one unit: a heading, and a row for
 /// each. The columns are the units, the steps, the retired instructions, how many of these there are for each
 /// step, how many times as many steps the run on one unit took, the share of instructions that were thrown
-/// away, and how the run ended. The fifth has `-` unless both runs ended. Numbers with decimals have two,
-/// rounded to the nearest. The error says that memory was refused. (own choice)
+/// away, and how the run ended. The fifth has `-` unless both runs ended and an instruction retired. Numbers
+/// with decimals have two, rounded to the nearest. The error says that memory was refused. (own choice)
 pub fn write(alloc: Global, rows: &[Row]) -> Result<Vec<u8>, AllocError>
     ensures { IfOk result (λ text. text.items ≡ table_text rows.now) }
 {
@@ -61,7 +61,7 @@ fn write_row(text: &mut String, one: &Row, row: &Row) -> Result<(), AllocError>
     write_number(text, u64::from(row.steps), 9)?;
     write_number(text, u64::from(row.retired), 9)?;
     write_rate(text, row)?;
-    write_speed(text, one, row)?;
+    write_speed(text, speed_up(one, row))?;
     write_wasted(text, row)?;
     let end = end_of(row.standing);
     writeln!(text, "  {end}")
@@ -82,15 +82,26 @@ pub fn rate(row: &Row) -> u64
     hundredths(u64::from(row.retired), u64::from(row.steps))
 }
 
-/// Adds how many times as many steps the run on one unit took.
-fn write_speed(text: &mut String, one: &Row, row: &Row) -> Result<(), AllocError>
-    ensures { OnOk result (string_bytes text.new ≡ string_bytes text.old ++ speed_text one.now row.now) }
+/// Adds a speed-up, or `-` where there is none.
+fn write_speed(text: &mut String, speed: Option<u64>) -> Result<(), AllocError>
+    ensures { OnOk result (string_bytes text.new ≡ string_bytes text.old ++ speed_text speed) }
 {
-    if has_ended(one.standing) && has_ended(row.standing) {
-        let speed = hundredths(u64::from(one.steps), u64::from(row.steps));
-        write_decimals(text, speed, 10)
+    match speed {
+        Some(speed) => write_decimals(text, speed, 10),
+        None => text.push_str("         -"),
+    }
+}
+
+/// How many times as many steps the run on one unit took, in hundredths, rounded to the nearest. There is an
+/// answer if both runs ended, since then they did the same work, and an instruction retired.
+pub fn speed_up(one: &Row, row: &Row) -> Option<u64>
+    ensures value { result ≡ speed_up_of one.now row.now }
+    ensures few { IfSome result (λ speed. speed < 2 ^ 48) }
+{
+    if has_ended(one.standing) && has_ended(row.standing) && row.retired > 0 {
+        Some(hundredths(u64::from(one.steps), u64::from(row.steps)))
     } else {
-        text.push_str("         -")
+        None
     }
 }
 

@@ -8,23 +8,26 @@ use std::process::Abort;
 
 /// What stands behind the fixed part, as `fuzz/curve_picture.py` computes it for these rows.
 const TWO_COLUMNS: &str = "<text class='scale' x='78' y='492'>0.00</text>
-<text class='scale' x='78' y='404'>0.20</text>
-<text class='scale' x='78' y='316'>0.40</text>
-<text class='scale' x='78' y='228'>0.60</text>
-<text class='scale' x='78' y='140'>0.80</text>
-<polyline class='curve' points='378,260 958,167 '/>
-<g transform='translate(378 0)'><title>units: 1, steps: 31, instructions retired: 16, thrown away: 0, halted</title>
-<path class='grid' d='M0 260V630'/><rect class='wasted' x='-12' y='630' width='24' height='0'/>
-<circle class='halted' cx='0' cy='260' r='7'/>
-<text class='value' x='0' y='244'>0.52</text>
-<text class='value' x='0' y='622'>0.00%</text>
-<text class='number' x='0' y='656'>1</text></g>
-<g transform='translate(958 0)'><title>units: 2, steps: 22, instructions retired: 16, thrown away: 1, out of budget</title>
-<path class='grid' d='M0 167V630'/><rect class='wasted' x='-12' y='626' width='24' height='4'/>
-<path class='other' d='M-9 167l9-9 9 9-9 9z'/>
-<text class='value' x='0' y='151'>0.73</text>
-<text class='value' x='0' y='618'>5.88%</text>
-<text class='number' x='0' y='656'>2</text></g>
+<text class='scale' x='78' y='404'>0.25</text>
+<text class='scale' x='78' y='316'>0.50</text>
+<text class='scale' x='78' y='228'>0.75</text>
+<text class='scale' x='78' y='140'>1.00</text>
+<polyline class='curve' points='378,305 958,232 '/>
+<polyline class='speed' points='378,136 '/>
+<g transform='translate(378 0)'><title>units: 1, steps: 31, speed-up: 1.00, instructions retired: 16, thrown away: 0, halted</title>
+<path class='grid' d='M0 333V630'/><rect class='wasted' x='-12' y='630' width='24' height='0'/>
+<circle class='halted' cx='0' cy='305' r='7'/>
+<path class='faster' d='M-4 136v-4h8v8h-8z'/>
+<text class='value' x='0' y='124'>1.00</text>
+<text class='value' x='0' y='327'>0.52</text>
+<text class='value' x='0' y='648'>0.00%</text>
+<text class='number' x='0' y='672'>1</text></g>
+<g transform='translate(958 0)'><title>units: 2, steps: 22, speed-up: -, instructions retired: 16, thrown away: 1, out of budget</title>
+<path class='grid' d='M0 260V630'/><rect class='wasted' x='-12' y='626' width='24' height='4'/>
+<path class='other' d='M-9 232l9-9 9 9-9 9z'/>
+<text class='value' x='0' y='254'>0.73</text>
+<text class='value' x='0' y='648'>5.88%</text>
+<text class='number' x='0' y='672'>2</text></g>
 </svg>
 ";
 
@@ -58,7 +61,7 @@ fn columns_of_two_rows(rt: HostRuntime) {
 fn nothing_to_draw(rt: HostRuntime) {
     let none: [Row; 0] = [];
     let text = picture(&rt, rt.alloc(), &none);
-    assert!(rt; text.ends_with("<polyline class='curve' points=''/>\n</svg>\n"));
+    assert!(rt; text.ends_with(">units</text>\n</svg>\n"));
     let text = picture(&rt, rt.alloc(), &[row(1, 0, 0, 0, Standing::Running)]);
     assert!(rt; text.contains("<polyline class='curve' points='668,488 '/>"));
 }

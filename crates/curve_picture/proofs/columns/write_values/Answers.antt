@@ -1,4 +1,4 @@
--- One number behind the other.
+-- One number after the other.
 use Rattle.std.proofs.Common.{◌≡◌, ℕ, List, OnOk, subst}
 use Rattle.std.specs.String.{string_bytes}
 use Rattle.curve_picture.proofs.Parts.{values_written}
@@ -7,7 +7,6 @@ use Rattle.curve_picture.proofs.columns.write_values.Goals as goal
 pub returns : goal.returns
 returns c =
     subst (λ (xs : List ℕ). OnOk c.write_units.result (string_bytes c.write_units.new.text ≡ xs))
-    (values_written c.args.row.now c.args.above c.args.high _ _ _ _ (string_bytes c.args.text.now) _ _
-    c.saturating_sub.ensures c.saturating_sub-2.ensures c.rate.ensures.value c.share.ensures
-    c.in_ok-write_rate.ensures c.in_ok-write_share.ensures)
+    (values_written c.args.row.now c.args.under _ _ (string_bytes c.args.text.now) _ _
+    c.rate.ensures.value c.share.ensures c.in_ok-write_number.ensures c.in_ok-write_share.ensures)
     c.write_units.ensures

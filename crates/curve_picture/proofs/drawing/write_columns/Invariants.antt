@@ -6,4 +6,4 @@ use Rattle.curve_picture.proofs.drawing.write_columns.Given as goal
 
 abbrev pub invariant-loop-row : goal.invariant-loop-row
 invariant-loop-row l =
-    string_bytes l.text ≡ string_bytes l.initial.text ++ columns_text l.columns l.top (take l.row-index l.rows)
+    string_bytes l.text ≡ string_bytes l.initial.text ++ columns_text l.columns l.top l.one (take l.row-index l.rows)

@@ -2,9 +2,9 @@
 use Rattle.std.proofs.Common.{◌≡◌, ◌++◌, take}
 use Rattle.std.specs.Prelude.{flat_map}
 use Rattle.std.specs.String.{string_bytes}
-use Rattle.curve_picture.specs.CurvePicture.{point_text}
-use Rattle.curve_picture.proofs.drawing.write_points.Given as goal
+use Rattle.curve_picture.specs.CurvePicture.{rate_point}
+use Rattle.curve_picture.proofs.drawing.write_rate_points.Given as goal
 
 abbrev pub invariant-loop-row : goal.invariant-loop-row
 invariant-loop-row l =
-    string_bytes l.text ≡ string_bytes l.initial.text ++ flat_map (point_text l.columns l.top) (take l.row-index l.rows)
+    string_bytes l.text ≡ string_bytes l.initial.text ++ flat_map (rate_point l.columns l.top) (take l.row-index l.rows)
