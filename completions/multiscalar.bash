@@ -7,7 +7,7 @@ _multiscalar_options() {
         annotate) echo "--emit --in-place --report --output --help" ;;
         explain) echo "--certificate --script --format --color --no-warnings --output --help" ;;
         check) echo "--workers --least --output --help" ;;
-        replay) echo "--units --emit --strict --least --output --help" ;;
+        replay) echo "--units --emit --until --strict --least --output --help" ;;
         run) echo "--with-values --units --budget --predict --workers --schedule --emit --least --output --help" ;;
         curve) echo "--units --budget --predict --emit --progress --least --output --help" ;;
         demonstrate) echo "--units --steps --output --help" ;;
@@ -17,8 +17,8 @@ _multiscalar_options() {
 _multiscalar_values() {
     case $1:$2 in
         annotate:--emit) echo "text cert keep marks" ;;
-        replay:--emit) echo "answers summary svg trace json" ;;
-        run:--emit) echo "report script summary svg trace json waits" ;;
+        replay:--emit) echo "answers summary svg trace json perfetto state" ;;
+        run:--emit) echo "report script summary svg trace json perfetto waits vcd" ;;
         curve:--emit) echo "table svg" ;;
         explain:--format) echo "text sarif json" ;;
         explain:--color) echo "auto always never" ;;
@@ -44,7 +44,7 @@ _multiscalar() {
     elif [[ $word == -* ]]; then
         # shellcheck disable=SC2207
         COMPREPLY=($(compgen -W "$(_multiscalar_options "$subcommand")" -- "$word"))
-    elif [ "$before" != --budget ]; then
+    elif [ "$before" != --budget ] && [ "$before" != --until ]; then
         local IFS=$'\n'
         # shellcheck disable=SC2207
         COMPREPLY=($(compgen -f -- "$word"))

@@ -24,6 +24,9 @@ def known(sub): return subprocess.run([PROG, sub, '--help'], capture_output=True
 # A program whose help says so writes a trace as lines of JSON, too.
 TRACES = ['trace'] + ['json'] * ('json' in subprocess.run([PROG, 'replay', '--help'], capture_output=True, text=True).stdout)
 STEPS = ['report', 'script', 'summary', *TRACES] + ['waits'] * ('waits' in subprocess.run([PROG, 'run', '--help'], capture_output=True, text=True).stdout)
+# A program whose help says so plays the first events of a script alone, and says how the units then stand.
+CUT = '--until' in subprocess.run([PROG, 'replay', '--help'], capture_output=True, text=True).stdout
+STATES, UNTIL = [*TRACES, *['state'] * CUT], [[], [], *[['--until', n] for n in ('1', '7', '40', '1000000') if CUT]]
 SUBS = [s for s in O.subs.split(',') if known(s)]
 print('subcommands', SUBS, flush=True)
 def marked(text):
@@ -45,7 +48,9 @@ def model(words, files, got):
     if w == 'annotate' and opt.get('--emit') == 'marks': return marked(f[0])
     if w == 'curve': return curve_text(f[0], f[1], int(opt['--units']), int(opt['--budget']), opt['--predict'])
     if w == 'annotate': return annotate_text(f[0], opt.get('--emit', 'text'))
-    if w == 'replay': return replay_text(*f, int(opt.get('--units', 4)), opt.get('--emit', 'answers'))
+    if w == 'replay':
+        until = int(opt['--until']) if '--until' in opt else None
+        return replay_text(*f, int(opt.get('--units', 4)), opt.get('--emit', 'answers'), until)
     if w == 'run' and opt.get('--schedule') == 'steps':
         return steps_text(f[0], f[1], int(opt['--units']), int(opt['--budget']), opt['--predict'], opt['--emit'])
     if w == 'run' and opt.get('--emit') in TRACES:
@@ -165,6 +170,6 @@ def one():
     ev = '\n'.join(events_for(Machine(p, u), R.choice([5, 30, 100, 300]))) + R.choice(['', '\n'])
     if R.random() < .1:
         k = R.randrange(len(ev) + 1); ev = ev[:k] + R.choice(['\n', ' ', 'x', '0', '-', '\r', '$', '34']) + ev[k + R.choice([0, 1]):]
-    return certified(['replay', '--units', str(u)] + R.choice([[], [], ['--emit', 'summary'], ['--emit', R.choice(TRACES)]]), t, c, ev)
+    return certified(['replay', '--units', str(u)] + R.choice([[], [], ['--emit', 'summary'], ['--emit', R.choice(STATES)]]) + R.choice(UNTIL), t, c, ev)
 while time.time() < end and SUBS: one()
 finish()

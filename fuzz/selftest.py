@@ -314,7 +314,7 @@ def threads(planted):
 def beside_the_model(planted):
     """fuzz.py, explain.py, picture.py and the others that are beside the model: another digit."""
     for name, needed in (("run in steps", "run steps"), ("run, trace", "run trace"), ("replay", "replay"), ("check --least", "check --least"), ("curve", "curve"),
-                         ("annotate, marks", "annotate marks"), ("run, JSON", "run json"), ("replay, JSON", "replay json"), ("run, waits", "run waits")):
+                         ("annotate, marks", "annotate marks"), ("run, JSON", "run json"), ("replay, JSON", "replay json"), ("replay, state", "replay state"), ("run, waits", "run waits")):
         with tempfile.TemporaryDirectory() as folder:
             done = subprocess.run([sys.executable, str(HERE / "fuzz.py"), planted.plant("digit", needed), "--seconds", str(20 * patience), "--seed", "1", "--max", "1",
                                    "--subs", needed.split()[0], "--out", f"{folder}/findings"], capture_output=True)

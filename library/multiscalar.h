@@ -100,7 +100,9 @@ typedef enum {
     MULTISCALAR_REPLAY_SUMMARY,
     MULTISCALAR_REPLAY_SVG,
     MULTISCALAR_REPLAY_TRACE,
-    MULTISCALAR_REPLAY_JSON
+    MULTISCALAR_REPLAY_JSON,
+    MULTISCALAR_REPLAY_PERFETTO,
+    MULTISCALAR_REPLAY_STATE
 } multiscalar_replay_emit;
 
 int multiscalar_replay(multiscalar_text program, multiscalar_text certificate, multiscalar_text script, uint32_t units,
@@ -120,7 +122,9 @@ typedef enum {
     MULTISCALAR_RUN_TRACE,
     MULTISCALAR_RUN_JSON,
     MULTISCALAR_RUN_SCRIPT_WITH_VALUES,
-    MULTISCALAR_RUN_WAITS
+    MULTISCALAR_RUN_WAITS,
+    MULTISCALAR_RUN_VCD,
+    MULTISCALAR_RUN_PERFETTO
 } multiscalar_run_emit;
 
 int multiscalar_run_in_steps(multiscalar_text program, multiscalar_text certificate, uint32_t units, uint32_t budget,

@@ -61,6 +61,8 @@ class ReplayEmit(IntEnum):
     SVG = 2
     TRACE = 3
     JSON = 4
+    PERFETTO = 5
+    STATE = 6
 
 
 class RunEmit(IntEnum):
@@ -74,6 +76,8 @@ class RunEmit(IntEnum):
     JSON = 5
     SCRIPT_WITH_VALUES = 6
     WAITS = 7
+    VCD = 8
+    PERFETTO = 9
 
 
 class CurveEmit(IntEnum):

@@ -46,6 +46,12 @@ class Calls(unittest.TestCase):
         self.assertEqual(multiscalar.replay(RIGHT, script.data, units=2).status, 0)
         waits = multiscalar.run_in_steps(RIGHT, units=2, emit=multiscalar.RunEmit.WAITS)
         self.assertEqual((waits.status, waits.text.splitlines()[-1]), (0, "       0  (all)"))
+        waveform = multiscalar.run_in_steps(RIGHT, units=2, emit=multiscalar.RunEmit.VCD)
+        self.assertEqual((waveform.status, waveform.text.splitlines()[0]), (0, "$version multiscalar $end"))
+        timeline = multiscalar.replay(RIGHT, script.data, units=2, emit=multiscalar.ReplayEmit.PERFETTO)
+        self.assertEqual((timeline.status, timeline.text[:17]), (0, '{"traceEvents":[{'))
+        state = multiscalar.replay(RIGHT, script.data, units=2, emit=multiscalar.ReplayEmit.STATE)
+        self.assertEqual((state.status, state.text.splitlines()[-2:]), (0, ["    unit 0, task A: at line 4", "        has: $8 = 5"]))
 
     def test_curve(self):
         self.assertEqual(multiscalar.curve(RIGHT, units=2, prediction=[0]).status, 0)

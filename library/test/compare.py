@@ -15,8 +15,8 @@ TOP = Path(__file__).resolve().parent.parent.parent
 PROGRAM, TEXTS = sys.argv[1], int(sys.argv[2])
 EMITS = {
     "annotate": (multiscalar.AnnotateEmit, ["text", "cert", "keep", "marks"]),
-    "replay": (multiscalar.ReplayEmit, ["answers", "summary", "svg", "trace", "json"]),
-    "run": (multiscalar.RunEmit, ["report", "script", "summary", "svg", "trace", "json", "script --with-values", "waits"]),
+    "replay": (multiscalar.ReplayEmit, ["answers", "summary", "svg", "trace", "json", "perfetto", "state"]),
+    "run": (multiscalar.RunEmit, ["report", "script", "summary", "svg", "trace", "json", "script --with-values", "waits", "vcd", "perfetto"]),
     "curve": (multiscalar.CurveEmit, ["table", "svg"]),
 }
 PREDICTIONS = {"first": multiscalar.FIRST, "last": multiscalar.LAST, "1,0": [1, 0]}

@@ -8,12 +8,12 @@ typedef struct {
     multiscalar_text program, certificate, script;
 } texts;
 
-#define JOBS 14
+#define JOBS 17
 
 static const char *const job_names[JOBS] = {
     "seq",     "print",        "annotate", "check --least", "check", "explain", "explain, SARIF", "run, JSON",
     "run, SVG", "replay, trace", "curve",    "curve, SVG",    "run, waits",
-    "demonstrate"};
+    "run, VCD", "run, Perfetto", "replay, state", "demonstrate"};
 
 static const multiscalar_prediction first = {MULTISCALAR_FIRST, NULL, 0};
 
@@ -48,6 +48,15 @@ static int do_job(const texts *it, int job, char **answer, size_t *length) {
     case 12:
         return multiscalar_run_in_steps(it->program, it->certificate, 16, 1000, first, MULTISCALAR_RUN_WAITS, answer,
                                         length);
+    case 13:
+        return multiscalar_run_in_steps(it->program, it->certificate, 16, 1000, first, MULTISCALAR_RUN_VCD, answer,
+                                        length);
+    case 14:
+        return multiscalar_run_in_steps(it->program, it->certificate, 16, 1000, first, MULTISCALAR_RUN_PERFETTO, answer,
+                                        length);
+    case 15:
+        return multiscalar_replay(it->program, it->certificate, it->script, 16, MULTISCALAR_REPLAY_STATE, answer,
+                                  length);
     default: return multiscalar_demonstrate(it->program, 4, 1000, answer, length);
     }
 }

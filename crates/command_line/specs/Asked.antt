@@ -27,7 +27,7 @@ use Rattle.jobs.specs.declared.job.Colors.{Colors}
 use Rattle.jobs.specs.declared.job.ReplayEmit.{ReplayEmit}
 use Rattle.jobs.specs.declared.job.ReplayEmit.TheVariants.{Answers}
 use Rattle.jobs.specs.declared.job.RunEmit.{RunEmit}
-use Rattle.jobs.specs.declared.job.RunEmit.TheVariants.{Script, ScriptWithValues, Waits}
+use Rattle.jobs.specs.declared.job.RunEmit.TheVariants.{Script, ScriptWithValues, Waits, Waveform}
 use Rattle.jobs.specs.declared.job.CurveEmit.{CurveEmit}
 use Rattle.jobs.specs.declared.job.Schedule.{Schedule}
 use Rattle.jobs.specs.declared.job.Schedule.TheVariants.{Steps}
@@ -86,13 +86,15 @@ with_values false emit = emit
 with_values true (Some Script) = Some ScriptWithValues
 with_values true other = None
 
--- `--emit waits` goes with `--schedule steps` alone
-abbrev pub waits_in_steps : Option Schedule → Option RunEmit
-waits_in_steps (Some Steps) = Some Waits
-waits_in_steps other = None
+-- what is written of a run in steps alone
+abbrev pub in_steps : RunEmit → Option Schedule → Option RunEmit
+in_steps emit (Some Steps) = Some emit
+in_steps emit other = None
 
+-- `--emit waits` and `--emit vcd` go with `--schedule steps` alone
 abbrev pub in_schedule : Option Schedule → Option RunEmit → Option RunEmit
-in_schedule schedule (Some Waits) = waits_in_steps schedule
+in_schedule schedule (Some Waits) = in_steps Waits schedule
+in_schedule schedule (Some Waveform) = in_steps Waveform schedule
 in_schedule schedule other = other
 
 abbrev pub emit_with_values : List Row → Option RunEmit
@@ -151,10 +153,10 @@ IsCheckMisfit values fault =
 abbrev pub IsNoValue : {V : Type 0} → Option V → UsageFault → Type 0
 IsNoValue value fault = IsOfKind kind.InvalidValue fault × (value ≡ None)
 
--- `--strict` is given, and something else is to be written, too
+-- `--strict` is given, and something else is to be written, or `--until` is given, too
 abbrev pub IsStrictMisfit : List Row → UsageFault → Type 0
 IsStrictMisfit values fault = IsOfKind kind.ArgumentConflict fault × (is_strict values ≡ true)
-    × IsSomeAnd (replay_emit_in values) (λ emit. emit ≢ Answers)
+    × IsSomeAnd (replay_emit_in values) (λ emit. (emit ≢ Answers) ⊎ IsSome (number_at (codes "until") values))
 
 -- a subcommand of this name with these values gives the job
 abbrev pub Gives : Text → List Row → Job → Type 0
@@ -170,11 +172,12 @@ Gives name values (Explain file certificate script warnings format colors) = (na
     × (colors_in values ≡ Some colors)
 Gives name values (Check source workers) = (name ≡ codes "check")
     × IsCheckSource values source × (number_at (codes "workers") values ≡ Some workers)
-Gives name values (Replay source units emit) = (name ≡ codes "replay") × IsSource (codes "script") values source
+Gives name values (Replay source units emit until) = (name ≡ codes "replay") × IsSource (codes "script") values source
     × (number_at (codes "units") values ≡ Some units) × (replay_emit_in values ≡ Some emit)
-    × (is_strict values ≡ false)
+    × (number_at (codes "until") values ≡ until) × (is_strict values ≡ false)
 Gives name values (ReplayStrictly source units) = (name ≡ codes "replay") × IsSource (codes "script") values source
-    × (number_at (codes "units") values ≡ Some units) × (replay_emit_in values ≡ Some Answers) × (is_strict values ≡ true)
+    × (number_at (codes "units") values ≡ Some units) × (replay_emit_in values ≡ Some Answers)
+    × (number_at (codes "until") values ≡ None) × (is_strict values ≡ true)
 Gives name values (Run source schedule units workers budget predict emit) = (name ≡ codes "run")
     × IsSource (codes "certificate") values source × (schedule_in values ≡ Some schedule)
     × (number_at (codes "units") values ≡ Some units)
@@ -278,6 +281,7 @@ Lacks name values = (is_name name ≡ false)
     ⊎ ((name ≡ codes "seq") × IsNoNumber 1000000 (number_at (codes "budget") values))
     ⊎ ((name ≡ codes "check") × IsNoNumber 16 (number_at (codes "workers") values))
     ⊎ ((name ≡ codes "replay") × IsNoNumber 16 (number_at (codes "units") values))
+    ⊎ ((name ≡ codes "replay") × IsOutside 1000000 (number_at (codes "until") values))
     ⊎ ((name ≡ codes "replay") × (first_of (codes "certificate") values ≡ None))
     ⊎ ((name ≡ codes "run") × IsNoNumber 16 (number_at (codes "units") values))
     ⊎ ((name ≡ codes "run") × IsOutside 16 (number_at (codes "workers") values))

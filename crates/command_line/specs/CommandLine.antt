@@ -94,6 +94,10 @@ in_place = flag (codes "in-place")
 abbrev pub valued : Rule
 valued = flag (codes "with-values")
 
+-- how many events of a script are played
+abbrev pub until : Rule
+until = free_number (codes "until") 1000000
+
 -- a script with expectations is judged
 abbrev pub strict : Rule
 strict = flag (codes "strict")
@@ -164,7 +168,7 @@ check = subcommand (codes "check") (program ∷ certificate_or_programs ∷ leas
 
 abbrev pub replay : Shape
 replay = subcommand (codes "replay") (program ∷ certificate ∷ free_script ∷ least ∷ units
-    ∷ word (codes "emit") (codes "answers") ∷ strict ∷ output ∷ [])
+    ∷ word (codes "emit") (codes "answers") ∷ until ∷ strict ∷ output ∷ [])
 
 abbrev pub run : Shape
 run = subcommand (codes "run") (program ∷ free_certificate ∷ least ∷ schedule ∷ units ∷ workers ∷ budget

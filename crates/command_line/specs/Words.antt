@@ -11,7 +11,7 @@ use Rattle.jobs.specs.declared.job.Format.TheVariants as format
 use Rattle.jobs.specs.declared.job.Colors.{Colors}
 use Rattle.jobs.specs.declared.job.Colors.TheVariants.{Auto, Always, Never}
 use Rattle.jobs.specs.declared.job.RunEmit.{RunEmit}
-use Rattle.jobs.specs.declared.job.RunEmit.TheVariants.{Report, Script, Summary, Picture, Trace, Json, Waits}
+use Rattle.jobs.specs.declared.job.RunEmit.TheVariants.{Report, Script, Summary, Picture, Trace, Json, Waits, Waveform, Timeline}
 use Rattle.jobs.specs.declared.job.ReplayEmit.{ReplayEmit}
 use Rattle.jobs.specs.declared.job.ReplayEmit.TheVariants as replay
 use Rattle.jobs.specs.declared.job.CurveEmit.{CurveEmit}
@@ -85,7 +85,9 @@ run_emit_of text =
     else (if bytes_eq text (codes "svg") then Some Picture
     else (if bytes_eq text (codes "trace") then Some Trace
     else (if bytes_eq text (codes "json") then Some Json
-    else (if bytes_eq text (codes "waits") then Some Waits else None))))))
+    else (if bytes_eq text (codes "waits") then Some Waits
+    else (if bytes_eq text (codes "vcd") then Some Waveform
+    else (if bytes_eq text (codes "perfetto") then Some Timeline else None))))))))
 
 -- the value of `--emit` of `replay`
 abbrev pub replay_emit_of : List ℕ → Option ReplayEmit
@@ -94,7 +96,9 @@ replay_emit_of text =
     else (if bytes_eq text (codes "summary") then Some replay.Summary
     else (if bytes_eq text (codes "svg") then Some replay.Picture
     else (if bytes_eq text (codes "trace") then Some replay.Trace
-    else (if bytes_eq text (codes "json") then Some replay.Json else None))))
+    else (if bytes_eq text (codes "json") then Some replay.Json
+    else (if bytes_eq text (codes "perfetto") then Some replay.Timeline
+    else (if bytes_eq text (codes "state") then Some replay.State else None))))))
 
 -- the value of `--emit` of `curve`
 abbrev pub curve_emit_of : List ℕ → Option CurveEmit

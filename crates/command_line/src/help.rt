@@ -202,7 +202,15 @@ status 1; or, with status 0,
 With `--emit summary` it writes a table instead of the answers and of how the run stands: that of
 `run --emit summary`, of the events that were allowed. With `--emit trace` it writes below each answer what
 the event changed, and with `--emit json` the same for machines, an object of JSON on each line. With
-`--least` it makes the certificate itself, that of `annotate --emit keep`.
+`--emit perfetto` it writes the allowed events as a timeline in JSON, which ui.perfetto.dev and other viewers of
+traces show.
+
+With `--emit state` it writes the words, what retired and how the run stands, and then of each unit where it
+stands, the registers that it has, that arrived and that it sent, and those that it waits for. For machines, the
+last line of `--emit json` says how the run, the oldest task's registers and the memory stand. With `--until N`
+only the first N events are played, and whatever is written is of these.
+
+With `--least` it makes the certificate itself, that of `annotate --emit keep`.
 
 For example:
   ./multiscalar replay --least --units 2 examples/count/program.s examples/count/script.events";
@@ -245,18 +253,23 @@ with how many steps the run took and how many instructions retired in them: how 
 tasks overlap. It is no model of the time of a processor.
 With `--emit waits` it writes why units waited, the most frequent first: in how many steps which task stood
 where, and needed which register, owed by which task, or had to be the head.
+With `--emit vcd` it writes how each unit stands in each step, and why it waits, as a value change dump, which
+viewers of waveforms show.
 
 With `--least` it makes the certificate itself, that of `annotate --emit keep`.
 
 With `--emit svg` it writes a picture of the run, a lane for each unit and a bar for each task on it. With
 `--emit trace` it writes each event and, below it, what it changed; with `--emit json` the same for machines,
-an object of JSON on each line.
+an object of JSON on each line. With `--emit perfetto` it writes the bars of the picture as a timeline in JSON,
+which ui.perfetto.dev and other viewers of traces show: by steps where the run goes in steps, else by events.
 
 For example:
   ./multiscalar run --least examples/count/program.s
   ./multiscalar run --least --emit svg examples/count/program.s > count.svg
+  ./multiscalar run --least --emit perfetto examples/count/program.s > count.json
   ./multiscalar run --least --schedule steps --emit summary examples/count/program.s
   ./multiscalar run --least --schedule steps --emit waits examples/count/program.s
+  ./multiscalar run --least --schedule steps --emit vcd examples/count/program.s > count.vcd
   ./multiscalar run --least --units 8 --predict last --emit summary examples/diamond/program.s";
 
 /// `curve`, in one line.
@@ -326,14 +339,17 @@ pub const NOT_IN_PLACE: &str =
 pub const REPLAY_EMIT: &str =
     "What is written: answers (what the machine says of each event, and how it then stands), summary
 (how often each task was assigned, and how that ended), svg (the allowed events as a picture), trace (each
-event with its answer and what it changed) or json (the same in JSON, an object on each line)";
+event with its answer and what it changed), json (the same in JSON, an object on each line), perfetto (a
+timeline for viewers of traces) or state (how the run and each unit stand at the end; the last line of json
+says it for machines)";
 
 /// `--emit` of `run`.
 pub const RUN_EMIT: &str =
     "What is written: report (the words that were put out, and how the run ended), script (the events
 of the run), summary (how often each task was assigned, and how that ended), svg (a picture), trace (each
-event with what it changed), json (the same in JSON, an object on each line) or, with --schedule steps, waits
-(in how many steps which task waited where, and for what)";
+event with what it changed), json (the same in JSON, an object on each line), perfetto (a timeline for viewers
+of traces) or, with --schedule steps, waits (in how many steps which task waited where, and for what) or vcd
+(how each unit stands in each step, for viewers of waveforms)";
 
 /// `--emit` of `curve`.
 pub const CURVE_EMIT: &str =
@@ -438,18 +454,27 @@ pub const NO_SCHEDULE: &str = "the value of --schedule is threads or steps";
 pub const WITH_VALUES: &str =
     "With --emit script: says of each event what it did, for replay --strict";
 
+/// `--until`.
+pub const UNTIL: &str = "Plays the first N events of the script alone, 1 to 1000000
+
+[default: all events]";
+
 /// `--strict`.
 pub const STRICT: &str = "Judges a script that says what its events must have done";
 
 /// Why `--strict` with another `--emit` gives no job.
 pub const STRICT_EMITS: &str = "with --strict there is no other --emit";
 
+/// Why `--strict` with `--until` gives no job.
+pub const STRICT_UNTIL: &str = "with --strict there is no --until";
+
 /// Why another value of `--emit` of `replay` gives no job.
-pub const NO_REPLAY_EMIT: &str = "the value of --emit is answers, summary, svg, trace or json";
+pub const NO_REPLAY_EMIT: &str =
+    "the value of --emit is answers, summary, svg, trace, json, perfetto or state";
 
 /// Why another value of `--emit` of `run` gives no job.
 pub const NO_RUN_EMIT: &str =
-    "the value of --emit is report, script, summary, svg, trace, json or, with --schedule steps, waits; --with-values goes with script";
+    "the value of --emit is report, script, summary, svg, trace, json, perfetto or, with --schedule steps, waits or vcd; --with-values goes with script";
 
 /// Why another value of `--emit` of `curve` gives no job.
 pub const NO_CURVE_EMIT: &str = "the value of --emit is table or svg";

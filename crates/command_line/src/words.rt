@@ -1,10 +1,10 @@
 //! From the words of a command line to a job.
-ghost use Rattle.std.specs.Prelude.{◌≡◌, ◌≢◌, ◌≤◌, ◌==◌, ◌&&◌, ◌⊎◌, IfErr, IfOk, IfSome, MatchOption, MatchResult, All, Some, None, true, false, if◌then◌else◌, map, length, option_map, option_and_then, is_none, unwrap_or, vec_len, [], codes};
+ghost use Rattle.std.specs.Prelude.{◌≡◌, ◌≢◌, ◌≤◌, ◌==◌, ◌&&◌, ◌⊎◌, IfErr, IfOk, IfSome, IsSome, MatchOption, MatchResult, All, Some, None, true, false, if◌then◌else◌, map, length, option_map, option_and_then, is_none, unwrap_or, vec_len, [], codes};
 ghost use Rattle.std.specs.String.{string_bytes};
 ghost use Rattle.std.specs.List.{slice_split};
 ghost use Rattle.clap.specs.Words.{first_of};
 ghost use Rattle.clap.specs.declared.error.kind.ErrorKind.TheVariants.{ArgumentConflict, InvalidValue, MissingSubcommand};
-ghost use Rattle.command_line.specs.Asked.{AskFor, IsCheckMisfit, IsCheckSource, IsFaultOf, IsFrom, IsLack, IsMisfit, IsNoNumber, IsNoValue, IsOutside, IsOfKind, IsSource, Reads, ReadsRequest, IsDestination, destination_in, is_in_place, is_given, is_strict, colors_in, curve_emit_in, fits_in_place, further_in, goes_together, emit_in, emit_with_values, format_in, in_schedule, number_at, predict_in, repeats, replay_emit_in, run_emit_in, schedule_in, values_at, values_in, waits_in_steps, with_values};
+ghost use Rattle.command_line.specs.Asked.{AskFor, IsCheckMisfit, IsCheckSource, IsFaultOf, IsFrom, IsLack, IsMisfit, IsNoNumber, IsNoValue, IsOutside, IsOfKind, IsSource, Reads, ReadsRequest, IsDestination, destination_in, is_in_place, is_given, is_strict, colors_in, curve_emit_in, fits_in_place, further_in, goes_together, emit_in, emit_with_values, format_in, in_schedule, number_at, predict_in, repeats, replay_emit_in, run_emit_in, schedule_in, in_steps, values_at, values_in, with_values};
 ghost use Rattle.command_line.specs.Words.{listed_number, listed_numbers, all_there, colors_of, curve_emit_of, emit_of, format_of, prediction_of, replay_emit_of, run_emit_of, schedule_of};
 ghost use Rattle.jobs.specs.Files.{HasFilesOf, is_in_file};
 ghost use Rattle.jobs.specs.declared.job.Job.TheVariants.{Replay, ReplayStrictly};
@@ -30,8 +30,8 @@ pub enum UsageFault {
     /// 1: the words are none of the program's, or ask for help or for the version; or there is neither a
     /// certificate nor `--least`, or both but for `check`, or `check` has two certificates; or the value of an
     /// option is none: of `--schedule` neither `threads` nor `steps`; of `--format` none of `text`, `sarif` and `json`;
-    /// of `--color` none of `auto`, `always` and `never`; of `--emit` for `replay` none of `answers`, `summary`, `svg`, `trace` and `json`, for `run` none of `report`,
-    /// `script`, `summary`, `svg`, `trace` and `json`, for `curve` neither `table` nor `svg`; of `--predict` for
+    /// of `--color` none of `auto`, `always` and `never`; of `--emit` for `replay` none of `answers`, `summary`, `svg`, `trace`, `json`, `perfetto` and `state`, for `run` none of `report`,
+    /// `script`, `summary`, `svg`, `trace`, `json`, `perfetto` and, in steps, `waits` and `vcd`, for `curve` neither `table` nor `svg`; of `--predict` for
     /// `curve` as below; or `--in-place` stands beside `--output` or a certificate that is to be written, or the
     /// program is standard input; or there are several programs beside a file for the result, `--certificate`,
     /// `--script` or a log for machines. The fault is `clap`'s, with its text.
@@ -577,38 +577,79 @@ fn read_replay(alloc: Global, values: &ArgMatches<'_>) -> Result<(Job, Paths), U
     let certificate = read_source(alloc, "replay", values, "script")?;
     let units = read_units(alloc, values)?;
     let emit = replay_emit(alloc, values)?;
-    let job = replay_of(alloc, values, certificate, units, emit)?;
+    let until = read_until(alloc, values)?;
+    let job = replay_of(alloc, values, certificate, units, emit, until)?;
     Ok((job, replayed_paths(alloc, values, certificate)?))
 }
 
-// The job of `replay`: with `--strict` nothing but the verdict is written.
+// How many events are played, if not all.
+fn read_until(alloc: Global, values: &ArgMatches<'_>) -> Result<Option<Budget>, UsageFault>
+    ensures { MatchResult result (λ u. number_at (codes "until") (values_in values.now) ≡ u)
+        (IsLack (IsOutside 1000000 (number_at (codes "until") (values_in values.now)))) }
+{
+    match number(values, "until") {
+        None => Ok(None),
+        Some(most) => match Budget::new(most) {
+            Some(until) => Ok(Some(until)),
+            None => Err(no_job(alloc)),
+        },
+    }
+}
+
+// The job of `replay`.
 fn replay_of(
     alloc: Global,
     values: &ArgMatches<'_>,
     certificate: CertificateSource,
     units: Units,
     emit: ReplayEmit,
+    until: Option<Budget>,
 ) -> Result<Job, UsageFault>
     ensures { MatchResult result
-        (λ job. ((is_strict (values_in values.now) ≡ false) × (job ≡ Replay certificate units emit))
-        ⊎ ((is_strict (values_in values.now) ≡ true) × (emit ≡ Answers) × (job ≡ ReplayStrictly certificate units)))
-        (λ fault. IsOfKind ArgumentConflict fault × (is_strict (values_in values.now) ≡ true) × (emit ≢ Answers)) }
+        (λ job. ((is_strict (values_in values.now) ≡ false) × (job ≡ Replay certificate units emit until))
+        ⊎ ((is_strict (values_in values.now) ≡ true) × (emit ≡ Answers) × (until ≡ None) × (job ≡ ReplayStrictly certificate units)))
+        (λ fault. IsOfKind ArgumentConflict fault × (is_strict (values_in values.now) ≡ true) × ((emit ≢ Answers) ⊎ IsSome until)) }
 {
-    if !is_given(values, "strict") {
-        return Ok(Job::Replay {
+    if is_given(values, "strict") {
+        strict_replay_of(alloc, certificate, units, emit, until)
+    } else {
+        Ok(Job::Replay {
             certificate,
             units,
             emit,
-        });
+            until,
+        })
     }
+}
+
+// The job of `replay --strict`: nothing but the verdict is written, and it is of the whole script.
+fn strict_replay_of(
+    alloc: Global,
+    certificate: CertificateSource,
+    units: Units,
+    emit: ReplayEmit,
+    until: Option<Budget>,
+) -> Result<Job, UsageFault>
+    ensures { MatchResult result
+        (λ job. (emit ≡ Answers) × (until ≡ None) × (job ≡ ReplayStrictly certificate units))
+        (λ fault. IsOfKind ArgumentConflict fault × ((emit ≢ Answers) ⊎ IsSome until)) }
+{
+    match why_not_strict(emit, until) {
+        Some(message) => Err(fault_of_kind(alloc, "replay", ErrorKind::ArgumentConflict, message)),
+        None => Ok(Job::ReplayStrictly { certificate, units }),
+    }
+}
+
+// Why `--strict` cannot be meant, if it cannot.
+fn why_not_strict(emit: ReplayEmit, until: Option<Budget>) -> Option<&'static str>
+    ensures { MatchOption result ((emit ≡ Answers) × (until ≡ None)) (λ message. (emit ≢ Answers) ⊎ IsSome until) }
+{
     match emit {
-        ReplayEmit::Answers => Ok(Job::ReplayStrictly { certificate, units }),
-        _ => Err(fault_of_kind(
-            alloc,
-            "replay",
-            ErrorKind::ArgumentConflict,
-            help::STRICT_EMITS,
-        )),
+        ReplayEmit::Answers => match until {
+            None => None,
+            Some(_) => Some(help::STRICT_UNTIL),
+        },
+        _ => Some(help::STRICT_EMITS),
     }
 }
 
@@ -772,22 +813,23 @@ fn emit_with_values(values: &ArgMatches<'_>) -> Option<RunEmit>
     with_values(is_given(values, "with-values"), emit)
 }
 
-// What is written of a run with this schedule: the waits of a run in steps alone.
+// What is written of a run with this schedule: the waits and the waveform of a run in steps alone.
 fn in_schedule(schedule: Option<Schedule>, emit: Option<RunEmit>) -> Option<RunEmit>
     ensures { result ≡ in_schedule schedule emit }
 {
     match emit {
-        Some(RunEmit::Waits) => waits_in_steps(schedule),
+        Some(RunEmit::Waits) => in_steps(RunEmit::Waits, schedule),
+        Some(RunEmit::Waveform) => in_steps(RunEmit::Waveform, schedule),
         _ => emit,
     }
 }
 
-// The waits, where the run goes in steps.
-fn waits_in_steps(schedule: Option<Schedule>) -> Option<RunEmit>
-    ensures { result ≡ waits_in_steps schedule }
+// What is written, where the run goes in steps.
+fn in_steps(emit: RunEmit, schedule: Option<Schedule>) -> Option<RunEmit>
+    ensures { result ≡ in_steps emit schedule }
 {
     match schedule {
-        Some(Schedule::Steps) => Some(RunEmit::Waits),
+        Some(Schedule::Steps) => Some(emit),
         _ => None,
     }
 }
@@ -921,6 +963,8 @@ fn read_replay_emit(text: &str) -> Option<ReplayEmit>
         "svg" => Some(ReplayEmit::Picture),
         "trace" => Some(ReplayEmit::Trace),
         "json" => Some(ReplayEmit::Json),
+        "perfetto" => Some(ReplayEmit::Timeline),
+        "state" => Some(ReplayEmit::State),
         _ => None,
     }
 }
@@ -937,6 +981,8 @@ fn read_run_emit(text: &str) -> Option<RunEmit>
         "trace" => Some(RunEmit::Trace),
         "json" => Some(RunEmit::Json),
         "waits" => Some(RunEmit::Waits),
+        "vcd" => Some(RunEmit::Waveform),
+        "perfetto" => Some(RunEmit::Timeline),
         _ => None,
     }
 }

@@ -16,7 +16,7 @@ is_in_file Least = false
 abbrev pub has_certificate : Job → Bool
 has_certificate (Explain name certificate script warnings format colors) = is_some certificate
 has_certificate (Check source workers) = is_in_file source
-has_certificate (Replay source units emit) = is_in_file source
+has_certificate (Replay source units emit until) = is_in_file source
 has_certificate (ReplayStrictly source units) = is_in_file source
 has_certificate (Run source schedule units workers budget predict emit) = is_in_file source
 has_certificate (Curve source units budget predict emit) = is_in_file source
@@ -25,7 +25,7 @@ has_certificate _ = false
 -- the job has an event script
 abbrev pub has_script : Job → Bool
 has_script (Explain name certificate script warnings format colors) = is_some script
-has_script (Replay source units emit) = true
+has_script (Replay source units emit until) = true
 has_script (ReplayStrictly source units) = true
 has_script _ = false
 

@@ -66,6 +66,10 @@ pub enum RunEmit {
     Json,
     /// In how many steps which task waited where, and for what: of a run in steps.
     Waits,
+    /// What each unit does in each step, as a value change dump: of a run in steps.
+    Waveform,
+    /// The tasks on each unit as a timeline, in the JSON that viewers of traces read.
+    Timeline,
 }
 
 /// What `replay` writes of a script.
@@ -81,6 +85,10 @@ pub enum ReplayEmit {
     Trace,
     /// The same in JSON, an object on each line, for machines.
     Json,
+    /// The events that were allowed as a timeline, in the JSON that viewers of traces read.
+    Timeline,
+    /// How the machine stands after the events, and each of its units.
+    State,
 }
 
 /// How `curve` lays out what its runs come to.
@@ -145,11 +153,12 @@ pub enum Job {
         certificate: CertificateSource,
         workers: Workers,
     },
-    /// Applies the events of a script to a machine of this many units.
+    /// Applies the events of a script to a machine of this many units: all, or the first so many.
     Replay {
         certificate: CertificateSource,
         units: Units,
         emit: ReplayEmit,
+        until: Option<Budget>,
     },
     /// Applies the events of a script with expectations to a machine of this many units, up to the first that is not allowed
     /// or does not do what is expected.

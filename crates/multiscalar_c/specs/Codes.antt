@@ -31,11 +31,11 @@ formats = format.Text ∷ format.Sarif ∷ format.Json ∷ []
 
 -- what `run` writes, from 0 on
 abbrev pub run_emits : List RunEmit
-run_emits = run.Report ∷ run.Script ∷ run.Summary ∷ run.Picture ∷ run.Trace ∷ run.Json ∷ run.ScriptWithValues ∷ run.Waits ∷ []
+run_emits = run.Report ∷ run.Script ∷ run.Summary ∷ run.Picture ∷ run.Trace ∷ run.Json ∷ run.ScriptWithValues ∷ run.Waits ∷ run.Waveform ∷ run.Timeline ∷ []
 
 -- what `replay` writes, from 0 on
 abbrev pub replay_emits : List ReplayEmit
-replay_emits = replay.Answers ∷ replay.Summary ∷ replay.Picture ∷ replay.Trace ∷ replay.Json ∷ []
+replay_emits = replay.Answers ∷ replay.Summary ∷ replay.Picture ∷ replay.Trace ∷ replay.Json ∷ replay.Timeline ∷ replay.State ∷ []
 
 -- what `curve` writes, from 0 on
 abbrev pub curve_emits : List CurveEmit

@@ -43,11 +43,11 @@ pub record ReplayTakes (units emit : ℕ) : Type 0 where
   pub machine : IsUnits units
   pub written : IsSome (slice_get replay_emits emit)
 
--- what `replay` writes
+-- what `replay` writes of all events
 abbrev pub IsReplayed : (is_least : Bool) → (units emit : ℕ) → (program certificate script : List ℕ) → Report → Type 0
 IsReplayed is_least units emit program certificate script report =
     IfSome (slice_get replay_emits emit) (λ emit. OfCertificate (source_of is_least) program certificate (λ certificate.
-    report ≡ replay_text emit units program certificate script))
+    report ≡ replay_text emit units None program certificate script))
 
 -- what `replay --strict` writes
 abbrev pub IsReplayedStrictly : (is_least : Bool) → (units : ℕ) → (program certificate script : List ℕ) → Report → Type 0

@@ -57,6 +57,8 @@ pub(crate) fn run_emit(code: u32) -> Option<RunEmit>
         5 => Some(RunEmit::Json),
         6 => Some(RunEmit::ScriptWithValues),
         7 => Some(RunEmit::Waits),
+        8 => Some(RunEmit::Waveform),
+        9 => Some(RunEmit::Timeline),
         _ => None,
     }
 }
@@ -71,6 +73,8 @@ pub(crate) fn replay_emit(code: u32) -> Option<ReplayEmit>
         2 => Some(ReplayEmit::Picture),
         3 => Some(ReplayEmit::Trace),
         4 => Some(ReplayEmit::Json),
+        5 => Some(ReplayEmit::Timeline),
+        6 => Some(ReplayEmit::State),
         _ => None,
     }
 }

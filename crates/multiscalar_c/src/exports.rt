@@ -173,7 +173,8 @@ fn explain_of(
 }
 
 /// `replay`: plays a script of events on a machine of this many units, 1..=16. `emit` is 0 for the answers, 1 for
-/// the summary, 2 for the picture, 3 for the trace, 4 for lines of JSON.
+/// the summary, 2 for the picture, 3 for the trace, 4 for lines of JSON, 5 for the timeline, 6 for how the machine and
+/// its units stand.
 #[unsafe(no_mangle)]
 pub extern "C" fn multiscalar_c_replay(
     alloc: Global,
@@ -206,7 +207,7 @@ fn replay_of(
     let units = Units::new(units).ok_or(Fault::Range)?;
     let emit = codes::replay_emit(emit).ok_or(Fault::Range)?;
     let texts = texts(alloc, program, certificate, script)?;
-    Ok(replay(alloc, codes::source(is_least), units, emit, &texts)?)
+    Ok(replay(alloc, codes::source(is_least), units, emit, None, &texts)?)
 }
 
 /// `replay --strict`: judges a script with expectations on a machine of this many units, 1..=16.
@@ -245,7 +246,8 @@ fn replay_strictly_of(
 /// `run --schedule steps`: runs the program in steps on this many units, 1..=16, until it ends or `budget` events,
 /// 1..=1,000,000, are spent. `predict` is 0 for the first target, 1 for the last, 2 for those at the positions of
 /// the list: 1 to 64 numbers, each 0..=15. `emit` is 0 for the output words and the end, 1 for the script, 2 for the
-/// summary, 3 for the picture, 4 for the trace, 5 for lines of JSON, 6 for the script with what each event did.
+/// summary, 3 for the picture, 4 for the trace, 5 for lines of JSON, 6 for the script with what each event did, 7 for
+/// the table of waits, 8 for the waveform, 9 for the timeline.
 #[unsafe(no_mangle)]
 pub extern "C" fn multiscalar_c_run_steps(
     alloc: Global,

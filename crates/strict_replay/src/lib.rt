@@ -8,6 +8,7 @@ pub mod laws;
 mod meeting;
 mod reading;
 pub mod replaying;
+pub mod stand;
 mod text;
 pub mod unmet;
 pub mod writing;

@@ -19,6 +19,7 @@ enum Wanted {
     Explain(WantedExplain),
     Check(CertificateSource, u32),
     Replay(CertificateSource, u32, ReplayEmit),
+    ReplayUntil(CertificateSource, u32, ReplayEmit, u32),
     ReplayStrictly(CertificateSource, u32),
     Run(WantedRun),
     Curve(CertificateSource, u32, u32, Wanting, CurveEmit),
@@ -132,7 +133,11 @@ impl Wanted {
                 certificate,
                 units,
                 emit,
-            } => Wanted::Replay(*certificate, units.get(), *emit),
+                until,
+            } => match until {
+                None => Wanted::Replay(*certificate, units.get(), *emit),
+                Some(most) => { Wanted::ReplayUntil(*certificate, units.get(), *emit, most.get()) }
+            },
             Job::ReplayStrictly { certificate, units } => {
                 Wanted::ReplayStrictly(*certificate, units.get())
             }
@@ -175,6 +180,8 @@ impl Wanted {
         match self {
             Wanted::Replay(Least, ..) => ("", "a.events"),
             Wanted::Replay(File, ..) => ("a.cert", "a.events"),
+            Wanted::ReplayUntil(Least, ..) => ("", "a.events"),
+            Wanted::ReplayUntil(File, ..) => ("a.cert", "a.events"),
             Wanted::ReplayStrictly(Least, _) => ("", "a.events"),
             Wanted::ReplayStrictly(File, _) => ("a.cert", "a.events"),
             Wanted::Check(File, _) => ("a.cert", ""),
@@ -195,7 +202,7 @@ fn is_named(file: &Option<String>, name: &str) -> bool {
 }
 
 // Words that give a job of the program `a.s`.
-const JOBS: [(&str, Wanted); 36] = [
+const JOBS: [(&str, Wanted); 38] = [
     ("seq a.s", Wanted::Seq(1_000_000)),
     ("seq --budget 17 a.s", Wanted::Seq(17)),
     ("print a.s", Wanted::Print),
@@ -297,6 +304,14 @@ const JOBS: [(&str, Wanted); 36] = [
         "replay a.s a.cert a.events --emit json",
         Wanted::Replay(File, 4, ReplayEmit::Json),
     ),
+    (
+        "replay a.s --until 7 a.cert --emit state a.events",
+        Wanted::ReplayUntil(File, 4, ReplayEmit::State, 7),
+    ),
+    (
+        "replay --least --until 1000000 a.s --emit perfetto a.events",
+        Wanted::ReplayUntil(Least, 4, ReplayEmit::Timeline, 1_000_000),
+    ),
     ("annotate a.s", Wanted::Annotate(Emit::Text)),
     ("annotate --emit text a.s", Wanted::Annotate(Emit::Text)),
     ("annotate a.s --emit cert", Wanted::Annotate(Emit::Cert)),
@@ -325,7 +340,7 @@ const JOBS: [(&str, Wanted); 36] = [
 ];
 
 // Words of `run`.
-const RUNS: [(&str, WantedRun); 15] = [
+const RUNS: [(&str, WantedRun); 17] = [
     ("run a.s a.cert", PLAIN_RUN),
     (
         "run --least a.s",
@@ -413,6 +428,22 @@ const RUNS: [(&str, WantedRun); 15] = [
         WantedRun {
             schedule: Schedule::Steps,
             emit: RunEmit::Waits,
+            ..PLAIN_RUN
+        },
+    ),
+    (
+        "run --emit vcd a.s a.cert --schedule steps",
+        WantedRun {
+            schedule: Schedule::Steps,
+            emit: RunEmit::Waveform,
+            ..PLAIN_RUN
+        },
+    ),
+    (
+        "run --least a.s --emit perfetto",
+        WantedRun {
+            certificate: Least,
+            emit: RunEmit::Timeline,
             ..PLAIN_RUN
         },
     ),

@@ -44,8 +44,8 @@ IsReportOf (Explain name certificate script warnings format colors) texts report
     texts.program.items texts.certificate texts.script.items report
 IsReportOf (Check source workers) texts report =
     OfCertificate source texts.program.items texts.certificate (λ certificate. report ≡ check_text texts.program.items certificate)
-IsReportOf (Replay source units emit) texts report =
-    OfCertificate source texts.program.items texts.certificate (λ certificate. report ≡ replay_text emit units texts.program.items certificate texts.script.items)
+IsReportOf (Replay source units emit until) texts report =
+    OfCertificate source texts.program.items texts.certificate (λ certificate. report ≡ replay_text emit units until texts.program.items certificate texts.script.items)
 IsReportOf (ReplayStrictly source units) texts report =
     OfCertificate source texts.program.items texts.certificate (λ certificate. report ≡ strict_text units texts.program.items certificate texts.script.items)
 IsReportOf (Run source schedule units workers budget predict emit) texts report =

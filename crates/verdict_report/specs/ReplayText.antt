@@ -1,6 +1,6 @@
 -- The text of `replay`: what a machine answers to each event of a script, and how it then stands; or what
 -- the tasks came to that the script assigned (own choice).
-use Rattle.std.specs.Prelude.{ℕ, List, [], ◌∷◌, ◌++◌, Result, Ok, Err, codes, flat_map}
+use Rattle.std.specs.Prelude.{ℕ, List, [], ◌∷◌, ◌++◌, Option, None, Some, Result, Ok, Err, codes, flat_map, take}
 use Rattle.std.specs.List.{enumerate_from}
 use Rattle.std.specs.Fmt.{decimal}
 use Rattle.task_descriptor.specs.Listing.{Listing}
@@ -14,9 +14,12 @@ use Rattle.event_script.specs.EventScript.{script_of}
 use Rattle.task_lives.specs.Lives.{lives_of}
 use Rattle.run_summary.specs.SummaryText.{summary_text}
 use Rattle.run_picture.specs.Picture.{picture_text}
+use Rattle.run_timeline.specs.Timeline.{timeline_text}
+use Rattle.run_timeline.specs.declared.clock.Clock.TheVariants as clock
 use Rattle.event_trace.specs.Entries.{places_of}
 use Rattle.event_trace.specs.Trace.{trace_text}
 use Rattle.event_json.specs.Json.{json_text}
+use Rattle.strict_replay.specs.StandText.{stand_text}
 use Rattle.jobs.specs.declared.job.ReplayEmit.{ReplayEmit}
 use Rattle.jobs.specs.declared.job.ReplayEmit.TheVariants as emit
 use Rattle.report_texts.specs.OutputTexts.{Report}
@@ -50,13 +53,16 @@ allowed (event ∷ events) (Err refusal ∷ answers) = allowed events answers
 
 -- what is written of events that were played: the answers, and how the machine stands; or what the tasks
 -- came to that the allowed events assigned, as `run` sums them up; or a picture of the allowed events; or
--- the trace of the events, by the lines of the program text, or the same in JSON
+-- the trace of the events, by the lines of the program text, or the same in JSON; or a timeline of the allowed
+-- events; or how the machine stands, and its units
 abbrev pub played_text : ReplayEmit → (units : ℕ) → (text : List ℕ) → Listing → List Event → Played → List ℕ
 played_text emit.Answers units text p events played = answers_text played.answers ++ machine_text played.state
 played_text emit.Summary units text p events played = summary_text p (lives_of units (allowed events played.answers))
 played_text emit.Picture units text p events played = picture_text p units (allowed events played.answers)
 played_text emit.Trace units text p events played = trace_text p (places_of text) units events
 played_text emit.Json units text p events played = json_text p (places_of text) units events
+played_text emit.Timeline units text p events played = timeline_text p units clock.Events (allowed events played.answers)
+played_text emit.State units text p events played = machine_text played.state ++ stand_text p (places_of text) played.state
 
 -- what `replay` writes of the events of a script, where an event that is refused changes nothing
 abbrev pub events_report : ReplayEmit → (units : ℕ) → (text : List ℕ) → Listing → List Event → Report
@@ -67,14 +73,19 @@ events_report emitted units text p events =
       status = standing_status played.state.outcome;
     }
 
-abbrev pub script_read : ReplayEmit → (units : ℕ) → (text : List ℕ) → Listing → Result (List Event) ScriptFault → Report
-script_read emitted units text p (Ok events) = events_report emitted units text p events
-script_read emitted units text p (Err fault) = script_refused fault
+-- the events that are played: all, or the first so many
+abbrev pub first_events : (until : Option ℕ) → List Event → List Event
+first_events None events = events
+first_events (Some most) events = take most events
+
+abbrev pub script_read : ReplayEmit → (units : ℕ) → (until : Option ℕ) → (text : List ℕ) → Listing → Result (List Event) ScriptFault → Report
+script_read emitted units until text p (Ok events) = events_report emitted units text p (first_events until events)
+script_read emitted units until text p (Err fault) = script_refused fault
 
 -- what `replay` writes of the text of a program in which nothing is found, and the text of a script
-abbrev pub script_report : ReplayEmit → (units : ℕ) → (text script : List ℕ) → Listing → Report
-script_report emitted units text script p = script_read emitted units text p (script_of p script)
+abbrev pub script_report : ReplayEmit → (units : ℕ) → (until : Option ℕ) → (text script : List ℕ) → Listing → Report
+script_report emitted units until text script p = script_read emitted units until text p (script_of p script)
 
 -- what `replay` writes of a program text, the text of its certificate and the text of a script
-abbrev pub replay_text : ReplayEmit → (units : ℕ) → (program certificate script : List ℕ) → Report
-replay_text emitted units program certificate script = judged (script_report emitted units program script) program certificate
+abbrev pub replay_text : ReplayEmit → (units : ℕ) → (until : Option ℕ) → (program certificate script : List ℕ) → Report
+replay_text emitted units until program certificate script = judged (script_report emitted units until program script) program certificate

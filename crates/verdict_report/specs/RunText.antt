@@ -13,9 +13,13 @@ use Rattle.event_script.specs.ScriptText.{script_text}
 use Rattle.task_lives.specs.Lives.{lives_of}
 use Rattle.run_summary.specs.SummaryText.{summary_text}
 use Rattle.run_picture.specs.Picture.{picture_text}
+use Rattle.run_timeline.specs.Timeline.{timeline_text}
+use Rattle.run_timeline.specs.declared.clock.Clock.{Clock}
+use Rattle.run_timeline.specs.declared.clock.Clock.TheVariants as clock
 use Rattle.event_trace.specs.Entries.{places_of}
 use Rattle.event_trace.specs.Trace.{trace_text}
 use Rattle.wait_table.specs.TableText.{waits_text}
+use Rattle.run_waveform.specs.Waveform.{waveform_text}
 use Rattle.event_json.specs.Json.{json_text}
 use Rattle.threaded_runner.specs.declared.report.How.{How}
 use Rattle.threaded_runner.specs.declared.report.How.TheVariants.{Ended, OutOfBudget}
@@ -80,9 +84,14 @@ abbrev pub steps_text : Option ℕ → State → List ℕ
 steps_text None s = []
 steps_text (Some count) s = codes "steps " ++ (decimal count ++ (codes ", retired instructions " ++ (decimal (count_c s) ++ 10 ∷ [])))
 
+-- the clock of a run: its steps, if it went in steps, or else its events
+abbrev pub clock_of : Option ℕ → Clock
+clock_of None = clock.Events
+clock_of (Some count) = clock.Steps
+
 -- what is written of a run: its end; its history as a script, which is read as that history; or what the
 -- tasks that it assigned came to, and its steps; or a picture of its history; or the trace of its history, by
--- the lines of the program text, or the same in JSON; or the table of its waits
+-- the lines of the program text, or the same in JSON; or the table of its waits, its waveform or its timeline
 abbrev pub IsWrittenOf : RunEmit → (units : ℕ) → (text : List ℕ) → Listing → Run → List ℕ → Type 0
 IsWrittenOf emit.Report units text p run bytes = bytes ≡ ending_text run.how run.state
 IsWrittenOf emit.Script units text p run bytes = (bytes ≡ script_text p run.history) × (script_of p bytes ≡ Ok run.history)
@@ -92,6 +101,8 @@ IsWrittenOf emit.Picture units text p run bytes = bytes ≡ picture_text p units
 IsWrittenOf emit.Trace units text p run bytes = bytes ≡ trace_text p (places_of text) units run.history
 IsWrittenOf emit.Json units text p run bytes = bytes ≡ json_text p (places_of text) units run.history
 IsWrittenOf emit.Waits units text p run bytes = bytes ≡ waits_text p (places_of text) units run.history
+IsWrittenOf emit.Waveform units text p run bytes = bytes ≡ waveform_text p units run.history
+IsWrittenOf emit.Timeline units text p run bytes = bytes ≡ timeline_text p units (clock_of run.steps) run.history
 
 -- the report of some run of a program in which nothing is found, and which this text spells
 pub record IsRunReport (schedule : Schedule) (units budget : ℕ) (predict : Prediction) (emitted : RunEmit) (text : List ℕ) (p : Listing) (report : Report) : Type 0 where

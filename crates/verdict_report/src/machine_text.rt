@@ -5,6 +5,7 @@ ghost use Rattle.sequencer.specs.Machines.{state, units_of};
 ghost use Rattle.task_lives.specs.Lives.{lives_of};
 ghost use Rattle.run_summary.specs.SummaryText.{summary_text};
 ghost use Rattle.run_picture.specs.Picture.{picture_text};
+ghost use Rattle.run_timeline.specs.Timeline.{timeline_text};
 ghost use Rattle.event_trace.specs.Entries.{places_of};
 ghost use Rattle.event_trace.specs.Trace.{trace_text};
 ghost use Rattle.event_json.specs.Json.{json_text};
@@ -17,6 +18,8 @@ use machine_events::event::{Event, Standing};
 use mark_checker::accept::Accepted;
 use report_texts::plain_text::write_words;
 use run_picture::drawing::draw;
+use run_timeline::clock::Clock;
+use run_timeline::timeline::timeline;
 use sequencer::machine::Machine;
 use std::alloc::{AllocError, Global};
 use task_descriptor::program::Program;
@@ -85,6 +88,23 @@ pub fn picture_of(
     histories_fit();
     let picture = draw(alloc, program, units.get(), machine.history())?;
     Ok(picture.into_bytes())
+}
+
+/// The history of a machine of so many units, which runs this program, as a timeline by a clock.
+pub fn timeline_of(
+    alloc: Global,
+    units: Units,
+    clock: Clock,
+    machine: &Machine<'_>,
+    program: &Program,
+) -> Result<Vec<u8>, AllocError>
+    requires over { machine.now.accepted.program ≡ program.now }
+    requires units { units_of machine.now ≡ units }
+    ensures { IfOk result (λ bytes. bytes.items ≡ timeline_text program.now units clock machine.now.history) }
+{
+    histories_fit();
+    let timeline = timeline(alloc, program, units.get(), clock, machine.history())?;
+    Ok(timeline.into_bytes())
 }
 
 /// The trace of some events on a machine of so many units at the start of an accepted program with this text.

@@ -1,47 +1,52 @@
 //! The job `replay`.
-ghost use Rattle.std.specs.Prelude.{◌≡◌, ◌++◌, List, [], ◌∷◌, Result, IfOk};
+ghost use Rattle.std.specs.Prelude.{◌≡◌, ◌++◌, List, [], ◌∷◌, Result, IfOk, take};
 ghost use Rattle.machine_model.specs.Answer.{play, play_event};
 ghost use Rattle.machine_model.specs.Machine.{opening};
 ghost use Rattle.machine_events.specs.declared.event.Refused.{Refused};
 ghost use Rattle.sequencer.specs.Machines.{SameRing, state, units_of};
+ghost use Rattle.event_trace.specs.Entries.{places_of};
 ghost use Rattle.report_texts.specs.CertificateTexts.{OfCertificate};
+ghost use Rattle.strict_replay.specs.StandText.{stand_text};
 ghost use Rattle.verdict_report.specs.MachineText.{machine_text};
 ghost use Rattle.verdict_report.specs.Playing.{played_so_far};
-ghost use Rattle.verdict_report.specs.ReplayText.{allowed, answers_text, events_report, played_text, replay_text, script_report};
+ghost use Rattle.verdict_report.specs.ReplayText.{allowed, answers_text, events_report, first_events, played_text, replay_text, script_report};
 
 use crate::event_text::{refused_script, write_answers};
 use crate::machine_text::{
-    lines_of, picture_of, standing_status_of, summary_of, trace_of, write_machine,
+    lines_of, picture_of, standing_status_of, summary_of, timeline_of, trace_of, write_machine,
 };
 use event_script::fault::ScriptFault;
 use event_script::reading::read;
 use jobs::job::{CertificateSource, ReplayEmit, Texts};
-use jobs::ranges::Units;
+use jobs::ranges::{Budget, Units};
 use machine_events::event::{Event, Refused};
 use machine_model::laws::next_is_after;
 use mark_checker::accept::Accepted;
 use report_texts::judging::{Judged, judge};
 use report_texts::report::Report;
+use run_timeline::clock::Clock;
 use sequencer::machine::{Machine, MachineFault};
 use std::alloc::{AllocError, Global};
+use strict_replay::stand::stand;
 
 /// What `replay` writes of a program text, the text of its certificate and the text of a script, on a
-/// machine of so many units.
+/// machine of so many units: of all events, or of the first so many.
 pub fn replay(
     alloc: Global,
     source: CertificateSource,
     units: Units,
     emit: ReplayEmit,
+    until: Option<Budget>,
     texts: &Texts,
 ) -> Result<Report, AllocError>
     ensures { IfOk result (λ report. OfCertificate source texts.now.program.items texts.now.certificate (λ certificate.
-        report ≡ replay_text emit units texts.now.program.items certificate texts.now.script.items)) }
+        report ≡ replay_text emit units until texts.now.program.items certificate texts.now.script.items)) }
 {
     match judge(alloc, source, texts)? {
         Judged::Refused(report) => Ok(report),
         Judged::Accepted(accepted) => {
             let text = texts.program.as_slice();
-            replay_script(alloc, units, emit, text, &accepted, &texts.script)
+            replay_script(alloc, units, emit, until, text, &accepted, &texts.script)
         }
     }
 }
@@ -51,17 +56,38 @@ fn replay_script(
     alloc: Global,
     units: Units,
     emit: ReplayEmit,
+    until: Option<Budget>,
     text: &[u8],
     accepted: &Accepted,
     script: &[u8],
 ) -> Result<Report, AllocError>
-    ensures { IfOk result (λ report. report ≡ script_report emit units text.now script.now accepted.now.program) }
+    ensures { IfOk result (λ report. report ≡ script_report emit units until text.now script.now accepted.now.program) }
 {
     match read(alloc, script, accepted.program()) {
-        Ok(events) => replay_events(alloc, units, emit, text, accepted, events.as_slice()),
+        Ok(events) => {
+            let played = first_events(events.as_slice(), until);
+            replay_events(alloc, units, emit, text, accepted, played)
+        }
         Err(ScriptFault::OutOfMemory) => Err(AllocError),
         Err(fault) => refused_script(alloc, fault),
     }
+}
+
+// The events that are played.
+fn first_events(events: &[Event], until: Option<Budget>) -> &[Event]
+    ensures { result.now ≡ first_events until events.now }
+{
+    match until {
+        None => events,
+        Some(most) => first_of(events, most.get() as usize),
+    }
+}
+
+// The first events, at most so many.
+fn first_of(events: &[Event], most: usize) -> &[Event]
+    ensures { result.now ≡ take most events.now }
+{
+    &events[..most.min(events.len())]
 }
 
 // What is written of a machine behind the events of a script, to which it answered so.
@@ -86,6 +112,10 @@ fn bytes_of(
         ReplayEmit::Picture => picture_of(alloc, units, machine, accepted.program()),
         ReplayEmit::Trace => trace_of(alloc, units, accepted, text, events),
         ReplayEmit::Json => lines_of(alloc, units, accepted, text, events),
+        ReplayEmit::Timeline => {
+            timeline_of(alloc, units, Clock::Events, machine, accepted.program())
+        }
+        ReplayEmit::State => state_of(alloc, text, accepted, machine),
     }
 }
 
@@ -138,6 +168,23 @@ fn answers_of(
     write_answers(&mut text, answers)?;
     write_machine(&mut text, machine)?;
     Ok(text.into_bytes())
+}
+
+// How the machine stands that runs an accepted program with this text, and its units.
+fn state_of(
+    alloc: Global,
+    text: &[u8],
+    accepted: &Accepted,
+    machine: &Machine<'_>,
+) -> Result<Vec<u8>, AllocError>
+    ensures { IfOk result (λ bytes. bytes.items ≡ machine_text (state machine.now)
+        ++ stand_text accepted.now.program (places_of text.now) (state machine.now)) }
+{
+    let mut told = String::new(alloc);
+    write_machine(&mut told, machine)?;
+    let units = stand(alloc, accepted.program(), text, machine)?;
+    told.push_str(units.as_str())?;
+    Ok(told.into_bytes())
 }
 
 // Applies the events to a machine at its start. What it answers to each.

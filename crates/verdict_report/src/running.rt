@@ -2,7 +2,7 @@
 ghost use Rattle.std.specs.Prelude.{◌≡◌, ◌≢◌, ◌≤◌, ◌++◌, Err, Ok, IfOk};
 ghost use Rattle.std.specs.String.{string_bytes};
 ghost use Rattle.sequencer.specs.Machines.{state, units_of};
-ghost use Rattle.verdict_report.specs.RunText.{IsRunReport, IsRunText, IsWrittenOf, ending_status, ending_text, steps_text};
+ghost use Rattle.verdict_report.specs.RunText.{IsRunReport, IsRunText, IsWrittenOf, clock_of, ending_status, ending_text, steps_text};
 ghost use Rattle.report_texts.specs.CertificateTexts.{OfCertificate};
 ghost use Rattle.verdict_report.specs.Runs.{run_of};
 ghost use Rattle.task_lives.specs.Lives.{lives_of};
@@ -10,11 +10,13 @@ ghost use Rattle.run_summary.specs.SummaryText.{summary_text};
 ghost use Rattle.event_script.specs.EventScript.{script_of};
 ghost use Rattle.event_trace.specs.Entries.{places_of};
 ghost use Rattle.wait_table.specs.TableText.{waits_text};
+ghost use Rattle.run_waveform.specs.Waveform.{waveform_text};
+ghost use Rattle.run_timeline.specs.Timeline.{timeline_text};
 ghost use Rattle.event_script.specs.ScriptText.{script_text};
 
 use crate::fault::ServeFault;
 use crate::machine_text::{
-    lines_of, picture_of, standing_status_of, summary_of, trace_of, write_machine,
+    lines_of, picture_of, standing_status_of, summary_of, timeline_of, trace_of, write_machine,
 };
 use crate::ran::{Extent, Ran};
 use crate::scheduled::run_scheduled;
@@ -26,6 +28,8 @@ use report_texts::judging::{Judged, judge};
 use report_texts::plain_text::write_words;
 use report_texts::report::Report;
 use run_picture::events::single_events;
+use run_timeline::clock::Clock;
+use run_waveform::waveform::waveform;
 use std::alloc::{AllocError, Global};
 use std::sync::Wait;
 use std::thread::Threads;
@@ -111,6 +115,8 @@ pub(crate) fn report_of_run(
             lines_of(alloc, units, accepted, text, &events)?
         }
         RunEmit::Waits => waits_of(alloc, units, ran, accepted, text)?,
+        RunEmit::Waveform => waveform_of(alloc, units, ran, accepted)?,
+        RunEmit::Timeline => timeline(alloc, units, ran, accepted)?,
     };
     Ok(Report::new(bytes, ending_status_of(ran)))
 }
@@ -176,6 +182,54 @@ fn waits_of(
     let events = single_events(alloc, ran.machine.history())?;
     let waits = table(alloc, accepted, units.get(), text, &events)?;
     Ok(waits.into_bytes())
+}
+
+// What each unit does in each step.
+fn waveform_of(
+    alloc: Global,
+    units: Units,
+    ran: &Ran<'_>,
+    accepted: &Accepted,
+) -> Result<Vec<u8>, AllocError>
+    requires over { ran.now.machine.accepted ≡ accepted.now }
+    requires units { (units_of ran.now.machine ≤ 16) × (units_of ran.now.machine ≡ units) }
+    ensures { IfOk result (λ bytes. bytes.items
+        ≡ waveform_text accepted.now.program units ran.now.machine.history) }
+{
+    let events = single_events(alloc, ran.machine.history())?;
+    let dump = waveform(alloc, accepted, units.get(), &events)?;
+    Ok(dump.into_bytes())
+}
+
+// The tasks on each unit, by the clock of the run.
+fn timeline(
+    alloc: Global,
+    units: Units,
+    ran: &Ran<'_>,
+    accepted: &Accepted,
+) -> Result<Vec<u8>, AllocError>
+    requires over { ran.now.machine.accepted ≡ accepted.now }
+    requires units { units_of ran.now.machine ≡ units }
+    ensures { IfOk result (λ bytes. bytes.items
+        ≡ timeline_text accepted.now.program units (clock_of ran.now.steps) ran.now.machine.history) }
+{
+    timeline_of(
+        alloc,
+        units,
+        clock_of(ran),
+        &ran.machine,
+        accepted.program(),
+    )
+}
+
+// The clock of a run: its steps, if it went in steps, or else its events.
+fn clock_of(ran: &Ran<'_>) -> Clock
+    ensures { result ≡ clock_of ran.now.steps }
+{
+    match ran.steps {
+        None => Clock::Events,
+        Some(_) => Clock::Steps,
+    }
 }
 
 // The history of the run, as a script.

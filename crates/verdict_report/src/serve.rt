@@ -140,7 +140,8 @@ fn report_of<R: Threads + Wait + Sync>(
             certificate,
             units,
             emit,
-        } => Ok(replay(alloc, *certificate, *units, *emit, texts)?),
+            until,
+        } => Ok(replay(alloc, *certificate, *units, *emit, *until, texts)?),
         Job::ReplayStrictly { certificate, units } => {
             Ok(replay_strictly(alloc, *certificate, *units, texts)?)
         }

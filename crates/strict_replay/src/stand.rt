@@ -1,0 +1,31 @@
+//! How the units of a machine stand.
+
+ghost use Rattle.std.specs.Prelude.{◌≡◌, IfOk};
+ghost use Rattle.std.specs.String.{string_bytes};
+ghost use Rattle.sequencer.specs.Machines.{state};
+ghost use Rattle.event_trace.specs.Entries.{places_of};
+ghost use Rattle.strict_replay.specs.StandText.{stand_text};
+
+use crate::text::write_stand;
+use event_trace::places::places;
+use sequencer::machine::Machine;
+use std::alloc::{AllocError, Global};
+use task_descriptor::program::Program;
+
+/// How the units of a machine stand that runs a program with this text, after a line that says so, the head first: the
+/// task of each and its line in the text; the registers that it has, that arrived and that it sent, with their words
+/// unless these are 0; and the registers that it waits for. An error says that memory was refused.
+pub fn stand(
+    alloc: Global,
+    program: &Program,
+    program_text: &[u8],
+    machine: &Machine<'_>,
+) -> Result<String, AllocError>
+    ensures { IfOk result (λ text. string_bytes text
+        ≡ stand_text program.now (places_of program_text.now) (state machine.now)) }
+{
+    let places = places(alloc, program_text)?;
+    let mut text = String::new(alloc);
+    write_stand(alloc, &mut text, program, &places, machine)?;
+    Ok(text)
+}
