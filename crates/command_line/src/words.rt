@@ -17,8 +17,8 @@ use crate::subcommands::{command, command_named};
 use clap::ArgMatches;
 use clap::error::ErrorKind;
 use jobs::job::{
-    CertificateSource, Colors, CurveEmit, DemonstrateEmit, Emit, Format, Job, Paths, Prediction, ReplayEmit,
-    RunEmit, Schedule,
+    CertificateSource, Colors, CurveEmit, DemonstrateEmit, Emit, Format, Job, Paths, Prediction,
+    ReplayEmit, RunEmit, Schedule,
 };
 use jobs::ranges::{Budget, GREATEST_PREDICTION, MOST_PREDICTIONS, PredictionList, Units, Workers};
 use std::alloc::{AllocError, Global};

@@ -4,8 +4,8 @@ use crate::answers::words_of;
 use command_line::request::Request;
 use command_line::words::{UsageFault, request_of};
 use jobs::job::{
-    CertificateSource, Colors, CurveEmit, DemonstrateEmit, Emit, Format, Job, Prediction, ReplayEmit, RunEmit,
-    Schedule,
+    CertificateSource, Colors, CurveEmit, DemonstrateEmit, Emit, Format, Job, Prediction,
+    ReplayEmit, RunEmit, Schedule,
 };
 use std::alloc::Global;
 use std::process::Abort;
