@@ -15,8 +15,8 @@ use Rattle.task_descriptor.specs.Listing.{Listing, IsWellFormed, if_instruction,
 use Rattle.task_descriptor.specs.declared.descriptor.Marked.{Marked}
 use Rattle.machine_model.specs.Machine.{State, opening}
 use Rattle.machine_model.specs.Step.{Next}
-use Rattle.machine_model.specs.Answer.{after, answer, most_events}
-use Rattle.machine_model.specs.Replay.{Replays, ReplaysFrom}
+use Rattle.machine_model.specs.Answer.{answer}
+use Rattle.machine_model.specs.Replay.{Replays}
 use Rattle.machine_model.specs.Claims.{reads_of}
 use Rattle.machine_model.specs.Laws.{AnswerIsNext, NextIsAfter, ReplayCut}
 use Rattle.machine_events.specs.declared.event.Event.{Event}
@@ -26,7 +26,7 @@ use Rattle.open_machine.specs.Machines.{OpenView, state, units_of, answer_to, Is
 use Rattle.demonstration.specs.declared.judge.Evidence.{Evidence}
 use Rattle.demonstration.specs.declared.judge.Harm.{Harm}
 use Rattle.demonstration.specs.declared.judge.Judgement.TheVariants as judged
-use Rattle.demonstration.specs.Shown.{AreRight, DoesHarm, IsFirstStale, IsShown, harmed_task, plain_read, seen}
+use Rattle.demonstration.specs.Shown.{AreRight, DoesHarm, IsShown, harmed_task, plain_read, seen}
 use Rattle.demonstration.specs.Judging.{IsRefusedAt, reads_agree}
 use Rattle.demonstration.proofs.PlainReads.{reads_next}
 
@@ -51,14 +51,6 @@ refused_at law is_after m p units events index e why well program many count the
       ((λ j. answer (program j) (many j) (state m) (count j) e)
       ∙ (law p units (state m) index e well).1 (subst (λ (t : State). Next p units (state m) e t) (is_after p units (state m) left e next) next, room));
 }
-
--- an event that is answered Ok has room
-pub room_before : AnswerIsNext → (m : OpenView) (p : Listing) (units index : ℕ) (e : Event) → IsWellFormed p → m.program ≡ p → units_of m ≡ units → m.count ≡ index → IsAnswered m e (Ok tt) → index + 1 ≤ most_events
-room_before law m p units index e well program many count (inl same) =
-    let there : answer_to m e ≡ answer p units (state m) index e = λ j. answer (program j) (many j) (state m) (count j) e in
-    let below : index < most_events = ((law p units (state m) index e well).0 (sym there ∙ sym same)).1 in
-    omega arith
-room_before law m p units index e well program many count (inr memory) = absurd (let clash = memory.0 in cc)
 
 -- the item at an index that is there
 pub item_at : {X : Type 0} (xs : List X) (i : ℕ) (d : X) → i < length xs → slice_get xs i ≡ Some (slice_index_or xs i d)

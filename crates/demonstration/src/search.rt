@@ -37,7 +37,7 @@ enum Guess<'a> {
 const MOST_TRIED: usize = 2_000;
 
 /// Looks for events that show the harm of a wrong mark, on 2 to `most_units` units, and on one unit for a wrong word
-/// that no instruction reads; in runs of about `steps` events.
+/// that no instruction reads; in runs of about `steps` events. What it finds has at most 1,000,000 of them.
 ///
 /// # Errors
 ///
