@@ -10,7 +10,7 @@ _multiscalar_options() {
         replay) echo "--units --emit --until --strict --least --output --help" ;;
         run) echo "--with-values --units --budget --predict --workers --schedule --emit --least --output --help" ;;
         curve) echo "--units --budget --predict --emit --progress --least --output --help" ;;
-        demonstrate) echo "--units --steps --output --help" ;;
+        demonstrate) echo "--units --steps --emit --output --help" ;;
     esac
 }
 
@@ -20,6 +20,7 @@ _multiscalar_values() {
         replay:--emit) echo "answers summary svg trace json perfetto state" ;;
         run:--emit) echo "report script summary svg trace json perfetto waits vcd" ;;
         curve:--emit) echo "table svg" ;;
+        demonstrate:--emit) echo "events svg" ;;
         explain:--format) echo "text sarif json" ;;
         explain:--color) echo "auto always never" ;;
         run:--schedule) echo "threads steps" ;;

@@ -35,6 +35,7 @@ complete -c multiscalar -n '__fish_seen_subcommand_from run' -l emit -x -a 'repo
 complete -c multiscalar -n '__fish_seen_subcommand_from curve' -l emit -x -a 'table svg' -d 'what is written'
 complete -c multiscalar -n '__fish_seen_subcommand_from curve' -l progress -d 'say when a run is done'
 complete -c multiscalar -n '__fish_seen_subcommand_from demonstrate' -l steps -x -d 'when to end each run'
+complete -c multiscalar -n '__fish_seen_subcommand_from demonstrate' -l emit -x -a 'events svg' -d 'how the run is written'
 complete -c multiscalar -n '__fish_seen_subcommand_from explain' -l certificate -r -d 'explain this certificate, too'
 complete -c multiscalar -n '__fish_seen_subcommand_from explain' -l format -x -a 'text sarif json' -d 'how it is laid out'
 complete -c multiscalar -n '__fish_seen_subcommand_from explain' -l script -r -d 'explain this script, too'

@@ -29,13 +29,14 @@ use Rattle.jobs.specs.declared.job.ReplayEmit.TheVariants.{Answers}
 use Rattle.jobs.specs.declared.job.RunEmit.{RunEmit}
 use Rattle.jobs.specs.declared.job.RunEmit.TheVariants.{Script, ScriptWithValues, Waits, Waveform}
 use Rattle.jobs.specs.declared.job.CurveEmit.{CurveEmit}
+use Rattle.jobs.specs.declared.job.DemonstrateEmit.{DemonstrateEmit}
 use Rattle.jobs.specs.declared.job.Schedule.{Schedule}
 use Rattle.jobs.specs.declared.job.Schedule.TheVariants.{Steps}
 use Rattle.jobs.specs.declared.job.Prediction.{Prediction}
 use Rattle.jobs.specs.declared.job.Job.{Job}
 use Rattle.jobs.specs.declared.job.Job.TheVariants.{Seq, Print, Annotate, Explain, Check, Replay, ReplayStrictly, Run, Curve, Demonstrate}
 use Rattle.jobs.specs.declared.job.Paths.{Paths}
-use Rattle.command_line.specs.Words.{colors_of, curve_emit_of, emit_of, format_of, prediction_of, replay_emit_of, run_emit_of, schedule_of}
+use Rattle.command_line.specs.Words.{colors_of, curve_emit_of, demonstrate_emit_of, emit_of, format_of, prediction_of, replay_emit_of, run_emit_of, schedule_of}
 use Rattle.command_line.specs.CommandLine.{command_line}
 use Rattle.command_line.specs.declared.request.Request.{Request}
 use Rattle.command_line.specs.declared.words.UsageFault.{UsageFault}
@@ -75,6 +76,9 @@ replay_emit_in values = option_and_then replay_emit_of (first_of (codes "emit") 
 
 abbrev pub curve_emit_in : List Row → Option CurveEmit
 curve_emit_in values = option_and_then curve_emit_of (first_of (codes "emit") values)
+
+abbrev pub demonstrate_emit_in : List Row → Option DemonstrateEmit
+demonstrate_emit_in values = option_and_then demonstrate_emit_of (first_of (codes "emit") values)
 
 -- an option without a value is given
 abbrev pub is_given : Text → List Row → Bool
@@ -188,8 +192,9 @@ Gives name values (Curve source units budget predict emit) = (name ≡ codes "cu
     × IsSource (codes "certificate") values source × (number_at (codes "units") values ≡ Some units)
     × (number_at (codes "budget") values ≡ Some budget) × (predict_in values ≡ Some predict)
     × (curve_emit_in values ≡ Some emit)
-Gives name values (Demonstrate units steps) = (name ≡ codes "demonstrate")
+Gives name values (Demonstrate units steps emit) = (name ≡ codes "demonstrate")
     × (number_at (codes "units") values ≡ Some units) × (number_at (codes "steps") values ≡ Some steps)
+    × (demonstrate_emit_in values ≡ Some emit)
 
 -- where the script stands: of `replay` without a certificate in its place
 abbrev pub place_of_script : Job → Text
@@ -319,6 +324,7 @@ Refuses name values fault = IsLack (Lacks name values) fault
     ⊎ ((name ≡ codes "curve") × IsMisfit (codes "certificate") values fault)
     ⊎ ((name ≡ codes "curve") × Fits (codes "certificate") values × IsNoValue (predict_in values) fault)
     ⊎ ((name ≡ codes "curve") × Fits (codes "certificate") values × IsSome (predict_in values) × IsNoValue (curve_emit_in values) fault)
+    ⊎ ((name ≡ codes "demonstrate") × IsNoValue (demonstrate_emit_in values) fault)
 
 -- what reading a subcommand with these values comes to
 abbrev pub Reads : Text → List Row → Result (Job × Paths) UsageFault → Type 0

@@ -179,7 +179,7 @@ curve = subcommand (codes "curve") (program ∷ free_certificate ∷ least ∷ m
     ∷ word (codes "predict") (codes "first") ∷ word (codes "emit") (codes "table") ∷ progress ∷ output ∷ [])
 
 abbrev pub demonstrate : Shape
-demonstrate = subcommand (codes "demonstrate") (program ∷ most_units ∷ steps ∷ output ∷ [])
+demonstrate = subcommand (codes "demonstrate") (program ∷ most_units ∷ steps ∷ word (codes "emit") (codes "events") ∷ output ∷ [])
 
 -- the program, which has a version, and of which a subcommand is wanted
 abbrev pub program_name : Shape
@@ -203,7 +203,8 @@ app_named name =
     else (if bytes_eq name (codes "check") then alone check
     else (if bytes_eq name (codes "replay") then alone replay
     else (if bytes_eq name (codes "run") then alone run
-    else (if bytes_eq name (codes "curve") then alone curve else command_line)))))
+    else (if bytes_eq name (codes "curve") then alone curve
+    else (if bytes_eq name (codes "demonstrate") then alone demonstrate else command_line))))))
 
 -- the command is the subcommand s, without an argument that is global
 abbrev pub IsSubcommand : Shape → Command → Type 0

@@ -16,6 +16,8 @@ use Rattle.jobs.specs.declared.job.ReplayEmit.{ReplayEmit}
 use Rattle.jobs.specs.declared.job.ReplayEmit.TheVariants as replay
 use Rattle.jobs.specs.declared.job.CurveEmit.{CurveEmit}
 use Rattle.jobs.specs.declared.job.CurveEmit.TheVariants as curve
+use Rattle.jobs.specs.declared.job.DemonstrateEmit.{DemonstrateEmit}
+use Rattle.jobs.specs.declared.job.DemonstrateEmit.TheVariants as demonstrate
 use Rattle.jobs.specs.declared.job.Schedule.{Schedule}
 use Rattle.jobs.specs.declared.job.Schedule.TheVariants.{Threads, Steps}
 use Rattle.jobs.specs.declared.job.Prediction.{Prediction}
@@ -105,3 +107,9 @@ abbrev pub curve_emit_of : List ℕ → Option CurveEmit
 curve_emit_of text =
     if bytes_eq text (codes "table") then Some curve.Table
     else (if bytes_eq text (codes "svg") then Some curve.Picture else None)
+
+-- the value of `--emit` of `demonstrate`
+abbrev pub demonstrate_emit_of : List ℕ → Option DemonstrateEmit
+demonstrate_emit_of text =
+    if bytes_eq text (codes "events") then Some demonstrate.Events
+    else (if bytes_eq text (codes "svg") then Some demonstrate.Picture else None)

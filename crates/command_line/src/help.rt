@@ -355,6 +355,10 @@ of traces) or, with --schedule steps, waits (in how many steps which task waited
 pub const CURVE_EMIT: &str =
     "What is written: table (a row for each run) or svg (the runs as a picture)";
 
+/// `--emit` of `demonstrate`.
+pub const DEMONSTRATE_EMIT: &str =
+    "How the run is written: events (one on a line, and then what is wrong) or svg (a picture of the run)";
+
 /// `--least`.
 pub const LEAST: &str = "Makes the least certificate of the program as it stands, in place of CERT";
 
@@ -411,6 +415,9 @@ does at most one event: the same run every time)";
 /// `demonstrate`, in one line.
 pub const DEMONSTRATE: &str = "Looks for a run that shows what a wrong annotation does";
 
+/// The usage of `demonstrate`.
+pub const DEMONSTRATE_USAGE: &str = "multiscalar demonstrate [OPTIONS] <PROGRAM>";
+
 /// `demonstrate`.
 pub const DEMONSTRATE_LONG: &str =
     "Looks for a run that shows what a wrong annotation does: one in which a task reads a stale register. It
@@ -419,14 +426,15 @@ up to --units, in runs of up to --steps events.
 
 Where it finds such a run, it writes its events, one on a line, and then what is wrong: the task and the line
 that read the register, the word that was read, and the word that the sequential program reads there. The
-exit status is 1.
+exit status is 1. With `--emit svg` it draws the run instead, a lane for each unit and a bar for each task.
 
 Where the annotations are right, no run shows anything: it says so, and the exit status is 0. Where they are
 wrong and it finds no such run, it says so, and the exit status is 3. That may be since the path on which
 the annotation is wrong is never taken. `explain` says which annotations are wrong, and on which path.
 
 For example:
-  ./multiscalar demonstrate examples/five-findings/program.s";
+  ./multiscalar demonstrate examples/five-findings/program.s
+  ./multiscalar demonstrate --emit svg examples/five-findings/program.s > harm.svg";
 
 /// `--format` of `explain`.
 pub const FORMAT: &str =
@@ -478,6 +486,9 @@ pub const NO_RUN_EMIT: &str =
 
 /// Why another value of `--emit` of `curve` gives no job.
 pub const NO_CURVE_EMIT: &str = "the value of --emit is table or svg";
+
+/// Why another value of `--emit` of `demonstrate` gives no job.
+pub const NO_DEMONSTRATE_EMIT: &str = "the value of --emit is events or svg";
 
 /// Why another value of `--predict` of `curve` gives no job.
 pub const NO_CURVE_PREDICT: &str =

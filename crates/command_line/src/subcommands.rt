@@ -41,6 +41,7 @@ pub(crate) fn command_named<'a>(alloc: Global, name: &str) -> Result<Command<'a>
         "replay" => replay(alloc),
         "run" => run(alloc),
         "curve" => curve(alloc),
+        "demonstrate" => demonstrate(alloc),
         _ => command(alloc),
     }
 }
@@ -496,14 +497,18 @@ fn curve<'a>(alloc: Global) -> Result<Command<'a>, AllocError>
 fn demonstrate<'a>(alloc: Global) -> Result<Command<'a>, AllocError>
     ensures { IfOk result (IsSubcommand demonstrate_shape) }
 {
-    subcommand(
+    let arguments = vec![in alloc;
+        program(alloc),
+        most_units(alloc),
+        steps(alloc),
+        word(alloc, "emit", "WHAT", help::DEMONSTRATE_EMIT, "events"),
+        output(alloc),
+    ]?;
+    let command = subcommand(
         alloc,
         "demonstrate",
         help::DEMONSTRATE,
         help::DEMONSTRATE_LONG,
-    )
-    .arg(program(alloc))?
-    .arg(most_units(alloc))?
-    .arg(steps(alloc))?
-    .arg(output(alloc))
+    );
+    with_usage(command, help::DEMONSTRATE_USAGE).args(arguments)
 }

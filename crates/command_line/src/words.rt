@@ -4,8 +4,8 @@ ghost use Rattle.std.specs.String.{string_bytes};
 ghost use Rattle.std.specs.List.{slice_split};
 ghost use Rattle.clap.specs.Words.{first_of};
 ghost use Rattle.clap.specs.declared.error.kind.ErrorKind.TheVariants.{ArgumentConflict, InvalidValue, MissingSubcommand};
-ghost use Rattle.command_line.specs.Asked.{AskFor, IsCheckMisfit, IsCheckSource, IsFaultOf, IsFrom, IsLack, IsMisfit, IsNoNumber, IsNoValue, IsOutside, IsOfKind, IsSource, Reads, ReadsRequest, IsDestination, destination_in, is_in_place, is_given, is_strict, colors_in, curve_emit_in, fits_in_place, further_in, goes_together, emit_in, emit_with_values, format_in, in_schedule, number_at, predict_in, repeats, replay_emit_in, run_emit_in, schedule_in, in_steps, values_at, values_in, with_values};
-ghost use Rattle.command_line.specs.Words.{listed_number, listed_numbers, all_there, colors_of, curve_emit_of, emit_of, format_of, prediction_of, replay_emit_of, run_emit_of, schedule_of};
+ghost use Rattle.command_line.specs.Asked.{AskFor, IsCheckMisfit, IsCheckSource, IsFaultOf, IsFrom, IsLack, IsMisfit, IsNoNumber, IsNoValue, IsOutside, IsOfKind, IsSource, Reads, ReadsRequest, IsDestination, destination_in, is_in_place, is_given, is_strict, colors_in, curve_emit_in, demonstrate_emit_in, fits_in_place, further_in, goes_together, emit_in, emit_with_values, format_in, in_schedule, number_at, predict_in, repeats, replay_emit_in, run_emit_in, schedule_in, in_steps, values_at, values_in, with_values};
+ghost use Rattle.command_line.specs.Words.{listed_number, listed_numbers, all_there, colors_of, curve_emit_of, demonstrate_emit_of, emit_of, format_of, prediction_of, replay_emit_of, run_emit_of, schedule_of};
 ghost use Rattle.jobs.specs.Files.{HasFilesOf, is_in_file};
 ghost use Rattle.jobs.specs.declared.job.Job.TheVariants.{Replay, ReplayStrictly};
 ghost use Rattle.jobs.specs.declared.job.ReplayEmit.TheVariants.{Answers};
@@ -17,8 +17,8 @@ use crate::subcommands::{command, command_named};
 use clap::ArgMatches;
 use clap::error::ErrorKind;
 use jobs::job::{
-    CertificateSource, Colors, CurveEmit, Emit, Format, Job, Paths, Prediction, ReplayEmit,
-    RunEmit, Schedule,
+    CertificateSource, Colors, CurveEmit, DemonstrateEmit, Emit, Format, Job, Paths, Prediction,
+    ReplayEmit, RunEmit, Schedule,
 };
 use jobs::ranges::{Budget, GREATEST_PREDICTION, MOST_PREDICTIONS, PredictionList, Units, Workers};
 use std::alloc::{AllocError, Global};
@@ -31,7 +31,7 @@ pub enum UsageFault {
     /// certificate nor `--least`, or both but for `check`, or `check` has two certificates; or the value of an
     /// option is none: of `--schedule` neither `threads` nor `steps`; of `--format` none of `text`, `sarif` and `json`;
     /// of `--color` none of `auto`, `always` and `never`; of `--emit` for `replay` none of `answers`, `summary`, `svg`, `trace`, `json`, `perfetto` and `state`, for `run` none of `report`,
-    /// `script`, `summary`, `svg`, `trace`, `json`, `perfetto` and, in steps, `waits` and `vcd`, for `curve` neither `table` nor `svg`; of `--predict` for
+    /// `script`, `summary`, `svg`, `trace`, `json`, `perfetto` and, in steps, `waits` and `vcd`, for `curve` neither `table` nor `svg`, for `demonstrate` neither `events` nor `svg`; of `--predict` for
     /// `curve` as below; or `--in-place` stands beside `--output` or a certificate that is to be written, or the
     /// program is standard input; or there are several programs beside a file for the result, `--certificate`,
     /// `--script` or a log for machines. The fault is `clap`'s, with its text.
@@ -698,7 +698,8 @@ fn read_demonstrate(alloc: Global, values: &ArgMatches<'_>) -> Result<(Job, Path
 {
     let units = read_units(alloc, values)?;
     let steps = read_steps(alloc, values)?;
-    let job = Job::Demonstrate { units, steps };
+    let emit = demonstrate_emit(alloc, values)?;
+    let job = Job::Demonstrate { units, steps, emit };
     Ok((job, program_path(alloc, values)?))
 }
 
@@ -855,6 +856,16 @@ fn curve_emit(alloc: Global, values: &ArgMatches<'_>) -> Result<CurveEmit, Usage
     }
 }
 
+// What the value of `--emit` of `demonstrate` stands for.
+fn demonstrate_emit(alloc: Global, values: &ArgMatches<'_>) -> Result<DemonstrateEmit, UsageFault>
+    ensures { MatchResult result (λ e. demonstrate_emit_in (values_in values.now) ≡ Some e) (IsNoValue (demonstrate_emit_in (values_in values.now))) }
+{
+    match text(values, "emit").and_then(read_demonstrate_emit) {
+        Some(emit) => Ok(emit),
+        None => Err(no_value(alloc, "demonstrate", help::NO_DEMONSTRATE_EMIT)),
+    }
+}
+
 // What the value of `--predict` of `curve` stands for.
 fn curve_predict(alloc: Global, values: &ArgMatches<'_>) -> Result<Prediction, UsageFault>
     ensures { MatchResult result (λ p. predict_in (values_in values.now) ≡ Some p)
@@ -994,6 +1005,17 @@ fn read_curve_emit(text: &str) -> Option<CurveEmit>
     match text {
         "table" => Some(CurveEmit::Table),
         "svg" => Some(CurveEmit::Picture),
+        _ => None,
+    }
+}
+
+// The value of `--emit` of `demonstrate`.
+fn read_demonstrate_emit(text: &str) -> Option<DemonstrateEmit>
+    ensures { result ≡ demonstrate_emit_of text.now }
+{
+    match text {
+        "events" => Some(DemonstrateEmit::Events),
+        "svg" => Some(DemonstrateEmit::Picture),
         _ => None,
     }
 }

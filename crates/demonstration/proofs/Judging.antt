@@ -15,8 +15,8 @@ use Rattle.task_descriptor.specs.Listing.{Listing, IsWellFormed, if_instruction,
 use Rattle.task_descriptor.specs.declared.descriptor.Marked.{Marked}
 use Rattle.machine_model.specs.Machine.{State, opening}
 use Rattle.machine_model.specs.Step.{Next}
-use Rattle.machine_model.specs.Answer.{after, answer}
-use Rattle.machine_model.specs.Replay.{Replays, ReplaysFrom}
+use Rattle.machine_model.specs.Answer.{answer}
+use Rattle.machine_model.specs.Replay.{Replays}
 use Rattle.machine_model.specs.Claims.{reads_of}
 use Rattle.machine_model.specs.Laws.{AnswerIsNext, NextIsAfter, ReplayCut}
 use Rattle.machine_events.specs.declared.event.Event.{Event}
@@ -26,7 +26,7 @@ use Rattle.open_machine.specs.Machines.{OpenView, state, units_of, answer_to, Is
 use Rattle.demonstration.specs.declared.judge.Evidence.{Evidence}
 use Rattle.demonstration.specs.declared.judge.Harm.{Harm}
 use Rattle.demonstration.specs.declared.judge.Judgement.TheVariants as judged
-use Rattle.demonstration.specs.Shown.{AreRight, DoesHarm, IsFirstStale, IsShown, harmed_task, plain_read, seen}
+use Rattle.demonstration.specs.Shown.{AreRight, DoesHarm, IsShown, harmed_task, plain_read, seen}
 use Rattle.demonstration.specs.Judging.{IsRefusedAt, reads_agree}
 use Rattle.demonstration.proofs.PlainReads.{reads_next}
 

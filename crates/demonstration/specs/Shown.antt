@@ -1,6 +1,6 @@
 -- What shows that the marks of a program do harm: a list of events that its machine allows, and after them
 -- something that the sequential program never does.
-use Rattle.std.specs.Prelude.{◌≡◌, ℕ, suc, List, [], ◌∷◌, ◌++◌, ◌-◌, Bool, false, nat_lt, if◌then◌else◌, length, take, slice_get, Option, Some}
+use Rattle.std.specs.Prelude.{◌≡◌, ℕ, suc, List, [], ◌∷◌, ◌++◌, ◌-◌, false, nat_lt, if◌then◌else◌, length, take, slice_get, Option, Some}
 use Rattle.mips_instructions.specs.declared.instruction.Op.{Op}
 use Rattle.mips_plain.specs.PlainMachine.{State as PlainState, fetch}
 use Rattle.mips_plain.specs.declared.outcome.Outcome.TheVariants as outcome

@@ -5,6 +5,7 @@ ghost use Rattle.std.specs.Prelude.{◌≡◌, ℕ, ◌<◌, ◌≤◌, Some, No
 ghost use Rattle.mips_plain.specs.PlainMachine.{reads_when};
 ghost use Rattle.mips_plain.specs.PlainView.{machine_state};
 ghost use Rattle.task_descriptor.specs.Listing.{input};
+ghost use Rattle.machine_model.specs.Answer.{most_events};
 ghost use Rattle.machine_model.specs.Replay.{Replays};
 ghost use Rattle.machine_model.specs.Machine.{State};
 ghost use Rattle.open_machine.specs.Machines.{state};
@@ -105,6 +106,7 @@ fn play<'a>(
 ) -> Result<Result<OpenMachine<'a>, usize>, OutOfMemory>
     requires { units ≤ 16 }
     ensures played { IfOk result (λ played. IfOk played (λ machine. Replays program.now units events.now (state machine))) }
+    ensures few { IfOk result (λ played. IfOk played (λ machine. length events.now ≤ most_events)) }
     ensures refused { IfOk result (λ played. IfErr played (λ index. IsRefusedAt program.now units events.now index)) }
 {
     replays_join();
@@ -362,7 +364,8 @@ fn judge_allowed(
     }
 }
 
-/// Looks what a list of events shows of a program on so many units.
+/// Looks what a list of events shows of a program on so many units. Of more than 1,000,000 events the first one above
+/// is not allowed.
 ///
 /// # Errors
 ///
@@ -377,6 +380,7 @@ pub fn judge(
     ensures refused { IfOk result (λ judgement. (index : ℕ) → judgement ≡ judged.Refused index → IsRefusedAt program.now units events.now index) }
     ensures right { IfOk result (λ judgement. judgement ≡ judged.Right → (after : State) × Replays program.now units events.now after × AreRight program.now (seen_in after)) }
     ensures shown { IfOk result (λ judgement. (it : Evidence) → judgement ≡ judged.Shown it → IsShown program.now units events.now it) }
+    ensures few { IfOk result (λ judgement. (it : Evidence) → judgement ≡ judged.Shown it → length events.now ≤ most_events) }
 {
     match play(alloc, program, units, events)? {
         Ok(machine) => judge_allowed(alloc, program, units, events, &machine),

@@ -2,7 +2,7 @@
 //! answers is shown: the judge says so.
 
 ghost use Rattle.std.specs.Prelude.{◌≡◌, ◌<◌, ◌≤◌, IfSome, IfOk};
-ghost use Rattle.demonstration.specs.Shown.{IsShown};
+ghost use Rattle.demonstration.specs.Found.{IsDemonstration};
 
 use crate::judge::{Evidence, Harm, Judgement, judge};
 use machine_events::event::{Event, Refused, Spot};
@@ -37,7 +37,7 @@ enum Guess<'a> {
 const MOST_TRIED: usize = 2_000;
 
 /// Looks for events that show the harm of a wrong mark, on 2 to `most_units` units, and on one unit for a wrong word
-/// that no instruction reads; in runs of about `steps` events.
+/// that no instruction reads; in runs of about `steps` events. What it finds has at most 1,000,000 of them.
 ///
 /// # Errors
 ///
@@ -48,8 +48,9 @@ pub fn demonstrate(
     most_units: u32,
     steps: u32,
 ) -> Result<Option<Demonstration>, OutOfMemory>
-    requires { most_units ≤ 16 }
-    ensures { IfOk result (λ found. IfSome found (λ d. IsShown program.now d.units d.events.items d.evidence)) }
+    requires some { 0 < most_units }
+    requires few { most_units ≤ 16 }
+    ensures { IfOk result (λ found. IfSome found (λ d. IsDemonstration program.now d)) }
 {
     let tasks = tasks_in_order(alloc, program, steps)?;
     for units in most_units.min(2)..most_units + 1 {
@@ -68,8 +69,9 @@ fn shown_on(
     guess: Guess<'_>,
     steps: u32,
 ) -> Result<Option<Demonstration>, OutOfMemory>
-    requires { units ≤ 16 }
-    ensures { IfOk result (λ found. IfSome found (λ d. IsShown program.now d.units d.events.items d.evidence)) }
+    requires some { 0 < units }
+    requires few { units ≤ 16 }
+    ensures { IfOk result (λ found. IfSome found (λ d. IsDemonstration program.now d)) }
 {
     let events = drive(alloc, program, units, guess, steps)?;
     match of_events(alloc, program, units, events, false)? {
@@ -85,7 +87,7 @@ fn word_shown(
     program: &Program,
     steps: u32,
 ) -> Result<Option<Demonstration>, OutOfMemory>
-    ensures { IfOk result (λ found. IfSome found (λ d. IsShown program.now d.units d.events.items d.evidence)) }
+    ensures { IfOk result (λ found. IfSome found (λ d. IsDemonstration program.now d)) }
 {
     let events = drive(alloc, program, 1, Guess::Wait, steps)?;
     let few = until_held(alloc, program, 1, &events)?;
@@ -104,8 +106,9 @@ fn of_events(
     events: Vec<Event>,
     is_enough: bool,
 ) -> Result<Option<Demonstration>, OutOfMemory>
-    requires { units ≤ 16 }
-    ensures { IfOk result (λ found. IfSome found (λ d. IsShown program.now d.units d.events.items d.evidence × d.units ≡ units)) }
+    requires some { 0 < units }
+    requires few { units ≤ 16 }
+    ensures { IfOk result (λ found. IfSome found (λ d. IsDemonstration program.now d × d.units ≡ units)) }
 {
     match judge(alloc, program, units, &events)? {
         Judgement::Shown(evidence) if is_enough || !is_held(evidence.harm) => {
@@ -126,8 +129,8 @@ fn shortened(
     found: Demonstration,
 ) -> Result<Demonstration, OutOfMemory>
     requires units { found.units ≤ 16 }
-    requires shown { IsShown program.now found.units found.events.items found.evidence }
-    ensures { IfOk result (λ d. IsShown program.now d.units d.events.items d.evidence) }
+    requires shown { IsDemonstration program.now found }
+    ensures { IfOk result (λ d. IsDemonstration program.now d) }
 {
     let found = without_rest(alloc, program, found)?;
     let found = without_each(alloc, program, found, 64)?;
@@ -142,9 +145,9 @@ fn without_rest(
     found: Demonstration,
 ) -> Result<Demonstration, OutOfMemory>
     requires units { found.units ≤ 16 }
-    requires shown { IsShown program.now found.units found.events.items found.evidence }
+    requires shown { IsDemonstration program.now found }
     ensures units { IfOk result (λ d. d.units ≡ found.units) }
-    ensures shown { IfOk result (λ d. IsShown program.now d.units d.events.items d.evidence) }
+    ensures shown { IfOk result (λ d. IsDemonstration program.now d) }
 {
     let few = until_harm(alloc, program, &found)?;
     let is_enough = shows_word_alone(&found);
@@ -173,9 +176,9 @@ fn without_each(
 ) -> Result<Demonstration, OutOfMemory>
     requires size { 0 < size }
     requires units { found.units ≤ 16 }
-    requires shown { IsShown program.now found.units found.events.items found.evidence }
+    requires shown { IsDemonstration program.now found }
     ensures units { IfOk result (λ d. d.units ≡ found.units) }
-    ensures shown { IfOk result (λ d. IsShown program.now d.units d.events.items d.evidence) }
+    ensures shown { IfOk result (λ d. IsDemonstration program.now d) }
 {
     let groups = found.events.len() / size;
     let mut found = found;

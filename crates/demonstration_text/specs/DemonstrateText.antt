@@ -1,5 +1,5 @@
--- What `demonstrate` may write of a program text: a run that shows what a wrong annotation does; that there is
--- none, since the annotations are sound; or that none was found.
+-- What `demonstrate` may write of a program text: a run that shows what a wrong annotation does, in words or as a
+-- picture; that there is none, since the annotations are sound; or that none was found.
 use Rattle.std.specs.Prelude.{◌≡◌, ◌⊎◌, ℕ, nat_eq, if◌then◌else◌, List, [], ◌∷◌, ◌++◌, Result, Ok, Err, codes}
 use Rattle.std.specs.Fmt.{decimal}
 use Rattle.task_descriptor.specs.Listing.{Listing}
@@ -10,6 +10,9 @@ use Rattle.machine_events.specs.declared.event.Event.{Event}
 use Rattle.event_script.specs.ScriptText.{script_text}
 use Rattle.source_map.specs.declared.position.Position.{Position}
 use Rattle.event_trace.specs.Entries.{places_of}
+use Rattle.jobs.specs.declared.job.DemonstrateEmit.{DemonstrateEmit}
+use Rattle.jobs.specs.declared.job.DemonstrateEmit.TheVariants.{Events, Picture}
+use Rattle.run_picture.specs.Picture.{picture_text}
 use Rattle.report_texts.specs.OutputTexts.{Report, program_refused}
 use Rattle.demonstration.specs.Shown.{IsShown}
 use Rattle.demonstration.specs.declared.judge.Evidence.{Evidence}
@@ -41,25 +44,30 @@ abbrev pub shown_text : Listing → List Position → (units : ℕ) → List Eve
 shown_text p places units events it =
     units_text units ++ 10 ∷ (script_text p events ++ (harm_text p places it ++ 10 ∷ []))
 
+-- the run in words, or as a picture
+abbrev pub run_text : DemonstrateEmit → Listing → List Position → (units : ℕ) → List Event → Evidence → List ℕ
+run_text Events p places units events it = shown_text p places units events it
+run_text Picture p places units events it = picture_text p units events
+
 -- it tells of events that show something
-pub record TellsOfRun (p : Listing) (places : List Position) (report : Report) : Type 0 where
+pub record TellsOfRun (emit : DemonstrateEmit) (p : Listing) (places : List Position) (report : Report) : Type 0 where
   pub units : ℕ
   pub events : List Event
   pub it : Evidence
   pub shown : IsShown p units events it
-  pub bytes : report.bytes ≡ shown_text p places units events it
+  pub bytes : report.bytes ≡ run_text emit p places units events it
   pub status : report.status ≡ 1
 
 -- what is written of a program
-abbrev pub IsDemonstrated : (units steps : ℕ) → List Position → Listing → Report → Type 0
-IsDemonstrated units steps places p report =
+abbrev pub IsDemonstrated : (units steps : ℕ) → DemonstrateEmit → List Position → Listing → Report → Type 0
+IsDemonstrated units steps emit places p report =
     (Sound p × (report ≡ nothing_to_show))
-    ⊎ ((Sound p → ⊥) × (TellsOfRun p places report ⊎ (report ≡ nothing_found units steps)))
+    ⊎ ((Sound p → ⊥) × (TellsOfRun emit p places report ⊎ (report ≡ nothing_found units steps)))
 
-abbrev pub IsDemonstratedOf : (units steps : ℕ) → List Position → Result Listing AsmFault → Report → Type 0
-IsDemonstratedOf units steps places (Ok p) report = IsDemonstrated units steps places p report
-IsDemonstratedOf units steps places (Err fault) report = report ≡ program_refused fault
+abbrev pub IsDemonstratedOf : (units steps : ℕ) → DemonstrateEmit → List Position → Result Listing AsmFault → Report → Type 0
+IsDemonstratedOf units steps emit places (Ok p) report = IsDemonstrated units steps emit places p report
+IsDemonstratedOf units steps emit places (Err fault) report = report ≡ program_refused fault
 
 -- what is written of a program text
-abbrev pub IsDemonstrateReport : (units steps : ℕ) → (text : List ℕ) → Report → Type 0
-IsDemonstrateReport units steps text report = IsDemonstratedOf units steps (places_of text) (parse text) report
+abbrev pub IsDemonstrateReport : (units steps : ℕ) → DemonstrateEmit → (text : List ℕ) → Report → Type 0
+IsDemonstrateReport units steps emit text report = IsDemonstratedOf units steps emit (places_of text) (parse text) report

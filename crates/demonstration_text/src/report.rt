@@ -5,10 +5,11 @@ ghost use Rattle.std.specs.String.{string_bytes};
 ghost use Rattle.task_graph.specs.Soundness.{Sound};
 ghost use Rattle.event_script.specs.ScriptText.{line_text, script_text};
 ghost use Rattle.event_trace.specs.Entries.{places_of};
-ghost use Rattle.demonstration.specs.Shown.{IsShown};
-ghost use Rattle.demonstration_text.specs.DemonstrateText.{IsDemonstrateReport, IsDemonstrated, TellsOfRun, nothing_found as nothing_found_report, nothing_found_text, nothing_to_show as nothing_to_show_report, plural as plural_of, shown_text, units_text};
+ghost use Rattle.demonstration.specs.Found.{IsDemonstration};
+ghost use Rattle.demonstration_text.specs.DemonstrateText.{IsDemonstrateReport, IsDemonstrated, TellsOfRun, nothing_found as nothing_found_report, nothing_found_text, nothing_to_show as nothing_to_show_report, plural as plural_of, run_text as run_text_of, shown_text, units_text};
 
 use crate::harm_text::write_harm;
+use crate::picture::drawn;
 use annotated_asm::assembler::assemble;
 use annotated_asm::fault::AsmFault;
 use annotator::soundness::is_sound;
@@ -16,6 +17,7 @@ use demonstration::search;
 use demonstration::search::Demonstration;
 use event_script::writing::write_event;
 use event_trace::places::places;
+use jobs::job::DemonstrateEmit;
 use jobs::ranges::{Budget, Units};
 use machine_events::event::Event;
 use mips_plain::outcome::OutOfMemory;
@@ -25,8 +27,9 @@ use std::alloc::{AllocError, Global};
 use task_descriptor::program::Program;
 
 /// What `demonstrate` writes of a program text: of a program whose annotations are wrong, a run on 2 units, on 3, and so
-/// on, at most so many, that shows what they do, if one is found among runs of up to so many events. The status is 0
-/// where the annotations are right, 1 where a run is shown or the text is refused, and 3 where none is found.
+/// on, at most so many, that shows what they do, if one is found among runs of up to so many events. The run is told in
+/// words or drawn; all else is told in words. The status is 0 where the annotations are right, 1 where a run is shown or
+/// the text is refused, and 3 where none is found.
 ///
 /// # Errors
 ///
@@ -35,14 +38,15 @@ pub fn demonstrate(
     alloc: Global,
     units: Units,
     steps: Budget,
+    emit: DemonstrateEmit,
     text: &[u8],
 ) -> Result<Report, AllocError>
-    ensures { IfOk result (IsDemonstrateReport units steps text.now) }
+    ensures { IfOk result (IsDemonstrateReport units steps emit text.now) }
 {
     match assemble(alloc, text) {
         Ok(program) => {
             let places = places(alloc, text)?;
-            demonstrate_program(alloc, units, steps, &places, &program)
+            demonstrate_program(alloc, units, steps, emit, &places, &program)
         }
         Err(AsmFault::OutOfMemory) => Err(AllocError),
         Err(fault) => refused_program(alloc, fault),
@@ -54,10 +58,11 @@ fn demonstrate_program(
     alloc: Global,
     units: Units,
     steps: Budget,
+    emit: DemonstrateEmit,
     places: &[Position],
     program: &Program,
 ) -> Result<Report, AllocError>
-    ensures { IfOk result (IsDemonstrated units steps places.now program.now) }
+    ensures { IfOk result (IsDemonstrated units steps emit places.now program.now) }
 {
     if is_sound(alloc, program)? {
         return nothing_to_show(alloc);
@@ -66,7 +71,7 @@ fn demonstrate_program(
         |_: OutOfMemory| AllocError,
     )?;
     match found {
-        Some(found) => tell_of_run(alloc, places, program, &found),
+        Some(found) => tell_of_run(alloc, emit, places, program, &found),
         None => nothing_found(alloc, units, steps),
     }
 }
@@ -102,15 +107,33 @@ fn write_nothing_found(text: &mut String, units: u32, steps: u32) -> Result<(), 
 /// What is written of a run that shows something.
 fn tell_of_run(
     alloc: Global,
+    emit: DemonstrateEmit,
     places: &[Position],
     program: &Program,
     found: &Demonstration,
 ) -> Result<Report, AllocError>
-    requires { IsShown program.now found.now.units found.now.events.items found.now.evidence }
-    ensures { IfOk result (TellsOfRun program.now places.now) }
+    requires { IsDemonstration program.now found.now }
+    ensures { IfOk result (TellsOfRun emit program.now places.now) }
 {
-    let text = shown(alloc, places, program, found)?;
+    let text = run_text(alloc, emit, places, program, found)?;
     Ok(Report::new(text.into_bytes(), 1))
+}
+
+/// A run that shows something, in words or as a picture.
+fn run_text(
+    alloc: Global,
+    emit: DemonstrateEmit,
+    places: &[Position],
+    program: &Program,
+    found: &Demonstration,
+) -> Result<String, AllocError>
+    requires { IsDemonstration program.now found.now }
+    ensures { IfOk result (λ text. string_bytes text ≡ run_text_of emit program.now places.now found.now.units found.now.events.items found.now.evidence) }
+{
+    match emit {
+        DemonstrateEmit::Events => shown(alloc, places, program, found),
+        DemonstrateEmit::Picture => drawn(alloc, program, found),
+    }
 }
 
 /// The text of a run that shows something.

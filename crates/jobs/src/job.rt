@@ -100,6 +100,15 @@ pub enum CurveEmit {
     Picture,
 }
 
+/// How `demonstrate` writes a run that shows what a wrong mark does.
+#[derive(Clone, Copy, Debug, PartialEq, Eq)]
+pub enum DemonstrateEmit {
+    /// Its events, as a script, and what they show.
+    Events,
+    /// A picture of it, in SVG.
+    Picture,
+}
+
 /// How `run` guesses the next task after a running one (the paper, section 2.1, leaves it open).
 #[derive(Debug, Drop)]
 pub enum Prediction {
@@ -191,6 +200,7 @@ pub enum Job {
     Demonstrate {
         units: Units,
         steps: Budget,
+        emit: DemonstrateEmit,
     },
 }
 

@@ -4,6 +4,7 @@ ghost use Rattle.multiscalar_c.specs.Answers.{Answers, Made};
 ghost use Rattle.multiscalar_c.specs.Codes.{IsBudget, IsUnits, curve_emits, emits, run_emits};
 ghost use Rattle.multiscalar_c.specs.Jobs.{ExplainTakes, IsAnnotated, IsChecked, IsCurve, IsExplained, IsReplayed, IsReplayedStrictly, IsRun, ReplayTakes, RunTakes, file_of};
 ghost use Rattle.demonstration_text.specs.DemonstrateText.{IsDemonstrateReport};
+ghost use Rattle.jobs.specs.declared.job.DemonstrateEmit.TheVariants.{Events};
 ghost use Rattle.report_texts.specs.PrintText.{print_text};
 ghost use Rattle.report_texts.specs.SeqText.{seq_text};
 
@@ -11,7 +12,7 @@ use crate::answer::{Fault, hand_out};
 use crate::codes;
 use crate::texts::{name, texts};
 use demonstration_text::report::demonstrate;
-use jobs::job::Colors;
+use jobs::job::{Colors, DemonstrateEmit};
 use jobs::ranges::{Budget, Units};
 use report_texts::annotating::annotate;
 use report_texts::printing::print;
@@ -374,15 +375,16 @@ pub extern "C" fn multiscalar_c_demonstrate(
     out: &mut [u8],
     len: &mut usize,
 ) -> u32
-    ensures { Answers (IsUnits units × IsBudget steps) (IsDemonstrateReport units steps program.now) result out.old out.new len.new }
+    ensures { Answers (IsUnits units × IsBudget steps) (IsDemonstrateReport units steps Events program.now) result out.old out.new len.new }
 {
     hand_out(demonstrate_of(alloc, units, steps, program), out, len)
 }
 
 fn demonstrate_of(alloc: Global, units: u32, steps: u32, program: &[u8]) -> Result<Report, Fault>
-    ensures { Made (IsUnits units × IsBudget steps) (IsDemonstrateReport units steps program.now) result }
+    ensures { Made (IsUnits units × IsBudget steps) (IsDemonstrateReport units steps Events program.now) result }
 {
     let units = Units::new(units).ok_or(Fault::Range)?;
     let steps = Budget::new(steps).ok_or(Fault::Range)?;
-    Ok(demonstrate(alloc, units, steps, program)?)
+    let emit = DemonstrateEmit::Events;
+    Ok(demonstrate(alloc, units, steps, emit, program)?)
 }

@@ -66,7 +66,7 @@ job_itself (Replay source units emit until) name other = refl
 job_itself (ReplayStrictly source units) name other = refl
 job_itself (Run source schedule units workers budget predict emit) name other = refl
 job_itself (Curve source units budget predict emit) name other = refl
-job_itself (Demonstrate units steps) name other = refl
+job_itself (Demonstrate units steps emit) name other = refl
 
 pub reported_itself : (t : Bool) (asked : Job) (name : List ℕ) (texts : Texts) (r : Result Made ServeFault)
     → ((first : String Global) (certificate script : Option (String Global)) (warnings : Bool) (format : Format) (colors : Colors) → asked ≡ Explain first certificate script warnings format colors → ⊥)

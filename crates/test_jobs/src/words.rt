@@ -4,8 +4,8 @@ use crate::answers::words_of;
 use command_line::request::Request;
 use command_line::words::{UsageFault, request_of};
 use jobs::job::{
-    CertificateSource, Colors, CurveEmit, Emit, Format, Job, Prediction, ReplayEmit, RunEmit,
-    Schedule,
+    CertificateSource, Colors, CurveEmit, DemonstrateEmit, Emit, Format, Job, Prediction,
+    ReplayEmit, RunEmit, Schedule,
 };
 use std::alloc::Global;
 use std::process::Abort;
@@ -23,7 +23,7 @@ enum Wanted {
     ReplayStrictly(CertificateSource, u32),
     Run(WantedRun),
     Curve(CertificateSource, u32, u32, Wanting, CurveEmit),
-    Demonstrate(u32, u32),
+    Demonstrate(u32, u32, DemonstrateEmit),
 }
 
 use CertificateSource::{File, Least};
@@ -171,7 +171,9 @@ impl Wanted {
                 Wanting::of(predict),
                 *emit,
             ),
-            Job::Demonstrate { units, steps } => Wanted::Demonstrate(units.get(), steps.get()),
+            Job::Demonstrate { units, steps, emit } => {
+                Wanted::Demonstrate(units.get(), steps.get(), *emit)
+            }
         }
     }
 
@@ -202,7 +204,7 @@ fn is_named(file: &Option<String>, name: &str) -> bool {
 }
 
 // Words that give a job of the program `a.s`.
-const JOBS: [(&str, Wanted); 38] = [
+const JOBS: [(&str, Wanted); 39] = [
     ("seq a.s", Wanted::Seq(1_000_000)),
     ("seq --budget 17 a.s", Wanted::Seq(17)),
     ("print a.s", Wanted::Print),
@@ -332,10 +334,17 @@ const JOBS: [(&str, Wanted); 38] = [
         "curve --emit svg --least a.s",
         Wanted::Curve(Least, 16, 1_000_000, Wanting::First, CurveEmit::Picture),
     ),
-    ("demonstrate a.s", Wanted::Demonstrate(16, 10_000)),
+    (
+        "demonstrate a.s",
+        Wanted::Demonstrate(16, 10_000, DemonstrateEmit::Events),
+    ),
     (
         "demonstrate --steps 1000000 a.s --units 1",
-        Wanted::Demonstrate(1, 1_000_000),
+        Wanted::Demonstrate(1, 1_000_000, DemonstrateEmit::Events),
+    ),
+    (
+        "demonstrate a.s --emit svg --units 2",
+        Wanted::Demonstrate(2, 10_000, DemonstrateEmit::Picture),
     ),
 ];
 

@@ -54,7 +54,7 @@ IsReportOf (Run source schedule units workers budget predict emit) texts report 
 IsReportOf (Curve source units budget predict emit) texts report =
     OfCertificate source texts.program.items texts.certificate (λ certificate.
     IsCurveText units budget predict emit texts.program.items certificate report)
-IsReportOf (Demonstrate units steps) texts report = IsDemonstrateReport units steps texts.program.items report
+IsReportOf (Demonstrate units steps emit) texts report = IsDemonstrateReport units steps emit texts.program.items report
 
 -- a job is done: a report of it was added to what the writer holds, and the status is its
 pub record IsDone (job : Job) (texts : Texts) (status : ℕ) (old new : Option (List ℕ)) : Type 0 where

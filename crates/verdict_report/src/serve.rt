@@ -169,7 +169,9 @@ fn report_of<R: Threads + Wait + Sync>(
             predict,
             emit,
         } => Ok(curve(alloc, *units, *budget, predict, *emit, *certificate, texts)?),
-        Job::Demonstrate { units, steps } => Ok(demonstrate(alloc, *units, *steps, program)?),
+        Job::Demonstrate { units, steps, emit } => {
+            Ok(demonstrate(alloc, *units, *steps, *emit, program)?)
+        }
     }
 }
 

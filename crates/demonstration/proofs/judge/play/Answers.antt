@@ -14,6 +14,7 @@ returns-in-Err c =
     let there : slice_get events i ≡ Some e = slice_get_read events (length events) i e refl below c.index-events-index.is in
     record {
       played = tt;
+      few = tt;
       refused =
           refused_at c.answer_is_next.ensures c.next_is_after.ensures c.loop-index.machine c.args.program.now c.args.units events i e c.in-Err.why
           c.start.ensures.well_formed inv.program inv.units inv.count there inv.replay

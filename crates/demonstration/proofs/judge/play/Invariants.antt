@@ -1,5 +1,6 @@
 -- the machine after the events so far
-use Rattle.std.specs.Prelude.{◌≡◌, take}
+use Rattle.std.specs.Prelude.{◌≡◌, ◌≤◌, take}
+use Rattle.machine_model.specs.Answer.{most_events}
 use Rattle.machine_model.specs.Replay.{Replays}
 use Rattle.open_machine.specs.Machines.{state, units_of}
 use Rattle.demonstration.proofs.judge.play.Given as goal
@@ -9,5 +10,6 @@ invariant-loop-index l = record {
   program : l.machine.program ≡ l.program;
   units : units_of l.machine ≡ l.units;
   count : l.machine.count ≡ l.index;
+  few : l.index ≤ most_events;
   replay : Replays l.program l.units (take l.index l.events) (state l.machine);
 }

@@ -1,10 +1,10 @@
 -- what is left is shown, on as many units
 use Rattle.std.specs.Prelude.{◌≡◌}
-use Rattle.demonstration.specs.Shown.{IsShown}
+use Rattle.demonstration.specs.Found.{IsDemonstration}
 use Rattle.demonstration.proofs.search.without_each.Given as goal
 
 abbrev pub invariant-loop-done : goal.invariant-loop-done
 invariant-loop-done l = record {
   units : l.found.units ≡ l.initial.found.units;
-  shown : IsShown l.program l.found.units l.found.events.items l.found.evidence;
+  shown : IsDemonstration l.program l.found;
 }

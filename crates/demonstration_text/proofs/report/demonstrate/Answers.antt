@@ -13,8 +13,9 @@ pub returns-in_ok-places-in-Ok : goal.returns-in_ok-places-in-Ok
 returns-in_ok-places-in-Ok c =
     let units = c.args.units in
     let steps = c.args.steps in
+    let emit = c.args.emit in
     let text = c.args.text.now in
     IfOk-weaker c.demonstrate_program.result _ _ (λ report told.
-    subst (λ (r : Result Listing AsmFault). IsDemonstratedOf units steps (places_of text) r report) (sym c.in-Ok.ensures.exact)
-    (subst (λ (places : List Position). IsDemonstrated units steps places c.in-Ok.program report) (c.deref.ensures.value ∙ c.in_ok-places-in-Ok.ensures) told))
+    subst (λ (r : Result Listing AsmFault). IsDemonstratedOf units steps emit (places_of text) r report) (sym c.in-Ok.ensures.exact)
+    (subst (λ (places : List Position). IsDemonstrated units steps emit places c.in-Ok.program report) (c.deref.ensures.value ∙ c.in_ok-places-in-Ok.ensures) told))
     c.demonstrate_program.ensures
