@@ -35,8 +35,28 @@ def start_with(toolchain, copy):
     subprocess.Popen = Started
 
 
+def below(crate):
+    """The folders of the crates that a crate stands on, lower before upper, as crates.txt has them."""
+    lines = (it.partition('#')[0].partition(':') for it in (crate.parent.parent / 'crates.txt').read_text().splitlines())
+    needs = {head.split()[0]: rest.split() for head, colon, rest in lines if colon}
+    wanted, found = [crate.name], set()
+    while wanted:
+        new = {it for it in needs[wanted.pop()] if it in needs} - found
+        wanted += new
+        found |= new
+    return [crate.parent / it for it in needs if it in found]
+
+
+def build_libraries(rt, crate):
+    """Over libraries that are not built yet, rt first reads all their functions, and refuses those that no static library may call."""
+    for it in below(crate):
+        if subprocess.run([rt, 'lib', '--jobs', '1'], cwd=it).returncode:
+            sys.exit(f'capture.py: the library {it.name} is not built')
+
+
 def main(crate, to):
     rt = pathlib.Path(shutil.which('rt')).resolve()
+    build_libraries(rt, pathlib.Path(crate).resolve())
     toolchain = rt.parent.parent / 'toolchain'
     room = pathlib.Path(tempfile.mkdtemp())
     to = pathlib.Path(to).resolve()
