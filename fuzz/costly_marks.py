@@ -16,7 +16,7 @@ import time
 import accepted as generator
 import explain
 from accepted import accepted
-from explain import MOST_SHOWN, Bench, changed, laid_out, lists, places, plant, region_of
+from explain import MOST_SHOWN, Bench, changed, laid_out, lists, places, plant, region_of, spelled
 from model import Fault, assemble, certify, dests, exits, inner, print_program, verdict
 
 R = random.Random()
@@ -84,15 +84,16 @@ def unended(program):
             yield number
 
 
-def sentence(program, warning):
-    """What is said."""
+def sentence(program, text, warning):
+    """What is said of a program with this text."""
     kind, number, register = warning
+    written = None if register is None else spelled(text, register)
     name = program.tasks[number][0] if kind in ("never", "stop") else None
     return {
         "stop": f"task {name} has targets, but comes to no stop.",
-        "never": f"the create mask of task {name} has ${register}, which no instruction of the task writes or releases.",
+        "never": f"the create mask of task {name} has {written}, which no instruction of the task writes or releases.",
         "last": "this is a last update without !f: later tasks wait for what it writes.",
-        "sent": f"${register} was sent before on each path to this release.",
+        "sent": f"{written} was sent before on each path to this release.",
         "unreached": "no task reaches the code from here on.",
     }[kind]
 
@@ -112,7 +113,7 @@ def shown(program, text):
 
 def told(program, text):
     """All that is said of right marks: code, place and sentence of each."""
-    return [(f"warning-{CODES[it[0]]}", tuple(meant(text, it)), sentence(program, it)) for it in shown(program, text)]
+    return [(f"warning-{CODES[it[0]]}", tuple(meant(text, it)), sentence(program, text, it)) for it in shown(program, text)]
 
 
 def said_of(results):

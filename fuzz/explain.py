@@ -11,6 +11,7 @@ that of the program, one with a wrong mask or a line too few, or a text that is 
 """
 import argparse
 import collections
+import functools
 import json
 import os
 import random
@@ -22,7 +23,7 @@ import time
 
 import accepted as generator
 from accepted import accepted
-from model import CertFault, Fault, TOK, assemble, cert_parse, cert_text, certify, dests, exits, inner, print_program, verdict
+from model import CertFault, Fault, REGNAMES, TOK, assemble, cert_parse, cert_text, certify, dests, exits, inner, print_program, verdict
 
 R = random.Random()
 MASK = {5, 8}
@@ -147,10 +148,27 @@ def place_of(program, text, index):
     return begins.get(index) or ("the end of the program" if index == len(program.code) else spot(program, text, index))
 
 
-def sentence(program, error, text=None):
-    """What an error says of a program with this text, as a pattern."""
+@functools.lru_cache(maxsize=4)
+def spellings(text):
+    """How a text first writes each register that it names, by number; a comment names none."""
+    first = {}
+    for line in text.split("\n"):
+        for _, token in columns(line):
+            if token.startswith("$"):
+                first.setdefault(REGNAMES[token[1:]], token)
+    return first
+
+
+def spelled(text, register):
+    """How a register is written: as the text first writes it, else by its number."""
+    return spellings(text).get(register, f"${register}")
+
+
+def sentence(program, error, text, any_place=False):
+    """What an error says of a program with this text, as a pattern, in which places may have any name."""
     number, index, rule, registers = error
-    task, listed = program.tasks[number][0], ",".join(f"\\${r}" for r in registers if r is not None)
+    task, listed = program.tasks[number][0], ",".join(re.escape(spelled(text, r)) for r in registers if r is not None)
+    text = None if any_place else text
     targets, begins = program.tasks[number][3], {it[1] for it in program.tasks}
     place = "(?:" + "|".join(place_of(program, text, j) for j in [*exits(program, index), *inner(program, index)]
                              if (j not in targets if rule == 9 else j >= len(program.code))) + ")"

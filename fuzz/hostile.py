@@ -333,7 +333,7 @@ def wanted_explanation(files, given, no_warnings=False):
     except Fault as fault:
         told = re.sub(r"(BadMark) \d+$", r"\1", fault.text()[len("program refused: "):-1])
         return lambda out, status: status == 1 and f" [{told}]\n" in out
-    errors = [explain.sentence(program, it) for it in explain.shown(program, text)]
+    errors = [explain.sentence(program, it, text, any_place=True) for it in explain.shown(program, text)]
     remarks = len(explain.remarks(program, given[1])) if len(files) > 1 else 0
     warned = [it[2].removesuffix(".") for it in costly_marks.told(program, text)] if not errors and not no_warnings else []
 

@@ -2,4 +2,5 @@ mod Counting
 mod Numbers
 mod PathSteps
 mod Ranges
+mod SpelledLines
 mod Telling

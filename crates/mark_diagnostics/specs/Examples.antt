@@ -1,5 +1,5 @@
 -- Worked examples, computed by the check: a loop that lacks its stop, and a create mask that lacks three registers.
-use Rattle.std.specs.Prelude.{◌≡◌, ℕ, pos, [], ◌∷◌, Some, None, codes, true}
+use Rattle.std.specs.Prelude.{◌≡◌, ℕ, pos, List, [], ◌∷◌, Some, None, codes, true}
 use Rattle.std.specs.Fmt.{digits}
 use Rattle.std.specs.Str.{byte}
 use Rattle.std.proofs.Common.{refl}
@@ -9,12 +9,17 @@ use Rattle.mips_instructions.specs.declared.instruction.BranchTwoKind.TheVariant
 use Rattle.mips_instructions.specs.declared.instruction.Op.TheVariants.{Three, Imm, BranchTwo, Out, Halt}
 use Rattle.task_descriptor.specs.Listing.{Listing}
 use Rattle.task_graph.specs.Examples.{bare, forwards}
+use Rattle.program_tokens.specs.Numbers.{number_of, magnitude_of, number_in}
+use Rattle.program_tokens.specs.Registers.{register_of, register_named}
+use Rattle.program_tokens.specs.Grammar.{kind_of, token_of, tokens_after, line_tokens}
+use Rattle.program_tokens.specs.Spans.{spans_after}
 use Rattle.source_map.specs.Sources.{no_sources}
 use Rattle.mark_checker.specs.declared.finding.Finding.{Finding}
 use Rattle.mark_checker.specs.declared.finding.Rule.TheVariants.{ExceedsCreate, ForwardedInNext, SentNotCreated}
 use Rattle.mark_diagnostics.specs.declared.later.Later.TheVariants.{Nowhere, Left}
-use Rattle.mark_diagnostics.specs.Subjects.{Judged, all_numbered, which, targets_text}
+use Rattle.mark_diagnostics.specs.Subjects.{Judged, which, targets_text}
 use Rattle.mark_diagnostics.specs.MarkPlaces.{mark_from}
+use Rattle.mark_diagnostics.specs.Spellings.{spelled, first_spelling, names_in}
 use Rattle.mark_diagnostics.specs.Told.{told, leaders}
 use Rattle.mark_diagnostics.specs.Steps.{entered}
 use Rattle.mark_diagnostics.specs.Masks.{widened}
@@ -35,7 +40,7 @@ unstopped = record {
 }
 
 abbrev pub judged : Judged
-judged = record { program = unstopped; rows = []; sources = no_sources; labels = []; names = all_numbered; least = [] }
+judged = record { program = unstopped; rows = []; sources = no_sources; labels = []; names = names_in []; least = [] }
 
 abbrev pub finding : (index register : ℕ) → Finding
 finding i r = record { task = 0; index = i; rule = ExceedsCreate; reg = Some r }
@@ -51,7 +56,7 @@ nowhere_else = refl
 
 pub advice_in_loop : advice judged (codes "remove !f") 8 (Left 4)
     ≡ codes "remove !f here: $8 then leaves when the task ends; to send it earlier, release it before line 1, where it is not written any more"
-unfolding digits all_numbered
+unfolding digits names_in
 advice_in_loop = refl
 
 -- with masks it is left at index 4
@@ -62,7 +67,7 @@ left_behind = refl
 
 pub lacks_three : message_by ExceedsCreate judged (finding 0 8) (finding 0 8 ∷ finding 0 9 ∷ finding 0 10 ∷ [])
     ≡ codes "the create mask of task A lacks $8,$9,$10"
-unfolding digits all_numbered
+unfolding digits names_in
 lacks_three = refl
 
 pub mends_three : widened (Some (record { name = 65 ∷ []; entry = 0; create = 2; targets = [] })) (9 ∷ 8 ∷ []) ≡ 1 ∷ 8 ∷ 9 ∷ []
@@ -99,3 +104,24 @@ mark_found = refl
 
 pub no_release : release_text judged [] ≡ codes "nop"
 no_release = refl
+
+-- A register is written as the text first writes it; a comment writes none.
+
+abbrev pub with_names : List (List ℕ)
+with_names = codes ".task A create=$s1 targets=- # $ra" ∷ codes "A: addu $17,$31,$t0" ∷ codes "addu $ra,$8,$s1" ∷ []
+
+pub in_the_mask : first_spelling (spelled with_names) 17 ≡ codes "$s1"
+unfolding line_tokens tokens_after token_of kind_of number_of magnitude_of number_in register_of register_named spans_after
+in_the_mask = refl
+
+pub as_operand : first_spelling (spelled with_names) 8 ≡ codes "$t0"
+unfolding line_tokens tokens_after token_of kind_of number_of magnitude_of number_in register_of register_named spans_after
+as_operand = refl
+
+pub by_number : first_spelling (spelled with_names) 31 ≡ codes "$31"
+unfolding line_tokens tokens_after token_of kind_of number_of magnitude_of number_in register_of register_named spans_after
+by_number = refl
+
+pub not_written : first_spelling (spelled with_names) 9 ≡ codes "$9"
+unfolding line_tokens tokens_after token_of kind_of number_of magnitude_of number_in register_of register_named spans_after digits
+not_written = refl

@@ -1,4 +1,5 @@
 pub mod Labels
+pub mod Spellings
 pub mod Subjects
 pub mod MarkPlaces
 pub mod Parts

@@ -1,6 +1,6 @@
 -- What diagnostics about marks are about: a program, its text, and what the least certificate says of it; and how its
 -- registers, tasks and places are named, and where in the text they stand.
-use Rattle.std.specs.Prelude.{◌≡◌, ℕ, ◌+◌, ◌-◌, ◌==◌, filter, min, Bool, true, false, List, [], ◌∷◌, ◌++◌, codes, map, flat_map, position, slice_get, slice_index_or, is_some, nat_eq, length, if◌then◌else◌, Option, Some, None, Ok}
+use Rattle.std.specs.Prelude.{◌≡◌, ℕ, ◌+◌, ◌-◌, ◌==◌, filter, min, Bool, true, false, List, [], ◌∷◌, ◌++◌, codes, flat_map, position, slice_get, slice_index_or, is_some, nat_eq, length, if◌then◌else◌, Option, Some, None, Ok}
 use Rattle.std.specs.Fmt.{decimal}
 use Rattle.mips_instructions.specs.Instruction.{released}
 use Rattle.task_descriptor.specs.Listing.{Listing, registers, is_conditional}
@@ -16,6 +16,7 @@ use Rattle.annotated_asm.specs.ProgramText.{Spells}
 use Rattle.mask_certificate.specs.Lists.{list_of}
 use Rattle.diagnostics.specs.declared.diagnostic.Span.{Span}
 use Rattle.mark_diagnostics.specs.Labels.{labels_from}
+use Rattle.mark_diagnostics.specs.Spellings.{names_in}
 
 -- a program whose marks are judged
 pub record Judged : Type 0 where
@@ -29,20 +30,13 @@ pub record Judged : Type 0 where
   pub names : List (List ℕ)
   pub least : List (List (ℕ × ℕ))
 
--- A register is written by its number.
-abbrev pub numbered : (register : ℕ) → List ℕ
-numbered r = codes "$" ++ decimal r
-
-unfoldable pub all_numbered : List (List ℕ)
-all_numbered = map numbered registers
-
--- The text spells the judged program, whose items stand at these places, and registers are written by their numbers.
+-- The text spells the judged program, whose items stand at these places, and registers are written as it first writes them.
 pub record IsJudged (text : List ℕ) (s : Judged) : Type 0 where
   pub spelled : Spells text s.program
   pub rows : s.rows ≡ lines text
   pub places : sources_of text ≡ Ok s.sources
   pub labels : s.labels ≡ labels_from s.rows 0 s.sources.code
-  pub names : s.names ≡ all_numbered
+  pub names : s.names ≡ names_in s.rows
 
 abbrev pub register_text : Judged → (register : ℕ) → List ℕ
 register_text s r = slice_index_or s.names r []

@@ -11,6 +11,7 @@ mod mask;
 mod parts;
 mod remark;
 mod sending;
+mod spelling;
 mod step;
 mod stop;
 mod subject;

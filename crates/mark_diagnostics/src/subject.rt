@@ -1,9 +1,9 @@
 //! What diagnostics about marks are about.
 
 use crate::label::labels_of;
+use crate::spelling::names_in;
 use annotated_asm::fault::AsmFault;
 use diagnostics::diagnostic::Span;
-use diagnostics::words;
 use diagnostics::words::Words;
 use mask_certificate::certificate::Cert;
 use mips_instructions::instruction::Op;
@@ -59,7 +59,7 @@ ghost use Rattle.mask_certificate.specs.Lists.{mask_at};
 ghost use Rattle.task_graph.specs.Edges.{end_of};
 ghost use Rattle.task_descriptor.specs.Listing.{is_conditional as is_conditional_of};
 ghost use Rattle.mips_instructions.specs.Instruction.{released};
-ghost use Rattle.mark_diagnostics.specs.Subjects.{IsJudged, label_at, register_text, task_name, targets_of, entries_of, task_at, is_entry, forwards, releases, is_branch, exit_end, inner_end, first_byte, span_of, instruction_span, create_span, targets_span, target_in, target_span, column_after, after, numbered, all_numbered};
+ghost use Rattle.mark_diagnostics.specs.Subjects.{IsJudged, label_at, register_text, task_name, targets_of, entries_of, task_at, is_entry, forwards, releases, is_branch, exit_end, inner_end, first_byte, span_of, instruction_span, create_span, targets_span, target_in, target_span, column_after, after};
 ghost use Rattle.program_tokens.specs.Lines.{lines};
 ghost use Rattle.source_map.specs.Sources.{sources_in, sources_of};
 
@@ -79,7 +79,7 @@ impl<'a> Subject<'a> {
         let rows = lines_of(alloc, text)?;
         let places = places_of(alloc, text, program)?;
         let labels = labels_of(alloc, &rows, &places.code)?;
-        let names = all_numbered(alloc)?;
+        let names = names_in(alloc, &rows)?;
         Ok(Subject {
             alloc,
             program,
@@ -145,7 +145,7 @@ impl<'a> Subject<'a> {
         self.least.mask(task, index)
     }
 
-    /// How a register is written; empty where there is none of this number.
+    /// How the text writes a register; empty where there is none of this number.
     pub(crate) fn register(&self, number: u8) -> &str
         ensures { result.now ≡ register_text self.now number }
     {
@@ -406,23 +406,4 @@ fn places_of(alloc: Global, text: &[u8], program: &Program) -> Made<SourceMap>
         Err(AsmFault::OutOfMemory) => Err(AllocError),
         Err(_) => unreachable!(),
     }
-}
-
-/// A register by its number.
-fn numbered(alloc: Global, number: u8) -> Made<Words>
-    ensures { IfOk result (λ words. words ≡ numbered number) }
-{
-    words!(in alloc; "${number}")
-}
-
-/// Each register by its number.
-fn all_numbered(alloc: Global) -> Made<Vec<Words>>
-    ensures { IfOk result (λ list. list.items ≡ all_numbered) }
-{
-    let mut list = Vec::new(alloc);
-    for number in 0..34u8 {
-        let name = numbered(alloc, number)?;
-        list.push(name)?;
-    }
-    Ok(list)
 }

@@ -50,6 +50,40 @@ p.s:2:4: note: $8 is written here, on the path 2
 p.s:1:9: help: write create=$8
 ";
 
+// Registers are written as the text first writes them.
+const NAMED: &str = ".task A create=$t0,$s1 targets=B
+.task B create=- targets=-
+A: addiu $8,$8,1 !f
+release $17,$ra
+addiu $t0,$8,2
+addiu $s1,$8,3
+j B !s
+B: halt
+";
+
+const SAID_OF_NAMED: &str = "p.s:1:9: error: the create mask of task A lacks $ra [rule 8]
+    1 | .task A create=$t0,$s1 targets=B
+      |         ^~~~~~~~~~~~~~
+p.s:4:1: note: $ra is sent here, on the path 3 -> 4
+    4 | release $17,$ra
+      | ^~~~~~~~~~~~~~~
+p.s:1:9: help: write create=$t0,$s1,$ra
+p.s:3:4: error: task A forwards $t0 here and may write it again [rule 6]
+    3 | A: addiu $8,$8,1 !f
+      |    ^~~~~~~~~~~~~~~~
+p.s:5:1: note: $t0 is written again here, on the path 3 -> 4 -> 5
+    5 | addiu $t0,$8,2
+      | ^~~~~~~~~~~~~~
+p.s:3:17: help: remove !f here, and put !f on line 5
+p.s:4:1: error: task A releases $s1 here and may write it again [rule 7]
+    4 | release $17,$ra
+      | ^~~~~~~~~~~~~~~
+p.s:6:1: note: $s1 is written again here, on the path 4 -> 5 -> 6
+    6 | addiu $s1,$8,3
+      | ^~~~~~~~~~~~~~
+p.s:4:1: help: write release $ra here, and put !f on line 6
+";
+
 // Of B nothing is told: no task follows it.
 const LOOSE: &str = ".task A create=$8,$9,$11 targets=B
 .task B create=$10,$12 targets=-
@@ -120,9 +154,10 @@ fn said(alloc: Global, warns: bool, text: &str) -> Option<String> {
 }
 
 // Program texts, whether warnings are asked for, and what is said.
-const TEXTS: [(&str, bool, &str); 4] = [
+const TEXTS: [(&str, bool, &str); 5] = [
     (FORWARDED_AGAIN, false, SAID),
     (TABBED, false, SAID_OF_TABBED),
+    (NAMED, false, SAID_OF_NAMED),
     (LOOSE, true, SAID_OF_LOOSE),
     (TIGHT, true, ""),
 ];

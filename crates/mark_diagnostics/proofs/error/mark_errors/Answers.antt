@@ -10,7 +10,8 @@ use Rattle.mark_checker.specs.Rules.{all_rules}
 use Rattle.annotator.specs.Least.{IsLeast}
 use Rattle.finding_paths.specs.Shown.{IsFinding}
 use Rattle.mark_diagnostics.specs.Labels.{labels_from}
-use Rattle.mark_diagnostics.specs.Subjects.{Judged, all_numbered}
+use Rattle.mark_diagnostics.specs.Spellings.{names_in}
+use Rattle.mark_diagnostics.specs.Subjects.{Judged}
 use Rattle.mark_diagnostics.specs.Told.{all_told, most_shown}
 use Rattle.mark_diagnostics.specs.More.{more_note}
 use Rattle.mark_diagnostics.specs.Errors.{Says}
@@ -23,7 +24,7 @@ returns-then-accepts c =
     let cert = c.args.least.now in
     let text = c.args.text.now in
     let fits = c.map_fits.ensures text p c.requires.spelled in
-    let s : Judged = record { program = p; rows = lines text; sources = fits.0; labels = labels_from (lines text) 0 fits.0.code; names = all_numbered; least = cert } in
+    let s : Judged = record { program = p; rows = lines text; sources = fits.0; labels = labels_from (lines text) 0 fits.0.code; names = names_in (lines text); least = cert } in
     nothing_wrong text c.new.result.items s (record { spelled = c.requires.spelled; rows = refl; places = fits.1; labels = refl; names = refl }) c.requires.least
     (c.accepts.ensures.accepted c.if-accepts.true).sound (c.accepts.ensures.exact.0 c.if-accepts.true) c.new.ensures.items
 
