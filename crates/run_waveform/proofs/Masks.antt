@@ -1,5 +1,5 @@
 -- A set of registers is the number with its bits.
-use Rattle.std.proofs.Common.{◌≡◌, ℕ, zero, suc, ◌+◌, ◌*◌, ◌^◌, ◌-◌, ◌%◌, ◌<◌, ◌≤◌, Bool, true, false, cond, ◌==◌, inl, inr, refl, sym, ap, ◌∙◌, arith, pow-suc}
+use Rattle.std.proofs.Common.{◌≡◌, ℕ, zero, suc, ◌^◌, ◌-◌, ◌%◌, ◌<◌, Bool, true, false, cond, ◌==◌, inl, inr, refl, sym, ap, ◌∙◌, arith, pow-suc}
 use Rattle.std.specs.Int.{bit_at}
 use Rattle.std.specs.Prelude.{is_some}
 use Rattle.std.proofs.lemmas.Bool.{cases_lt}

@@ -1,6 +1,6 @@
 -- Worked examples, computed by the checker: the header of one unit, what changes from one time to the next, and
 -- what the signals of units show in a run of the loop `count`.
-use Rattle.std.specs.Prelude.{◌≡◌, ℕ, List, [], ◌∷◌, ◌++◌, codes, drop, slice_get, Option, Some, None}
+use Rattle.std.specs.Prelude.{◌≡◌, List, [], ◌∷◌, ◌++◌, codes, drop, slice_get, Some, None}
 use Rattle.std.specs.Option.{option_map}
 use Rattle.std.specs.Fmt.{digits}
 use Rattle.std.proofs.Common.{refl}

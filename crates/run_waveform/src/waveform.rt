@@ -32,7 +32,7 @@ fn show_step(
     machine: &mut Machine<'_>,
     units: u32,
     time: u32,
-    before: &Vec<Option<u64>>,
+    before: &[Option<u64>],
     events: &[Event],
 ) -> Result<Vec<Option<u64>>, AllocError>
     requires over { machine.old.accepted ≡ accepted.now }
@@ -40,7 +40,7 @@ fn show_step(
     requires replay { (s : State) × ReplaysFrom machine.old.accepted.program (units_of machine.old) (state machine.old) events.now s }
     requires room { length machine.old.history + length events.now ≤ most_events }
     ensures shown { IfOk result (λ shown. shown.items ≡ signals_of accepted.now.program units (state machine.old) events.now) }
-    ensures text { IfOk result (λ shown. string_bytes text.new ≡ string_bytes text.old ++ time_text time before.now.items shown.items) }
+    ensures text { IfOk result (λ shown. string_bytes text.new ≡ string_bytes text.old ++ time_text time before.now shown.items) }
     ensures state { OnOk result (state machine.new ≡ after_all machine.old.accepted.program (state machine.old) events.now) }
     ensures count { OnOk result (length machine.new.history ≡ length machine.old.history + length events.now) }
     ensures kept { SameRing machine.old machine.new }
@@ -59,7 +59,7 @@ fn show_end(
     machine: &mut Machine<'_>,
     units: u32,
     time: u32,
-    before: &Vec<Option<u64>>,
+    before: &[Option<u64>],
     left: &[Event],
 ) -> Result<(), AllocError>
     requires over { machine.old.accepted ≡ accepted.now }
@@ -67,7 +67,7 @@ fn show_end(
     requires replay { (s : State) × ReplaysFrom machine.old.accepted.program (units_of machine.old) (state machine.old) left.now s }
     requires room { length machine.old.history + length left.now ≤ most_events }
     ensures { OnOk result (string_bytes text.new ≡ string_bytes text.old
-        ++ time_text time before.now.items (signals_of accepted.now.program units (after_all accepted.now.program (state machine.old) left.now) [])) }
+        ++ time_text time before.now (signals_of accepted.now.program units (after_all accepted.now.program (state machine.old) left.now) [])) }
 {
     apply_all(machine, left)?;
     let shown = signals(alloc, accepted, machine, units, &[])?;

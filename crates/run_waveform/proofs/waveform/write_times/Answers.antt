@@ -1,18 +1,16 @@
 -- One step more, or none is left.
-use Rattle.std.proofs.Common.{◌≡◌, ℕ, ◌+◌, ◌≤◌, List, [], ◌++◌, length, drop, take, Some, None, Option, OnOk, sym, ap, subst, ◌∙◌, arith, refl}
+use Rattle.std.proofs.Common.{◌≡◌, ℕ, ◌+◌, List, [], ◌++◌, length, drop, take, Some, None, Option, OnOk, sym, ap, subst, ◌∙◌, arith}
 use Rattle.std.specs.List.{position}
 use Rattle.std.specs.String.{string_bytes}
-use Rattle.std.proofs.lemmas.List.{drop_all, length-drop}
+use Rattle.std.proofs.lemmas.List.{length-drop}
 use Rattle.std.proofs.lemmas.List.Quantifiers.{position-Some}
 use Rattle.mark_checker.specs.Places.{Checked}
-use Rattle.machine_model.specs.Machine.{State}
-use Rattle.machine_model.specs.Replay.{ReplaysFrom}
 use Rattle.machine_events.specs.declared.event.Event.{Event}
 use Rattle.machine_events.specs.declared.event.Event.TheVariants.{Retire}
-use Rattle.sequencer.specs.Machines.{MachineView, state, units_of}
+use Rattle.sequencer.specs.Machines.{MachineView, state}
 use Rattle.unit_waits.specs.Waits.{after_all, ends_step}
 use Rattle.unit_waits.proofs.Going.{last_by}
-use Rattle.run_waveform.specs.Signals.{Shown}
+use Rattle.run_waveform.specs.Signals.{Shown, signals}
 use Rattle.run_waveform.specs.Moments.{moments}
 use Rattle.run_waveform.specs.Waveform.{time_text, times_from}
 use Rattle.run_waveform.proofs.Underway.{begins, end_on, end_past, replay_front, step_on}
@@ -48,7 +46,8 @@ returns-in_default c =
     let l = c.loop-start in
     let events = c.args.history.now in
     subst (λ (xs : List ℕ). OnOk c.show_end.result (string_bytes c.show_end.new.text ≡ xs))
-    (end_on c.args.accepted.now c.args.units events c.behind-left.result.now l.start l.time l.before.items
+    (ap (λ (before : List Shown). string_bytes l.text ++ time_text l.time before (signals c.args.accepted.now.program c.args.units (after_all c.args.accepted.now.program (state l.machine) c.behind-left.result.now) [])) c.deref.ensures.value
+    ∙ end_on c.args.accepted.now c.args.units events c.behind-left.result.now l.start l.time l.before.items
     (string_bytes l.text) (string_bytes c.args.text.now ++ times_from 0 [] (moments c.args.accepted.now.program c.args.units events)) l.machine
     l.invariant c.behind-left.ensures
     (first_end c.active.result l.machine c.behind-left.result.now (drop l.start events) None c.last_of_step.result c.active.ensures.active c.behind-left.ensures c.last_of_step.ensures c.in_default.is))
@@ -59,7 +58,8 @@ returns c =
     let l = c.loop-start in
     let events = c.args.history.now in
     subst (λ (xs : List ℕ). OnOk c.show_end-2.result (string_bytes c.show_end-2.new.text ≡ xs))
-    (end_past c.args.accepted.now c.args.units events l.start l.time l.before.items
+    (ap (λ (before : List Shown). string_bytes l.text ++ time_text l.time before (signals c.args.accepted.now.program c.args.units (after_all c.args.accepted.now.program (state l.machine) []) [])) c.deref-2.ensures.value
+    ∙ end_past c.args.accepted.now c.args.units events l.start l.time l.before.items
     (string_bytes l.text) (string_bytes c.args.text.now ++ times_from 0 [] (moments c.args.accepted.now.program c.args.units events)) l.machine
     l.invariant c.loop-start-test.false)
     c.show_end-2.ensures
@@ -79,7 +79,7 @@ loop-start-preserved c =
     (first_end c.active.result l.machine c.behind-left.result.now (drop l.start events) (Some c.in-Some.last) c.last_of_step.result c.active.ensures.active c.behind-left.ensures c.last_of_step.ensures c.in-Some.is)
     (c.split_at.ensures.front ∙ ap (λ (es : List Event). take (c.in-Some.last + 1) es) c.behind-left.ensures)
     shown.shown
-    shown.text
+    (shown.text ∙ ap (λ (before : List Shown). string_bytes l.text ++ time_text l.time before c.in_ok-shown.shown.items) c.deref-in-loop-start.ensures.value)
     (shown.state ∙ ap (λ (x : Checked). after_all x.program (state l.machine) front) l.invariant.over)
     shown.count
     c.show_step.ensures.kept
