@@ -30,7 +30,7 @@ fn ends_step(active: u32, event: &Event) -> bool
 }
 
 /// Whether the unit at a position does one of the events of a step.
-pub(crate) fn acts(active: u32, position: u32, events: &[Event]) -> bool
+pub fn acts(active: u32, position: u32, events: &[Event]) -> bool
     ensures { result ≡ acts_in active position events.now }
 {
     events
@@ -39,14 +39,14 @@ pub(crate) fn acts(active: u32, position: u32, events: &[Event]) -> bool
 }
 
 /// The index of the first event that ends a step; `None` where none does.
-pub(crate) fn last_of_step(active: u32, events: &[Event]) -> Option<usize>
+pub fn last_of_step(active: u32, events: &[Event]) -> Option<usize>
     ensures { result ≡ position_by (λ e. ends_step_of active e) events.now }
 {
     events.iter().position(|event| ends_step(active, event))
 }
 
 /// The events behind so many.
-pub(crate) fn behind(history: &[Event], start: usize) -> &[Event]
+pub fn behind(history: &[Event], start: usize) -> &[Event]
     requires { start ≤ length history.now }
     ensures { result.now ≡ drop start history.now }
 {

@@ -1,13 +1,13 @@
 //! Why units wait: in each step of a run, which units at work behind the head do nothing, and what keeps them.
 #![tactic(auto)]
 
-mod acting;
+pub mod acting;
 mod alike;
 pub mod count;
 pub mod counts;
 mod one_step;
 mod placed;
-mod reasons;
-mod steps;
+pub mod reasons;
+pub mod steps;
 pub mod waiting;
 pub mod waits;

@@ -32,8 +32,9 @@ fn apply(machine: &mut Machine<'_>, event: &Event) -> Result<(), AllocError>
     }
 }
 
-/// Applies events of which each is allowed where it comes.
-fn apply_all(machine: &mut Machine<'_>, events: &[Event]) -> Result<(), AllocError>
+/// Applies events of which each is allowed where it comes. An error says that memory was refused; the events
+/// before it stay.
+pub fn apply_all(machine: &mut Machine<'_>, events: &[Event]) -> Result<(), AllocError>
     requires replay { (s : State) × ReplaysFrom machine.old.accepted.program (units_of machine.old) (state machine.old) events.now s }
     requires room { length machine.old.history + length events.now ≤ most_events }
     ensures state { OnOk result (state machine.new ≡ after_all machine.old.accepted.program (state machine.old) events.now) }

@@ -15,8 +15,9 @@ use mark_checker::accept::Accepted;
 use sequencer::machine::{Machine, MachineFault};
 use std::alloc::{AllocError, Global};
 
-/// A machine of so many units at the start of an accepted program.
-pub(crate) fn machine_at_start<'a>(
+/// A machine of so many units, 1 to 16, at the start of an accepted program. An error says that memory was
+/// refused.
+pub fn machine_at_start<'a>(
     alloc: Global,
     accepted: &'a Accepted,
     units: u32,

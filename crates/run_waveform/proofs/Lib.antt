@@ -1,0 +1,4 @@
+pub mod Ranges
+pub mod Masks
+pub mod Stepwise
+pub mod Underway

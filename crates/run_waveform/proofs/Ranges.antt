@@ -1,0 +1,23 @@
+-- One part behind those of the numbers below it.
+use Rattle.std.proofs.Common.{◌≡◌, ℕ, zero, suc, ◌+◌, List, ◌++◌, ap, ◌∙◌, sym, append_assoc, append-nil, add-one, arith}
+use Rattle.std.specs.List.{range_with_len}
+use Rattle.std.specs.Prelude.{flat_map}
+
+one_more : {A : Type 0} (f : ℕ → List A) (from n last : ℕ) → last ≡ from + n → flat_map f (range_with_len from (suc n)) ≡ flat_map f (range_with_len from n) ++ f last
+one_more f from zero last is =
+    let same : last ≡ from = omega (arith, is) in
+    append-nil (f from) ∙ ap f (sym same)
+one_more f from (suc n) last is =
+    ap (λ rest. f from ++ rest) (one_more f (from + 1) n last (omega (arith, is)))
+    ∙ sym (append_assoc (f from) (flat_map f (range_with_len (from + 1) n)) (f last))
+
+pub range_more : {A : Type 0} (f : ℕ → List A) (before : List A) (n : ℕ) → (before ++ flat_map f (range_with_len 0 n)) ++ f n ≡ before ++ flat_map f (range_with_len 0 (n + 1))
+range_more f before n =
+    append_assoc before (flat_map f (range_with_len 0 n)) (f n)
+    ∙ ap (λ rest. before ++ rest) (sym (one_more f 0 n n (omega arith)))
+    ∙ ap (λ m. before ++ flat_map f (range_with_len 0 m)) (sym (add-one n))
+
+-- three parts, written one after the other
+pub three_parts : {A : Type 0} (base first second p q r : List A) → first ≡ base ++ p → second ≡ first ++ q → second ++ r ≡ base ++ (p ++ (q ++ r))
+three_parts base first second p q r one two =
+    ap (λ front. front ++ r) (two ∙ ap (λ front. front ++ q) one) ∙ append_assoc (base ++ p) q r ∙ append_assoc base p (q ++ r)

@@ -1,0 +1,4 @@
+pub mod Signals
+pub mod Moments
+pub mod Waveform
+pub mod Examples
