@@ -1,42 +1,31 @@
 -- What is foreseen of an Exec comes true.
 use Rattle.std.proofs.Common.{◌≡◌, ℕ, [], ◌∷◌, ◌++◌, Option, Some, None, slice_get, refl, sym, ap, ◌∙◌}
 use Rattle.std.specs.Prelude.{◌&&◌, not, is_some, unwrap_or}
-use Rattle.mips_instructions.specs.Instruction.{dests, reg_a, reg_b}
-use Rattle.mips_instructions.specs.Words.{has}
+use Rattle.mips_instructions.specs.Instruction.{dests}
 use Rattle.mips_plain.specs.MemoryMap.{byte_of}
 use Rattle.task_descriptor.specs.Listing.{Listing}
 use Rattle.task_descriptor.specs.declared.descriptor.Marked.{Marked}
 use Rattle.machine_model.specs.Machine.{Active, State}
-use Rattle.machine_model.specs.Answer.{index_of_place, instruction_at, operand}
+use Rattle.machine_model.specs.Answer.{instruction_at, operand}
 use Rattle.event_trace.specs.declared.change.Change.TheVariants.{AtUnit, Wrote, Sent}
 use Rattle.event_trace.specs.declared.unit_change.UnitChange.TheVariants.{Executed}
 use Rattle.event_trace.specs.declared.foreseen.Execution.{Execution}
 use Rattle.event_trace.specs.Changes.{executed, execution, for_registers, outside, stands_at, unless_ended}
-use Rattle.event_trace.specs.Foresight.{executed_by}
+use Rattle.event_trace.specs.Foresight.{IsOf, executed_by}
 
--- what a unit has before it executes an instruction
-pub record IsOf (k : ℕ) (u : Active) (m : Marked) (x : Execution) : Type 0 where
-  pub position : x.position ≡ k
-  pub task : x.task ≡ u.task
-  pub index : x.index ≡ index_of_place u.place
-  pub op : x.op ≡ m.op
-  pub a : x.a ≡ operand u (reg_a m.op)
-  pub b : x.b ≡ operand u (reg_b m.op)
-  pub sent : (r : ℕ) → has x.sent r ≡ is_some (u.sent r)
-
-executed_alike : (p : Listing) (s : State) (k : ℕ) (u : Active) (m : Marked) (x : Execution) (then : Option Active) → IsOf k u m x → instruction_at p u.place ≡ Some m
+executed_alike : (p : Listing) (s : State) (k : ℕ) (u : Active) (m : Marked) (x : Execution) (then : Option Active) → IsOf k u m.op x → instruction_at p u.place ≡ Some m
     → executed_by p s x then ≡ executed p s k (Some u) then
 executed_alike p s k u m x None of there = refl
 executed_alike p s k u m x (Some v) of there =
     (λ j. AtUnit (of.position j) (of.task j) (Executed (of.index j))
-    ∷ unless_ended s.outcome (outside (of.op j) (of.a j) (of.b j) (byte_of p.fixed) s.memory
-    ++ (for_registers (dests (of.op j)) (λ r. Wrote r (operand v r))
+    ∷ unless_ended s.outcome (outside (of.instruction j) (of.first j) (of.second j) (byte_of p.fixed) s.memory
+    ++ (for_registers (dests (of.instruction j)) (λ r. Wrote r (operand v r))
     ++ (for_registers (λ r. is_some (v.sent r) && not (of.sent r j)) (λ r. Sent r (unwrap_or (v.sent r) 0))
     ++ stands_at v.place ∷ []))))
     ∙ ap (λ (o : Option Marked). execution p s k u v o) (sym there)
 
 -- an Exec of a unit that stands before an instruction
-pub foretold : (p : Listing) (s s' : State) (k : ℕ) (u : Active) (m : Marked) (x : Execution) → Some u ≡ slice_get s.queue k → IsOf k u m x → instruction_at p u.place ≡ Some m
+pub foretold : (p : Listing) (s s' : State) (k : ℕ) (u : Active) (m : Marked) (x : Execution) → Some u ≡ slice_get s.queue k → IsOf k u m.op x → instruction_at p u.place ≡ Some m
     → executed_by p s' x (slice_get s'.queue x.position) ≡ executed p s' k (slice_get s.queue k) (slice_get s'.queue k)
 foretold p s s' k u m x unit of there =
     ap (λ (n : ℕ). executed_by p s' x (slice_get s'.queue n)) of.position

@@ -6,7 +6,7 @@ use mips_instructions::number::{Reg, RegSet};
 
 /// What is foreseen of an event, by the machine before it: what the event changes, or where the machine after
 /// it shows that. Positions count from the head of the queue, the head being 0.
-#[derive(Debug, Drop)]
+#[derive(Drop)]
 pub(crate) enum Foreseen {
     /// A unit begins at this position, which is free.
     Begins(u32),
@@ -23,7 +23,7 @@ pub(crate) enum Foreseen {
 }
 
 /// An instruction before which a unit stands, with what the unit has before it executes the instruction.
-#[derive(Clone, Copy, Debug)]
+#[derive(Clone, Copy)]
 pub(crate) struct Execution {
     /// The position of the unit.
     pub position: u32,

@@ -1,15 +1,13 @@
 //! An instruction that a unit executes: what the unit has before it, and what it did.
 
-ghost use Rattle.std.specs.Prelude.{◌≡◌, ℕ, ◌++◌, ◌%◌, ◌^◌, [], ◌∷◌, is_some, slice_get, unwrap_or, IfOk, OnOk};
+ghost use Rattle.std.specs.Prelude.{◌≡◌, ◌++◌, ◌%◌, ◌^◌, [], ◌∷◌, slice_get, unwrap_or, IfOk, OnOk};
 ghost use Rattle.mips_plain.specs.MemoryMap.{byte_of, effective};
-ghost use Rattle.mips_instructions.specs.Instruction.{reg_a, reg_b};
 ghost use Rattle.mips_instructions.specs.InstructionTable.{store_size};
-ghost use Rattle.mips_instructions.specs.Words.{has};
 ghost use Rattle.machine_model.specs.Answer.{index_of_place, instruction_at, operand};
 ghost use Rattle.unit_core.specs.Units.{active_of};
 ghost use Rattle.sequencer.specs.Machines.{state};
 ghost use Rattle.event_trace.specs.Changes.{outside, stands_at, unless_ended};
-ghost use Rattle.event_trace.specs.Foresight.{effects_of, executed_by};
+ghost use Rattle.event_trace.specs.Foresight.{IsOf, effects_of, executed_by};
 
 use crate::change::{Change, add, at_unit};
 use crate::foreseen::Execution;
@@ -57,13 +55,7 @@ fn operand_of(unit: &Unit, register: Option<Reg>) -> u32
 
 /// What the unit at a position has before it executes this instruction.
 pub(crate) fn execution(position: u32, unit: &Unit, op: &Op) -> Execution
-    ensures position { result.position ≡ position }
-    ensures task { result.task ≡ (active_of unit.now).task }
-    ensures index { result.index ≡ index_of_place (active_of unit.now).place }
-    ensures op { result.op ≡ op.now }
-    ensures a { result.a ≡ operand (active_of unit.now) (reg_a op.now) }
-    ensures b { result.b ≡ operand (active_of unit.now) (reg_b op.now) }
-    ensures sent { (r : ℕ) → has result.sent r ≡ is_some ((active_of unit.now).sent r) }
+    ensures { IsOf position (active_of unit.now) op.now result }
 {
     let (first, second) = op.sources();
     let task = unit.task();

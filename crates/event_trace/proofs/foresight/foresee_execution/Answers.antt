@@ -22,15 +22,6 @@ returns-in_default-instruction_at c = λ s'.
 pub returns : goal.returns
 returns c = λ s'.
     let u = active_of c.in-Some.unit.now in
-    let of = c.execution.ensures in
-    foretold c.args.program.now (state c.args.machine.now) s' c.args.position u c.in-Some-instruction_at.marked c.execution.result c.in-Some.ensures
-    (record {
-      position = of.position;
-      task = of.task;
-      index = of.index;
-      op = of.op;
-      a = of.a;
-      b = of.b;
-      sent = of.sent;
-    })
+    foretold c.args.program.now (state c.args.machine.now) s' c.args.position u c.in-Some-instruction_at.marked c.execution.result
+    c.in-Some.ensures c.execution.ensures
     (sym (c.instruction_at.ensures ∙ ap (λ (place : Spot). instruction_at c.args.program.now place) c.spot.ensures) ∙ c.in-Some-instruction_at.is)
