@@ -1,89 +1,18 @@
--- An event on two machines that are abreast, and one entry more of the text.
-use Rattle.std.proofs.Common.{◌≡◌, ℕ, suc, ◌+◌, ◌<◌, ◌≤◌, List, [], ◌∷◌, ◌++◌, inl, inr, length, drop, get_or, Some, None, Result, Ok, Err, refl, sym, ap, ◌∙◌, arith, add-one, append_assoc, append-nil, length-append, drop-cons}
+-- An event on a machine, and one entry more of the text.
+use Rattle.std.proofs.Common.{◌≡◌, ℕ, suc, ◌+◌, ◌<◌, ◌≤◌, List, [], ◌∷◌, ◌++◌, length, drop, get_or, Some, None, Result, Ok, Err, refl, sym, ap, ◌∙◌, add-one, append_assoc, append-nil, drop-cons}
 use Rattle.std.proofs.lemmas.List.{drop_all}
-use Rattle.std.specs.declared.alloc.Global.{Global}
-use Rattle.std.specs.declared.vec.Vec.{Vec}
 use Rattle.task_descriptor.specs.Listing.{Listing}
 use Rattle.machine_model.specs.Machine.{State, opening}
-use Rattle.machine_model.specs.Laws.{NextIsAfter}
 use Rattle.machine_model.specs.Answer.{after, answer, answered, first_refusal, ok_unless, play, play_event}
 use Rattle.std.specs.List.{fold}
 use Rattle.machine_events.specs.declared.event.Event.{Event}
 use Rattle.machine_events.specs.declared.event.Refused.{Refused}
-use Rattle.machine_events.specs.declared.event.Refused.TheVariants as refused
-use Rattle.mark_checker.specs.Places.{Checked}
-use Rattle.sequencer.specs.Machines.{MachineView, Applies, IsAnswered, SameRing, answer_to, state, units_of}
+use Rattle.sequencer.specs.Machines.{MachineView, answer_to, state, units_of}
 use Rattle.event_trace.specs.declared.change.Change.{Change}
-use Rattle.event_trace.specs.Changes.{changes_of}
 use Rattle.event_trace.specs.declared.told.Told.{Told}
 use Rattle.event_trace.specs.declared.told.Told.TheVariants as told
 use Rattle.event_trace.specs.Entries.{Tells, count_behind, entries_from, entry_of, state_behind, told_of}
-use Rattle.event_trace.specs.Following.{GoesOn, IsAbreast, state_from}
-
--- machines that are abreast answer alike
-answers_alike : (m n : MachineView) (e : Event) → IsAbreast m n → answer_to n e ≡ answer_to m e
-answers_alike m n e abreast =
-    ap (λ (a : Checked). answer a.program (units_of n) (state n) (length n.history) e) abreast.accepted
-    ∙ ap (λ (k : ℕ). answer m.accepted.program k (state n) (length n.history) e) abreast.units
-    ∙ ap (λ (s : State). answer m.accepted.program (units_of m) s (length n.history) e) abreast.state
-    ∙ ap (λ (k : ℕ). answer m.accepted.program (units_of m) (state m) k e) abreast.count
-
-pub allowed : (m n : MachineView) (e : Event) → IsAbreast m n → IsAnswered n e (Ok tt) → answer_to m e ≡ Ok tt
-allowed m n e abreast (inl is) = sym (answers_alike m n e abreast) ∙ sym is
-allowed m n e abreast (inr other) = first_of (cc, grind arith)
-
-pub refused_alike : (m n : MachineView) (e : Event) (why : Refused) → IsAbreast m n → IsAnswered n e (Err why) → (why ≡ refused.OutOfMemory → ⊥) → answer_to m e ≡ Err why
-refused_alike m n e why abreast (inl is) memory = sym (answers_alike m n e abreast) ∙ sym is
-refused_alike m n e why abreast (inr other) memory = first_of (cc, grind arith)
-
--- what an allowed event leaves
-pub lands : NextIsAfter → (p : Listing) (m m' : MachineView) (e : Event) → m.accepted.program ≡ p → Applies m e m' → state m' ≡ after p (state m) e
-lands law p m m' e over applies =
-    law m.accepted.program (units_of m) (state m) (state m') e applies.next ∙ ap (λ (q : Listing). after q (state m) e) over
-
-pub lands_abreast : NextIsAfter → (p : Listing) (m n n' : MachineView) (e : Event) → m.accepted.program ≡ p → IsAbreast m n → Applies n e n' → state n' ≡ after p (state m) e
-lands_abreast law p m n n' e over abreast applies =
-    lands law p n n' e (ap (λ (a : Checked). a.program) abreast.accepted ∙ over) applies
-    ∙ ap (λ (s : State). after p s e) abreast.state
-
-one_more : (m m' : MachineView) (e : Event) → Applies m e m' → length m'.history ≡ suc (length m.history)
-one_more m m' e applies = ap (λ (es : List Event). length es) applies.history ∙ length-append m.history (e ∷ []) ∙ add-one (length m.history)
-
-pub counts : (m m' : MachineView) (e : Event) (a : Result (Unit {0}) Refused) → a ≡ Ok tt → Applies m e m' → length m'.history ≡ count_behind (length m.history) a
-counts m m' e a is applies = one_more m m' e applies ∙ ap (λ (x : Result (Unit {0}) Refused). count_behind (length m.history) x) (sym is)
-
-pub stays_abreast : NextIsAfter → (p : Listing) (m m' n n' : MachineView) (e : Event) → m.accepted.program ≡ p → IsAbreast m n
-    → Applies m e m' → SameRing m m' → Applies n e n' → SameRing n n' → IsAbreast m' n'
-stays_abreast law p m m' n n' e over abreast mine my_ring other its_ring = record {
-  accepted = its_ring.accepted ∙ abreast.accepted ∙ sym my_ring.accepted;
-  units = its_ring.units ∙ abreast.units ∙ sym my_ring.units;
-  state = lands_abreast law p m n n' e over abreast other ∙ sym (lands law p m m' e over mine);
-  count = one_more n n' e other ∙ ap (λ (k : ℕ). suc k) abreast.count ∙ sym (one_more m m' e mine);
-}
-
--- what is told of an event
-pub tells_taken : (p : Listing) (s s' : State) (e : Event) (a : Result (Unit {0}) Refused) (changes : Vec Change Global)
-    → a ≡ Ok tt → s' ≡ after p s e → changes.items ≡ changes_of p s e s' → Tells p s e a (told.Taken changes)
-tells_taken p s s' e a changes is lands changed = rw is (changed ∙ ap (λ (t : State). changes_of p s e t) lands)
-
-pub tells_refused : (p : Listing) (s : State) (e : Event) (a : Result (Unit {0}) Refused) (why : Refused)
-    → a ≡ Err why → Tells p s e a (told.Refused why)
-tells_refused p s e a why is = rw is refl
-
--- how a machine goes on
-pub goes_on_taken : NextIsAfter → (m m' : MachineView) (e : Event) → answer_to m e ≡ Ok tt → Applies m e m' → SameRing m m' → GoesOn m e m'
-goes_on_taken law m m' e is applies ring = record {
-  state = lands law m.accepted.program m m' e refl applies ∙ ap (λ (x : Result (Unit {0}) Refused). state_behind m.accepted.program (state m) e x) (sym is);
-  count = counts m m' e (answer_to m e) is applies;
-  kept = ring;
-}
-
-pub goes_on_refused : (m : MachineView) (e : Event) (why : Refused) → answer_to m e ≡ Err why → GoesOn m e m
-goes_on_refused m e why is = record {
-  state = ap (λ (x : Result (Unit {0}) Refused). state_behind m.accepted.program (state m) e x) (sym is);
-  count = ap (λ (x : Result (Unit {0}) Refused). count_behind (length m.history) x) (sym is);
-  kept = record { accepted = refl; units = refl };
-}
+use Rattle.event_trace.specs.Following.{GoesOn, state_from}
 
 -- the text with an entry more, in any form
 module _ (taken : ℕ → Event → List Change → List ℕ) (refused : ℕ → Event → Refused → List ℕ) where

@@ -1,19 +1,11 @@
--- A walk over events: two machines of which one follows the other, and how a machine goes on from event to
--- event.
+-- A walk over events: how a machine goes on from event to event.
 use Rattle.std.specs.Prelude.{◌≡◌, ℕ, List, [], ◌∷◌, length}
 use Rattle.task_descriptor.specs.Listing.{Listing}
 use Rattle.machine_model.specs.Answer.{answer}
 use Rattle.machine_model.specs.Machine.{State}
 use Rattle.machine_events.specs.declared.event.Event.{Event}
-use Rattle.sequencer.specs.Machines.{MachineView, SameRing, answer_to, state, units_of}
+use Rattle.sequencer.specs.Machines.{MachineView, SameRing, answer_to, state}
 use Rattle.event_trace.specs.Entries.{count_behind, state_behind}
-
--- both run one program on as many units, and the same events left the same state
-pub record IsAbreast (m n : MachineView) : Type 0 where
-  pub accepted : n.accepted ≡ m.accepted
-  pub units : units_of n ≡ units_of m
-  pub state : state n ≡ state m
-  pub count : length n.history ≡ length m.history
 
 -- a machine before an event, and the same machine behind it, whatever its answer was
 pub record GoesOn (m : MachineView) (e : Event) (m' : MachineView) : Type 0 where

@@ -1,4 +1,5 @@
 pub mod Changes
+pub mod Foresight
 pub mod TraceText
 pub mod Entries
 pub mod Following

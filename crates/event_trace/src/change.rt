@@ -1,11 +1,12 @@
 //! What an event of the machine changed.
 
-ghost use Rattle.std.specs.Prelude.{◌≡◌, ◌++◌, ◌∷◌, [], OnOk};
+ghost use Rattle.std.specs.Prelude.{◌≡◌, ◌++◌, ◌∷◌, [], IfOk, OnOk};
+ghost use Rattle.event_trace.specs.declared.change.Change.TheVariants.{AtUnit};
 
 use crate::unit_change::UnitChange;
 use machine_events::event::Standing;
 use mips_instructions::number::Reg;
-use std::alloc::AllocError;
+use std::alloc::{AllocError, Global};
 
 /// What an event changed (own choice). A unit is known by its position, which counts from the head of the
 /// queue, the head being 0, and by the number of its task. Instructions are known by their index, and words
@@ -63,4 +64,32 @@ pub(crate) fn add(changes: &mut Vec<Change>, change: Change) -> Result<(), Alloc
     // `push` has no proof for a value of a type that holds another enum of the crate.
     changes.extend_from_slice(&[change])?;
     Ok(())
+}
+
+/// A change alone. An error says that memory was refused.
+pub(crate) fn alone(alloc: Global, change: Change) -> Result<Vec<Change>, AllocError>
+    ensures { IfOk result (λ changes. changes.items ≡ change ∷ []) }
+{
+    let mut changes = Vec::new(alloc);
+    add(&mut changes, change)?;
+    Ok(changes)
+}
+
+/// A change at a unit alone. An error says that memory was refused.
+pub(crate) fn at_unit(
+    alloc: Global,
+    position: u32,
+    task: u32,
+    change: UnitChange,
+) -> Result<Vec<Change>, AllocError>
+    ensures { IfOk result (λ changes. changes.items ≡ AtUnit position task change ∷ []) }
+{
+    alone(
+        alloc,
+        Change::AtUnit {
+            position,
+            task,
+            change,
+        },
+    )
 }

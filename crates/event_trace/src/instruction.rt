@@ -1,14 +1,16 @@
-//! What an instruction did to its unit.
+//! An instruction that a unit executes: what the unit has before it, and what it did.
 
-ghost use Rattle.std.specs.Prelude.{◌≡◌, ◌++◌, ◌%◌, ◌^◌, [], ◌∷◌, unwrap_or, OnOk};
+ghost use Rattle.std.specs.Prelude.{◌≡◌, ◌++◌, ◌%◌, ◌^◌, [], ◌∷◌, slice_get, unwrap_or, IfOk, OnOk};
 ghost use Rattle.mips_plain.specs.MemoryMap.{byte_of, effective};
 ghost use Rattle.mips_instructions.specs.InstructionTable.{store_size};
 ghost use Rattle.machine_model.specs.Answer.{index_of_place, instruction_at, operand};
 ghost use Rattle.unit_core.specs.Units.{active_of};
 ghost use Rattle.sequencer.specs.Machines.{state};
-ghost use Rattle.event_trace.specs.Changes.{effects, execution, outside, stands_at};
+ghost use Rattle.event_trace.specs.Changes.{outside, stands_at, unless_ended};
+ghost use Rattle.event_trace.specs.Foresight.{IsOf, effects_of, executed_by};
 
-use crate::change::{Change, add};
+use crate::change::{Change, add, at_unit};
+use crate::foreseen::Execution;
 use crate::registers::{add_sendings, add_writes};
 use crate::unit_change::UnitChange;
 use machine_events::event::{Spot, Standing};
@@ -16,7 +18,7 @@ use mips_instructions::instruction::{Op, StoreKind};
 use mips_instructions::number::Reg;
 use mips_plain::memory::Memory;
 use sequencer::machine::Machine;
-use std::alloc::AllocError;
+use std::alloc::{AllocError, Global};
 use task_descriptor::descriptor::Marked;
 use task_descriptor::program::Program;
 use unit_core::unit::Unit;
@@ -32,7 +34,7 @@ pub(crate) fn index_of(spot: Spot) -> u32
 }
 
 /// The instruction before which a unit stands; `None` where it has stopped.
-fn instruction_at(program: &Program, spot: Spot) -> Option<Marked>
+pub(crate) fn instruction_at(program: &Program, spot: Spot) -> Option<Marked>
     ensures { result ≡ instruction_at program.now spot }
 {
     match spot {
@@ -48,6 +50,27 @@ fn operand_of(unit: &Unit, register: Option<Reg>) -> u32
     match register {
         Some(register) => unit.value(register).unwrap_or(0),
         None => 0,
+    }
+}
+
+/// What the unit at a position has before it executes this instruction.
+pub(crate) fn execution(position: u32, unit: &Unit, op: &Op) -> Execution
+    ensures { IsOf position (active_of unit.now) op.now result }
+{
+    let (first, second) = op.sources();
+    let task = unit.task();
+    let index = index_of(unit.spot());
+    let a = operand_of(unit, first);
+    let b = operand_of(unit, second);
+    let sent = unit.sent_set();
+    Execution {
+        position,
+        task,
+        index,
+        op: *op,
+        a,
+        b,
+        sent,
     }
 }
 
@@ -108,56 +131,60 @@ fn add_spot(changes: &mut Vec<Change>, spot: Spot) -> Result<(), AllocError>
     }
 }
 
-/// Adds what an instruction did to its unit: `then` is the unit behind it.
+/// Adds what an instruction did to its unit, which `unit` shows after it.
 fn add_effects(
     changes: &mut Vec<Change>,
-    after: &Machine<'_>,
-    marked: &Marked,
+    machine: &Machine<'_>,
     unit: &Unit,
-    then: &Unit,
+    execution: &Execution,
 ) -> Result<(), AllocError>
-    ensures { OnOk result (changes.new.items ≡ changes.old.items ++ effects after.now.accepted.program (state after.now) (active_of unit.now) (active_of then.now) marked.now) }
+    ensures { OnOk result (changes.new.items ≡ changes.old.items ++ effects_of machine.now.accepted.program (state machine.now) execution.now (active_of unit.now)) }
 {
-    let (first, second) = marked.op.sources();
-    let a = operand_of(unit, first);
-    let b = operand_of(unit, second);
-    add_outside(changes, after.memory(), &marked.op, a, b)?;
-    add_writes(changes, then, marked.op.dests())?;
-    add_sendings(changes, then, then.sent_set().minus(unit.sent_set()))?;
-    add_spot(changes, then.spot())?;
+    add_outside(
+        changes,
+        machine.memory(),
+        &execution.op,
+        execution.a,
+        execution.b,
+    )?;
+    add_writes(changes, unit, execution.op.dests())?;
+    add_sendings(changes, unit, unit.sent_set().minus(execution.sent))?;
+    add_spot(changes, unit.spot())?;
     Ok(())
 }
 
-/// Adds that a unit executed the instruction before which it stood, and what that did: `then` is the unit
-/// behind it.
-pub(crate) fn add_execution(
+/// Adds how the run ended, if it has; else what an instruction did to its unit.
+fn add_ending(
     changes: &mut Vec<Change>,
-    program: &Program,
-    after: &Machine<'_>,
-    position: u32,
+    machine: &Machine<'_>,
     unit: &Unit,
-    then: &Unit,
+    execution: &Execution,
 ) -> Result<(), AllocError>
-    requires { after.now.accepted.program ≡ program.now }
     ensures { OnOk result (changes.new.items ≡ changes.old.items
-        ++ execution program.now (state after.now) position (active_of unit.now) (active_of then.now) (instruction_at program.now (active_of unit.now).place)) }
+        ++ unless_ended (state machine.now).outcome (effects_of machine.now.accepted.program (state machine.now) execution.now (active_of unit.now))) }
 {
-    let Some(marked) = instruction_at(program, unit.spot()) else {
-        return Ok(());
-    };
-    let task = unit.task();
-    let index = index_of(unit.spot());
-    add(
-        changes,
-        Change::AtUnit {
-            position,
-            task,
-            change: UnitChange::Executed { index },
-        },
-    )?;
-    match after.outcome() {
-        Standing::Running => add_effects(changes, after, &marked, unit, then)?,
-        standing => add(changes, Change::Ended { standing })?,
+    match machine.outcome() {
+        Standing::Running => add_effects(changes, machine, unit, execution),
+        standing => add(changes, Change::Ended { standing }),
     }
-    Ok(())
+}
+
+/// That a unit executed an instruction, and what that did, by the machine after it. An error says that memory
+/// was refused.
+pub(crate) fn executed(
+    alloc: Global,
+    machine: &Machine<'_>,
+    execution: &Execution,
+) -> Result<Vec<Change>, AllocError>
+    ensures { IfOk result (λ changes. changes.items
+        ≡ executed_by machine.now.accepted.program (state machine.now) execution.now (slice_get (state machine.now).queue execution.now.position)) }
+{
+    let Some(unit) = machine.unit(execution.position) else {
+        return Ok(Vec::new(alloc));
+    };
+    let index = execution.index;
+    let change = UnitChange::Executed { index };
+    let mut changes = at_unit(alloc, execution.position, execution.task, change)?;
+    add_ending(&mut changes, machine, unit, execution)?;
+    Ok(changes)
 }

@@ -2,8 +2,10 @@
 #![tactic(auto)]
 
 pub mod change;
-pub mod changes;
+mod changes;
 pub mod ending;
+mod foreseen;
+mod foresight;
 mod instruction;
 pub mod places;
 mod registers;
