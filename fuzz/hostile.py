@@ -58,7 +58,7 @@ OPTIONS = {"seq": ("budget",), "print": (), "annotate": ("emit",), "explain": ("
 CHOICES = {"annotate": (*EMITS, "marks"), "replay": ("answers", "summary", "svg", "trace"), "run": (*RUN_EMITS, "trace")}
 # Of a program whose help names them, these are tried, too.
 NEWER = {"run": ("json",), "replay": ("json",), "curve": ("table", "svg")}
-VERSION = "multiscalar 0.1.0 (proved with rattle-kit-13b logic dac8208d650f15bf)\n"
+VERSION = "multiscalar 0.1.0 (proved with rattle-kit-13f logic dac8208d650f15bf)\n"
 # The first byte of a case picks one of so many jobs, but for its highest bit.
 JOBS = 24
 # The model goes no further than so many events, and says nothing of longer runs but how they may end.

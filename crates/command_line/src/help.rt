@@ -5,7 +5,7 @@ pub const VERSION: &str = "0.1.0";
 
 /// What `--version` says behind the program's name: the version, and the toolchain that proves the program, as
 /// `rt version` names it. `release/build.sh` builds with no other.
-pub const VERSION_AND_TOOLCHAIN: &str = "0.1.0 (proved with rattle-kit-13b logic dac8208d650f15bf)";
+pub const VERSION_AND_TOOLCHAIN: &str = "0.1.0 (proved with rattle-kit-13f logic dac8208d650f15bf)";
 
 /// What the program is for, in one line.
 pub const PROGRAM: &str = "Runs and checks annotated Multiscalar programs";

@@ -102,7 +102,7 @@ fn tells_of_jobs_that_are_not_done(rt: HostRuntime) {
 }
 
 // The version, and the toolchain that proves the program.
-const VERSION: &str = "multiscalar 0.1.0 (proved with rattle-kit-13b logic dac8208d650f15bf)\n";
+const VERSION: &str = "multiscalar 0.1.0 (proved with rattle-kit-13f logic dac8208d650f15bf)\n";
 
 // Help is no fault: it stands on standard output.
 #[test]
