@@ -3,7 +3,7 @@
 #
 #     library/build.sh FOLDER          FOLDER: where they go
 #
-# `rt lib` proves and builds the core first, if it is not built. It needs rt and gcc.
+# The core is proved and built first, if it is not built. It needs rt and gcc.
 set -eu
 here=$(cd "$(dirname "$(readlink -f "${BASH_SOURCE[0]}")")" && pwd)
 top=$(dirname "$here")
@@ -14,7 +14,7 @@ core=$top/crates/multiscalar_c/out/libmultiscalar_c.a
 version=$(sed -n 's/^.*"\([0-9][0-9.]*\) (proved with .*$/\1/p; s/^pub const VERSION: &str = "\([0-9.]*\)";$/\1/p' "$top/crates/command_line/src/help.rt" | head -n 1)
 : "${version:?the version stands nowhere in crates/command_line/src/help.rt}"
 
-[ -f "$core" ] || (cd "$top/crates/multiscalar_c" && rt lib --jobs 1)
+[ -f "$core" ] || python3 "$top/release/build_program.py" /dev/null multiscalar_c
 
 work=$(mktemp -d)
 trap 'rm -rf "$work"' EXIT

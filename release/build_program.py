@@ -1,7 +1,7 @@
 #!/usr/bin/env python3
-"""Proves and builds the program, and nothing that it does not need: no tests, no edits.
+"""Proves and builds the program, or another crate, and nothing that it does not need: no tests, no edits.
 
-    release/build_program.py
+    release/build_program.py [LOG [CRATE]]     the log of rt, and the crate: multiscalar, if none is named
 
 Libraries are built from the lowest up, as many side by side as cores and memory allow. It says each as it is
 done, and how long the rest may take. What was built before, and has not changed, is not built again.
@@ -22,7 +22,6 @@ from pathlib import Path
 from queue import SimpleQueue
 
 TOP = Path(__file__).resolve().parent.parent
-PROGRAM = "multiscalar"
 # What one proof takes, in gigabytes.
 MEMORY = 4
 
@@ -92,8 +91,9 @@ def hand_over(name, source, target):
 class Copies:
     """Copies of the sources, each for one `rt` at a time."""
 
-    def __init__(self, folder, crates, most):
+    def __init__(self, folder, crates, last, most):
         self.crates = crates
+        self.last = last
         self.free = SimpleQueue()
         for number in range(most):
             copy = Path(folder) / str(number)
@@ -106,12 +106,13 @@ class Copies:
             self.free.put(copy)
 
     def build(self, name, log):
-        """Builds a crate whose libraries are done. Its own library then lies in the sources themselves."""
-        copy = TOP if name == PROGRAM else self.free.get()
+        """Builds a crate whose libraries are done. What it makes then lies in the sources themselves."""
+        copy = TOP if name == self.last else self.free.get()
         for it in needed(self.crates, name):
             hand_over(it, TOP, copy)
-        words = ["rt", "run", "--", "--help"] if name == PROGRAM else ["rt", "lib", "--jobs", "1"]
-        done = subprocess.run(words, cwd=copy / "crates" / name, capture_output=True, text=True)
+        folder = copy / "crates" / name
+        words = ["rt", "run", "--", "--help"] if (folder / "src" / "main.rt").exists() else ["rt", "lib", "--jobs", "1"]
+        done = subprocess.run(words, cwd=folder, capture_output=True, text=True)
         log.write(f"== {name}\n{done.stdout}{done.stderr}")
         log.flush()
         if copy != TOP:
@@ -126,20 +127,20 @@ def minutes(seconds):
     return "less than a minute" if seconds < 50 else f"{round(seconds / 60)} min"
 
 
-def run(log):
+def run(log, last):
     with tempfile.TemporaryDirectory(prefix="multiscalar-build-") as folder:
-        return run_in(folder, log)
+        return run_in(folder, log, last)
 
 
-def run_in(folder, log):
-    crates = needed(dependencies(), PROGRAM)
+def run_in(folder, log, last):
+    crates = needed(dependencies(), last)
     weights = {it: weight(it) for it in crates}
     chains = {}
     order = sorted(crates, key=lambda it: -chain(crates, weights, it, chains))
     done, running, begun = set(), {}, time.monotonic()
     most = side_by_side()
-    say(f"proving the {len(crates)} crates of the program, {most} at a time; the first time takes half an hour or more on four cores.")
-    copies = Copies(folder, crates, most)
+    say(f"proving {len(crates)} crates, {most} at a time; the first time takes about an hour on four cores.")
+    copies = Copies(folder, crates, last, most)
     with ThreadPoolExecutor(most) as pool:
         while len(done) < len(crates):
             for it in order:
@@ -163,4 +164,4 @@ def run_in(folder, log):
 
 if __name__ == "__main__":
     with open(sys.argv[1] if len(sys.argv) > 1 else os.devnull, "w", encoding="utf-8") as log:
-        sys.exit(run(log))
+        sys.exit(run(log, sys.argv[2] if len(sys.argv) > 2 else "multiscalar"))
