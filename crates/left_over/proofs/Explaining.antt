@@ -1,18 +1,23 @@
--- What `explain` writes is what is said of the marks, since nothing is said of warnings, of a certificate or of a script.
-use Rattle.std.proofs.Common.{◌≡◌, ◌++◌, ℕ, List, [], None, Ok, false, refl, sym, ap, append-nil}
+-- What `explain` says is what is said of the marks, since nothing is said of warnings, of a certificate or of a script.
+use Rattle.std.proofs.Common.{◌≡◌, ◌++◌, ℕ, List, [], None, Ok, false, not, refl, sym, ap, append-nil}
 use Rattle.task_descriptor.specs.Listing.{Listing}
 use Rattle.annotated_asm.specs.ProgramText.{parse}
-use Rattle.report_texts.specs.OutputTexts.{Report}
 use Rattle.diagnostics.specs.declared.colour.Colour.TheVariants as colour
-use Rattle.jobs.specs.declared.job.Colors.TheVariants as colors
-use Rattle.explain_report.specs.Explained.{IsProgramExplained, said_status}
+use Rattle.diagnostics.specs.declared.diagnostic.Diagnostic.{Diagnostic}
+use Rattle.explain_report.specs.declared.explanation.Explanation.{Explanation}
+use Rattle.explain_report.specs.Beside.{is_silent}
+use Rattle.explain_report.specs.Explained.{IsExplained, IsProgramExplained, said_status}
 use Rattle.explain_report.specs.Order.{in_order}
-use Rattle.explain_report.specs.ExplainText.{IsExplainReport, explained_text}
+use Rattle.explain_report.specs.ExplainText.{explained_text}
 use Rattle.left_over.specs.LeftOvers.{IsLeftIn, closing_line}
 use Rattle.left_over.specs.declared.left.LeftOver.{LeftOver}
 
+-- what `explain` says where there are these errors
+abbrev said_of : List Diagnostic → Explanation
+said_of errors = record { said = in_order errors; has_wrong_marks = not (is_silent errors); status = said_status errors }
+
 program_explained : (name text certificate script : List ℕ) (p : Listing) (left : LeftOver) (h : IsLeftIn name text p left)
-    → IsProgramExplained None None false text certificate script p (record { said = in_order h.errors; status = said_status h.errors })
+    → IsProgramExplained None None false text certificate script p (said_of h.errors)
 program_explained name text certificate script p left h = record {
   errors = h.errors;
   wrong = h.wrong;
@@ -21,24 +26,14 @@ program_explained name text certificate script p left h = record {
   beside = [];
   certified = refl;
   said = ap in_order (sym (append-nil h.errors));
+  marked = refl;
   status = ap said_status (sym (append-nil h.errors));
 }
 
 -- without a certificate, a script and warnings
 pub said_explained : (name text certificate script : List ℕ) (p : Listing) (left : LeftOver) → parse text ≡ Ok p
     → IsLeftIn name text p left
-    → (report : Report) × IsExplainReport name None None false colors.Never text certificate script report
-    × (left.said.items ≡ report.bytes ++ closing_line name left.count)
-said_explained name text certificate script p left spelled h = (
-  record {
-    bytes = explained_text colour.Never name None None text certificate script (in_order h.errors);
-    status = said_status h.errors;
-  },
-  record {
-    explained = record { said = in_order h.errors; status = said_status h.errors };
-    is = rw spelled (program_explained name text certificate script p left h);
-    bytes = refl;
-    status = refl;
-  },
-  h.written,
-)
+    → (explained : Explanation) × IsExplained None None false text certificate script explained
+    × (left.said.items ≡ explained_text colour.Never name None None text certificate script explained.said ++ closing_line name left.count)
+said_explained name text certificate script p left spelled h =
+    (said_of h.errors, rw spelled (program_explained name text certificate script p left h), h.written)
