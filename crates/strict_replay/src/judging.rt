@@ -21,6 +21,7 @@ use event_trace::walk::Walk;
 use machine_events::event::{Event, Refused};
 use mark_checker::accept::Accepted;
 use report_texts::report::Report;
+use sequencer::machine::Machine;
 use source_map::position::Position;
 use std::alloc::{AllocError, Global};
 use task_descriptor::program::Program;
@@ -184,6 +185,14 @@ fn as_expected(alloc: Global, walk: Walk<'_>) -> Result<Report, AllocError>
     ensures { IfOk result (λ report. report ≡ as_expected (length walk.entry.history) (state walk.entry)) }
 {
     let machine = walk.into_machine();
+    let report = as_expected_of(alloc, &machine)?;
+    Ok(report)
+}
+
+/// What is told of a machine that has done as expected.
+fn as_expected_of(alloc: Global, machine: &Machine<'_>) -> Result<Report, AllocError>
+    ensures { IfOk result (λ report. report ≡ as_expected (length machine.now.history) (state machine.now)) }
+{
     let count = machine.length();
     let mut text = String::new(alloc);
     write!(text, "as expected: {count} events; ")?;
