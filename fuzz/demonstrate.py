@@ -4,8 +4,9 @@
 Takes random programs whose marks are right, and plants wrong marks. The events that are written must be allowed
 by the model's machine, each where it comes, and what the last line says must be so: the first word that was read and
 is not the plain run's, the exit that is not listed, or the word of the head. Of right marks it must say that they are
-right. The model looks for a harm of its own, in the run in which one task follows another: what of this is
-not shown is counted, since a unit that executes ahead may put the right word over a wrong one. Programs with a jump to a register that does not end its task are passed over: the model has none. PROGRAM is the
+right. The model looks for a harm of its own, in the run in which one task follows another: what of this is not
+shown is counted, since a unit that executes ahead may put the right word over a wrong one. Programs whose code can run
+off its end, or with a jump to a register that does not end its task, are passed over: the model has none. PROGRAM is the
 built `multiscalar`.
 """
 import argparse
@@ -140,7 +141,7 @@ class Bench:
         except Fault:
             return None
         findings = verdict(program, certify(program))
-        if any(finding[2] == 11 for finding in findings):
+        if any(finding[2] in (10, 11) for finding in findings):
             return None
         said, status = self.call(text)
         if not findings:
@@ -158,7 +159,7 @@ class Bench:
 
     def replayed(self, program, text, lines):
         """What is wrong with a list of events and what is said of it."""
-        units = re.fullmatch(r"on (\d+) units:", lines[0])
+        units = re.fullmatch(r"on (\d+) units?:", lines[0])
         if not units or lines[-1]:
             return "the form"
         machine = Machine(program, int(units[1]))
