@@ -13,7 +13,7 @@ const LOOKING = { units: null, events: [], sentence: 'Looking for a run …' };
 function readDemonstration(text) {
   const lines = text.trimEnd().split('\n');
   const heading = /^on (\d+) units?:$/.exec(lines[0]);
-  if (!heading) return { units: null, events: [], sentence: lines.join(' ') };
+  if (!heading) return { units: null, events: [], sentence: lines.join('; ') };
   return { units: Number(heading[1]), events: lines.slice(1, -1), sentence: lines.at(-1) };
 }
 

@@ -1,6 +1,6 @@
 -- What `demonstrate` may write of a program text: a run that shows what a wrong annotation does, in words or as a
 -- picture; that there is none, since the annotations are sound; or that none was found.
-use Rattle.std.specs.Prelude.{◌≡◌, ◌⊎◌, ℕ, nat_eq, if◌then◌else◌, List, [], ◌∷◌, ◌++◌, Result, Ok, Err, codes}
+use Rattle.std.specs.Prelude.{◌≡◌, ◌⊎◌, ℕ, nat_eq, if◌then◌else◌, List, [], ◌∷◌, ◌++◌, flat_map, Result, Ok, Err, codes}
 use Rattle.std.specs.Fmt.{decimal}
 use Rattle.task_descriptor.specs.Listing.{Listing}
 use Rattle.annotated_asm.specs.declared.fault.AsmFault.{AsmFault}
@@ -16,7 +16,10 @@ use Rattle.run_picture.specs.Picture.{picture_text}
 use Rattle.report_texts.specs.OutputTexts.{Report, program_refused}
 use Rattle.demonstration.specs.Shown.{IsShown}
 use Rattle.demonstration.specs.declared.judge.Evidence.{Evidence}
+use Rattle.finding_paths.specs.declared.shown.ShownFinding.{ShownFinding}
+use Rattle.finding_paths.specs.Shown.{AreShown}
 use Rattle.demonstration_text.specs.HarmText.{harm_text}
+use Rattle.demonstration_text.specs.FindingText.{finding_text}
 
 -- the annotations are sound
 abbrev pub nothing_to_show : Report
@@ -28,8 +31,13 @@ nothing_found_text units steps =
     codes "no run found on up to " ++ (decimal units ++ (codes " units, of up to " ++ (decimal steps
     ++ (codes " events; explain says which annotations are wrong" ++ 10 ∷ []))))
 
-abbrev pub nothing_found : (units steps : ℕ) → Report
-nothing_found units steps = record { bytes = nothing_found_text units steps; status = 3 }
+-- none of the runs that were tried shows anything: what is said names the checker's first finding
+pub record FindsNothing (units steps : ℕ) (p : Listing) (places : List Position) (report : Report) : Type 0 where
+  pub first : List ShownFinding
+  pub more : ℕ
+  pub shown : AreShown p 1 first more
+  pub bytes : report.bytes ≡ nothing_found_text units steps ++ flat_map (finding_text p places) first
+  pub status : report.status ≡ 3
 
 -- what follows a word for a number of things
 abbrev pub plural : ℕ → List ℕ
@@ -62,7 +70,7 @@ pub record TellsOfRun (emit : DemonstrateEmit) (p : Listing) (places : List Posi
 abbrev pub IsDemonstrated : (units steps : ℕ) → DemonstrateEmit → List Position → Listing → Report → Type 0
 IsDemonstrated units steps emit places p report =
     (Sound p × (report ≡ nothing_to_show))
-    ⊎ ((Sound p → ⊥) × (TellsOfRun emit p places report ⊎ (report ≡ nothing_found units steps)))
+    ⊎ ((Sound p → ⊥) × (TellsOfRun emit p places report ⊎ FindsNothing units steps p places report))
 
 abbrev pub IsDemonstratedOf : (units steps : ℕ) → DemonstrateEmit → List Position → Result Listing AsmFault → Report → Type 0
 IsDemonstratedOf units steps emit places (Ok p) report = IsDemonstrated units steps emit places p report

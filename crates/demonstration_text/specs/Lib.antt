@@ -1,3 +1,4 @@
 pub mod HarmText
+pub mod FindingText
 pub mod DemonstrateText
 pub mod Examples

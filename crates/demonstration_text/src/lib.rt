@@ -2,6 +2,7 @@
 //! or drawn.
 #![tactic(auto)]
 
+mod first_finding;
 mod harm_text;
 mod picture;
 pub mod report;

@@ -6,8 +6,9 @@ ghost use Rattle.task_graph.specs.Soundness.{Sound};
 ghost use Rattle.event_script.specs.ScriptText.{line_text, script_text};
 ghost use Rattle.event_trace.specs.Entries.{places_of};
 ghost use Rattle.demonstration.specs.Found.{IsDemonstration};
-ghost use Rattle.demonstration_text.specs.DemonstrateText.{IsDemonstrateReport, IsDemonstrated, TellsOfRun, nothing_found as nothing_found_report, nothing_found_text, nothing_to_show as nothing_to_show_report, plural as plural_of, run_text as run_text_of, shown_text, units_text};
+ghost use Rattle.demonstration_text.specs.DemonstrateText.{IsDemonstrateReport, FindsNothing, IsDemonstrated, TellsOfRun, nothing_found_text, nothing_to_show as nothing_to_show_report, plural as plural_of, run_text as run_text_of, shown_text, units_text};
 
+use crate::first_finding::{first_finding, write_findings};
 use crate::harm_text::write_harm;
 use crate::picture::drawn;
 use annotated_asm::assembler::assemble;
@@ -72,7 +73,7 @@ fn demonstrate_program(
     )?;
     match found {
         Some(found) => tell_of_run(alloc, emit, places, program, &found),
-        None => nothing_found(alloc, units, steps),
+        None => nothing_found(alloc, units, steps, places, program),
     }
 }
 
@@ -86,11 +87,19 @@ fn nothing_to_show(alloc: Global) -> Result<Report, AllocError>
 }
 
 /// What is written where no run is found.
-fn nothing_found(alloc: Global, units: Units, steps: Budget) -> Result<Report, AllocError>
-    ensures { IfOk result (λ report. report ≡ nothing_found_report units steps) }
+fn nothing_found(
+    alloc: Global,
+    units: Units,
+    steps: Budget,
+    places: &[Position],
+    program: &Program,
+) -> Result<Report, AllocError>
+    ensures { IfOk result (FindsNothing units steps program.now places.now) }
 {
+    let first = first_finding(alloc, program)?;
     let mut text = String::new(alloc);
     write_nothing_found(&mut text, units.get(), steps.get())?;
+    write_findings(&mut text, program, places, first.list.as_slice())?;
     Ok(Report::new(text.into_bytes(), 3))
 }
 
