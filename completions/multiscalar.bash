@@ -8,7 +8,7 @@ _multiscalar_options() {
         explain) echo "--certificate --script --format --color --no-warnings --output --help" ;;
         check) echo "--workers --least --output --help" ;;
         replay) echo "--units --emit --until --strict --least --output --help" ;;
-        run) echo "--with-values --units --budget --predict --workers --schedule --emit --least --output --help" ;;
+        run) echo "--with-values --axis --units --budget --predict --workers --schedule --emit --least --output --help" ;;
         curve) echo "--units --budget --predict --emit --progress --least --output --help" ;;
         demonstrate) echo "--units --steps --emit --output --help" ;;
     esac

@@ -78,6 +78,7 @@ class RunEmit(IntEnum):
     WAITS = 7
     VCD = 8
     PERFETTO = 9
+    SVG_STEPS = 10
 
 
 class CurveEmit(IntEnum):

@@ -8,12 +8,12 @@ typedef struct {
     multiscalar_text program, certificate, script;
 } texts;
 
-#define JOBS 17
+#define JOBS 18
 
 static const char *const job_names[JOBS] = {
     "seq",     "print",        "annotate", "check --least", "check", "explain", "explain, SARIF", "run, JSON",
     "run, SVG", "replay, trace", "curve",    "curve, SVG",    "run, waits",
-    "run, VCD", "run, Perfetto", "replay, state", "demonstrate"};
+    "run, VCD", "run, Perfetto", "replay, state", "run, SVG of steps", "demonstrate"};
 
 static const multiscalar_prediction first = {MULTISCALAR_FIRST, NULL, 0};
 
@@ -57,6 +57,9 @@ static int do_job(const texts *it, int job, char **answer, size_t *length) {
     case 15:
         return multiscalar_replay(it->program, it->certificate, it->script, 16, MULTISCALAR_REPLAY_STATE, answer,
                                   length);
+    case 16:
+        return multiscalar_run_in_steps(it->program, it->certificate, 16, 1000, first, MULTISCALAR_RUN_SVG_STEPS,
+                                        answer, length);
     default: return multiscalar_demonstrate(it->program, 4, 1000, answer, length);
     }
 }

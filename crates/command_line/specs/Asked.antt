@@ -27,7 +27,7 @@ use Rattle.jobs.specs.declared.job.Colors.{Colors}
 use Rattle.jobs.specs.declared.job.ReplayEmit.{ReplayEmit}
 use Rattle.jobs.specs.declared.job.ReplayEmit.TheVariants.{Answers}
 use Rattle.jobs.specs.declared.job.RunEmit.{RunEmit}
-use Rattle.jobs.specs.declared.job.RunEmit.TheVariants.{Script, ScriptWithValues, Waits, Waveform}
+use Rattle.jobs.specs.declared.job.RunEmit.TheVariants.{Script, ScriptWithValues, Picture, StepPicture, Waits, Waveform}
 use Rattle.jobs.specs.declared.job.CurveEmit.{CurveEmit}
 use Rattle.jobs.specs.declared.job.DemonstrateEmit.{DemonstrateEmit}
 use Rattle.jobs.specs.declared.job.Schedule.{Schedule}
@@ -36,7 +36,7 @@ use Rattle.jobs.specs.declared.job.Prediction.{Prediction}
 use Rattle.jobs.specs.declared.job.Job.{Job}
 use Rattle.jobs.specs.declared.job.Job.TheVariants.{Seq, Print, Annotate, Explain, Check, Replay, ReplayStrictly, Run, Curve, Demonstrate}
 use Rattle.jobs.specs.declared.job.Paths.{Paths}
-use Rattle.command_line.specs.Words.{colors_of, curve_emit_of, demonstrate_emit_of, emit_of, format_of, prediction_of, replay_emit_of, run_emit_of, schedule_of}
+use Rattle.command_line.specs.Words.{axis_of, colors_of, curve_emit_of, demonstrate_emit_of, emit_of, format_of, prediction_of, replay_emit_of, run_emit_of, schedule_of}
 use Rattle.command_line.specs.CommandLine.{command_line}
 use Rattle.command_line.specs.declared.request.Request.{Request}
 use Rattle.command_line.specs.declared.words.UsageFault.{UsageFault}
@@ -95,17 +95,34 @@ abbrev pub in_steps : RunEmit → Option Schedule → Option RunEmit
 in_steps emit (Some Steps) = Some emit
 in_steps emit other = None
 
--- `--emit waits` and `--emit vcd` go with `--schedule steps` alone
+-- the columns of a picture are the steps of a run in steps, or else events
+abbrev pub by_schedule : Option Schedule → Option RunEmit → Option RunEmit
+by_schedule (Some Steps) (Some Picture) = Some StepPicture
+by_schedule schedule emit = emit
+
+-- `--axis` says which, and goes with a picture alone
+abbrev pub with_axis : (axis : Text) → Option RunEmit → Option RunEmit
+with_axis axis (Some Picture) = axis_of axis
+with_axis axis other = None
+
+abbrev pub drawn : (axis : Option Text) → Option Schedule → Option RunEmit → Option RunEmit
+drawn None schedule emit = by_schedule schedule emit
+drawn (Some axis) schedule emit = with_axis axis emit
+
+-- `--emit waits`, `--emit vcd` and a picture of steps go with `--schedule steps` alone
 abbrev pub in_schedule : Option Schedule → Option RunEmit → Option RunEmit
 in_schedule schedule (Some Waits) = in_steps Waits schedule
 in_schedule schedule (Some Waveform) = in_steps Waveform schedule
+in_schedule schedule (Some StepPicture) = in_steps StepPicture schedule
 in_schedule schedule other = other
 
 abbrev pub emit_with_values : List Row → Option RunEmit
 emit_with_values values = with_values (is_given (codes "with-values") values) (option_and_then run_emit_of (first_of (codes "emit") values))
 
 abbrev pub run_emit_in : List Row → Option RunEmit
-run_emit_in values = in_schedule (schedule_in values) (emit_with_values values)
+run_emit_in values =
+    let schedule = schedule_in values in
+    in_schedule schedule (drawn (first_of (codes "axis") values) schedule (emit_with_values values))
 
 -- the result takes the place of the program text
 abbrev pub is_in_place : List Row → Bool

@@ -147,6 +147,10 @@ progress = flag (codes "progress")
 abbrev pub schedule : Rule
 schedule = word (codes "schedule") (codes "threads")
 
+-- what the columns of a picture are
+abbrev pub axis : Rule
+axis = free_word (codes "axis")
+
 abbrev pub subcommand : Text → List Rule → Shape
 subcommand name rules = record (new_shape name) { rules = rules }
 
@@ -172,7 +176,8 @@ replay = subcommand (codes "replay") (program ∷ certificate ∷ free_script �
 
 abbrev pub run : Shape
 run = subcommand (codes "run") (program ∷ free_certificate ∷ least ∷ schedule ∷ units ∷ workers ∷ budget
-    ∷ word (codes "predict") (codes "first") ∷ word (codes "emit") (codes "report") ∷ valued ∷ output ∷ [])
+    ∷ word (codes "predict") (codes "first") ∷ word (codes "emit") (codes "report") ∷ axis ∷ valued
+    ∷ output ∷ [])
 
 abbrev pub curve : Shape
 curve = subcommand (codes "curve") (program ∷ free_certificate ∷ least ∷ most_units ∷ budget

@@ -1,4 +1,4 @@
--- What the values of `--predict`, `--schedule`, `--format`, `--color` and `--emit` stand for (own choice).
+-- What the values of `--predict`, `--schedule`, `--format`, `--color`, `--emit` and `--axis` stand for (own choice).
 use Rattle.std.specs.Prelude.{ℕ, ◌+◌, ◌-◌, ◌*◌, ◌==◌, ◌&&◌, nat_le, if◌then◌else◌, List, [], ◌∷◌, length, map, Option, Some, None, codes}
 use Rattle.std.specs.Char.{is_ascii_digit}
 use Rattle.std.specs.Option.{option_map}
@@ -11,7 +11,7 @@ use Rattle.jobs.specs.declared.job.Format.TheVariants as format
 use Rattle.jobs.specs.declared.job.Colors.{Colors}
 use Rattle.jobs.specs.declared.job.Colors.TheVariants.{Auto, Always, Never}
 use Rattle.jobs.specs.declared.job.RunEmit.{RunEmit}
-use Rattle.jobs.specs.declared.job.RunEmit.TheVariants.{Report, Script, Summary, Picture, Trace, Json, Waits, Waveform, Timeline}
+use Rattle.jobs.specs.declared.job.RunEmit.TheVariants.{Report, Script, Summary, Picture, StepPicture, Trace, Json, Waits, Waveform, Timeline}
 use Rattle.jobs.specs.declared.job.ReplayEmit.{ReplayEmit}
 use Rattle.jobs.specs.declared.job.ReplayEmit.TheVariants as replay
 use Rattle.jobs.specs.declared.job.CurveEmit.{CurveEmit}
@@ -90,6 +90,12 @@ run_emit_of text =
     else (if bytes_eq text (codes "waits") then Some Waits
     else (if bytes_eq text (codes "vcd") then Some Waveform
     else (if bytes_eq text (codes "perfetto") then Some Timeline else None))))))))
+
+-- the value of `--axis` of `run`: what the columns of a picture are
+abbrev pub axis_of : List ℕ → Option RunEmit
+axis_of text =
+    if bytes_eq text (codes "events") then Some Picture
+    else (if bytes_eq text (codes "steps") then Some StepPicture else None)
 
 -- the value of `--emit` of `replay`
 abbrev pub replay_emit_of : List ℕ → Option ReplayEmit

@@ -258,7 +258,8 @@ viewers of waveforms show.
 
 With `--least` it makes the certificate itself, that of `annotate --emit keep`.
 
-With `--emit svg` it writes a picture of the run, a lane for each unit and a bar for each task on it. With
+With `--emit svg` it writes a picture of the run, a lane for each unit and a bar for each task on it: a column
+for each event or, with `--schedule steps`, for each step, where it shows what a unit waits for. With
 `--emit trace` it writes each event and, below it, what it changed; with `--emit json` the same for machines,
 an object of JSON on each line. With `--emit perfetto` it writes the bars of the picture as a timeline in JSON,
 which ui.perfetto.dev and other viewers of traces show: by steps where the run goes in steps, else by events.
@@ -268,6 +269,7 @@ For example:
   ./multiscalar run --least --emit svg examples/count/program.s > count.svg
   ./multiscalar run --least --emit perfetto examples/count/program.s > count.json
   ./multiscalar run --least --schedule steps --emit summary examples/count/program.s
+  ./multiscalar run --least --schedule steps --emit svg examples/count/program.s > steps.svg
   ./multiscalar run --least --schedule steps --emit waits examples/count/program.s
   ./multiscalar run --least --schedule steps --emit vcd examples/count/program.s > count.vcd
   ./multiscalar run --least --units 8 --predict last --emit summary examples/diamond/program.s";
@@ -482,7 +484,13 @@ pub const NO_REPLAY_EMIT: &str =
 
 /// Why another value of `--emit` of `run` gives no job.
 pub const NO_RUN_EMIT: &str =
-    "the value of --emit is report, script, summary, svg, trace, json, perfetto or, with --schedule steps, waits or vcd; --with-values goes with script";
+    "the value of --emit is report, script, summary, svg, trace, json, perfetto or, with --schedule steps, waits or vcd; --with-values goes with script, and --axis, events or steps, with svg";
+
+/// `--axis`.
+pub const AXIS: &str =
+    "With --emit svg: what the columns of the picture are, events or, with --schedule steps, steps
+
+[default: steps with --schedule steps, else events]";
 
 /// Why another value of `--emit` of `curve` gives no job.
 pub const NO_CURVE_EMIT: &str = "the value of --emit is table or svg";

@@ -4,7 +4,7 @@ ghost use Rattle.clap.specs.Words.{AddsSubcommand, app_of, new_app, rule_of};
 ghost use Rattle.clap.specs.declared.builder.command.Command.TheViews.{out-Command as fields_of};
 ghost use Rattle.command_line.specs.CommandLine.{IsSubcommand, app_named, command_line, program_name as program_name_shape, file as file_rule, file_option as file_option_rule, free_word as free_word_rule, flag as flag_rule, free_file as free_file_rule, free_files as free_files_rule, word as word_rule};
 ghost use Rattle.command_line.specs.CommandLine.{free_number as free_number_rule, number as number_rule};
-ghost use Rattle.command_line.specs.CommandLine.{program as program_rule, certificate as certificate_rule, free_certificate as free_certificate_rule, certificate_or_programs as certificate_or_programs_rule, explained_certificate as explained_certificate_rule, explained_script as explained_script_rule, further as further_rule, free_script as free_script_rule, least as least_rule, output as output_rule, in_place as in_place_rule, report as report_rule, strict as strict_rule, until as until_rule, valued as valued_rule, no_warnings as no_warnings_rule, layout as layout_rule, colors as colors_rule, progress as progress_rule, schedule as schedule_rule};
+ghost use Rattle.command_line.specs.CommandLine.{program as program_rule, certificate as certificate_rule, free_certificate as free_certificate_rule, certificate_or_programs as certificate_or_programs_rule, explained_certificate as explained_certificate_rule, explained_script as explained_script_rule, further as further_rule, free_script as free_script_rule, least as least_rule, output as output_rule, in_place as in_place_rule, report as report_rule, strict as strict_rule, until as until_rule, valued as valued_rule, no_warnings as no_warnings_rule, layout as layout_rule, colors as colors_rule, progress as progress_rule, schedule as schedule_rule, axis as axis_rule};
 ghost use Rattle.command_line.specs.CommandLine.{budget as budget_rule, steps as steps_rule, units as units_rule, most_units as most_units_rule, checkers as checkers_rule, workers as workers_rule};
 ghost use Rattle.command_line.specs.CommandLine.{seq as seq_shape, print as print_shape, annotate as annotate_shape, explain as explain_shape, check as check_shape, replay as replay_shape, run as run_shape, curve as curve_shape, demonstrate as demonstrate_shape};
 
@@ -313,6 +313,14 @@ fn schedule<'a>(alloc: Global) -> Arg<'a>
     word(alloc, "schedule", "HOW", help::SCHEDULE, "threads")
 }
 
+// What the columns of a picture are.
+fn axis<'a>(alloc: Global) -> Arg<'a>
+    ensures rule { rule_of result ≡ axis_rule }
+    ensures local { result.global ≡ false }
+{
+    free_word(alloc, "axis", "WHAT", help::AXIS)
+}
+
 fn budget<'a>(alloc: Global, text: &'a str) -> Arg<'a>
     ensures rule { rule_of result ≡ budget_rule }
     ensures local { result.global ≡ false }
@@ -469,6 +477,7 @@ fn run<'a>(alloc: Global) -> Result<Command<'a>, AllocError>
         budget(alloc, help::RUN_BUDGET),
         word(alloc, "predict", "HOW", help::PREDICT, "first"),
         word(alloc, "emit", "WHAT", help::RUN_EMIT, "report"),
+        axis(alloc),
         valued(alloc),
         output(alloc),
     ]?;

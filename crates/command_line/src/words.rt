@@ -4,11 +4,12 @@ ghost use Rattle.std.specs.String.{string_bytes};
 ghost use Rattle.std.specs.List.{slice_split};
 ghost use Rattle.clap.specs.Words.{first_of};
 ghost use Rattle.clap.specs.declared.error.kind.ErrorKind.TheVariants.{ArgumentConflict, InvalidValue, MissingSubcommand};
-ghost use Rattle.command_line.specs.Asked.{AskFor, IsCheckMisfit, IsCheckSource, IsFaultOf, IsFrom, IsLack, IsMisfit, IsNoNumber, IsNoValue, IsOutside, IsOfKind, IsSource, Reads, ReadsRequest, IsDestination, destination_in, is_in_place, is_given, is_strict, colors_in, curve_emit_in, demonstrate_emit_in, fits_in_place, further_in, goes_together, emit_in, emit_with_values, format_in, in_schedule, number_at, predict_in, repeats, replay_emit_in, run_emit_in, schedule_in, in_steps, values_at, values_in, with_values};
-ghost use Rattle.command_line.specs.Words.{listed_number, listed_numbers, all_there, colors_of, curve_emit_of, demonstrate_emit_of, emit_of, format_of, prediction_of, replay_emit_of, run_emit_of, schedule_of};
+ghost use Rattle.command_line.specs.Asked.{by_schedule, drawn, with_axis, AskFor, IsCheckMisfit, IsCheckSource, IsFaultOf, IsFrom, IsLack, IsMisfit, IsNoNumber, IsNoValue, IsOutside, IsOfKind, IsSource, Reads, ReadsRequest, IsDestination, destination_in, is_in_place, is_given, is_strict, colors_in, curve_emit_in, demonstrate_emit_in, fits_in_place, further_in, goes_together, emit_in, emit_with_values, format_in, in_schedule, number_at, predict_in, repeats, replay_emit_in, run_emit_in, schedule_in, in_steps, values_at, values_in, with_values};
+ghost use Rattle.command_line.specs.Words.{axis_of, listed_number, listed_numbers, all_there, colors_of, curve_emit_of, demonstrate_emit_of, emit_of, format_of, prediction_of, replay_emit_of, run_emit_of, schedule_of};
 ghost use Rattle.jobs.specs.Files.{HasFilesOf, is_in_file};
 ghost use Rattle.jobs.specs.declared.job.Job.TheVariants.{Replay, ReplayStrictly};
 ghost use Rattle.jobs.specs.declared.job.ReplayEmit.TheVariants.{Answers};
+ghost use Rattle.jobs.specs.declared.job.RunEmit.TheVariants.{Picture};
 ghost use Rattle.command_line.specs.declared.words.UsageFault.TheVariants.{OutOfMemory, Predict, Emit as EmitFault};
 
 use crate::help;
@@ -793,7 +794,9 @@ fn replay_emit(alloc: Global, values: &ArgMatches<'_>) -> Result<ReplayEmit, Usa
 fn run_emit(alloc: Global, values: &ArgMatches<'_>) -> Result<RunEmit, UsageFault>
     ensures { MatchResult result (λ e. run_emit_in (values_in values.now) ≡ Some e) (IsNoValue (run_emit_in (values_in values.now))) }
 {
-    match in_schedule(schedule_in(values), emit_with_values(values)) {
+    let schedule = schedule_in(values);
+    let drawn = drawn(text(values, "axis"), schedule, emit_with_values(values));
+    match in_schedule(schedule, drawn) {
         Some(emit) => Ok(emit),
         None => Err(no_value(alloc, "run", help::NO_RUN_EMIT)),
     }
@@ -814,13 +817,58 @@ fn emit_with_values(values: &ArgMatches<'_>) -> Option<RunEmit>
     with_values(is_given(values, "with-values"), emit)
 }
 
-// What is written of a run with this schedule: the waits and the waveform of a run in steps alone.
+// What is written where `--axis` has this value, or none.
+fn drawn(
+    axis: Option<&str>,
+    schedule: Option<Schedule>,
+    emit: Option<RunEmit>,
+) -> Option<RunEmit>
+    ensures { result ≡ drawn (option_map (λ word. word.now) axis) schedule emit }
+{
+    match axis {
+        None => by_schedule(schedule, emit),
+        Some(word) => with_axis(word, emit),
+    }
+}
+
+// What is written with this schedule: the columns of a picture are the steps of a run in steps.
+fn by_schedule(schedule: Option<Schedule>, emit: Option<RunEmit>) -> Option<RunEmit>
+    ensures { result ≡ by_schedule schedule emit }
+{
+    match emit {
+        Some(RunEmit::Picture) => picture_of(schedule),
+        _ => emit,
+    }
+}
+
+// The picture of a run with this schedule.
+fn picture_of(schedule: Option<Schedule>) -> Option<RunEmit>
+    ensures { result ≡ by_schedule schedule (Some Picture) }
+{
+    match schedule {
+        Some(Schedule::Steps) => Some(RunEmit::StepPicture),
+        _ => Some(RunEmit::Picture),
+    }
+}
+
+// What is written with this value of `--axis`, which goes with a picture alone.
+fn with_axis(axis: &str, emit: Option<RunEmit>) -> Option<RunEmit>
+    ensures { result ≡ with_axis axis.now emit }
+{
+    match emit {
+        Some(RunEmit::Picture) => read_axis(axis),
+        _ => None,
+    }
+}
+
+// What is written of a run with this schedule: the waits, the waveform and a picture of steps of a run in steps alone.
 fn in_schedule(schedule: Option<Schedule>, emit: Option<RunEmit>) -> Option<RunEmit>
     ensures { result ≡ in_schedule schedule emit }
 {
     match emit {
         Some(RunEmit::Waits) => in_steps(RunEmit::Waits, schedule),
         Some(RunEmit::Waveform) => in_steps(RunEmit::Waveform, schedule),
+        Some(RunEmit::StepPicture) => in_steps(RunEmit::StepPicture, schedule),
         _ => emit,
     }
 }
@@ -994,6 +1042,17 @@ fn read_run_emit(text: &str) -> Option<RunEmit>
         "waits" => Some(RunEmit::Waits),
         "vcd" => Some(RunEmit::Waveform),
         "perfetto" => Some(RunEmit::Timeline),
+        _ => None,
+    }
+}
+
+// The value of `--axis`.
+fn read_axis(text: &str) -> Option<RunEmit>
+    ensures { result ≡ axis_of text.now }
+{
+    match text {
+        "events" => Some(RunEmit::Picture),
+        "steps" => Some(RunEmit::StepPicture),
         _ => None,
     }
 }

@@ -58,8 +58,10 @@ pub enum RunEmit {
     ScriptWithValues,
     /// How often each task was assigned, how that ended, and how much of its work was of use.
     Summary,
-    /// The run as a picture, in SVG.
+    /// The run as a picture, in SVG, with a column for each event.
     Picture,
+    /// The same with a column for each step: of a run in steps.
+    StepPicture,
     /// Each event of the history with what it changed.
     Trace,
     /// The same in JSON, an object on each line, for machines.

@@ -59,6 +59,7 @@ pub(crate) fn run_emit(code: u32) -> Option<RunEmit>
         7 => Some(RunEmit::Waits),
         8 => Some(RunEmit::Waveform),
         9 => Some(RunEmit::Timeline),
+        10 => Some(RunEmit::StepPicture),
         _ => None,
     }
 }
