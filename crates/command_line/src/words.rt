@@ -823,7 +823,7 @@ fn drawn(
     schedule: Option<Schedule>,
     emit: Option<RunEmit>,
 ) -> Option<RunEmit>
-    ensures { result ≡ drawn (option_map (λ word. word.now) axis) schedule emit }
+    ensures { result ≡ drawn (option_map (λ word. word.now) axis.entry) schedule emit }
 {
     match axis {
         None => by_schedule(schedule, emit),
