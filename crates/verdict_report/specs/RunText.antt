@@ -13,6 +13,7 @@ use Rattle.event_script.specs.ScriptText.{script_text}
 use Rattle.task_lives.specs.Lives.{lives_of}
 use Rattle.run_summary.specs.SummaryText.{summary_text}
 use Rattle.run_picture.specs.Picture.{picture_text}
+use Rattle.step_picture.specs.StepPicture.{step_picture_text}
 use Rattle.run_timeline.specs.Timeline.{timeline_text}
 use Rattle.run_timeline.specs.declared.clock.Clock.{Clock}
 use Rattle.run_timeline.specs.declared.clock.Clock.TheVariants as clock
@@ -90,7 +91,7 @@ clock_of None = clock.Events
 clock_of (Some count) = clock.Steps
 
 -- what is written of a run: its end; its history as a script, which is read as that history; or what the
--- tasks that it assigned came to, and its steps; or a picture of its history; or the trace of its history, by
+-- tasks that it assigned came to, and its steps; or a picture of its history, by events or by steps; or the trace of its history, by
 -- the lines of the program text, or the same in JSON; or the table of its waits, its waveform or its timeline
 abbrev pub IsWrittenOf : RunEmit → (units : ℕ) → (text : List ℕ) → Listing → Run → List ℕ → Type 0
 IsWrittenOf emit.Report units text p run bytes = bytes ≡ ending_text run.how run.state
@@ -98,6 +99,7 @@ IsWrittenOf emit.Script units text p run bytes = (bytes ≡ script_text p run.hi
 IsWrittenOf emit.ScriptWithValues units text p run bytes = bytes ≡ valued_script p units run.history
 IsWrittenOf emit.Summary units text p run bytes = bytes ≡ summary_text p (lives_of units run.history) ++ steps_text run.steps run.state
 IsWrittenOf emit.Picture units text p run bytes = bytes ≡ picture_text p units run.history
+IsWrittenOf emit.StepPicture units text p run bytes = bytes ≡ step_picture_text p units run.state.outcome run.history
 IsWrittenOf emit.Trace units text p run bytes = bytes ≡ trace_text p (places_of text) units run.history
 IsWrittenOf emit.Json units text p run bytes = bytes ≡ json_text p (places_of text) units run.history
 IsWrittenOf emit.Waits units text p run bytes = bytes ≡ waits_text p (places_of text) units run.history

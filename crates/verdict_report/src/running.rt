@@ -11,6 +11,7 @@ ghost use Rattle.event_script.specs.EventScript.{script_of};
 ghost use Rattle.event_trace.specs.Entries.{places_of};
 ghost use Rattle.wait_table.specs.TableText.{waits_text};
 ghost use Rattle.run_waveform.specs.Waveform.{waveform_text};
+ghost use Rattle.step_picture.specs.StepPicture.{step_picture_text};
 ghost use Rattle.run_timeline.specs.Timeline.{timeline_text};
 ghost use Rattle.event_script.specs.ScriptText.{script_text};
 
@@ -30,10 +31,12 @@ use report_texts::report::Report;
 use run_picture::events::single_events;
 use run_timeline::clock::Clock;
 use run_waveform::waveform::waveform;
+use step_picture::drawing::draw;
 use std::alloc::{AllocError, Global};
 use std::sync::Wait;
 use std::thread::Threads;
 use strict_replay::writing::write_valued;
+use task_lives::laws::histories_fit;
 use threaded_runner::report::How;
 use wait_table::table::table;
 
@@ -106,6 +109,7 @@ pub(crate) fn report_of_run(
         }
         RunEmit::Summary => summary(alloc, units, ran, accepted)?,
         RunEmit::Picture => picture_of(alloc, units, &ran.machine, accepted.program())?,
+        RunEmit::StepPicture => step_picture_of(alloc, units, ran, accepted)?,
         RunEmit::Trace => {
             let events = single_events(alloc, ran.machine.history())?;
             trace_of(alloc, units, accepted, text, &events)?
@@ -199,6 +203,24 @@ fn waveform_of(
     let events = single_events(alloc, ran.machine.history())?;
     let dump = waveform(alloc, accepted, units.get(), &events)?;
     Ok(dump.into_bytes())
+}
+
+// The picture of a run in steps.
+fn step_picture_of(
+    alloc: Global,
+    units: Units,
+    ran: &Ran<'_>,
+    accepted: &Accepted,
+) -> Result<Vec<u8>, AllocError>
+    requires over { ran.now.machine.accepted ≡ accepted.now }
+    requires units { (units_of ran.now.machine ≤ 16) × (units_of ran.now.machine ≡ units) }
+    ensures { IfOk result (λ bytes. bytes.items
+        ≡ step_picture_text accepted.now.program units (state ran.now.machine).outcome ran.now.machine.history) }
+{
+    histories_fit();
+    let machine = &ran.machine;
+    let picture = draw(alloc, accepted, units.get(), machine.outcome(), machine.history())?;
+    Ok(picture.into_bytes())
 }
 
 // The tasks on each unit, by the clock of the run.
