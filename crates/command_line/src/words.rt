@@ -818,11 +818,7 @@ fn emit_with_values(values: &ArgMatches<'_>) -> Option<RunEmit>
 }
 
 // What is written where `--axis` has this value, or none.
-fn drawn(
-    axis: Option<&str>,
-    schedule: Option<Schedule>,
-    emit: Option<RunEmit>,
-) -> Option<RunEmit>
+fn drawn(axis: Option<&str>, schedule: Option<Schedule>, emit: Option<RunEmit>) -> Option<RunEmit>
     ensures { result ≡ drawn (option_map (λ word. word.now) axis.entry) schedule emit }
 {
     match axis {

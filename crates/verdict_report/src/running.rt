@@ -31,10 +31,10 @@ use report_texts::report::Report;
 use run_picture::events::single_events;
 use run_timeline::clock::Clock;
 use run_waveform::waveform::waveform;
-use step_picture::drawing::draw;
 use std::alloc::{AllocError, Global};
 use std::sync::Wait;
 use std::thread::Threads;
+use step_picture::drawing::draw;
 use strict_replay::writing::write_valued;
 use task_lives::laws::histories_fit;
 use threaded_runner::report::How;
@@ -219,7 +219,13 @@ fn step_picture_of(
 {
     histories_fit();
     let machine = &ran.machine;
-    let picture = draw(alloc, accepted, units.get(), machine.outcome(), machine.history())?;
+    let picture = draw(
+        alloc,
+        accepted,
+        units.get(),
+        machine.outcome(),
+        machine.history(),
+    )?;
     Ok(picture.into_bytes())
 }
 
