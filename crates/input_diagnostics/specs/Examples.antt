@@ -7,6 +7,9 @@ use lib.Utf8.{encode}
 use Rattle.std.proofs.Common.{refl}
 use Rattle.task_descriptor.specs.Listing.{Listing}
 use Rattle.task_descriptor.specs.declared.descriptor.Descriptor.{Descriptor}
+use Rattle.program_tokens.specs.Grammar.{line_tokens, tokens_after, token_of, kind_of}
+use Rattle.program_tokens.specs.Numbers.{number_of, magnitude_of, number_in}
+use Rattle.program_tokens.specs.Registers.{register_of, register_named}
 use Rattle.mask_certificate.specs.declared.fault.CertFault.TheVariants as fault
 use Rattle.mark_checker.specs.declared.finding.Rule.TheVariants as rule
 use Rattle.canonical_text.specs.CanonicalText.{members}
@@ -44,22 +47,46 @@ nearest_task = refl
 
 -- each line
 pub two_lines : map told (script_errors program (codes "exce 0\ntransfer 0 8"))
-    ≡ (at 1 1 4, codes "`exce` begins no event", Some (codes "an event begins with assign, exec, transfer, drain, squash, retire, fault or drop"))
-    ∷ (at 2 12 1, codes "`8` is no register", Some (codes "write $ and the register's number, from $0 to $33, without leading zeros"))
+    ≡ (at 1 1 4, codes "`exce` begins no event", Some (codes "did you mean exec?"))
+    ∷ (at 2 12 1, codes "`8` is not a register", Some (codes "write $ and the register's number, from $0 to $33, without leading zeros"))
     ∷ []
-unfolding digits is_readable is_utf8 chars encode letter_start as_shown quoted
+unfolding digits is_readable is_utf8 chars encode letter_start as_shown quoted line_tokens tokens_after token_of kind_of number_of magnitude_of number_in register_of register_named
 two_lines = refl
 
 pub missing_word : map told (script_errors program (codes "exec"))
     ≡ (at 1 5 0, codes "a word is missing here", Some (codes "write exec and a position, as in exec 0")) ∷ []
 missing_word = refl
 
-pub more_words : map told (script_errors program (codes "retire # done"))
-    ≡ (at 1 8 6, codes "this is more than the event takes", Some (codes "write retire alone")) ∷ []
+pub no_verb : map told (script_errors program (codes "go on"))
+    ≡ (at 1 1 2, codes "`go` begins no event", Some (codes "an event begins with assign, exec, transfer, drain, squash, retire, fault or drop")) ∷ []
+unfolding digits is_readable is_utf8 chars encode letter_start as_shown quoted
+no_verb = refl
+
+pub more_words : map told (script_errors program (codes "retire now"))
+    ≡ (at 1 8 3, codes "this is more than the event takes", Some (codes "write retire alone")) ∷ []
 more_words = refl
 
+pub other_capitals : map told (script_errors program (codes "EXEC 0\nassign loop\n"))
+    ≡ (at 1 1 4, codes "`EXEC` begins no event", Some (codes "did you mean exec?"))
+    ∷ (at 2 8 4, codes "the program has no task `loop`", Some (codes "did you mean LOOP?"))
+    ∷ []
+unfolding digits is_readable is_utf8 chars encode letter_start as_shown quoted
+other_capitals = refl
+
+-- what only `replay --strict` reads, with the spaces before it
+pub with_expectation : map told (script_errors program (codes "exec 0 : $8=1  # the first\nstep 2\n"))
+    ≡ (at 1 7 20, codes "expectations, comments and steps are for replay --strict", Some (codes "take it out: here a line is an event alone"))
+    ∷ (at 2 1 6, codes "expectations, comments and steps are for replay --strict", Some (codes "take the line out: here a line is an event alone"))
+    ∷ []
+with_expectation = refl
+
+pub register_by_name : map told (script_errors program (codes "transfer 1 $t0"))
+    ≡ (at 1 12 3, codes "an event names a register by its number", Some (codes "write $8")) ∷ []
+unfolding digits line_tokens tokens_after token_of kind_of number_of magnitude_of number_in register_of register_named
+register_by_name = refl
+
 pub two_spaces : map told (script_errors program (codes "exec  0"))
-    ≡ (at 1 6 1, codes "this space separates no two words", Some (codes "take it out: one space stands between two words, and none before or after them")) ∷ []
+    ≡ (at 1 6 1, codes "one space too many", Some (codes "take it out: one space stands between two words, and none before or after them")) ∷ []
 two_spaces = refl
 
 -- once for all lines
@@ -70,9 +97,22 @@ carriage_returns = refl
 -- ---- certificates
 
 pub short_mask : map told (refused_error program (codes "cert 2\ntask MAIN\n1 600\n") (fault.Line 3))
-    ≡ (at 3 3 3, codes "this is no mask of 16 digits", Some (codes "write 16 digits, 0 to 9 and a to f in lower case, with zeros in front and no bit above 33")) ∷ []
+    ≡ (at 3 3 3, codes "this is not a mask of 16 digits", Some (codes "write 16 digits, 0 to 9 and a to f in lower case, with zeros in front and no bit above 33")) ∷ []
 unfolding digits
 short_mask = refl
+
+pub capitals : map told (refused_error program (codes "cert 2\ntask MAIN\n1 0000000000000C00\n") (fault.Line 3))
+    ≡ (at 3 3 16, codes "the mask has capital letters", Some (codes "write 0000000000000c00")) ∷ []
+unfolding is_readable is_utf8 chars encode letter_start as_shown
+capitals = refl
+
+pub high_bits : map told (refused_error program (codes "cert 2\ntask MAIN\n1 0000000c00000300\n") (fault.Line 3))
+    ≡ (at 3 3 16, codes "the mask has a bit above 33, the number of the last register", Some (codes "write 00000000 to 00000003 as the first eight digits")) ∷ []
+high_bits = refl
+
+pub no_bytes : map told (refused_error program [] fault.Header)
+    ≡ (at 1 1 0, codes "the certificate is empty", Some (codes "make a new one: multiscalar annotate --emit keep PROGRAM > CERT")) ∷ []
+no_bytes = refl
 
 pub no_last_newline : map told (refused_error program (codes "cert 2\ntask MAIN") (fault.Line 2))
     ≡ (at 2 10 0, codes "the last line does not end with LF", Some (codes "end it with LF")) ∷ []
@@ -83,11 +123,11 @@ pub other_task : map told (refused_error program (codes "cert 2\ntask MANE\n") (
 other_task = refl
 
 pub missing_task : map told (refused_error program (codes "cert 2\ntask MAIN\n") fault.MissingTask)
-    ≡ (at 2 10 0, codes "the certificate ends before task LOOP", Some (codes "make it anew: multiscalar annotate --emit keep PROGRAM > CERT")) ∷ []
+    ≡ (at 2 10 0, codes "the certificate ends before task LOOP", Some (codes "make a new one: multiscalar annotate --emit keep PROGRAM > CERT")) ∷ []
 missing_task = refl
 
 pub index_twice : map told (refused_error program (codes "cert 1\ntask MAIN\n1 00000600\n1 00000600\n") fault.Shape)
-    ≡ (at 4 1 1, codes "this index is not above that of the line before", Some (codes "make it anew: multiscalar annotate --emit keep PROGRAM > CERT")) ∷ []
+    ≡ (at 4 1 1, codes "this index is not above that of the line before", Some (codes "make a new one: multiscalar annotate --emit keep PROGRAM > CERT")) ∷ []
 index_twice = refl
 
 -- the mask of LOOP at 2 lacks $8 and $10

@@ -1,4 +1,5 @@
 pub mod Saying
+pub mod Meant
 pub mod ScriptErrors
 pub mod RefusedCertificates
 pub mod Misfits

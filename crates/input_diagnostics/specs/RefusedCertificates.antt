@@ -1,29 +1,29 @@
 -- What is said of the text of a certificate that is refused (own choice).
 use Rattle.std.specs.Prelude.{ℕ, ◌+◌, ◌-◌, Bool, not, ◌||◌, ◌==◌, nat_eq, nat_lt, nat_le, if◌then◌else◌, List, [], ◌∷◌, ◌++◌, length, take, drop, slice_get, slice_index, position, codes, unwrap_or, is_some, Option, Some, None}
 use Rattle.std.specs.Fmt.{decimal}
-use Rattle.std.specs.List.{list_any, count_by, starts_with}
-use Rattle.std.specs.Str.{bytes_eq}
+use Rattle.std.specs.List.{list_all, list_any, count_by, starts_with}
+use Rattle.std.specs.Str.{bytes_eq, str_to_ascii_lowercase}
 use Rattle.task_descriptor.specs.Listing.{Listing}
 use Rattle.task_descriptor.specs.declared.descriptor.Descriptor.{Descriptor}
 use Rattle.event_script.specs.EventScript.{lines, first_word}
 use Rattle.mask_certificate.specs.declared.fault.CertFault.{CertFault}
 use Rattle.mask_certificate.specs.declared.fault.CertFault.TheVariants as fault
-use Rattle.mask_certificate.specs.CertificateReading.{is_space, index_in}
+use Rattle.mask_certificate.specs.CertificateReading.{is_space, index_in, is_mask_digit}
 use Rattle.diagnostics.specs.declared.code.Code.TheVariants.{Header, Line, TaskName, MissingTask, Shape}
 use Rattle.diagnostics.specs.declared.diagnostic.Diagnostic.{Diagnostic}
 use Rattle.diagnostics.specs.declared.diagnostic.Help.{Help}
 use Rattle.diagnostics.specs.declared.diagnostic.Source.TheVariants.{Certificate}
 use Rattle.diagnostics.specs.declared.diagnostic.Span.{Span}
-use Rattle.diagnostics.specs.Quotations.{quoted}
+use Rattle.diagnostics.specs.Quotations.{as_shown, quoted}
 use Rattle.input_diagnostics.specs.declared.refused.LineSlip.{LineSlip}
-use Rattle.input_diagnostics.specs.declared.refused.LineSlip.TheVariants.{Unended, Name, First, Form, Index, Mask}
+use Rattle.input_diagnostics.specs.declared.refused.LineSlip.TheVariants.{Unended, Name, First, Form, Index, Capitals, High, Mask}
 use Rattle.diagnostics.specs.Helps.{in_words, by_text}
 use Rattle.input_diagnostics.specs.Saying.{error, row_at, span, return_error}
 use Rattle.input_diagnostics.specs.ScriptErrors.{ends_with_return}
 
 -- the command that makes a certificate
 abbrev pub anew : Help
-anew = in_words (codes "make it anew: multiscalar annotate --emit keep PROGRAM > CERT")
+anew = in_words (codes "make a new one: multiscalar annotate --emit keep PROGRAM > CERT")
 
 -- ---- which task is next
 
@@ -40,17 +40,29 @@ next_name p rows n = name_in (slice_get p.tasks (count_by is_task_row (take (n -
 
 -- ---- a line that has no form
 
-abbrev pub slip_by : (space : Option ℕ) → (row : List ℕ) → LineSlip
-slip_by None row = Form
-slip_by (Some k) row = if is_some (index_in (take k row)) then Mask k else Index k
+-- what is wrong with a mask behind the first `k` bytes of a row, where masks have so many digits: it has another number of
+-- digits; its digits are right, so it has a bit above 33; only capital letters are wrong; or other bytes are
+abbrev pub mask_slip : (digits k : ℕ) → (mask : List ℕ) → LineSlip
+mask_slip digits k mask =
+    if not (length mask == digits) then Mask k
+    else (if list_all is_mask_digit mask then High k
+    else (if list_all is_mask_digit (str_to_ascii_lowercase mask) then Capitals k
+    else Mask k))
+
+abbrev pub slip_by : (digits : ℕ) → (space : Option ℕ) → (row : List ℕ) → LineSlip
+slip_by digits None row = Form
+slip_by digits (Some k) row = if is_some (index_in (take k row)) then mask_slip digits k (drop (k + 1) row) else Index k
 
 -- a line without LF; a `task` line, whose name is none; a line that has to be the first `task` line; else what an entry lacks
-abbrev pub line_slip : (ended : Bool) → (n : ℕ) → (row : List ℕ) → LineSlip
-line_slip ended n row =
+abbrev pub line_slip : (ended : Bool) → (n digits : ℕ) → (row : List ℕ) → LineSlip
+line_slip ended n digits row =
     if not ended then Unended
     else (if is_task_row row then Name
     else (if n == 2 then First
-    else slip_by (position is_space row) row))
+    else slip_by digits (position is_space row) row))
+
+abbrev pub mask_span : (n : ℕ) → (row : List ℕ) → (k : ℕ) → Span
+mask_span n row k = span n (k + 1) (length row - (k + 1))
 
 abbrev pub slip_span : (n : ℕ) → (row : List ℕ) → LineSlip → Span
 slip_span n row Unended = span n (length row) 0
@@ -58,20 +70,25 @@ slip_span n row Name = span n 5 (length row - 5)
 slip_span n row First = span n 0 (length row)
 slip_span n row Form = span n 0 (length row)
 slip_span n row (Index k) = span n 0 k
-slip_span n row (Mask k) = span n (k + 1) (length row - (k + 1))
+slip_span n row (Capitals k) = mask_span n row k
+slip_span n row (High k) = mask_span n row k
+slip_span n row (Mask k) = mask_span n row k
 
 -- `digits` is how many digits a mask has
 abbrev pub slip_message : (digits : ℕ) → (row : List ℕ) → LineSlip → List ℕ
 slip_message digits row Unended = codes "the last line does not end with LF"
-slip_message digits row Name = quoted (drop 5 row) ++ codes " is no name of a task"
+slip_message digits row Name = quoted (drop 5 row) ++ codes " cannot be the name of a task"
 slip_message digits row First = codes "the line of the first task comes first"
-slip_message digits row Form = codes "this is no line of a certificate"
-slip_message digits row (Index k) = quoted (take k row) ++ codes " is no index of an instruction"
-slip_message digits row (Mask k) = codes "this is no mask of " ++ (decimal digits ++ codes " digits")
+slip_message digits row Form = codes "this is not a line of a certificate"
+slip_message digits row (Index k) = quoted (take k row) ++ codes " is not the index of an instruction"
+slip_message digits row (Capitals k) = codes "the mask has capital letters"
+slip_message digits row (High k) = codes "the mask has a bit above 33, the number of the last register"
+slip_message digits row (Mask k) = codes "this is not a mask of " ++ (decimal digits ++ codes " digits")
 
 abbrev pub slip_words : (digits : ℕ) → LineSlip → List ℕ
 slip_words digits Unended = codes "end it with LF"
 slip_words digits (Index k) = codes "write an index in decimal, without leading zeros, at most 4095"
+slip_words digits (High k) = codes "write 00000000 to 00000003 as the first eight digits"
 slip_words digits (Mask k) =
     codes "write " ++ (decimal digits ++ codes " digits, 0 to 9 and a to f in lower case, with zeros in front and no bit above 33")
 slip_words digits _ = codes "a line is task NAME, or an index, one space and a mask"
@@ -85,10 +102,15 @@ abbrev pub first_help : (next : Option (List ℕ)) → Help
 first_help None = anew
 first_help (Some name) = in_words (codes "write task " ++ (name ++ codes " on a line before it"))
 
-abbrev pub slip_help : (digits : ℕ) → Span → (next : Option (List ℕ)) → LineSlip → Help
-slip_help digits at next Name = name_help at next
-slip_help digits at next First = first_help next
-slip_help digits at next slip = in_words (slip_words digits slip)
+abbrev pub small_help : Span → (mask : List ℕ) → Help
+small_help at mask =
+    let small = as_shown (str_to_ascii_lowercase mask) in by_text (codes "write " ++ small) at small
+
+abbrev pub slip_help : (digits : ℕ) → Span → (next : Option (List ℕ)) → (row : List ℕ) → LineSlip → Help
+slip_help digits at next row Name = name_help at next
+slip_help digits at next row First = first_help next
+slip_help digits at next row (Capitals k) = small_help at (drop (k + 1) row)
+slip_help digits at next row slip = in_words (slip_words digits slip)
 
 -- ---- what is said of each fault
 
@@ -103,11 +125,11 @@ is_ended text n = nat_lt n (length (lines text)) || slice_index text (length tex
 abbrev pub line_error : Listing → (text : List ℕ) → (n : ℕ) → Diagnostic
 line_error p text n =
     let row = row_at (lines text) n in
-    let slip = line_slip (is_ended text n) n row in
+    let slip = line_slip (is_ended text n) n (digits_in text) row in
     let at = slip_span n row slip in
     if ends_with_return row then return_error Certificate Line n row
     else error Certificate Line at (slip_message (digits_in text) row slip) []
-    (slip_help (digits_in text) at (next_name p (lines text) n) slip)
+    (slip_help (digits_in text) at (next_name p (lines text) n) row slip)
 
 -- the first line of a text
 abbrev pub header_message : (row : List ℕ) → List ℕ
@@ -115,11 +137,15 @@ header_message row =
     if bytes_eq row (codes "cert 1") || bytes_eq row (codes "cert 2") then codes "the first line does not end with LF"
     else codes "the first line is neither cert 2 nor cert 1"
 
-abbrev pub header_error : (row : List ℕ) → Diagnostic
-header_error row =
-    if ends_with_return row then return_error Certificate Header 1 row
+abbrev pub empty_error : Diagnostic
+empty_error = error Certificate Header (span 1 0 0) (codes "the certificate is empty") [] anew
+
+abbrev pub header_error : (text row : List ℕ) → Diagnostic
+header_error text row =
+    if length text == 0 then empty_error
+    else (if ends_with_return row then return_error Certificate Header 1 row
     else error Certificate Header (span 1 0 (length row)) (header_message row) []
-    (in_words (codes "begin with the line cert 2, or cert 1 if masks have 8 digits, and end it with LF"))
+    (in_words (codes "begin with the line cert 2, or cert 1 if masks have 8 digits, and end it with LF")))
 
 -- another task than the next one: its name may be written wrong, or lines are missing or too many
 abbrev pub is_task : Listing → (name : List ℕ) → Bool
@@ -167,7 +193,7 @@ shape_error rows =
 
 -- what is said of a text that is refused
 abbrev pub refused_error : Listing → (text : List ℕ) → CertFault → List Diagnostic
-refused_error p text fault.Header = header_error (row_at (lines text) 1) ∷ []
+refused_error p text fault.Header = header_error text (row_at (lines text) 1) ∷ []
 refused_error p text (fault.Line n) = line_error p text n ∷ []
 refused_error p text (fault.TaskName n) = task_error p (lines text) n ∷ []
 refused_error p text fault.MissingTask = missing_error p (lines text) ∷ []

@@ -1,12 +1,12 @@
 -- What is wrong with the text of an event script (own choice).
-use Rattle.std.specs.Prelude.{ℕ, ◌+◌, ◌-◌, Bool, true, false, not, ◌&&◌, ◌||◌, ◌==◌, nat_lt, if◌then◌else◌, List, [], ◌∷◌, ◌++◌, length, take, slice_index, codes, Option, Some, None, Result, Ok, Err}
-use Rattle.std.specs.Str.{bytes_eq}
+use Rattle.std.specs.Prelude.{ℕ, ◌+◌, ◌-◌, Bool, true, false, not, ◌&&◌, ◌||◌, ◌==◌, if◌then◌else◌, List, [], ◌∷◌, ◌++◌, length, take, slice_index, codes, Option, Some, None, Result, Ok, Err}
+use Rattle.std.specs.Str.{byte, bytes_eq}
+use Rattle.canonical_text.specs.CanonicalText.{register_text}
 use Rattle.task_descriptor.specs.Listing.{Listing}
-use Rattle.event_script.specs.EventScript.{is_space, first_word, wrong_part, lines, names_in, bad_lines}
+use Rattle.event_script.specs.EventScript.{LinePart, is_space, first_word, wrong_part, lines, names_in, bad_lines}
 use Rattle.event_script.specs.declared.bad_line.BadLine.{BadLine}
 use Rattle.event_script.specs.declared.fault.LineFault.{LineFault}
 use Rattle.event_script.specs.declared.fault.LineFault.TheVariants.{NoEvent, TooFew, TooMany, NoPosition, NoRegister, NoName, NoTask}
-use Rattle.near_words.specs.Near.{nearest}
 use Rattle.diagnostics.specs.declared.code.Code.{Code}
 use Rattle.diagnostics.specs.declared.code.Code.TheVariants.{ScriptLine, ScriptTaskName}
 use Rattle.diagnostics.specs.declared.diagnostic.Diagnostic.{Diagnostic}
@@ -15,9 +15,10 @@ use Rattle.diagnostics.specs.declared.diagnostic.Source.TheVariants.{Script}
 use Rattle.diagnostics.specs.declared.diagnostic.Span.{Span}
 use Rattle.diagnostics.specs.Quotations.{quoted}
 use Rattle.input_diagnostics.specs.declared.slip.Slip.{Slip}
-use Rattle.input_diagnostics.specs.declared.slip.Slip.TheVariants.{Empty, Space, Word}
+use Rattle.input_diagnostics.specs.declared.slip.Slip.TheVariants.{Empty, Strict, Space, Named, Word}
 use Rattle.diagnostics.specs.Helps.{in_words, by_text}
 use Rattle.diagnostics.specs.More.{more_note}
+use Rattle.input_diagnostics.specs.Meant.{meant, register_meant}
 use Rattle.input_diagnostics.specs.Saying.{error, row_at, span, return_error, most_shown}
 
 -- What an event is that begins with this word: how it is written.
@@ -28,12 +29,30 @@ form_help verb =
     else (if bytes_eq verb (codes "assign") then codes "write assign and the name of a task"
     else (if bytes_eq verb (codes "exec") then codes "write exec and a position, as in exec 0"
     else (if bytes_eq verb (codes "squash") then codes "write squash and a position, as in squash 1"
-    else (if bytes_eq verb (codes "drop") then codes "write drop and a position, as in drop 0"
-    else (if bytes_eq verb (codes "transfer") then codes "write transfer, a position and a register, as in transfer 0 $8"
+    else (if bytes_eq verb (codes "drop") then codes "write drop and a position, as in drop 1"
+    else (if bytes_eq verb (codes "transfer") then codes "write transfer, a position and a register, as in transfer 1 $8"
     else (if bytes_eq verb (codes "drain") then codes "write drain, a position and a register, as in drain 0 $8"
     else codes "an event begins with assign, exec, transfer, drain, squash, retire, fault or drop")))))))
 
+-- the words that events begin with
+abbrev pub verbs : List (List ℕ)
+verbs =
+    codes "assign" ∷ codes "exec" ∷ codes "transfer" ∷ codes "drain" ∷ codes "squash" ∷ codes "retire" ∷ codes "fault" ∷ codes "drop" ∷ []
+
 -- ---- what is wrong with a line
+
+-- How many bytes stand in front of a `:` or a `#`, and of the spaces before it: an event may stand there, and what follows
+-- is for `replay --strict`. The first byte here has `index` in front of it, and the last before it that is no space ends at
+-- `kept`.
+abbrev pub event_end : (kept index : ℕ) → (line : List ℕ) → Option ℕ
+event_end kept index [] = None
+event_end kept index (b ∷ bs) =
+    if b == byte ":" || b == byte "#" then Some kept
+    else event_end (if is_space b then kept else index + 1) (index + 1) bs
+
+-- where what only `replay --strict` reads begins; a step has a line of its own
+abbrev pub strict_part : (line : List ℕ) → Option ℕ
+strict_part line = if bytes_eq (first_word line) (codes "step") then Some 0 else event_end 0 0 line
 
 -- How many bytes stand in front of the first space that separates no two words: one at the line's end, at its beginning, or
 -- behind another; the first byte here has `index` in front of it, and `word` says that a word ends there.
@@ -42,46 +61,63 @@ stray_space word index [] = None
 stray_space word index (b ∷ bs) =
     if is_space b && (not word || length bs == 0) then Some index else stray_space (not (is_space b)) (index + 1) bs
 
-abbrev pub slip_by : (space : Option ℕ) → LineFault → Slip
-slip_by None fault = Word fault
-slip_by (Some before) fault = Space before
+-- a word that is no register of an event may be one by name
+abbrev pub register_slip : Option ℕ → Slip
+register_slip None = Word NoRegister
+register_slip (Some r) = Named r
 
--- an empty line, else a space that is too much, else a word
+abbrev pub word_slip : (line : List ℕ) → LineFault → Slip
+word_slip line NoRegister = register_slip (register_meant (wrong_part NoRegister line).bytes)
+word_slip line fault = Word fault
+
+abbrev pub space_slip : (space : Option ℕ) → (line : List ℕ) → LineFault → Slip
+space_slip None line fault = word_slip line fault
+space_slip (Some before) line fault = Space before
+
+abbrev pub slip_by : (strict : Option ℕ) → (line : List ℕ) → LineFault → Slip
+slip_by None line fault = space_slip (stray_space false 0 line) line fault
+slip_by (Some before) line fault = Strict before
+
+-- an empty line, else what only `replay --strict` reads, else a space that is too much, else a word
 abbrev pub slip_of : (line : List ℕ) → LineFault → Slip
-slip_of line fault = if length line == 0 then Empty else slip_by (stray_space false 0 line) fault
+slip_of line fault = if length line == 0 then Empty else slip_by (strict_part line) line fault
+
+abbrev pub part_span : (n : ℕ) → LinePart → Span
+part_span n part = span n part.before (length part.bytes)
 
 abbrev pub slip_span : (n : ℕ) → (line : List ℕ) → Slip → Span
 slip_span n line Empty = span n 0 0
+slip_span n line (Strict before) = span n before (length line - before)
 slip_span n line (Space before) = span n before 1
-slip_span n line (Word fault) = span n (wrong_part fault line).before (length (wrong_part fault line).bytes)
+slip_span n line (Named r) = part_span n (wrong_part NoRegister line)
+slip_span n line (Word fault) = part_span n (wrong_part fault line)
 
 -- what is wrong with a word; of too few and too many words no word is named
 abbrev pub word_message : LineFault → (word : List ℕ) → List ℕ
 word_message NoEvent word = quoted word ++ codes " begins no event"
 word_message TooFew word = codes "a word is missing here"
 word_message (TooMany words) word = codes "this is more than the event takes"
-word_message NoPosition word = quoted word ++ codes " is no position"
-word_message NoRegister word = quoted word ++ codes " is no register"
-word_message NoName word = quoted word ++ codes " is no name of a task"
+word_message NoPosition word = quoted word ++ codes " is not a position"
+word_message NoRegister word = quoted word ++ codes " is not a register"
+word_message NoName word = quoted word ++ codes " cannot be the name of a task"
 word_message NoTask word = codes "the program has no task " ++ quoted word
 
 abbrev pub slip_message : (line : List ℕ) → Slip → List ℕ
 slip_message line Empty = codes "the line is empty"
-slip_message line (Space before) = codes "this space separates no two words"
+slip_message line (Strict before) = codes "expectations, comments and steps are for replay --strict"
+slip_message line (Space before) = codes "one space too many"
+slip_message line (Named r) = codes "an event names a register by its number"
 slip_message line (Word fault) = word_message fault (wrong_part fault line).bytes
 
 -- ---- what to do
 
--- the first task of the program whose name is near to a word; to a word of one letter none is
-abbrev pub near_task : Listing → (word : List ℕ) → Option (List ℕ)
-near_task p word = if nat_lt (length word) 2 then None else nearest word (names_in p.tasks)
-
 abbrev pub name_help : List ℕ
 name_help = codes "write the name of a task of the program"
 
-abbrev pub task_help : Span → (near : Option (List ℕ)) → Help
-task_help at None = in_words name_help
-task_help at (Some name) = by_text (codes "did you mean " ++ (name ++ codes "?")) at name
+-- to write the word that is meant, or else these words
+abbrev pub meant_help : Span → (words : List ℕ) → (one : Option (List ℕ)) → Help
+meant_help at words None = in_words words
+meant_help at words (Some one) = by_text (codes "did you mean " ++ (one ++ codes "?")) at one
 
 abbrev pub word_help : LineFault → (line : List ℕ) → List ℕ
 word_help NoPosition line = codes "write a number from 0 to 999 without leading zeros"
@@ -90,11 +126,23 @@ word_help NoName line = name_help
 word_help _ line = form_help (first_word line)
 
 abbrev pub word_remedy : Listing → Span → (line : List ℕ) → LineFault → Help
-word_remedy p at line NoTask = task_help at (near_task p (wrong_part NoTask line).bytes)
+word_remedy p at line NoTask = meant_help at name_help (meant (wrong_part NoTask line).bytes (names_in p.tasks))
+word_remedy p at line NoEvent = meant_help at (form_help (first_word line)) (meant (first_word line) verbs)
 word_remedy p at line fault = in_words (word_help fault line)
+
+-- a line without an event is taken out whole
+abbrev pub strict_help : Span → (before : ℕ) → Help
+strict_help at before =
+    if before == 0 then in_words (codes "take the line out: here a line is an event alone")
+    else by_text (codes "take it out: here a line is an event alone") at []
+
+abbrev pub register_help : Span → (register : ℕ) → Help
+register_help at r = by_text (codes "write " ++ register_text r) at (register_text r)
 
 abbrev pub slip_help : Listing → Span → (line : List ℕ) → Slip → Help
 slip_help p at line Empty = in_words (codes "take the line out")
+slip_help p at line (Strict before) = strict_help at before
+slip_help p at line (Named r) = register_help at r
 slip_help p at line (Space before) = in_words (codes "take it out: one space stands between two words, and none before or after them")
 slip_help p at line (Word fault) = word_remedy p at line fault
 

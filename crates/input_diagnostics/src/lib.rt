@@ -3,6 +3,7 @@
 
 pub mod certificate;
 mod lines;
+mod meant;
 mod misfit;
 pub mod program_lines;
 pub mod refused;

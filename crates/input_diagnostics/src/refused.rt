@@ -1,11 +1,12 @@
 //! What is said of the text of a certificate that is refused.
 
-ghost use Rattle.std.specs.Prelude.{◌≡◌, map as each, position, take, drop, IfOk};
-ghost use Rattle.std.specs.List.{count_by};
+ghost use Rattle.std.specs.Prelude.{◌≡◌, ◌+◌, map as each, position, take, drop, IfOk};
+ghost use Rattle.std.specs.List.{count_by, list_all};
 ghost use Rattle.std.specs.Option.{option_map};
-ghost use Rattle.mask_certificate.specs.CertificateReading.{is_space, index_in};
+ghost use Rattle.std.specs.Str.{str_to_ascii_lowercase};
+ghost use Rattle.mask_certificate.specs.CertificateReading.{is_space, index_in, is_mask_digit};
 ghost use Rattle.event_script.specs.EventScript.{lines};
-ghost use Rattle.input_diagnostics.specs.RefusedCertificates.{anew, is_task_row, next_name, slip_by, line_slip, slip_span, slip_message, slip_words, name_help, first_help, slip_help, digits_in, is_ended, line_error, header_message, header_error, is_task, task_message, task_error, missing_error, index_of, shape_line, shape_message, shape_error, refused_error};
+ghost use Rattle.input_diagnostics.specs.RefusedCertificates.{anew, is_task_row, next_name, mask_slip, slip_by, line_slip, mask_span, slip_span, slip_message, slip_words, name_help, first_help, small_help, slip_help, digits_in, is_ended, line_error, header_message, empty_error, header_error, is_task, task_message, task_error, missing_error, index_of, shape_line, shape_message, shape_error, refused_error};
 
 use crate::lines::{lines_of, row_at};
 use crate::saying::{plain_error, return_error, span};
@@ -13,7 +14,7 @@ use crate::script::ends_with_return;
 use diagnostics::code::Code;
 use diagnostics::diagnostic::{Diagnostic, Help, Source, Span};
 use diagnostics::helps::{by_text, in_words};
-use diagnostics::quotation::quoted;
+use diagnostics::quotation::{as_shown, quoted};
 use diagnostics::words;
 use diagnostics::words::Words;
 use event_script::bad_line::first_word;
@@ -32,9 +33,13 @@ pub enum LineSlip {
     First,
     /// It is neither a `task` line, nor has it a space.
     Form,
-    /// In front of its first space, which has so many bytes in front of it, stands no index.
+    /// Before its first space, which has so many bytes before it, stands no index.
     Index(usize),
-    /// Behind its first space stands no mask.
+    /// After its first space stands a mask with capital letters.
+    Capitals(usize),
+    /// After its first space stands a mask with a bit above 33.
+    High(usize),
+    /// After its first space stands no mask.
     Mask(usize),
 }
 
@@ -42,7 +47,7 @@ pub enum LineSlip {
 pub(crate) fn anew(alloc: Global) -> Result<Help, AllocError>
     ensures { IfOk result (λ help. help ≡ anew) }
 {
-    let words = "make it anew: multiscalar annotate --emit keep PROGRAM > CERT";
+    let words = "make a new one: multiscalar annotate --emit keep PROGRAM > CERT";
     Ok(in_words(alloc, Words::of(alloc, words)?))
 }
 
@@ -119,30 +124,100 @@ fn space_in(row: &[u8]) -> Option<usize>
     row.iter().position(|byte| *byte == b' ')
 }
 
-/// Why a line that begins no task is no entry.
-fn slip_by(row: &[u8]) -> LineSlip
-    ensures { result ≡ slip_by (position is_space row.now) row.now }
+/// Whether a byte is a digit of a mask.
+fn is_mask_digit(byte: u8) -> bool
+    ensures { result ≡ is_mask_digit byte }
+{
+    byte.is_ascii_digit() || matches!(byte, b'a'..=b'f')
+}
+
+/// Whether a text has digits of masks alone.
+fn is_all_digits(text: &[u8]) -> bool
+    ensures { result ≡ list_all is_mask_digit text.now }
+{
+    text.iter().all(|byte| is_mask_digit(*byte))
+}
+
+/// Whether a text has digits of masks alone, but for capital letters.
+fn is_all_letters(alloc: Global, text: &[u8]) -> Result<bool, AllocError>
+    ensures { IfOk result (λ all. all ≡ list_all is_mask_digit (str_to_ascii_lowercase text.now)) }
+{
+    let small = text.to_ascii_lowercase(alloc)?;
+    Ok(is_all_digits(&small))
+}
+
+/// What is wrong with a mask after so many bytes, where masks have so many digits.
+fn mask_slip(
+    alloc: Global,
+    digits: usize,
+    space: usize,
+    mask: &[u8],
+) -> Result<LineSlip, AllocError>
+    ensures { IfOk result (λ slip. slip ≡ mask_slip digits space mask.now) }
+{
+    if mask.len() != digits {
+        return Ok(LineSlip::Mask(space));
+    }
+    if is_all_digits(mask) {
+        return Ok(LineSlip::High(space));
+    }
+    if is_all_letters(alloc, mask)? {
+        Ok(LineSlip::Capitals(space))
+    } else {
+        Ok(LineSlip::Mask(space))
+    }
+}
+
+/// What stands after so many bytes and one more.
+fn after(row: &[u8], count: usize) -> &[u8]
+    ensures { result.now ≡ drop (count + 1) row.now }
+{
+    &row[count.saturating_add(1).min(row.len())..]
+}
+
+/// Why a line that begins no task is no entry, where masks have so many digits.
+fn slip_by(alloc: Global, digits: usize, row: &[u8]) -> Result<LineSlip, AllocError>
+    ensures { IfOk result (λ slip. slip ≡ slip_by digits (position is_space row.now) row.now) }
 {
     match space_in(row) {
-        None => LineSlip::Form,
-        Some(space) if index_in(&row[..space]).is_some() => LineSlip::Mask(space),
-        Some(space) => LineSlip::Index(space),
+        None => Ok(LineSlip::Form),
+        Some(space) if index_in(&row[..space]).is_some() => {
+            mask_slip(alloc, digits, space, after(row, space))
+        }
+        Some(space) => Ok(LineSlip::Index(space)),
     }
 }
 
 /// Why a line has no form that a line may have.
-fn line_slip(ended: bool, number: usize, row: &[u8]) -> LineSlip
-    ensures { result ≡ line_slip ended number row.now }
+fn line_slip(
+    alloc: Global,
+    ended: bool,
+    number: usize,
+    digits: usize,
+    row: &[u8],
+) -> Result<LineSlip, AllocError>
+    ensures { IfOk result (λ slip. slip ≡ line_slip ended number digits row.now) }
 {
     if !ended {
-        LineSlip::Unended
+        Ok(LineSlip::Unended)
     } else if is_task_row(row) {
-        LineSlip::Name
+        Ok(LineSlip::Name)
     } else if number == 2 {
-        LineSlip::First
+        Ok(LineSlip::First)
     } else {
-        slip_by(row)
+        slip_by(alloc, digits, row)
     }
+}
+
+/// The mask after so many bytes and a space.
+fn mask_span(number: usize, row: &[u8], space: usize) -> Span
+    ensures { result ≡ mask_span number row.now space }
+{
+    span(
+        number,
+        space.saturating_add(1),
+        row.len().saturating_sub(space).saturating_sub(1),
+    )
 }
 
 /// What is meant.
@@ -154,11 +229,9 @@ fn slip_span(number: usize, row: &[u8], slip: LineSlip) -> Span
         LineSlip::Name => span(number, 5, row.len().saturating_sub(5)),
         LineSlip::First | LineSlip::Form => span(number, 0, row.len()),
         LineSlip::Index(space) => span(number, 0, space),
-        LineSlip::Mask(space) => span(
-            number,
-            space.saturating_add(1),
-            row.len().saturating_sub(space).saturating_sub(1),
-        ),
+        LineSlip::Capitals(space) => mask_span(number, row, space),
+        LineSlip::High(space) => mask_span(number, row, space),
+        LineSlip::Mask(space) => mask_span(number, row, space),
     }
 }
 
@@ -189,15 +262,20 @@ fn slip_message(
         LineSlip::Unended => Words::of(alloc, "the last line does not end with LF"),
         LineSlip::Name => {
             let name = quoted(alloc, name_of(row))?;
-            words!(in alloc; "{name} is no name of a task")
+            words!(in alloc; "{name} cannot be the name of a task")
         }
         LineSlip::First => Words::of(alloc, "the line of the first task comes first"),
-        LineSlip::Form => Words::of(alloc, "this is no line of a certificate"),
+        LineSlip::Form => Words::of(alloc, "this is not a line of a certificate"),
         LineSlip::Index(space) => {
             let word = quoted(alloc, front(row, space))?;
-            words!(in alloc; "{word} is no index of an instruction")
+            words!(in alloc; "{word} is not the index of an instruction")
         }
-        LineSlip::Mask(_) => words!(in alloc; "this is no mask of {digits} digits"),
+        LineSlip::Capitals(_) => Words::of(alloc, "the mask has capital letters"),
+        LineSlip::High(_) => Words::of(
+            alloc,
+            "the mask has a bit above 33, the number of the last register",
+        ),
+        LineSlip::Mask(_) => words!(in alloc; "this is not a mask of {digits} digits"),
     }
 }
 
@@ -210,6 +288,10 @@ fn slip_words(alloc: Global, digits: usize, slip: LineSlip) -> Result<Words, All
         LineSlip::Index(_) => Words::of(
             alloc,
             "write an index in decimal, without leading zeros, at most 4095",
+        ),
+        LineSlip::High(_) => Words::of(
+            alloc,
+            "write 00000000 to 00000003 as the first eight digits",
         ),
         LineSlip::Mask(_) => words!(
             in alloc;
@@ -251,19 +333,29 @@ fn first_help(alloc: Global, next: Option<&str>) -> Result<Help, AllocError>
     }
 }
 
+/// What to do about a mask with capital letters: to write small ones.
+fn small_help(alloc: Global, at: Span, mask: &[u8]) -> Result<Help, AllocError>
+    ensures { IfOk result (λ help. help ≡ small_help at mask.now) }
+{
+    let small = as_shown(alloc, &mask.to_ascii_lowercase(alloc)?)?;
+    by_text(alloc, words!(in alloc; "write {small}")?, at, small)
+}
+
 /// What to do about a line.
 fn slip_help(
     alloc: Global,
     digits: usize,
     at: Span,
     next: Option<&str>,
+    row: &[u8],
     slip: LineSlip,
 ) -> Result<Help, AllocError>
-    ensures { IfOk result (λ help. help ≡ slip_help digits at (option_map (λ name. name.now) next.entry) slip) }
+    ensures { IfOk result (λ help. help ≡ slip_help digits at (option_map (λ name. name.now) next.entry) row.now slip) }
 {
     match slip {
         LineSlip::Name => name_help(alloc, at, next),
         LineSlip::First => first_help(alloc, next),
+        LineSlip::Capitals(space) => small_help(alloc, at, after(row, space)),
         _ => Ok(in_words(alloc, slip_words(alloc, digits, slip)?)),
     }
 }
@@ -299,10 +391,11 @@ fn line_error(
         return return_error(alloc, Source::Certificate, Code::Line, number, row);
     }
     let digits = digits_in(text);
-    let slip = line_slip(is_ended(text, rows, number), number, row);
+    let slip = line_slip(alloc, is_ended(text, rows, number), number, digits, row)?;
     let at = slip_span(number, row, slip);
     let message = slip_message(alloc, digits, row, slip)?;
-    let help = slip_help(alloc, digits, at, next_name(program, rows, number), slip)?;
+    let next = next_name(program, rows, number);
+    let help = slip_help(alloc, digits, at, next, row, slip)?;
     Ok(plain_error(alloc, Source::Certificate, Code::Line, at, message, help))
 }
 
@@ -317,10 +410,23 @@ fn header_message(row: &[u8]) -> &'static str
     }
 }
 
-/// What is said of a first line that begins no certificate.
-fn header_error(alloc: Global, row: &[u8]) -> Result<Diagnostic, AllocError>
-    ensures { IfOk result (λ said. said ≡ header_error row.now) }
+/// What is said of a text without a byte.
+fn empty_error(alloc: Global) -> Result<Diagnostic, AllocError>
+    ensures { IfOk result (λ said. said ≡ empty_error) }
 {
+    let message = Words::of(alloc, "the certificate is empty")?;
+    let help = anew(alloc)?;
+    let at = span(1, 0, 0);
+    Ok(plain_error(alloc, Source::Certificate, Code::Header, at, message, help))
+}
+
+/// What is said of a first line that begins no certificate.
+fn header_error(alloc: Global, text: &[u8], row: &[u8]) -> Result<Diagnostic, AllocError>
+    ensures { IfOk result (λ said. said ≡ header_error text.now row.now) }
+{
+    if text.is_empty() {
+        return empty_error(alloc);
+    }
     if ends_with_return(row) {
         return return_error(alloc, Source::Certificate, Code::Header, 1, row);
     }
@@ -453,7 +559,7 @@ pub(crate) fn refused_error(
 {
     let rows = lines_of(alloc, text)?;
     let said = match fault {
-        CertFault::Header => header_error(alloc, row_at(&rows, 1))?,
+        CertFault::Header => header_error(alloc, text, row_at(&rows, 1))?,
         CertFault::Line(number) => line_error(alloc, program, text, &rows, number)?,
         CertFault::TaskName(number) => task_error(alloc, program, &rows, number)?,
         CertFault::MissingTask => missing_error(alloc, program, &rows)?,

@@ -2,11 +2,11 @@
 
 ghost use Rattle.std.specs.Prelude.{◌≡◌, ◌↔◌, ◌<◌, ◌^◌, ◌++◌, [], length, map as each, false, IfOk, OnOk};
 ghost use Rattle.std.specs.Option.{option_map};
-ghost use Rattle.event_script.specs.EventScript.{names_in, script_of};
-ghost use Rattle.near_words.specs.Near.{nearest};
-ghost use Rattle.input_diagnostics.specs.ScriptErrors.{form_help, slip_span, word_message, slip_message, near_task, task_help, word_help, word_remedy, slip_help, code_of, line_error, ends_with_return, said_of, script_errors, IsRead};
+ghost use Rattle.event_script.specs.EventScript.{names_in, script_of, wrong_part};
+ghost use Rattle.input_diagnostics.specs.ScriptErrors.{form_help, verbs, part_span, slip_span, word_message, slip_message, meant_help, word_help, word_remedy, strict_help, register_help, slip_help, code_of, line_error, ends_with_return, said_of, script_errors, IsRead};
 
 use crate::lines::{lines_of, row_at};
+use crate::meant::{meant, names_of};
 use crate::saying::{MOST_SHOWN, plain_error, return_error, span};
 use crate::slip::{Slip, slip_of};
 use diagnostics::code::Code;
@@ -19,10 +19,16 @@ use diagnostics::words::Words;
 use event_script::bad_line::{BadLine, bad_lines, first_word};
 use event_script::fault::LineFault;
 use event_script::laws::refused_for_the_first;
-use near_words::is_near;
 use std::alloc::{AllocError, Global};
-use task_descriptor::descriptor::Descriptor;
 use task_descriptor::program::Program;
+
+/// The words that events begin with.
+const VERBS: [&str; 8] = [
+    "assign", "exec", "transfer", "drain", "squash", "retire", "fault", "drop",
+];
+
+/// What to do where a word can be the name of no task.
+const NAME_HELP: &str = "write the name of a task of the program";
 
 /// How an event is written that begins with this word.
 fn form_help(verb: &[u8]) -> &'static str
@@ -39,9 +45,9 @@ fn form_help(verb: &[u8]) -> &'static str
     } else if verb == b"squash".as_slice() {
         "write squash and a position, as in squash 1"
     } else if verb == b"drop".as_slice() {
-        "write drop and a position, as in drop 0"
+        "write drop and a position, as in drop 1"
     } else if verb == b"transfer".as_slice() {
-        "write transfer, a position and a register, as in transfer 0 $8"
+        "write transfer, a position and a register, as in transfer 1 $8"
     } else if verb == b"drain".as_slice() {
         "write drain, a position and a register, as in drain 0 $8"
     } else {
@@ -49,17 +55,24 @@ fn form_help(verb: &[u8]) -> &'static str
     }
 }
 
-/// What is meant.
+/// The part of a line that has a fault.
+fn part_span(number: usize, line: &[u8], fault: LineFault) -> Span
+    ensures { result ≡ part_span number (wrong_part fault line.now) }
+{
+    let (before, bytes) = fault.part_of(line);
+    span(number, before, bytes.len())
+}
+
+/// What is marked.
 fn slip_span(number: usize, line: &[u8], slip: Slip) -> Span
     ensures { result ≡ slip_span number line.now slip }
 {
     match slip {
         Slip::Empty => span(number, 0, 0),
+        Slip::Strict(before) => span(number, before, line.len().saturating_sub(before)),
         Slip::Space(before) => span(number, before, 1),
-        Slip::Word(fault) => {
-            let (before, bytes) = fault.part_of(line);
-            span(number, before, bytes.len())
-        }
+        Slip::Named(_) => part_span(number, line, LineFault::NoRegister),
+        Slip::Word(fault) => part_span(number, line, fault),
     }
 }
 
@@ -72,9 +85,9 @@ fn word_message(alloc: Global, fault: LineFault, word: &[u8]) -> Result<Words, A
         LineFault::NoEvent => words!(in alloc; "{word} begins no event"),
         LineFault::TooFew => Words::of(alloc, "a word is missing here"),
         LineFault::TooMany(_) => Words::of(alloc, "this is more than the event takes"),
-        LineFault::NoPosition => words!(in alloc; "{word} is no position"),
-        LineFault::NoRegister => words!(in alloc; "{word} is no register"),
-        LineFault::NoName => words!(in alloc; "{word} is no name of a task"),
+        LineFault::NoPosition => words!(in alloc; "{word} is not a position"),
+        LineFault::NoRegister => words!(in alloc; "{word} is not a register"),
+        LineFault::NoName => words!(in alloc; "{word} cannot be the name of a task"),
         LineFault::NoTask => words!(in alloc; "the program has no task {word}"),
     }
 }
@@ -85,7 +98,12 @@ fn slip_message(alloc: Global, line: &[u8], slip: Slip) -> Result<Words, AllocEr
 {
     match slip {
         Slip::Empty => Words::of(alloc, "the line is empty"),
-        Slip::Space(_) => Words::of(alloc, "this space separates no two words"),
+        Slip::Strict(_) => Words::of(
+            alloc,
+            "expectations, comments and steps are for replay --strict",
+        ),
+        Slip::Space(_) => Words::of(alloc, "one space too many"),
+        Slip::Named(_) => Words::of(alloc, "an event names a register by its number"),
         Slip::Word(fault) => {
             let (_, word) = fault.part_of(line);
             word_message(alloc, fault, word)
@@ -93,41 +111,16 @@ fn slip_message(alloc: Global, line: &[u8], slip: Slip) -> Result<Words, AllocEr
     }
 }
 
-/// The first task whose name is near to a word.
-fn nearest<'a>(tasks: &'a [Descriptor], word: &[u8]) -> Option<&'a str>
-    ensures { option_map (λ near. near.now) result ≡ nearest word.now (names_in tasks.now) }
+/// What to do about a word: to write the one that is meant, if one is, or else these words.
+fn meant_help(alloc: Global, at: Span, words: &str, one: Option<&str>) -> Result<Help, AllocError>
+    ensures { IfOk result (λ help. help ≡ meant_help at words.now (option_map (λ one. one.now) one.entry)) }
 {
-    for task in tasks {
-        if is_near(word, task.name.bytes()) {
-            return Some(task.name.as_str());
+    match one {
+        Some(one) => {
+            let message = words!(in alloc; "did you mean {one}?")?;
+            by_text(alloc, message, at, Words::of(alloc, one)?)
         }
-    }
-    None
-}
-
-/// The first task of the program whose name is near to a word; to a word of one letter none is.
-fn near_task<'a>(program: &'a Program, word: &[u8]) -> Option<&'a str>
-    ensures { option_map (λ near. near.now) result ≡ near_task program.now word.now }
-{
-    if word.len() < 2 {
-        return None;
-    }
-    nearest(program.tasks(), word)
-}
-
-/// What to do where no task has a name: to write one that is near, if there is one.
-fn task_help(alloc: Global, at: Span, near: Option<&str>) -> Result<Help, AllocError>
-    ensures { IfOk result (λ help. help ≡ task_help at (option_map (λ name. name.now) near.entry)) }
-{
-    match near {
-        Some(name) => {
-            let message = words!(in alloc; "did you mean {name}?")?;
-            by_text(alloc, message, at, Words::of(alloc, name)?)
-        }
-        None => {
-            let message = Words::of(alloc, "write the name of a task of the program")?;
-            Ok(in_words(alloc, message))
-        }
+        None => Ok(in_words(alloc, Words::of(alloc, words)?)),
     }
 }
 
@@ -140,7 +133,7 @@ fn word_help(fault: LineFault, line: &[u8]) -> &'static str
         LineFault::NoRegister => {
             "write $ and the register's number, from $0 to $33, without leading zeros"
         }
-        LineFault::NoName => "write the name of a task of the program",
+        LineFault::NoName => NAME_HELP,
         _ => form_help(first_word(line)),
     }
 }
@@ -158,10 +151,35 @@ fn word_remedy(
     match fault {
         LineFault::NoTask => {
             let (_, word) = fault.part_of(line);
-            task_help(alloc, at, near_task(program, word))
+            let names = names_of(alloc, program.tasks())?;
+            meant_help(alloc, at, NAME_HELP, meant(word, &names))
+        }
+        LineFault::NoEvent => {
+            let verb = first_word(line);
+            meant_help(alloc, at, form_help(verb), meant(verb, &VERBS))
         }
         _ => Ok(in_words(alloc, Words::of(alloc, word_help(fault, line))?)),
     }
+}
+
+/// What to do about what only `replay --strict` reads.
+fn strict_help(alloc: Global, at: Span, before: usize) -> Result<Help, AllocError>
+    ensures { IfOk result (λ help. help ≡ strict_help at before) }
+{
+    if before == 0 {
+        let message = Words::of(alloc, "take the line out: here a line is an event alone")?;
+        return Ok(in_words(alloc, message));
+    }
+    let message = Words::of(alloc, "take it out: here a line is an event alone")?;
+    by_text(alloc, message, at, Words::of(alloc, "")?)
+}
+
+/// What to do about a register's name.
+fn register_help(alloc: Global, at: Span, number: u8) -> Result<Help, AllocError>
+    ensures { IfOk result (λ help. help ≡ register_help at number) }
+{
+    let message = words!(in alloc; "write ${number}")?;
+    by_text(alloc, message, at, words!(in alloc; "${number}")?)
 }
 
 /// What to do.
@@ -176,6 +194,8 @@ fn slip_help(
 {
     match slip {
         Slip::Empty => Ok(in_words(alloc, Words::of(alloc, "take the line out")?)),
+        Slip::Strict(before) => strict_help(alloc, at, before),
+        Slip::Named(number) => register_help(alloc, at, number),
         Slip::Space(_) => Ok(in_words(
             alloc,
             Words::of(
@@ -206,7 +226,7 @@ fn line_error(
 ) -> Result<Diagnostic, AllocError>
     ensures { IfOk result (λ said. said ≡ line_error program.now line.now bad.now) }
 {
-    let slip = slip_of(line, bad.fault);
+    let slip = slip_of(alloc, line, bad.fault)?;
     let at = slip_span(bad.line, line, slip);
     let message = slip_message(alloc, line, slip)?;
     let help = slip_help(alloc, program, at, line, slip)?;
