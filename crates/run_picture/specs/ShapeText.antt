@@ -7,7 +7,7 @@ use Rattle.task_lives.specs.declared.life.Ending.TheVariants.{Retired, Squashed,
 use Rattle.task_lives.specs.declared.life.Life.{Life}
 use Rattle.run_picture.specs.declared.shape.Shape.{Shape}
 use Rattle.run_picture.specs.declared.shape.Style.{Style}
-use Rattle.run_picture.specs.declared.shape.Style.TheVariants.{Heading, Quiet, Ground, UnitName, Grid, Axis, AxisNumber, Caption, Bar, Share, TaskName, Instruction, FineInstruction, Arrow, FineArrow, RegisterName, SquashMark}
+use Rattle.run_picture.specs.declared.shape.Style.TheVariants.{Heading, Quiet, Ground, UnitName, Grid, Axis, AxisNumber, Caption, Bar, Share, TaskName, Instruction, FineInstruction, Arrow, FineArrow, RegisterName, SquashMark, Halted, WaitForRegister, WaitForTurn, WaitToPass}
 use Rattle.run_picture.specs.declared.shape.Form.{Form}
 use Rattle.run_picture.specs.declared.shape.Form.TheVariants.{Rectangle, Line, Wedge, Label}
 use Rattle.run_picture.specs.declared.shape.Hover.{Hover}
@@ -47,6 +47,10 @@ style_text Arrow = codes "transfer"
 style_text FineArrow = codes "transfer fine"
 style_text RegisterName = codes "register"
 style_text SquashMark = codes "squash"
+style_text Halted = codes "halted"
+style_text WaitForRegister = codes "wait needs"
+style_text WaitForTurn = codes "wait turn"
+style_text WaitToPass = codes "wait pass"
 
 -- an element's name, class and place
 abbrev pub beginning_text : (class : List ℕ) → Form → List ℕ

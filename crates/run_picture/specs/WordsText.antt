@@ -4,7 +4,7 @@ use Rattle.std.specs.Prelude.{ℕ, List, [], ◌++◌, codes, length, take, flat
 use Rattle.task_descriptor.specs.declared.descriptor.Descriptor.{Descriptor}
 use Rattle.run_summary.specs.declared.tally.Tally.{Tally}
 use Rattle.run_picture.specs.declared.shape.Words.{Words}
-use Rattle.run_picture.specs.declared.shape.Words.TheVariants.{Title, Sums, OfUnit, EventNumber, Events, Task, Register, Ring, Stretch}
+use Rattle.run_picture.specs.declared.shape.Words.TheVariants.{Title, Sums, OfUnit, EventNumber, Events, Task, Register, Ring, Stretch, Steps, OneEvent, StretchOfSteps}
 use Rattle.run_picture.specs.Bars.{name_of}
 
 -- what follows a word for a number of things
@@ -41,3 +41,9 @@ words_text tasks Ring = codes "An arrow that leaves the last unit goes on at uni
 words_text tasks (Stretch events) =
     codes "A long run, summed: each column is " ++ (decimal events
     ++ codes " events, and shows how much of them a unit spent on tasks that ended so.")
+words_text tasks Steps = codes "steps, numbered from 1"
+words_text tasks OneEvent =
+    codes "In a step each unit does one event, unless it waits for a reason that is shaded, or has no task. Steps are no time of a processor."
+words_text tasks (StretchOfSteps steps) =
+    codes "A long run, summed: each column is " ++ (decimal steps
+    ++ codes " steps, and shows how much of them a unit spent on tasks that ended so.")

@@ -36,7 +36,7 @@ fn bar_of(events: u32, life: Life) -> Shape
 }
 
 /// How wide the bar of a life is.
-fn width(events: u32, life: Life) -> u64
+pub fn width(events: u32, life: Life) -> u64
     ensures { result ≡ width_of events life }
 {
     let left = left_edge(events, u64::from(life.first));
@@ -44,8 +44,8 @@ fn width(events: u32, life: Life) -> u64
     right.saturating_sub(left)
 }
 
-/// Adds the names of the tasks on the bars that have room for one.
-pub(crate) fn push_names(
+/// Adds the names of the tasks on the bars that have room for one. An error says that memory was refused.
+pub fn push_names(
     shapes: &mut Vec<Shape>,
     tasks: &[Descriptor],
     events: u32,
@@ -106,7 +106,7 @@ fn letters_in(name: &str, width: u64) -> usize
 }
 
 /// The name of a task; of letters, digits and `_` alone, so that nothing in it has a meaning in SVG.
-pub(crate) fn name_of(tasks: &[Descriptor], task: u32) -> &str
+pub fn name_of(tasks: &[Descriptor], task: u32) -> &str
     ensures { result.now ≡ name_of_task tasks.now task }
 {
     match tasks.get(task as usize) {

@@ -27,7 +27,7 @@ use task_lives::life::Life;
 use task_lives::lives::lives_of_runs;
 
 /// The most events that are drawn singly; more are summed by stretches.
-const MOST_SINGLE: usize = 2_000;
+pub const MOST_SINGLE: usize = 2_000;
 
 /// Draws the history of a run of a program on so many units, at least one: one SVG file, with no script and no
 /// font of its own. The history has at most 1,000,000 events, and no event of it is at a position where there
@@ -173,14 +173,14 @@ fn write_opening(text: &mut String, units: u32, events: usize) -> Result<(), All
 }
 
 /// How high the picture of so many units is, in pixels.
-fn height(units: u32) -> u64
+pub fn height(units: u32) -> u64
     ensures { result ≡ height_of units }
 {
     (bottom(units) + 9_200) / 100
 }
 
-/// Writes the beginning of the root element.
-fn write_root(text: &mut String, height: u64) -> Result<(), AllocError>
+/// Writes the beginning of the root element. An error says that memory was refused.
+pub fn write_root(text: &mut String, height: u64) -> Result<(), AllocError>
     ensures { OnOk result (string_bytes text.new ≡ string_bytes text.old ++ root_text height) }
 {
     write!(

@@ -24,8 +24,8 @@ pub(crate) fn push_titles(
     Ok(())
 }
 
-/// Adds the lanes of so many units.
-pub(crate) fn push_lanes(shapes: &mut Vec<Shape>, units: u32) -> Result<(), AllocError>
+/// Adds the lanes of so many units. An error says that memory was refused.
+pub fn push_lanes(shapes: &mut Vec<Shape>, units: u32) -> Result<(), AllocError>
     ensures { OnOk result (shapes.new.items ≡ shapes.old.items ++ lanes_of units) }
 {
     for unit in 0..units {
@@ -59,8 +59,8 @@ pub(crate) fn push_axis(shapes: &mut Vec<Shape>, units: u32, events: u32) -> Res
     push_numbers(shapes, units, events, axis_step(events).max(1))
 }
 
-/// Adds the numbers of the axis, so many events apart.
-fn push_numbers(
+/// Adds the numbers of the axis, so many events apart. An error says that memory was refused.
+pub fn push_numbers(
     shapes: &mut Vec<Shape>,
     units: u32,
     events: u32,
@@ -93,8 +93,8 @@ fn push_number(
     Ok(())
 }
 
-/// Adds a note below the axis.
-pub(crate) fn push_note(shapes: &mut Vec<Shape>, units: u32, words: Words) -> Result<(), AllocError>
+/// Adds a note below the axis. An error says that memory was refused.
+pub fn push_note(shapes: &mut Vec<Shape>, units: u32, words: Words) -> Result<(), AllocError>
     ensures { OnOk result (shapes.new.items ≡ shapes.old.items ++ note_of units words) }
 {
     let note = Form::Label(8_800, bottom(units) + 7_600, words);

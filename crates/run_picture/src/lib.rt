@@ -2,15 +2,15 @@
 //! for the life of each task. Long histories are summed by stretches of equal length.
 #![tactic(auto)]
 
-mod bars;
+pub mod bars;
 pub mod drawing;
 pub mod events;
-mod lanes;
-mod marks;
-mod pixels;
-mod scale;
+pub mod lanes;
+pub mod marks;
+pub mod pixels;
+pub mod scale;
 pub mod shape;
-mod shape_text;
+pub mod shape_text;
 mod sheet;
-mod stretches;
-mod words_text;
+pub mod stretches;
+pub mod words_text;

@@ -36,7 +36,7 @@ pub(crate) fn push_marks(
 }
 
 /// How many tasks have retired after an event.
-fn retired_with(retired: u32, event: Event) -> u32
+pub fn retired_with(retired: u32, event: Event) -> u32
     requires { retired < 2 ^ 31 }
     ensures value { result ≡ retired_after retired event }
     ensures bound { result ≤ retired + 1 }
@@ -80,7 +80,7 @@ fn push_mark(
 }
 
 /// The number of the unit at a position, after so many tasks have retired.
-fn unit_at(units: u32, retired: u32, position: u32) -> u32
+pub fn unit_at(units: u32, retired: u32, position: u32) -> u32
     requires { 0 < units }
     ensures value { result ≡ (retired + position) % units }
     ensures bound { result < units }

@@ -4,10 +4,10 @@ ghost use Rattle.std.specs.Prelude.{◌≡◌, ◌≤◌, ◌^◌, ◌+◌, ◌*
 ghost use Rattle.run_picture.specs.Scales.{bottom_of, middle_of, left_edge_of, room_of, top_of, step_of, step_among, fitting_of, letter_width as letter_width_of};
 
 /// Where the axis of events begins.
-pub(crate) const AXIS_LEFT: u64 = 8_800;
+pub const AXIS_LEFT: u64 = 8_800;
 
 /// How long the axis of events is.
-pub(crate) const AXIS_WIDTH: u64 = 116_000;
+pub const AXIS_WIDTH: u64 = 116_000;
 
 /// Where the lane of unit 0 begins, from above.
 pub(crate) const LANES_TOP: u64 = 15_200;
@@ -16,14 +16,14 @@ pub(crate) const LANES_TOP: u64 = 15_200;
 pub(crate) const LANE_HEIGHT: u64 = 6_800;
 
 /// How high a bar is.
-pub(crate) const BAR_HEIGHT: u64 = 4_000;
+pub const BAR_HEIGHT: u64 = 4_000;
 
 /// How far below the beginning of its lane a bar begins.
 pub(crate) const BAR_INSET: u64 = 1_400;
 
 /// Where an event begins on the axis of so many events, from the left; with the number of events, where the
 /// axis ends. Each event has the same room.
-pub(crate) fn left_edge(events: u32, event: u64) -> u64
+pub fn left_edge(events: u32, event: u64) -> u64
     requires { event ≤ 2 ^ 32 }
     ensures value { result ≡ left_edge_of events event }
     ensures bound { result ≤ 8800 + event * 116000 }
@@ -32,7 +32,7 @@ pub(crate) fn left_edge(events: u32, event: u64) -> u64
 }
 
 /// Where the bars of a unit begin, from above.
-pub(crate) fn top(unit: u32) -> u64
+pub fn top(unit: u32) -> u64
     ensures { result ≡ top_of unit }
 {
     LANES_TOP + u64::from(unit) * LANE_HEIGHT + BAR_INSET
@@ -40,7 +40,7 @@ pub(crate) fn top(unit: u32) -> u64
 
 /// How far apart the numbers stand on the axis of so many events, in events: the least of 1, 2 and 5, times
 /// 1, 10, 100 and so on up to 500,000, that gives at most 14 numbers; for still more events 1,000,000.
-pub(crate) fn axis_step(events: u32) -> u32
+pub fn axis_step(events: u32) -> u32
     ensures { result ≡ step_of events }
 {
     shortest(
@@ -93,7 +93,7 @@ pub(crate) fn fitting(name: &[u8], room: u64) -> usize
 }
 
 /// Where the middle of an event's room is.
-pub(crate) fn middle(events: u32, event: u32) -> u64
+pub fn middle(events: u32, event: u32) -> u64
     ensures value { result ≡ middle_of events event }
     ensures bound { result ≤ 8800 + (event + 1) * 116000 }
 {
@@ -103,7 +103,7 @@ pub(crate) fn middle(events: u32, event: u32) -> u64
 }
 
 /// Where the lanes of so many units end, from above.
-pub(crate) fn bottom(units: u32) -> u64
+pub fn bottom(units: u32) -> u64
     ensures { result ≡ bottom_of units }
 {
     LANES_TOP + u64::from(units) * LANE_HEIGHT

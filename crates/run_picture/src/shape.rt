@@ -40,6 +40,14 @@ pub enum Style {
     RegisterName,
     /// Where a squash begins.
     SquashMark,
+    /// In steps, the bar of the task that halted.
+    Halted,
+    /// A step in which a unit waits for a register.
+    WaitForRegister,
+    /// A step in which a unit waits to be the head.
+    WaitForTurn,
+    /// A step in which a unit has to pass on a register that has not arrived.
+    WaitToPass,
 }
 
 /// What a label says.
@@ -63,6 +71,12 @@ pub enum Words {
     Ring,
     /// That so many events are summed.
     Stretch(u32),
+    /// What the axis counts in steps.
+    Steps,
+    /// What a unit does in a step.
+    OneEvent,
+    /// That so many steps are summed.
+    StretchOfSteps(u32),
 }
 
 /// What is said of a shape where a pointer rests on it.
@@ -107,7 +121,7 @@ impl Shape {
     ghost use Rattle.run_picture.specs.Shapes.{plain as plain_of};
 
     /// A shape of which nothing is said.
-    pub(crate) fn plain(style: Style, form: Form) -> Shape
+    pub fn plain(style: Style, form: Form) -> Shape
         ensures { result ≡ plain_of style form }
     {
         Shape {

@@ -12,8 +12,8 @@ use std::alloc::AllocError;
 use task_descriptor::descriptor::Descriptor;
 use task_lives::life::{Ending, Life};
 
-/// Writes the elements of shapes, one behind the other.
-pub(crate) fn write_shapes(
+/// Writes the elements of shapes, one after the other. An error says that memory was refused.
+pub fn write_shapes(
     text: &mut String,
     tasks: &[Descriptor],
     shapes: &[Shape],
@@ -35,8 +35,8 @@ fn write_shape(text: &mut String, tasks: &[Descriptor], shape: &Shape) -> Result
     write_end(text, tasks, shape.form)
 }
 
-/// Writes the beginning of an element: its style and its place.
-fn write_beginning(text: &mut String, style: Style, form: Form) -> Result<(), AllocError>
+/// Writes the beginning of an element: its style and its place. An error says that memory was refused.
+pub fn write_beginning(text: &mut String, style: Style, form: Form) -> Result<(), AllocError>
     ensures { OnOk result (string_bytes text.new ≡ string_bytes text.old ++ beginning_text (style_text style) form) }
 {
     let class = class_of(style);
@@ -68,8 +68,8 @@ fn write_beginning(text: &mut String, style: Style, form: Form) -> Result<(), Al
     }
 }
 
-/// Writes the end of an element: what a label says, and the closing tag.
-fn write_end(text: &mut String, tasks: &[Descriptor], form: Form) -> Result<(), AllocError>
+/// Writes the end of an element: what a label says, and the closing tag. An error says that memory was refused.
+pub fn write_end(text: &mut String, tasks: &[Descriptor], form: Form) -> Result<(), AllocError>
     ensures { OnOk result (string_bytes text.new ≡ string_bytes text.old ++ end_text tasks.now form) }
 {
     match form {
@@ -110,8 +110,9 @@ fn write_life(text: &mut String, name: &str, life: Life) -> Result<(), AllocErro
     write_course(text, life.executed, word_of(life.ending))
 }
 
-/// Writes which task it is, and where.
-fn write_place(text: &mut String, name: &str, unit: u32) -> Result<(), AllocError>
+/// Writes which task it is, and where, as the beginning of what is said of a life. An error says that memory was
+/// refused.
+pub fn write_place(text: &mut String, name: &str, unit: u32) -> Result<(), AllocError>
     ensures { OnOk result (string_bytes text.new ≡ string_bytes text.old ++ place_text name.now unit) }
 {
     write!(text, "<title>task {name}, unit {unit}")
@@ -128,22 +129,23 @@ fn write_span(text: &mut String, first: u64, last: u64) -> Result<(), AllocError
     }
 }
 
-/// Writes how many instructions were executed, and the ending.
-fn write_course(text: &mut String, executed: u32, ending: &str) -> Result<(), AllocError>
+/// Writes how many instructions were executed, and the ending, as the end of what is said of a life. An error says
+/// that memory was refused.
+pub fn write_course(text: &mut String, executed: u32, ending: &str) -> Result<(), AllocError>
     ensures { OnOk result (string_bytes text.new ≡ string_bytes text.old ++ course_text executed ending.now) }
 {
     write!(text, ", instructions: {executed}, {ending}</title>")
 }
 
 /// The number of an event, counted from 1.
-fn number_of(event: u32) -> u64
+pub fn number_of(event: u32) -> u64
     ensures { result ≡ event + 1 }
 {
     u64::from(event) + 1
 }
 
 /// The word for an ending.
-fn word_of(ending: Ending) -> &'static str
+pub fn word_of(ending: Ending) -> &'static str
     ensures { result.now ≡ ending_text ending }
 {
     match ending {
@@ -176,6 +178,10 @@ fn class_of(style: Style) -> &'static str
         Style::FineArrow => "transfer fine",
         Style::RegisterName => "register",
         Style::SquashMark => "squash",
+        Style::Halted => "halted",
+        Style::WaitForRegister => "wait needs",
+        Style::WaitForTurn => "wait turn",
+        Style::WaitToPass => "wait pass",
     }
 }
 

@@ -17,7 +17,7 @@ use task_lives::life::{Ending, Life};
 const STRETCHES: u32 = 290;
 
 /// How many events a stretch has; the last ones may be shorter, or empty.
-pub(crate) fn stretch_length(events: u32) -> u32
+pub fn stretch_length(events: u32) -> u32
     ensures { result ≡ length_of events }
 {
     events / STRETCHES + 1
@@ -50,8 +50,8 @@ fn ending_of(part: usize) -> Ending
     }
 }
 
-/// Adds the columns of so many units, in a history of so many events.
-pub(crate) fn push_stretches(
+/// Adds the columns of so many units, in a history of so many events. An error says that memory was refused.
+pub fn push_stretches(
     alloc: Global,
     shapes: &mut Vec<Shape>,
     units: u32,

@@ -33,6 +33,14 @@ pub(crate) fn write_words(
             text,
             "A long run, summed: each column is {events} events, and shows how much of them a unit spent on tasks that ended so."
         ),
+        Words::Steps => text.push_str("steps, numbered from 1"),
+        Words::OneEvent => text.push_str(
+            "In a step each unit does one event, unless it waits for a reason that is shaded, or has no task. Steps are no time of a processor.",
+        ),
+        Words::StretchOfSteps(steps) => write!(
+            text,
+            "A long run, summed: each column is {steps} steps, and shows how much of them a unit spent on tasks that ended so."
+        ),
     }
 }
 
@@ -46,7 +54,7 @@ pub(crate) fn write_title(text: &mut String, units: u32, events: usize) -> Resul
 }
 
 /// What follows a word for a number of things.
-fn plural(count: usize) -> &'static str
+pub fn plural(count: usize) -> &'static str
     ensures { result.now ≡ plural_of count }
 {
     if count == 1 { "" } else { "s" }

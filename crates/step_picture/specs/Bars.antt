@@ -1,0 +1,40 @@
+-- The bars of lives in steps (own choice). The task that halted is not called unfinished.
+use Rattle.std.specs.Prelude.{ℕ, ◌%◌, Bool, false, List, flat_map, nat_eq, if◌then◌else◌}
+use Rattle.machine_events.specs.declared.event.Standing.{Standing}
+use Rattle.machine_events.specs.declared.event.Standing.TheVariants as standing
+use Rattle.task_descriptor.specs.declared.descriptor.Descriptor.{Descriptor}
+use Rattle.task_lives.specs.declared.life.Life.{Life}
+use Rattle.task_lives.specs.Sums.{is_unfinished}
+use Rattle.run_picture.specs.declared.shape.Shape.{Shape}
+use Rattle.run_picture.specs.declared.shape.Style.{Style}
+use Rattle.run_picture.specs.declared.shape.Style.TheVariants.{Bar, Halted}
+use Rattle.run_picture.specs.Scales.{left_edge_of, top_of}
+use Rattle.run_picture.specs.Shapes.{rectangle}
+use Rattle.run_picture.specs.Bars.{name_of, width_of}
+use Rattle.step_picture.specs.SaidText.{element_text, life_text}
+
+-- the unit that halted: the head's, whose number round the ring is that of the retired tasks; if none did, a number
+-- that no unit has
+abbrev pub halted_unit : (units retired : ℕ) → Standing → ℕ
+halted_unit units retired standing.Halted = retired % units
+halted_unit units retired _ = units
+
+-- the life is that of the task that halted
+abbrev pub is_halted : (halted : ℕ) → Life → Bool
+is_halted halted life = if nat_eq life.unit halted then is_unfinished life.ending else false
+
+abbrev pub bar_style : (halted : ℕ) → Life → Style
+bar_style halted life = if is_halted halted life then Halted else Bar life.ending
+
+-- the bar of a life of a run of so many steps, in its unit's lane, as wide as its steps
+abbrev pub bar_of : (count halted : ℕ) → Life → Shape
+bar_of count halted life =
+    rectangle (bar_style halted life) (left_edge_of count life.first) (top_of life.unit) (width_of count life) 4000
+
+unfoldable pub bar_text : List Descriptor → (count halted : ℕ) → Life → List ℕ
+bar_text tasks count halted life =
+    element_text tasks (bar_of count halted life) (life_text (name_of tasks life.task) life (is_halted halted life))
+
+-- one bar for each life, in the same order
+abbrev pub bars_text : List Descriptor → (count halted : ℕ) → List Life → List ℕ
+bars_text tasks count halted lives = flat_map (bar_text tasks count halted) lives

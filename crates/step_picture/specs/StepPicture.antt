@@ -1,0 +1,130 @@
+-- The picture of a run in steps: its shapes, and its text (own choice).
+use Rattle.std.specs.Fmt.{decimal}
+use Rattle.std.specs.Prelude.{ℕ, ◌+◌, List, [], ◌∷◌, ◌++◌, codes, max, nat_le, if◌then◌else◌}
+use Rattle.machine_events.specs.declared.event.Event.{Event}
+use Rattle.machine_events.specs.declared.event.Standing.{Standing}
+use Rattle.machine_events.specs.declared.event.Standing.TheVariants as standing
+use Rattle.task_descriptor.specs.declared.descriptor.Descriptor.{Descriptor}
+use Rattle.task_descriptor.specs.Listing.{Listing}
+use Rattle.task_lives.specs.declared.life.Life.{Life}
+use Rattle.task_lives.specs.Lives.{lives_of}
+use Rattle.run_summary.specs.declared.tally.Tally.{Tally}
+use Rattle.run_summary.specs.Tallies.{tally_of}
+use Rattle.unit_waits.specs.declared.waiting.Waiting.{Waiting}
+use Rattle.unit_waits.specs.Waits.{waits}
+use Rattle.run_picture.specs.declared.shape.Shape.{Shape}
+use Rattle.run_picture.specs.declared.shape.Style.TheVariants.{Axis, Caption}
+use Rattle.run_picture.specs.declared.shape.Words.TheVariants.{Steps, OneEvent, StretchOfSteps}
+use Rattle.run_picture.specs.Scales.{bottom_of, step_of}
+use Rattle.run_picture.specs.Shapes.{line, label}
+use Rattle.run_picture.specs.Frame.{lanes_of, numbers_of, note_of}
+use Rattle.run_picture.specs.Bars.{names_of}
+use Rattle.run_picture.specs.Stretches.{length_of, stretches_of}
+use Rattle.run_picture.specs.WordsText.{plural}
+use Rattle.run_picture.specs.ShapeText.{shapes_text}
+use Rattle.run_picture.specs.Picture.{height_of, root_text}
+use Rattle.step_picture.specs.Numbers.{all_in_steps, count_of, steps_of}
+use Rattle.step_picture.specs.Bars.{bars_text, halted_unit}
+use Rattle.step_picture.specs.Strips.{strips_text}
+use Rattle.step_picture.specs.Squashes.{squashes_text}
+use Rattle.step_picture.specs.FixedText.{style_sheet, single_legend, summed_legend}
+
+-- ---- the frame
+
+-- a lane for each unit, and the axis of so many steps
+abbrev pub axis_of : (units count : ℕ) → List Shape
+axis_of units count =
+    line Axis 8800 (bottom_of units) 124800 (bottom_of units)
+    ∷ label Caption 66800 (bottom_of units + 5000) Steps
+    ∷ numbers_of units count (max (step_of count) 1)
+
+abbrev pub frame_of : (units count : ℕ) → List Shape
+frame_of units count = lanes_of units ++ axis_of units count
+
+-- ---- inside it, by the lives in steps
+
+-- a bar for each life, a strip for each wait, and a mark for each squash
+abbrev pub drawn_text : List Descriptor → (units count halted : ℕ) → (steps : List ℕ) → List Event → List Life → List Waiting → List ℕ
+drawn_text tasks units count halted steps history lives waited =
+    bars_text tasks count halted lives
+    ++ (strips_text tasks count waited ++ squashes_text tasks units count steps history)
+
+-- the names of the tasks on the bars
+abbrev pub labels_of : List Descriptor → (units count : ℕ) → List Life → List Shape
+labels_of tasks units count lives = names_of tasks count lives ++ note_of units OneEvent
+
+abbrev pub single_text : Listing → (units count halted : ℕ) → (steps : List ℕ) → List Event → List Life → List ℕ
+single_text p units count halted steps history lives =
+    drawn_text p.tasks units count halted steps history lives (waits p units history)
+    ++ shapes_text p.tasks (labels_of p.tasks units count lives)
+
+-- a long run, summed as in a picture of events
+abbrev pub summed_of : (units count : ℕ) → List Life → List Shape
+summed_of units count lives = stretches_of units count lives ++ note_of units (StretchOfSteps (length_of count))
+
+-- up to 2,000 steps are drawn singly
+abbrev pub inner_text : Listing → (units count halted : ℕ) → (steps : List ℕ) → List Event → List Life → List ℕ
+inner_text p units count halted steps history lives =
+    if nat_le count 2000 then single_text p units count halted steps history lives
+    else shapes_text p.tasks (summed_of units count lives)
+
+-- ---- the opening: the size, what the file is called, the style sheet and the legend, and two lines
+
+abbrev pub title_text : (units count : ℕ) → List ℕ
+title_text units count =
+    codes "Run on " ++ (decimal units ++ (codes " unit" ++ (plural units ++ (codes ": " ++ (decimal count ++ (codes " step" ++ plural count))))))
+
+abbrev pub called_text : (units count : ℕ) → List ℕ
+called_text units count = codes "<title>" ++ (title_text units count ++ (codes "</title>" ++ 10 ∷ []))
+
+abbrev pub legend_text : (count : ℕ) → List ℕ
+legend_text count = if nat_le count 2000 then single_legend else summed_legend
+
+abbrev pub sheet_text : (count : ℕ) → List ℕ
+sheet_text count = style_sheet ++ legend_text count
+
+abbrev pub heading_text : (units count : ℕ) → List ℕ
+heading_text units count = codes "<text class='title' x='88' y='46'>" ++ (title_text units count ++ (codes "</text>" ++ 10 ∷ []))
+
+-- how the run ended
+abbrev pub ending_text : Standing → List ℕ
+ending_text standing.Running = codes "is out of budget"
+ending_text standing.Halted = codes "halted"
+ending_text (standing.Trapped trap) = codes "trapped"
+ending_text (standing.Unlisted at) = codes "is unlisted"
+
+abbrev pub outcome_text : Tally → (ending : List ℕ) → List ℕ
+outcome_text tally ending =
+    codes "<text class='quiet' x='88' y='72'>tasks retired: " ++ (decimal tally.retired ++ (codes ", squashed: " ++ (decimal tally.squashed
+    ++ (codes "; the run " ++ (ending ++ (codes "</text>" ++ 10 ∷ []))))))
+
+abbrev pub lines_text : (units count : ℕ) → Standing → Tally → List ℕ
+lines_text units count standing tally = heading_text units count ++ outcome_text tally (ending_text standing)
+
+abbrev pub front_text : (units count : ℕ) → List ℕ
+front_text units count = root_text (height_of units) ++ (called_text units count ++ sheet_text count)
+
+abbrev pub opening_text : (units count : ℕ) → Standing → Tally → List ℕ
+opening_text units count standing tally = front_text units count ++ lines_text units count standing tally
+
+-- ---- the text of a history, by the steps of its events, the lives in steps, and the tally of the lives
+abbrev pub closing : List ℕ
+closing = codes "</svg>" ++ 10 ∷ []
+
+abbrev pub body_text : Listing → (units count halted : ℕ) → (steps : List ℕ) → List Event → List Life → List ℕ
+body_text p units count halted steps history lives =
+    shapes_text p.tasks (frame_of units count)
+    ++ (inner_text p units count halted steps history lives ++ closing)
+
+abbrev pub file_text : Listing → (units count : ℕ) → Standing → (steps : List ℕ) → List Event → List Life → Tally → List ℕ
+file_text p units count standing steps history lives tally =
+    opening_text units count standing tally
+    ++ body_text p units count (halted_unit units tally.retired standing) steps history lives
+
+abbrev pub text_by : Listing → (units : ℕ) → Standing → (steps : List ℕ) → List Event → List Life → List ℕ
+text_by p units standing steps history lives =
+    file_text p units (count_of steps) standing steps history (all_in_steps steps lives) (tally_of lives)
+
+-- the whole text, of a history of a program on so many units that then stands so
+unfoldable pub step_picture_text : Listing → (units : ℕ) → Standing → (history : List Event) → List ℕ
+step_picture_text p units standing history = text_by p units standing (steps_of history) history (lives_of units history)

@@ -1,0 +1,269 @@
+//! A run in steps as one SVG file.
+
+ghost use Rattle.std.specs.Prelude.{◌≡◌, ◌++◌, ◌<◌, ◌≤◌, ℕ, IfOk, OnOk, length};
+ghost use Rattle.std.specs.String.{string_bytes};
+ghost use Rattle.machine_events.specs.Runs.{events_of};
+ghost use Rattle.machine_model.specs.Machine.{State};
+ghost use Rattle.machine_model.specs.Answer.{most_events};
+ghost use Rattle.machine_model.specs.Replay.{Replays};
+ghost use Rattle.task_lives.specs.Sums.{AreFew};
+ghost use Rattle.step_picture.specs.Numbers.{all_in_steps as lives_in_steps, count_of, steps_of};
+ghost use Rattle.step_picture.specs.StepPicture.{body_text, closing, drawn_text, file_text, frame_of, inner_text, labels_of, single_text, step_picture_text, summed_of, text_by};
+ghost use Rattle.run_picture.specs.ShapeText.{shapes_text};
+
+use crate::bars::{halted_unit, write_bars};
+use crate::frame::frame;
+use crate::heading::write_opening;
+use crate::numbers::{all_in_steps, count, steps};
+use crate::squashes::write_squashes;
+use crate::strips::write_strips;
+use machine_events::event::{Event, EventRun, Standing};
+use mark_checker::accept::Accepted;
+use run_picture::bars::push_names;
+use run_picture::drawing::MOST_SINGLE;
+use run_picture::events::single_events;
+use run_picture::lanes::push_note;
+use run_picture::shape::Words;
+use run_picture::shape_text::write_shapes;
+use run_picture::stretches::{push_stretches, stretch_length};
+use run_summary::tally::{Tally, add_up};
+use std::alloc::{AllocError, Global};
+use task_descriptor::descriptor::Descriptor;
+use task_lives::laws::histories_fit;
+use task_lives::life::Life;
+use task_lives::lives::lives_of_runs;
+use unit_waits::waiting::Waiting;
+use unit_waits::waits::waits;
+
+/// Draws the history of a run in steps of an accepted program on so many units, 1 to 16, after which the run stands so:
+/// one SVG file, with no script and no font of its own. Each event of the history is allowed where it comes, and there
+/// are at most 1,000,000. An event at position 0 ends a step. The error says that memory was refused.
+#[tactic(auto, unfolding(crate::specs::StepPicture::step_picture_text))]
+pub fn draw(
+    alloc: Global,
+    accepted: &Accepted,
+    units: u32,
+    standing: Standing,
+    runs: &[EventRun],
+) -> Result<String, AllocError>
+    requires some { 0 < units }
+    requires few { units ≤ 16 }
+    requires replay { (s : State) × Replays accepted.now.program units (events_of runs.now) s }
+    requires room { length (events_of runs.now) ≤ most_events }
+    ensures { IfOk result (λ text. string_bytes text ≡ step_picture_text accepted.now.program units standing (events_of runs.now)) }
+{
+    histories_fit();
+    let events = single_events(alloc, runs)?;
+    let lives = lives_of_runs(alloc, runs, units)?;
+    let steps = steps(alloc, &events)?;
+    let text = draw_lives(alloc, accepted, units, standing, &steps, &events, &lives)?;
+    Ok(text)
+}
+
+/// Draws a history with these lives, whose events come in these steps.
+fn draw_lives(
+    alloc: Global,
+    accepted: &Accepted,
+    units: u32,
+    standing: Standing,
+    steps: &[u32],
+    events: &[Event],
+    lives: &[Life],
+) -> Result<String, AllocError>
+    requires units { (0 < units) × (units ≤ 16) }
+    requires replay { (s : State) × Replays accepted.now.program units events.now s }
+    requires room { length events.now ≤ most_events }
+    requires steps { steps.now ≡ steps_of events.now }
+    requires few { AreFew lives.now }
+    ensures { IfOk result (λ text. string_bytes text ≡ text_by accepted.now.program units standing steps.now events.now lives.now) }
+{
+    let found = all_in_steps(alloc, steps, lives)?;
+    let tally = add_up(lives);
+    let mut text = String::new(alloc);
+    write_file(
+        alloc, &mut text, accepted, units, standing, steps, events, &found, tally,
+    )?;
+    Ok(text)
+}
+
+/// Writes the file of a history with these lives in steps, of which this is the tally.
+fn write_file(
+    alloc: Global,
+    text: &mut String,
+    accepted: &Accepted,
+    units: u32,
+    standing: Standing,
+    steps: &[u32],
+    events: &[Event],
+    lives: &[Life],
+    tally: Tally,
+) -> Result<(), AllocError>
+    requires units { (0 < units) × (units ≤ 16) }
+    requires replay { (s : State) × Replays accepted.now.program units events.now s }
+    requires room { length events.now ≤ most_events }
+    requires steps { steps.now ≡ steps_of events.now }
+    requires few { AreFew lives.now }
+    ensures { OnOk result (string_bytes text.new ≡ string_bytes text.old
+        ++ file_text accepted.now.program units (count_of steps.now) standing steps.now events.now lives.now tally) }
+{
+    let halted = halted_unit(units, tally.retired, standing);
+    write_opening(text, units, count(steps), standing, tally)?;
+    write_body(alloc, text, accepted, units, halted, steps, events, lives)
+}
+
+/// Writes the shapes, and the end of the file.
+fn write_body(
+    alloc: Global,
+    text: &mut String,
+    accepted: &Accepted,
+    units: u32,
+    halted: u32,
+    steps: &[u32],
+    events: &[Event],
+    lives: &[Life],
+) -> Result<(), AllocError>
+    requires units { (0 < units) × (units ≤ 16) }
+    requires replay { (s : State) × Replays accepted.now.program units events.now s }
+    requires room { length events.now ≤ most_events }
+    requires steps { steps.now ≡ steps_of events.now }
+    requires few { AreFew lives.now }
+    ensures { OnOk result (string_bytes text.new ≡ string_bytes text.old
+        ++ body_text accepted.now.program units (count_of steps.now) halted steps.now events.now lives.now) }
+{
+    write_frame(alloc, text, accepted.program().tasks(), units, count(steps))?;
+    write_inner(alloc, text, accepted, units, halted, steps, events, lives)?;
+    write_closing(text)
+}
+
+/// Writes the end of the file.
+fn write_closing(text: &mut String) -> Result<(), AllocError>
+    ensures { OnOk result (string_bytes text.new ≡ string_bytes text.old ++ closing) }
+{
+    text.push_str("</svg>\n")
+}
+
+/// Writes the lanes and the axis.
+fn write_frame(
+    alloc: Global,
+    text: &mut String,
+    tasks: &[Descriptor],
+    units: u32,
+    count: u32,
+) -> Result<(), AllocError>
+    ensures { OnOk result (string_bytes text.new ≡ string_bytes text.old ++ shapes_text tasks.now (frame_of units count)) }
+{
+    let shapes = frame(alloc, units, count)?;
+    write_shapes(text, tasks, &shapes)
+}
+
+/// Writes what stands inside the frame.
+fn write_inner(
+    alloc: Global,
+    text: &mut String,
+    accepted: &Accepted,
+    units: u32,
+    halted: u32,
+    steps: &[u32],
+    events: &[Event],
+    lives: &[Life],
+) -> Result<(), AllocError>
+    requires units { (0 < units) × (units ≤ 16) }
+    requires replay { (s : State) × Replays accepted.now.program units events.now s }
+    requires room { length events.now ≤ most_events }
+    requires steps { steps.now ≡ steps_of events.now }
+    requires few { AreFew lives.now }
+    ensures { OnOk result (string_bytes text.new ≡ string_bytes text.old
+        ++ inner_text accepted.now.program units (count_of steps.now) halted steps.now events.now lives.now) }
+{
+    let count = count(steps);
+    if count as usize <= MOST_SINGLE {
+        write_single(alloc, text, accepted, units, halted, steps, events, lives)
+    } else {
+        write_summed(alloc, text, accepted.program().tasks(), units, count, lives)
+    }
+}
+
+/// Writes a bar for each life, a strip for each wait, a mark for each squash, and the names of the tasks.
+fn write_single(
+    alloc: Global,
+    text: &mut String,
+    accepted: &Accepted,
+    units: u32,
+    halted: u32,
+    steps: &[u32],
+    events: &[Event],
+    lives: &[Life],
+) -> Result<(), AllocError>
+    requires units { (0 < units) × (units ≤ 16) }
+    requires replay { (s : State) × Replays accepted.now.program units events.now s }
+    requires room { length events.now ≤ most_events }
+    ensures { OnOk result (string_bytes text.new ≡ string_bytes text.old
+        ++ single_text accepted.now.program units (count_of steps.now) halted steps.now events.now lives.now) }
+{
+    let tasks = accepted.program().tasks();
+    let waits = waits(alloc, accepted, units, events)?;
+    write_drawn(text, tasks, units, halted, steps, events, lives, &waits)?;
+    write_labels(alloc, text, tasks, units, count(steps), lives)
+}
+
+/// Writes the bars of lives, the strips of waits, and the marks of squashes.
+fn write_drawn(
+    text: &mut String,
+    tasks: &[Descriptor],
+    units: u32,
+    halted: u32,
+    steps: &[u32],
+    events: &[Event],
+    lives: &[Life],
+    waits: &[Waiting],
+) -> Result<(), AllocError>
+    requires some { 0 < units }
+    requires room { length events.now ≤ most_events }
+    ensures { OnOk result (string_bytes text.new ≡ string_bytes text.old
+        ++ drawn_text tasks.now units (count_of steps.now) halted steps.now events.now lives.now waits.now) }
+{
+    let count = count(steps);
+    write_bars(text, tasks, count, halted, lives)?;
+    write_strips(text, tasks, count, waits)?;
+    write_squashes(text, tasks, units, count, steps, events)
+}
+
+/// Writes the names of the tasks, and a note.
+fn write_labels(
+    alloc: Global,
+    text: &mut String,
+    tasks: &[Descriptor],
+    units: u32,
+    count: u32,
+    lives: &[Life],
+) -> Result<(), AllocError>
+    ensures { OnOk result (string_bytes text.new ≡ string_bytes text.old ++ shapes_text tasks.now (labels_of tasks.now units count lives.now)) }
+{
+    let mut shapes = Vec::new(alloc);
+    push_names(&mut shapes, tasks, count, lives)?;
+    push_note(&mut shapes, units, Words::OneEvent)?;
+    write_shapes(text, tasks, &shapes)
+}
+
+/// Writes the columns of a long run.
+fn write_summed(
+    alloc: Global,
+    text: &mut String,
+    tasks: &[Descriptor],
+    units: u32,
+    count: u32,
+    lives: &[Life],
+) -> Result<(), AllocError>
+    requires room { count ≤ most_events }
+    requires few { AreFew lives.now }
+    ensures { OnOk result (string_bytes text.new ≡ string_bytes text.old ++ shapes_text tasks.now (summed_of units count lives.now)) }
+{
+    let mut shapes = Vec::new(alloc);
+    push_stretches(alloc, &mut shapes, units, count, lives)?;
+    push_note(
+        &mut shapes,
+        units,
+        Words::StretchOfSteps(stretch_length(count)),
+    )?;
+    write_shapes(text, tasks, &shapes)
+}

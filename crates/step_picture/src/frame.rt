@@ -1,0 +1,31 @@
+//! The shapes round the bars: lanes and the axis of steps.
+
+ghost use Rattle.std.specs.Prelude.{◌≡◌, ◌++◌, IfOk, OnOk};
+ghost use Rattle.step_picture.specs.StepPicture.{axis_of, frame_of};
+
+use run_picture::lanes::{push_lanes, push_numbers};
+use run_picture::scale::{AXIS_LEFT, AXIS_WIDTH, axis_step, bottom};
+use run_picture::shape::{Form, Shape, Style, Words};
+use std::alloc::{AllocError, Global};
+
+/// Adds the axis of so many steps below the lanes of so many units: its line, what it counts, and its numbers.
+fn push_axis(shapes: &mut Vec<Shape>, units: u32, count: u32) -> Result<(), AllocError>
+    ensures { OnOk result (shapes.new.items ≡ shapes.old.items ++ axis_of units count) }
+{
+    let below = bottom(units);
+    let line = Form::Line(AXIS_LEFT, below, AXIS_LEFT + AXIS_WIDTH, below);
+    let caption = Form::Label(66_800, below + 5_000, Words::Steps);
+    shapes.push(Shape::plain(Style::Axis, line))?;
+    shapes.push(Shape::plain(Style::Caption, caption))?;
+    push_numbers(shapes, units, count, axis_step(count).max(1))
+}
+
+/// The lanes and the axis of a run of so many steps.
+pub(crate) fn frame(alloc: Global, units: u32, count: u32) -> Result<Vec<Shape>, AllocError>
+    ensures { IfOk result (λ shapes. shapes.items ≡ frame_of units count) }
+{
+    let mut shapes = Vec::new(alloc);
+    push_lanes(&mut shapes, units)?;
+    push_axis(&mut shapes, units, count)?;
+    Ok(shapes)
+}

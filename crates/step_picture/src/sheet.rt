@@ -1,0 +1,75 @@
+//! The parts of the file that are the same in every picture.
+
+ghost use Rattle.std.specs.Prelude.{◌≡◌};
+ghost use Rattle.step_picture.specs.FixedText.{single_legend, style_sheet, summed_legend};
+
+/// The style of all shapes, light or dark. What a colour says, a pattern or a border says too.
+const SHEET: &str = "<style>
+text{fill:#1f2933;font-size:14px;pointer-events:none}line{pointer-events:none}
+.title{font-size:24px;font-weight:600}.quiet,.caption,.number{fill:#52606d}.number{font-size:12px}.unit{text-anchor:end}.caption,.number{text-anchor:middle}
+.task{font-size:13px;font-weight:600;paint-order:stroke;stroke:#fff;stroke-width:3px;stroke-linejoin:round}
+.paper,.idle{fill:#fff}.idle{stroke:#cbd2d9}.lane{fill:#f4f6f9}.grid{stroke:#dde3e9}.axis{stroke:#7b8794;stroke-width:1.5}
+.retired,.halted{fill:#cfe8d5;stroke:#2f6b4a}.squashed{fill:url(#hatched);stroke:#b0402a}.dropped{fill:url(#dotted);stroke:#7d5f10}
+.unfinished{fill:#d8e4f5;stroke:#34588f;stroke-dasharray:5 3}.retired,.squashed,.dropped,.unfinished{stroke-width:1.5}.halted{stroke-width:4}
+.share{stroke:none}.share,.wait{shape-rendering:crispEdges}.needs{fill:#d9822b}.turn{fill:url(#upright)}.pass{fill:url(#level)}.squash{fill:#b0402a;stroke:#fff}
+.rose{fill:#fae3dc}.red{stroke:#e09a86}.sand{fill:#f6edd0}.ochre{fill:#a98a35}.mist{fill:#e4e9ee}.slate{stroke:#52606d}.lilac{fill:#eadcf8}.violet{stroke:#7a4fb0}
+@media (prefers-color-scheme:dark){
+text{fill:#e4e9ee}.quiet,.caption,.number{fill:#9aa7b4}.task{stroke:#1c2229}.paper,.idle{fill:#1c2229}.idle,.grid{stroke:#38424d}.lane{fill:#232b33}
+.retired,.halted{fill:#214a33;stroke:#6fd198}.squashed{stroke:#ff9d94}.dropped{stroke:#d8b45a}.unfinished{fill:#22344f;stroke:#7fb0ff}.needs{fill:#f0a04b}.squash{fill:#ff9d94;stroke:#1c2229}
+.rose{fill:#4a2220}.red{stroke:#b3564a}.sand{fill:#40361a}.mist{fill:#38424d}.slate{stroke:#c3ccd5}.lilac{fill:#3a2a52}.violet{stroke:#c9a2f5}
+}
+</style>
+<defs>
+<pattern id='hatched' width='7' height='7' patternUnits='userSpaceOnUse' patternTransform='rotate(45)'><path class='rose' d='M0 0H7V7H0Z'/><path class='red' d='M0 0V7' stroke-width='2.6'/></pattern>
+<pattern id='dotted' width='7' height='7' patternUnits='userSpaceOnUse'><path class='sand' d='M0 0H7V7H0Z'/><circle class='ochre' cx='2' cy='2' r='1.2'/><circle class='ochre' cx='5.5' cy='5.5' r='1.2'/></pattern>
+<pattern id='upright' width='5' height='5' patternUnits='userSpaceOnUse'><path class='mist' d='M0 0H5V5H0Z'/><path class='slate' d='M1 0V5' stroke-width='2'/></pattern>
+<pattern id='level' width='5' height='5' patternUnits='userSpaceOnUse'><path class='lilac' d='M0 0H5V5H0Z'/><path class='violet' d='M0 1H5' stroke-width='2'/></pattern>
+</defs>
+<path class='paper' d='M0 0H1280V9999H0Z'/>
+<g>
+<rect class='retired' x='88' y='94' width='28' height='16'/><text x='124' y='107'>retired</text>
+<rect class='squashed' x='194' y='94' width='28' height='16'/><text x='230' y='107'>squashed</text>
+<rect class='dropped' x='316' y='94' width='28' height='16'/><text x='352' y='107'>dropped</text>
+";
+
+/// What single steps look like.
+const SINGLE_LEGEND: &str =
+    "<rect class='unfinished' x='430' y='94' width='28' height='16'/><text x='466' y='107'>unfinished</text>
+<rect class='halted' x='564' y='94' width='28' height='16'/><text x='600' y='107'>halted</text>
+<path class='squash' d='M670 96h14l-7 11z'/><text x='692' y='107'>squash begins</text>
+<rect class='wait needs' x='88' y='122' width='28' height='13'/><text x='124' y='133'>waits for a register</text>
+<rect class='wait turn' x='316' y='122' width='28' height='13'/><text x='352' y='133'>waits to be the head</text>
+<rect class='wait pass' x='564' y='122' width='28' height='13'/><text x='600' y='133'>has to pass a register on</text>
+</g>
+";
+
+/// What else is in a picture of stretches.
+const SUMMED_LEGEND: &str =
+    "<rect class='unfinished' x='430' y='94' width='28' height='16'/><text x='466' y='107'>unfinished, or halted</text>
+<rect class='idle' x='630' y='94' width='28' height='16'/><text x='666' y='107'>no task</text>
+</g>
+";
+
+/// The style sheet, the patterns, the ground, and the legend of all bars.
+#[tactic(auto, unfolding(crate::specs::FixedText::style_sheet))]
+pub(crate) fn style_sheet() -> &'static str
+    ensures { result.now ≡ style_sheet }
+{
+    SHEET
+}
+
+/// The legend of the other bars, of the mark of a squash, and of the strips.
+#[tactic(auto, unfolding(crate::specs::FixedText::single_legend))]
+pub(crate) fn single_legend() -> &'static str
+    ensures { result.now ≡ single_legend }
+{
+    SINGLE_LEGEND
+}
+
+/// The legend of what else is in a picture of stretches.
+#[tactic(auto, unfolding(crate::specs::FixedText::summed_legend))]
+pub(crate) fn summed_legend() -> &'static str
+    ensures { result.now ≡ summed_legend }
+{
+    SUMMED_LEGEND
+}
