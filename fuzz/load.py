@@ -292,7 +292,7 @@ def retraced(program, kind, emit, trace, folder, source, certificate):
     events = folder / "traced.events"
     events.write_bytes(refused_growths.events_of(trace))
     again = call([program, "replay", kind[0], kind[1], "--emit", emit, source, certificate, str(events)])
-    return None if again[1] == trace and not again[2] else f"a trace that is not that of its events: {trace[-60:]!r}"
+    return None if again[1] == refused_growths.as_replayed(trace) and not again[2] else f"a trace that is not that of its events: {trace[-60:]!r}"
 
 
 def refused_in_turn(program, minutes):

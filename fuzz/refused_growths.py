@@ -251,6 +251,11 @@ def events_of(trace):
         return b""
 
 
+def as_replayed(trace):
+    """A trace of a run as the replay of its events writes it, which knows of no budget."""
+    return trace.replace(b'\n{"end":"out of budget"', b'\n{"end":"running"')
+
+
 def retired(table):
     """Of each row of a table the name, the retired tasks and their instructions."""
     return [(row.split()[-1], row.split()[1], row.split()[5]) for row in table.splitlines()[1:]]
@@ -307,7 +312,7 @@ class Case:
         events.write_bytes(events_of(ended.out))
         units = self.words[self.words.index("--units") + 1]
         again = self.bench.plain(["replay", *self.words[1:3], str(events), "--units", units, "--emit", self.emit])
-        return again.out == ended.out or OTHER_TRACE
+        return again.out == as_replayed(ended.out) or OTHER_TRACE
 
     def judge(self, row, ended, what):
         """Puts what a run answered into the row."""

@@ -65,3 +65,11 @@ unless_left_out old new b v is written =
 pub left_out : (old : List Token) (b : Bool) (v : Json) → b ≡ true → old ≡ old ++ flat_map json_tokens (if b then [] else v ∷ [])
 left_out old b v is =
     sym (append-nil old) ∙ ap (λ (c : Bool). old ++ flat_map json_tokens (if c then [] else v ∷ [])) (sym is)
+
+-- three texts, one after the other
+pub three_texts : (zero one two three first second third : List ℕ)
+    → zero ≡ [] → one ≡ zero ++ first → two ≡ one ++ second → three ≡ two ++ third → three ≡ first ++ (second ++ third)
+three_texts zero one two three first second third empty more again last =
+    last ∙ ap (λ (text : List ℕ). text ++ third)
+    (again ∙ ap (λ (text : List ℕ). text ++ second) (more ∙ ap (λ (text : List ℕ). text ++ first) empty))
+    ∙ append_assoc first second third

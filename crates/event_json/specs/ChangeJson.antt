@@ -1,5 +1,5 @@
 -- What an event changed, as objects of JSON (own choice).
-use Rattle.std.specs.Prelude.{ℕ, List, [], ◌∷◌, map, codes}
+use Rattle.std.specs.Prelude.{ℕ, List, [], ◌∷◌, ◌++◌, map, codes}
 use Rattle.json.specs.Json.{Json}
 use Rattle.task_descriptor.specs.Listing.{Listing}
 use Rattle.source_map.specs.declared.position.Position.{Position}
@@ -7,7 +7,8 @@ use Rattle.event_trace.specs.declared.change.Change.{Change}
 use Rattle.event_trace.specs.declared.change.Change.TheVariants as change
 use Rattle.event_trace.specs.declared.unit_change.UnitChange.{UnitChange}
 use Rattle.event_trace.specs.declared.unit_change.UnitChange.TheVariants as unit_change
-use Rattle.event_json.specs.Fields.{Field, address_field, exit_fields, list_of, object_of, place_fields, register_field, standing_fields, task_field, text_field, unit_field, word_field}
+use Rattle.event_json.specs.Fields.{Field, address_field, exit_fields, list_of, object_of, place_fields, register_field, size_field, standing_fields, task_field, text_field, unit_fields, word_field}
+use Rattle.event_trace.specs.Ring.{RingView}
 
 -- which change it is
 abbrev pub change_field : (name : List ℕ) → Field
@@ -32,20 +33,20 @@ unit_change_fields p places unit_change.Squashed = []
 unit_change_fields p places unit_change.Dropped = []
 unit_change_fields p places (unit_change.Retired exit) = exit_fields p places exit
 
-abbrev pub change_fields : Listing → List Position → Change → List Field
-change_fields p places (change.AtUnit position task c) =
-    change_field (unit_change_name c) ∷ unit_field position ∷ task_field p task ∷ unit_change_fields p places c
-change_fields p places (change.Loaded at word) = change_field (codes "loaded") ∷ address_field at ∷ word_field word ∷ []
-change_fields p places (change.Stored at word) = change_field (codes "stored") ∷ address_field at ∷ word_field word ∷ []
-change_fields p places (change.Wrote r word) = change_field (codes "wrote") ∷ register_field r ∷ word_field word ∷ []
-change_fields p places (change.Sent r word) = change_field (codes "sent") ∷ register_field r ∷ word_field word ∷ []
-change_fields p places (change.PutOut word) = change_field (codes "put_out") ∷ word_field word ∷ []
-change_fields p places (change.MovedTo index) = change_field (codes "moved_to") ∷ place_fields places index
-change_fields p places (change.StoppedAt at) = change_field (codes "stopped_at") ∷ exit_fields p places at
-change_fields p places (change.Ended standing) = change_field (codes "ended") ∷ standing_fields (codes "standing") standing
+abbrev pub change_fields : Listing → List Position → RingView → Change → List Field
+change_fields p places ring (change.AtUnit position task c) =
+    change_field (unit_change_name c) ∷ (unit_fields ring position ++ (task_field p task ∷ unit_change_fields p places c))
+change_fields p places ring (change.Loaded at word) = change_field (codes "loaded") ∷ address_field at ∷ word_field word ∷ []
+change_fields p places ring (change.Stored at word size) = change_field (codes "stored") ∷ address_field at ∷ word_field word ∷ size_field size ∷ []
+change_fields p places ring (change.Wrote r word) = change_field (codes "wrote") ∷ register_field r ∷ word_field word ∷ []
+change_fields p places ring (change.Sent r word) = change_field (codes "sent") ∷ register_field r ∷ word_field word ∷ []
+change_fields p places ring (change.PutOut word) = change_field (codes "put_out") ∷ word_field word ∷ []
+change_fields p places ring (change.MovedTo index) = change_field (codes "moved_to") ∷ place_fields places index
+change_fields p places ring (change.StoppedAt at) = change_field (codes "stopped_at") ∷ exit_fields p places at
+change_fields p places ring (change.Ended standing) = change_field (codes "ended") ∷ standing_fields (codes "standing") standing
 
-abbrev pub change_json : Listing → List Position → Change → Json
-change_json p places c = object_of (change_fields p places c)
+abbrev pub change_json : Listing → List Position → RingView → Change → Json
+change_json p places ring c = object_of (change_fields p places ring c)
 
-abbrev pub changes_field : Listing → List Position → List Change → Field
-changes_field p places changes = (codes "changes", list_of (map (change_json p places) changes))
+abbrev pub changes_field : Listing → List Position → RingView → List Change → Field
+changes_field p places ring changes = (codes "changes", list_of (map (change_json p places ring) changes))

@@ -6,9 +6,12 @@ use Rattle.json.specs.Json.{Json}
 use Rattle.mips_plain.specs.MemoryMap.{byte_of, number_at}
 use Rattle.task_descriptor.specs.Listing.{Listing}
 use Rattle.machine_model.specs.Machine.{State}
+use Rattle.machine_events.specs.declared.event.Standing.{Standing}
 use Rattle.event_trace.specs.Changes.{register_count}
 use Rattle.event_trace.specs.Ending.{data_words, head_value}
-use Rattle.event_json.specs.Fields.{Field, address_field, list_of, object_of, register_field, standing_fields, word_field}
+use Rattle.event_json.specs.Fields.{Field, address_field, list_of, object_of, register_field, standing_fields, text_field, word_field}
+use Rattle.event_json.specs.declared.last_line.LastLine.{LastLine}
+use Rattle.event_json.specs.declared.last_line.LastLine.TheVariants.{AsItStands, OutOfBudget}
 
 -- a register with its word, if it has one and that is not 0
 abbrev pub register_json : (r : ℕ) → Option ℕ → List Json
@@ -32,7 +35,12 @@ memory_json start now = flat_map (λ n. word_json n (number_at 4 start (n * 4)) 
 abbrev pub memory_field : (start now : ℕ → ℕ) → Field
 memory_field start now = (codes "memory", list_of (memory_json start now))
 
-abbrev pub end_json : Listing → State → Json
-end_json p s =
-    object_of (standing_fields (codes "end") s.outcome
+-- how the run ended: as it stands, or out of budget
+abbrev pub ending_fields : LastLine → Standing → List Field
+ending_fields AsItStands standing = standing_fields (codes "end") standing
+ending_fields OutOfBudget standing = text_field (codes "end") (codes "out of budget") ∷ []
+
+abbrev pub end_json : Listing → LastLine → State → Json
+end_json p last s =
+    object_of (ending_fields last s.outcome
     ++ (registers_field s ∷ memory_field (byte_of p.bytes) s.memory ∷ []))

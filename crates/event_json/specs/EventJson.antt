@@ -11,22 +11,23 @@ use Rattle.machine_events.specs.RefusedText.{number_and_name}
 use Rattle.source_map.specs.declared.position.Position.{Position}
 use Rattle.event_trace.specs.declared.change.Change.{Change}
 use Rattle.event_trace.specs.Entries.{entry_of}
-use Rattle.event_json.specs.Fields.{Field, line_of, named, number_field, object_of, register_field, task_field, text_field, unit_field}
+use Rattle.event_trace.specs.Ring.{RingView}
+use Rattle.event_json.specs.Fields.{Field, line_of, named, number_field, object_of, register_field, task_field, text_field, unit_fields}
 use Rattle.event_json.specs.ChangeJson.{changes_field}
 
 abbrev pub kind_field : (kind : List ℕ) → Field
 kind_field kind = text_field (codes "kind") kind
 
--- an event, in the words of a script
-abbrev pub event_fields : Listing → Event → List Field
-event_fields p (Assign task) = kind_field (codes "assign") ∷ task_field p task ∷ []
-event_fields p (Exec k) = kind_field (codes "exec") ∷ unit_field k ∷ []
-event_fields p (Transfer k r) = kind_field (codes "transfer") ∷ unit_field k ∷ register_field r ∷ []
-event_fields p (Drain k r) = kind_field (codes "drain") ∷ unit_field k ∷ register_field r ∷ []
-event_fields p (Squash k) = kind_field (codes "squash") ∷ unit_field k ∷ []
-event_fields p Retire = kind_field (codes "retire") ∷ []
-event_fields p Fault = kind_field (codes "fault") ∷ []
-event_fields p (Drop k) = kind_field (codes "drop") ∷ unit_field k ∷ []
+-- an event, in the words of a script; the ring is the one before it
+abbrev pub event_fields : Listing → RingView → Event → List Field
+event_fields p ring (Assign task) = kind_field (codes "assign") ∷ task_field p task ∷ []
+event_fields p ring (Exec k) = kind_field (codes "exec") ∷ unit_fields ring k
+event_fields p ring (Transfer k r) = kind_field (codes "transfer") ∷ (unit_fields ring k ++ register_field r ∷ [])
+event_fields p ring (Drain k r) = kind_field (codes "drain") ∷ (unit_fields ring k ++ register_field r ∷ [])
+event_fields p ring (Squash k) = kind_field (codes "squash") ∷ unit_fields ring k
+event_fields p ring Retire = kind_field (codes "retire") ∷ []
+event_fields p ring Fault = kind_field (codes "fault") ∷ []
+event_fields p ring (Drop k) = kind_field (codes "drop") ∷ unit_fields ring k
 
 -- Why an event is refused: the number and the name, and the register that is waited for. NotYet is said of the
 -- register that the event itself names.
@@ -39,30 +40,30 @@ abbrev pub refusal_fields : Refused → List Field
 refusal_fields refusal = named (number_and_name refusal).0 (number_and_name refusal).1 ++ awaited_fields refusal
 
 -- the event of a number
-abbrev pub numbered_fields : Listing → (number : ℕ) → Event → List Field
-numbered_fields p number event = number_field (codes "event") number ∷ event_fields p event
+abbrev pub numbered_fields : Listing → (number : ℕ) → RingView → Event → List Field
+numbered_fields p number ring event = number_field (codes "event") number ∷ event_fields p ring event
 
 -- the answer
 abbrev pub answer_field : (answer : List ℕ) → Field
 answer_field answer = text_field (codes "answer") answer
 
 -- an event that was taken, with what it changed
-abbrev pub taken_json : Listing → List Position → (number : ℕ) → Event → List Change → Json
-taken_json p places number event changes =
-    object_of (numbered_fields p number event ++ (answer_field (codes "ok") ∷ changes_field p places changes ∷ []))
+abbrev pub taken_json : Listing → List Position → (number : ℕ) → RingView → Event → List Change → Json
+taken_json p places number ring event changes =
+    object_of (numbered_fields p number ring event ++ (answer_field (codes "ok") ∷ changes_field p places ring changes ∷ []))
 
 -- an event that was refused, with the reason; it changed nothing
-abbrev pub refused_json : Listing → List Position → (number : ℕ) → Event → Refused → Json
-refused_json p places number event refusal =
-    object_of (numbered_fields p number event ++ (answer_field (codes "refused") ∷ (refusal_fields refusal ++ changes_field p places [] ∷ [])))
+abbrev pub refused_json : Listing → List Position → (number : ℕ) → RingView → Event → Refused → Json
+refused_json p places number ring event refusal =
+    object_of (numbered_fields p number ring event ++ (answer_field (codes "refused") ∷ (refusal_fields refusal ++ changes_field p places ring [] ∷ [])))
 
 -- the same on lines
-abbrev pub taken_line : Listing → List Position → (number : ℕ) → Event → List Change → List ℕ
-taken_line p places number event changes = line_of (taken_json p places number event changes)
+abbrev pub taken_line : Listing → List Position → (number : ℕ) → RingView → Event → List Change → List ℕ
+taken_line p places number ring event changes = line_of (taken_json p places number ring event changes)
 
-abbrev pub refused_line : Listing → List Position → (number : ℕ) → Event → Refused → List ℕ
-refused_line p places number event refusal = line_of (refused_json p places number event refusal)
+abbrev pub refused_line : Listing → List Position → (number : ℕ) → RingView → Event → Refused → List ℕ
+refused_line p places number ring event refusal = line_of (refused_json p places number ring event refusal)
 
 -- the line of an event, by its answer in a state
-abbrev pub entry_line : Listing → List Position → (number : ℕ) → State → Event → Result (Unit {0}) Refused → List ℕ
+abbrev pub entry_line : Listing → List Position → (units number : ℕ) → State → Event → Result (Unit {0}) Refused → List ℕ
 entry_line p places = entry_of (taken_line p places) (refused_line p places) p

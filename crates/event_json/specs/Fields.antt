@@ -12,6 +12,7 @@ use Rattle.machine_events.specs.declared.event.Standing.{Standing}
 use Rattle.machine_events.specs.declared.event.Standing.TheVariants.{Running, Halted, Trapped, Unlisted}
 use Rattle.event_script.specs.ScriptText.{name_at}
 use Rattle.source_map.specs.declared.position.Position.{Position}
+use Rattle.event_trace.specs.Ring.{RingView, number_at}
 
 -- a member of an object: its name and its value
 abbrev pub Field : Type 0
@@ -58,12 +59,16 @@ register_field r = number_field (codes "register") r
 abbrev pub word_field : (word : ℕ) → Field
 word_field word = number_field (codes "word") word
 
+-- how many bytes a store writes
+abbrev pub size_field : (size : ℕ) → Field
+size_field size = number_field (codes "bytes") size
+
 abbrev pub address_field : (at : ℕ) → Field
 address_field at = number_field (codes "address") at
 
--- a unit, by its position from the head
-abbrev pub unit_field : (position : ℕ) → Field
-unit_field position = number_field (codes "unit") position
+-- a unit, by its position from the head, and by its number round the ring
+abbrev pub unit_fields : RingView → (position : ℕ) → List Field
+unit_fields ring position = number_field (codes "unit") position ∷ number_field (codes "ring") (number_at ring position) ∷ []
 
 -- a task, by its name
 abbrev pub task_field : Listing → (task : ℕ) → Field

@@ -9,9 +9,13 @@ use Rattle.event_trace.specs.Entries.{entries_from}
 use Rattle.event_json.specs.Fields.{line_of}
 use Rattle.event_json.specs.EventJson.{entry_line}
 use Rattle.event_json.specs.EndJson.{end_json}
+use Rattle.event_json.specs.StartJson.{start_json}
+use Rattle.event_json.specs.declared.last_line.LastLine.{LastLine}
 
--- a line for each of some events on a machine of so many units at the start of a program, whose instructions
--- stand at these places; and a line for how the machine then stands
-unfoldable pub json_text : Listing → List Position → (units : ℕ) → List Event → List ℕ
-json_text p places units events =
-    entries_from (entry_line p places) p units 1 0 (opening p) events ++ line_of (end_json p (play p units events).state)
+-- a line for what the lines are; a line for each of some events on a machine of so many units at the start of a
+-- program, whose instructions stand at these places; and a line for how the machine then stands
+unfoldable pub json_text : Listing → List Position → (units : ℕ) → List Event → LastLine → List ℕ
+json_text p places units events last =
+    line_of (start_json p units)
+    ++ (entries_from (entry_line p places units) p units 1 0 (opening p) events
+    ++ line_of (end_json p last (play p units events).state))

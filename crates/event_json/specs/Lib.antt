@@ -1,4 +1,5 @@
 pub mod Fields
+pub mod StartJson
 pub mod ChangeJson
 pub mod EventJson
 pub mod EndJson

@@ -3,14 +3,15 @@
 ghost use Rattle.std.specs.Prelude.{◌≡◌, ◌++◌, [], ◌∷◌, codes, flat_map, OnOk};
 ghost use Rattle.json.specs.Tree.{json_tokens};
 ghost use Rattle.event_trace.specs.declared.change.Change.TheVariants.{AtUnit};
-ghost use Rattle.event_json.specs.Fields.{address_field, exit_fields, fields_tokens, place_fields, register_field, standing_fields, task_field, unit_field, word_field};
+ghost use Rattle.event_json.specs.Fields.{address_field, exit_fields, fields_tokens, place_fields, register_field, size_field, standing_fields, task_field, unit_fields, word_field};
 ghost use Rattle.event_json.specs.ChangeJson.{change_field, change_fields, change_json, changes_field, unit_change_fields, unit_change_name};
 
 use crate::fields::{
-    write_address_word, write_exit, write_place, write_register_word, write_standing, write_task,
-    write_unit, write_word,
+    write_address_word, write_exit, write_place, write_register_word, write_size, write_standing,
+    write_task, write_unit, write_word,
 };
 use event_trace::change::Change;
+use event_trace::ring::Ring;
 use event_trace::unit_change::UnitChange;
 use json_writer::writer::JsonWriter;
 use machine_events::event::Standing;
@@ -45,15 +46,16 @@ fn unit_change_name(change: &UnitChange) -> &'static str
 fn write_unit_change(
     out: &mut JsonWriter,
     program: &Program,
+    ring: &Ring,
     position: u32,
     task: u32,
     change: &UnitChange,
 ) -> Result<(), AllocError>
     ensures { OnOk result (out.new ≡ out.old
-        ++ fields_tokens (change_field (unit_change_name change.now) ∷ unit_field position ∷ task_field program.now task ∷ [])) }
+        ++ fields_tokens (change_field (unit_change_name change.now) ∷ (unit_fields ring.now position ++ task_field program.now task ∷ []))) }
 {
     write_name(out, unit_change_name(change))?;
-    write_unit(out, position)?;
+    write_unit(out, ring, position)?;
     write_task(out, program, task)
 }
 
@@ -82,13 +84,14 @@ fn write_at_unit(
     out: &mut JsonWriter,
     program: &Program,
     places: &[Position],
+    ring: &Ring,
     position: u32,
     task: u32,
     change: &UnitChange,
 ) -> Result<(), AllocError>
-    ensures { OnOk result (out.new ≡ out.old ++ fields_tokens (change_fields program.now places.now (AtUnit position task change.now))) }
+    ensures { OnOk result (out.new ≡ out.old ++ fields_tokens (change_fields program.now places.now ring.now (AtUnit position task change.now))) }
 {
-    write_unit_change(out, program, position, task, change)?;
+    write_unit_change(out, program, ring, position, task, change)?;
     write_unit_rest(out, program, places, change)
 }
 
@@ -99,6 +102,15 @@ fn write_access(out: &mut JsonWriter, name: &str, address: u32, word: u32) -> Re
 {
     write_name(out, name)?;
     write_address_word(out, address, word)
+}
+
+/// Adds a store of so many bytes.
+fn write_store(out: &mut JsonWriter, address: u32, word: u32, size: u32) -> Result<(), AllocError>
+    ensures { OnOk result (out.new ≡ out.old
+        ++ fields_tokens (change_field (codes "stored") ∷ address_field address ∷ word_field word ∷ size_field size ∷ [])) }
+{
+    write_access(out, "stored", address, word)?;
+    write_size(out, size)
 }
 
 /// Adds a change with a register and a word.
@@ -152,18 +164,23 @@ fn write_change_fields(
     out: &mut JsonWriter,
     program: &Program,
     places: &[Position],
+    ring: &Ring,
     change: Change,
 ) -> Result<(), AllocError>
-    ensures { OnOk result (out.new ≡ out.old ++ fields_tokens (change_fields program.now places.now change)) }
+    ensures { OnOk result (out.new ≡ out.old ++ fields_tokens (change_fields program.now places.now ring.now change)) }
 {
     match change {
         Change::AtUnit {
             position,
             task,
             change,
-        } => write_at_unit(out, program, places, position, task, &change),
+        } => write_at_unit(out, program, places, ring, position, task, &change),
         Change::Loaded { address, word } => write_access(out, "loaded", address, word),
-        Change::Stored { address, word } => write_access(out, "stored", address, word),
+        Change::Stored {
+            address,
+            word,
+            size,
+        } => write_store(out, address, word, size),
         Change::Wrote { register, word } => write_value(out, "wrote", register, word),
         Change::Sent { register, word } => write_value(out, "sent", register, word),
         Change::PutOut { word } => write_output(out, word),
@@ -178,12 +195,13 @@ fn write_change(
     out: &mut JsonWriter,
     program: &Program,
     places: &[Position],
+    ring: &Ring,
     change: Change,
 ) -> Result<(), AllocError>
-    ensures { OnOk result (out.new ≡ out.old ++ json_tokens (change_json program.now places.now change)) }
+    ensures { OnOk result (out.new ≡ out.old ++ json_tokens (change_json program.now places.now ring.now change)) }
 {
     out.begin_object()?;
-    write_change_fields(out, program, places, change)?;
+    write_change_fields(out, program, places, ring, change)?;
     out.end_object()?;
     Ok(())
 }
@@ -193,12 +211,13 @@ fn write_each_change(
     out: &mut JsonWriter,
     program: &Program,
     places: &[Position],
+    ring: &Ring,
     changes: &[Change],
 ) -> Result<(), AllocError>
-    ensures { OnOk result (out.new ≡ out.old ++ flat_map (λ c. json_tokens (change_json program.now places.now c)) changes.now) }
+    ensures { OnOk result (out.new ≡ out.old ++ flat_map (λ c. json_tokens (change_json program.now places.now ring.now c)) changes.now) }
 {
     for change in changes {
-        write_change(out, program, places, *change)?;
+        write_change(out, program, places, ring, *change)?;
     }
     Ok(())
 }
@@ -208,12 +227,13 @@ pub(crate) fn write_changes(
     out: &mut JsonWriter,
     program: &Program,
     places: &[Position],
+    ring: &Ring,
     changes: &[Change],
 ) -> Result<(), AllocError>
-    ensures { OnOk result (out.new ≡ out.old ++ fields_tokens (changes_field program.now places.now changes.now ∷ [])) }
+    ensures { OnOk result (out.new ≡ out.old ++ fields_tokens (changes_field program.now places.now ring.now changes.now ∷ [])) }
 {
     out.begin_list("changes")?;
-    write_each_change(out, program, places, changes)?;
+    write_each_change(out, program, places, ring, changes)?;
     out.end_list()?;
     Ok(())
 }

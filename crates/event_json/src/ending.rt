@@ -6,32 +6,45 @@ ghost use Rattle.mips_plain.specs.MemoryMap.{byte_of, number_at};
 ghost use Rattle.sequencer.specs.Machines.{state};
 ghost use Rattle.event_trace.specs.Ending.{head_value};
 ghost use Rattle.event_json.specs.Fields.{address_field, fields_tokens, object_of, register_field, word_field};
-ghost use Rattle.event_json.specs.EndJson.{end_json, memory_field, memory_json, register_json, registers_field, registers_json, word_json};
+ghost use Rattle.event_json.specs.EndJson.{end_json, ending_fields, memory_field, memory_json, register_json, registers_field, registers_json, word_json};
 
 use crate::fields::{write_address_word, write_register_word, write_standing};
+use crate::last_line::LastLine;
 use event_trace::ending::word_at;
 use json_writer::writer::JsonWriter;
+use machine_events::event::Standing;
 use mips_instructions::number::Reg;
 use mips_plain::memory::DATA_START;
 use sequencer::machine::Machine;
 use std::alloc::AllocError;
 use task_descriptor::program::Program;
 
-/// Adds how a machine stands that runs this program: the run, each register of the head that is not 0, and each
+/// Adds how a machine stands that runs this program: how the run ended, each register of the head that is not 0, and each
 /// word of data memory that is not what it was at the start. An error says that memory was refused.
 pub(crate) fn write_end(
     out: &mut JsonWriter,
     program: &Program,
     machine: &Machine<'_>,
+    last: LastLine,
 ) -> Result<(), AllocError>
-    ensures { OnOk result (out.new ≡ out.old ++ json_tokens (end_json program.now (state machine.now))) }
+    ensures { OnOk result (out.new ≡ out.old ++ json_tokens (end_json program.now last (state machine.now))) }
 {
     out.begin_object()?;
-    write_standing(out, "end", machine.outcome())?;
+    write_ending(out, machine.outcome(), last)?;
     write_registers(out, machine)?;
     write_memory(out, program.bytes(), machine.memory().bytes())?;
     out.end_object()?;
     Ok(())
+}
+
+/// Adds how the run ended.
+fn write_ending(out: &mut JsonWriter, standing: Standing, last: LastLine) -> Result<(), AllocError>
+    ensures { OnOk result (out.new ≡ out.old ++ fields_tokens (ending_fields last standing)) }
+{
+    match last {
+        LastLine::AsItStands => write_standing(out, "end", standing),
+        LastLine::OutOfBudget => out.text("end", "out of budget"),
+    }
 }
 
 /// Adds the registers of the head that are not 0.

@@ -2,13 +2,14 @@
 
 ghost use Rattle.std.specs.Prelude.{◌≡◌, ◌++◌, [], ◌∷◌, codes, OnOk};
 ghost use Rattle.json.specs.Tree.{json_tokens};
-ghost use Rattle.event_json.specs.Fields.{fields_tokens, register_field, task_field, unit_field};
+ghost use Rattle.event_json.specs.Fields.{fields_tokens, register_field, task_field, unit_fields};
 ghost use Rattle.event_json.specs.ChangeJson.{changes_field};
 ghost use Rattle.event_json.specs.EventJson.{answer_field, awaited_fields, event_fields, kind_field, numbered_fields, refusal_fields, refused_json, taken_json};
 
 use crate::change::write_changes;
 use crate::fields::{write_named, write_register, write_task, write_unit};
 use event_trace::change::Change;
+use event_trace::ring::Ring;
 use json_writer::writer::JsonWriter;
 use machine_events::event::{Event, Refused};
 use mips_instructions::number::Reg;
@@ -25,39 +26,50 @@ fn write_assign(out: &mut JsonWriter, program: &Program, task: u32) -> Result<()
 }
 
 /// Adds a kind of events with a unit.
-fn write_unit_event(out: &mut JsonWriter, kind: &str, position: u32) -> Result<(), AllocError>
-    ensures { OnOk result (out.new ≡ out.old ++ fields_tokens (kind_field kind.now ∷ unit_field position ∷ [])) }
+fn write_unit_event(
+    out: &mut JsonWriter,
+    ring: &Ring,
+    kind: &str,
+    position: u32,
+) -> Result<(), AllocError>
+    ensures { OnOk result (out.new ≡ out.old ++ fields_tokens (kind_field kind.now ∷ unit_fields ring.now position)) }
 {
     out.text("kind", kind)?;
-    write_unit(out, position)
+    write_unit(out, ring, position)
 }
 
 /// Adds a kind of events with a unit and a register.
 fn write_register_event(
     out: &mut JsonWriter,
+    ring: &Ring,
     kind: &str,
     position: u32,
     register: Reg,
 ) -> Result<(), AllocError>
-    ensures { OnOk result (out.new ≡ out.old ++ fields_tokens (kind_field kind.now ∷ unit_field position ∷ register_field register ∷ [])) }
+    ensures { OnOk result (out.new ≡ out.old ++ fields_tokens (kind_field kind.now ∷ (unit_fields ring.now position ++ register_field register ∷ []))) }
 {
-    write_unit_event(out, kind, position)?;
+    write_unit_event(out, ring, kind, position)?;
     write_register(out, register)
 }
 
 /// Adds an event.
-fn write_event(out: &mut JsonWriter, program: &Program, event: &Event) -> Result<(), AllocError>
-    ensures { OnOk result (out.new ≡ out.old ++ fields_tokens (event_fields program.now event.now)) }
+fn write_event(
+    out: &mut JsonWriter,
+    program: &Program,
+    ring: &Ring,
+    event: &Event,
+) -> Result<(), AllocError>
+    ensures { OnOk result (out.new ≡ out.old ++ fields_tokens (event_fields program.now ring.now event.now)) }
 {
     match *event {
         Event::Assign(task) => write_assign(out, program, task),
-        Event::Exec(k) => write_unit_event(out, "exec", k),
-        Event::Transfer(k, register) => write_register_event(out, "transfer", k, register),
-        Event::Drain(k, register) => write_register_event(out, "drain", k, register),
-        Event::Squash(k) => write_unit_event(out, "squash", k),
+        Event::Exec(k) => write_unit_event(out, ring, "exec", k),
+        Event::Transfer(k, register) => write_register_event(out, ring, "transfer", k, register),
+        Event::Drain(k, register) => write_register_event(out, ring, "drain", k, register),
+        Event::Squash(k) => write_unit_event(out, ring, "squash", k),
         Event::Retire => out.text("kind", "retire"),
         Event::Fault => out.text("kind", "fault"),
-        Event::Drop(k) => write_unit_event(out, "drop", k),
+        Event::Drop(k) => write_unit_event(out, ring, "drop", k),
     }
 }
 
@@ -85,51 +97,54 @@ fn write_numbered(
     out: &mut JsonWriter,
     program: &Program,
     number: usize,
+    ring: &Ring,
     event: &Event,
 ) -> Result<(), AllocError>
-    ensures { OnOk result (out.new ≡ out.old ++ fields_tokens (numbered_fields program.now number event.now)) }
+    ensures { OnOk result (out.new ≡ out.old ++ fields_tokens (numbered_fields program.now number ring.now event.now)) }
 {
     out.number("event", number)?;
-    write_event(out, program, event)
+    write_event(out, program, ring, event)
 }
 
-/// Adds the event of this number, which the machine took, and what it changed. An error says that memory was
-/// refused.
+/// Adds the event of this number, which the machine took, and what it changed; `ring` is the ring before it. An
+/// error says that memory was refused.
 pub(crate) fn write_taken(
     out: &mut JsonWriter,
     program: &Program,
     places: &[Position],
     number: usize,
+    ring: &Ring,
     event: &Event,
     changes: &[Change],
 ) -> Result<(), AllocError>
-    ensures { OnOk result (out.new ≡ out.old ++ json_tokens (taken_json program.now places.now number event.now changes.now)) }
+    ensures { OnOk result (out.new ≡ out.old ++ json_tokens (taken_json program.now places.now number ring.now event.now changes.now)) }
 {
     out.begin_object()?;
-    write_numbered(out, program, number, event)?;
+    write_numbered(out, program, number, ring, event)?;
     out.text("answer", "ok")?;
-    write_changes(out, program, places, changes)?;
+    write_changes(out, program, places, ring, changes)?;
     out.end_object()?;
     Ok(())
 }
 
-/// Adds the event of this number, which the machine refused, and the reason. An error says that memory was
-/// refused.
+/// Adds the event of this number, which the machine refused, and the reason; `ring` is the ring before it. An error
+/// says that memory was refused.
 pub(crate) fn write_refused(
     out: &mut JsonWriter,
     program: &Program,
     places: &[Position],
     number: usize,
+    ring: &Ring,
     event: &Event,
     refusal: Refused,
 ) -> Result<(), AllocError>
-    ensures { OnOk result (out.new ≡ out.old ++ json_tokens (refused_json program.now places.now number event.now refusal)) }
+    ensures { OnOk result (out.new ≡ out.old ++ json_tokens (refused_json program.now places.now number ring.now event.now refusal)) }
 {
     out.begin_object()?;
-    write_numbered(out, program, number, event)?;
+    write_numbered(out, program, number, ring, event)?;
     out.text("answer", "refused")?;
     write_refusal(out, refusal)?;
-    write_changes(out, program, places, &[])?;
+    write_changes(out, program, places, ring, &[])?;
     out.end_object()?;
     Ok(())
 }

@@ -2,9 +2,10 @@
 
 ghost use Rattle.std.specs.Prelude.{◌≡◌, ◌++◌, [], ◌∷◌, slice_get, OnOk};
 ghost use Rattle.machine_events.specs.declared.event.Standing.TheVariants.{Trapped, Unlisted};
-ghost use Rattle.event_json.specs.Fields.{address_field, exit_fields, fields_tokens, found_fields, line_fields, named, place_fields, register_field, standing_fields, task_field, trap_fields, unit_field, word_field};
+ghost use Rattle.event_json.specs.Fields.{address_field, exit_fields, fields_tokens, found_fields, line_fields, named, place_fields, register_field, size_field, standing_fields, task_field, trap_fields, unit_fields, word_field};
 
 use event_script::writing::task_name;
+use event_trace::ring::Ring;
 use json_writer::writer::JsonWriter;
 use machine_events::event::Standing;
 use mips_instructions::number::Reg;
@@ -27,6 +28,13 @@ pub(crate) fn write_word(out: &mut JsonWriter, word: u32) -> Result<(), AllocErr
     out.number("word", word as usize)
 }
 
+/// Adds how many bytes a store writes.
+pub(crate) fn write_size(out: &mut JsonWriter, size: u32) -> Result<(), AllocError>
+    ensures { OnOk result (out.new ≡ out.old ++ fields_tokens (size_field size ∷ [])) }
+{
+    out.number("bytes", size as usize)
+}
+
 /// Adds an address.
 pub(crate) fn write_address(out: &mut JsonWriter, address: u32) -> Result<(), AllocError>
     ensures { OnOk result (out.new ≡ out.old ++ fields_tokens (address_field address ∷ [])) }
@@ -34,11 +42,13 @@ pub(crate) fn write_address(out: &mut JsonWriter, address: u32) -> Result<(), Al
     out.number("address", address as usize)
 }
 
-/// Adds a unit, by its position.
-pub(crate) fn write_unit(out: &mut JsonWriter, position: u32) -> Result<(), AllocError>
-    ensures { OnOk result (out.new ≡ out.old ++ fields_tokens (unit_field position ∷ [])) }
+/// Adds a unit, by its position and its number round the ring.
+pub(crate) fn write_unit(out: &mut JsonWriter, ring: &Ring, position: u32) -> Result<(), AllocError>
+    ensures { OnOk result (out.new ≡ out.old ++ fields_tokens (unit_fields ring.now position)) }
 {
-    out.number("unit", position as usize)
+    let number = ring.number_at(position);
+    out.number("unit", position as usize)?;
+    out.number("ring", number)
 }
 
 /// Adds a task, by its name.

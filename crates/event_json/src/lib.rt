@@ -5,4 +5,6 @@ mod change;
 mod ending;
 mod event;
 mod fields;
+pub mod last_line;
 pub mod lines;
+mod start;

@@ -3,19 +3,24 @@
 ghost use Rattle.std.specs.Prelude.{◌≡◌, [], ◌∷◌, ◌++◌, ◌<◌, ◌≤◌, IfOk, OnOk};
 ghost use Rattle.std.specs.String.{string_bytes};
 ghost use Rattle.json.specs.Print.{print};
+ghost use Rattle.machine_model.specs.Answer.{play};
 ghost use Rattle.sequencer.specs.Machines.{state};
 ghost use Rattle.event_trace.specs.Entries.{places_of};
 ghost use Rattle.event_json.specs.Fields.{line_of};
+ghost use Rattle.event_json.specs.StartJson.{start_json};
 ghost use Rattle.event_json.specs.EndJson.{end_json};
 ghost use Rattle.event_json.specs.Json.{json_text};
 
 use crate::ending::write_end;
 use crate::event::{write_refused, write_taken};
+use crate::last_line::LastLine;
+use crate::start::write_start;
 use event_trace::change::Change;
 use event_trace::places::places;
-use event_trace::telling::{Telling, entries};
+use event_trace::ring::Ring;
+use event_trace::telling::{Telling, add_entries};
 use json_writer::writer::JsonWriter;
-use machine_events::event::{Event, Refused};
+use machine_events::event::{Event, Refused, Standing};
 use mark_checker::accept::Accepted;
 use sequencer::machine::Machine;
 use source_map::position::Position;
@@ -23,20 +28,41 @@ use std::alloc::{AllocError, Global};
 use task_descriptor::program::Program;
 
 /// The trace of some events on a machine of so many units that is at the start of an accepted program, as lines
-/// of JSON: an object for each event, with its number, its answer and what it changed; and behind them an
-/// object for how the machine then stands. `program_text` is the text of the program: instructions are told by
-/// their index and by its lines. An error says that memory was refused.
+/// of JSON: an object for what the lines are; one for each event, with its number, its answer and what it changed;
+/// and one for how the machine then stands, or that the run was out of budget. `program_text` is the text of the
+/// program: instructions are told by their index and by its lines. An error says that memory was refused.
 pub fn lines(
     alloc: Global,
     accepted: &Accepted,
     units: u32,
     program_text: &[u8],
     events: &[Event],
+    last: LastLine,
 ) -> Result<String, AllocError>
     requires some { 0 < units }
     requires few { units ≤ 16 }
     ensures { IfOk result (λ text. string_bytes text
-        ≡ json_text accepted.now.program (places_of program_text.now) units events.now) }
+        ≡ json_text accepted.now.program (places_of program_text.now) units events.now last) }
+{
+    let (text, _) = lines_and_standing(alloc, accepted, units, program_text, events, last)?;
+    Ok(text)
+}
+
+/// The lines of some events, as `lines` writes them, and how the run stands after them. An error says that memory
+/// was refused.
+pub fn lines_and_standing(
+    alloc: Global,
+    accepted: &Accepted,
+    units: u32,
+    program_text: &[u8],
+    events: &[Event],
+    last: LastLine,
+) -> Result<(String, Standing), AllocError>
+    requires some { 0 < units }
+    requires few { units ≤ 16 }
+    ensures text { IfOk result (λ told. string_bytes told.0
+        ≡ json_text accepted.now.program (places_of program_text.now) units events.now last) }
+    ensures standing { IfOk result (λ told. told.1 ≡ (play accepted.now.program units events.now).state.outcome) }
 {
     let program = accepted.program();
     let places = places(alloc, program_text)?;
@@ -45,9 +71,11 @@ pub fn lines(
         program,
         places: &places,
     };
-    let (mut text, machine) = entries(alloc, accepted, units, events, &telling)?;
-    write_end_line(alloc, &mut text, program, &machine)?;
-    Ok(text)
+    let mut text = String::new(alloc);
+    write_first_line(alloc, &mut text, program, units)?;
+    let machine = add_entries(alloc, &mut text, accepted, units, events, &telling)?;
+    write_last_line(alloc, &mut text, program, &machine, last)?;
+    Ok((text, machine.outcome()))
 }
 
 /// An object of JSON on a line. An instruction is told by its index and by its line in the program text.
@@ -69,11 +97,14 @@ impl Telling for InObjects<'_, '_> {
         &self,
         text: &mut String,
         number: usize,
+        ring: &Ring,
         event: Event,
         changes: &[Change],
     ) -> Result<(), AllocError> {
         let mut out = JsonWriter::new(self.alloc);
-        write_taken(&mut out, self.program, self.places, number, &event, changes)?;
+        let program = self.program;
+        let places = self.places;
+        write_taken(&mut out, program, places, number, ring, &event, changes)?;
         write_line(text, out)
     }
 
@@ -81,26 +112,44 @@ impl Telling for InObjects<'_, '_> {
         &self,
         text: &mut String,
         number: usize,
+        ring: &Ring,
         event: Event,
         refusal: Refused,
     ) -> Result<(), AllocError> {
         let mut out = JsonWriter::new(self.alloc);
-        write_refused(&mut out, self.program, self.places, number, &event, refusal)?;
+        let program = self.program;
+        let places = self.places;
+        write_refused(&mut out, program, places, number, ring, &event, refusal)?;
         write_line(text, out)
     }
 }
 
-/// Adds a line for how a machine stands that runs this program.
-fn write_end_line(
+/// Adds a line for what the lines are.
+fn write_first_line(
+    alloc: Global,
+    text: &mut String,
+    program: &Program,
+    units: u32,
+) -> Result<(), AllocError>
+    ensures { OnOk result (string_bytes text.new ≡ string_bytes text.old ++ line_of (start_json program.now units)) }
+{
+    let mut out = JsonWriter::new(alloc);
+    write_start(&mut out, program, units)?;
+    write_line(text, out)
+}
+
+/// Adds a line for how a run of this program ended, and how its machine stands.
+fn write_last_line(
     alloc: Global,
     text: &mut String,
     program: &Program,
     machine: &Machine<'_>,
+    last: LastLine,
 ) -> Result<(), AllocError>
-    ensures { OnOk result (string_bytes text.new ≡ string_bytes text.old ++ line_of (end_json program.now (state machine.now))) }
+    ensures { OnOk result (string_bytes text.new ≡ string_bytes text.old ++ line_of (end_json program.now last (state machine.now))) }
 {
     let mut out = JsonWriter::new(alloc);
-    write_end(&mut out, program, machine)?;
+    write_end(&mut out, program, machine, last)?;
     write_line(text, out)
 }
 

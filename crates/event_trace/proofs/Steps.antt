@@ -13,20 +13,22 @@ use Rattle.event_trace.specs.declared.told.Told.{Told}
 use Rattle.event_trace.specs.declared.told.Told.TheVariants as told
 use Rattle.event_trace.specs.Entries.{Tells, count_behind, entries_from, entry_of, state_behind, told_of}
 use Rattle.event_trace.specs.Following.{GoesOn, state_from}
+use Rattle.event_trace.specs.Ring.{RingView, ring_in}
 
 -- the text with an entry more, in any form
-module _ (taken : ℕ → Event → List Change → List ℕ) (refused : ℕ → Event → Refused → List ℕ) where
-  entry_told : (p : Listing) (number : ℕ) (s : State) (e : Event) (a : Result (Unit {0}) Refused) (t : Told)
-      → Tells p s e a t → told_of taken refused number e t ≡ entry_of taken refused p number s e a
-  entry_told p number s e (Ok done) (told.Taken changes) is = ap (taken number e) is
-  entry_told p number s e (Err why) (told.Refused refusal) is = ap (refused number e) is
-  entry_told p number s e (Ok done) (told.Refused refusal) is = absurd is
-  entry_told p number s e (Err why) (told.Taken changes) is = absurd is
+module _ (taken : ℕ → RingView → Event → List Change → List ℕ) (refused : ℕ → RingView → Event → Refused → List ℕ) where
+  entry_told : (p : Listing) (units number : ℕ) (s : State) (e : Event) (a : Result (Unit {0}) Refused) (t : Told)
+      → Tells p s e a t → told_of taken refused number (ring_in units s) e t ≡ entry_of taken refused p units number s e a
+  entry_told p units number s e (Ok done) (told.Taken changes) is = ap (taken number (ring_in units s) e) is
+  entry_told p units number s e (Err why) (told.Refused refusal) is = ap (refused number (ring_in units s) e) is
+  entry_told p units number s e (Ok done) (told.Refused refusal) is = absurd is
+  entry_told p units number s e (Err why) (told.Taken changes) is = absurd is
 
-  pub entry_written : (p : Listing) (number : ℕ) (s : State) (e : Event) (a : Result (Unit {0}) Refused) (t : Told) (old new : List ℕ)
-      → Tells p s e a t → new ≡ old ++ told_of taken refused number e t → new ≡ old ++ entry_of taken refused p number s e a
-  entry_written p number s e a t old new tells written =
-      written ∙ ap (λ (text : List ℕ). old ++ text) (entry_told p number s e a t tells)
+  pub entry_written : (p : Listing) (units number : ℕ) (s : State) (ring : RingView) (e : Event) (a : Result (Unit {0}) Refused) (t : Told) (old new : List ℕ)
+      → ring ≡ ring_in units s → Tells p s e a t → new ≡ old ++ told_of taken refused number ring e t → new ≡ old ++ entry_of taken refused p units number s e a
+  entry_written p units number s ring e a t old new before tells written =
+      written ∙ ap (λ (r : RingView). old ++ told_of taken refused number r e t) before
+      ∙ ap (λ (text : List ℕ). old ++ text) (entry_told p units number s e a t tells)
 
 -- where two machines run one program on as many units, they answer alike
 pub answers_by : (p : Listing) (units : ℕ) (m : MachineView) (e : Event) → m.accepted.program ≡ p → units_of m ≡ units → answer_to m e ≡ answer p units (state m) (length m.history) e

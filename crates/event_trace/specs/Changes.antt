@@ -44,7 +44,7 @@ load_of at (Some word) = Loaded at word ∷ []
 -- what an instruction with the operands a and b does outside the registers
 abbrev pub outside : Op → (a b : ℕ) → (fixed memory : ℕ → ℕ) → List Change
 outside (Load kind rt base n) a b fixed memory = load_of (effective a n) (load_at (Load kind rt base n) (effective a n) fixed memory)
-outside (Store kind rt base n) a b fixed memory = Stored (effective a n) (b % 256 ^ store_size kind) ∷ []
+outside (Store kind rt base n) a b fixed memory = Stored (effective a n) (b % 256 ^ store_size kind) (store_size kind) ∷ []
 outside (Out rs) a b fixed memory = PutOut a ∷ []
 outside op a b fixed memory = []
 

@@ -13,6 +13,7 @@ use Rattle.event_trace.specs.declared.change.Change.{Change}
 use Rattle.event_trace.specs.declared.told.Told.{Told}
 use Rattle.event_trace.specs.declared.told.Told.TheVariants as told
 use Rattle.event_trace.specs.Changes.{changes_of}
+use Rattle.event_trace.specs.Ring.{RingView, ring_in}
 
 -- where a program text has its instructions; nowhere if it is none
 abbrev pub places_in : Result Sources AsmFault → List Position
@@ -37,15 +38,15 @@ Tells p s e (Ok done) (told.Taken changes) = changes.items ≡ changes_of p s e 
 Tells p s e (Err why) (told.Refused refusal) = refusal ≡ why
 Tells p s e answer other = ⊥
 
--- the same in a form that says this of an event that was taken, and of one that was refused
-abbrev pub told_of : (taken : ℕ → Event → List Change → List ℕ) (refused : ℕ → Event → Refused → List ℕ) → (number : ℕ) → Event → Told → List ℕ
-told_of taken refused number e (told.Taken changes) = taken number e changes.items
-told_of taken refused number e (told.Refused refusal) = refused number e refusal
+-- the same in a form that says this of an event that was taken, and of one that was refused, by the ring before it
+abbrev pub told_of : (taken : ℕ → RingView → Event → List Change → List ℕ) (refused : ℕ → RingView → Event → Refused → List ℕ) → (number : ℕ) → RingView → Event → Told → List ℕ
+told_of taken refused number ring e (told.Taken changes) = taken number ring e changes.items
+told_of taken refused number ring e (told.Refused refusal) = refused number ring e refusal
 
--- and by its answer in a state
-abbrev pub entry_of : (taken : ℕ → Event → List Change → List ℕ) (refused : ℕ → Event → Refused → List ℕ) → Listing → (number : ℕ) → State → Event → Result (Unit {0}) Refused → List ℕ
-entry_of taken refused p number s e (Ok done) = taken number e (changes_of p s e (after p s e))
-entry_of taken refused p number s e (Err why) = refused number e why
+-- and by its answer in a state of so many units
+abbrev pub entry_of : (taken : ℕ → RingView → Event → List Change → List ℕ) (refused : ℕ → RingView → Event → Refused → List ℕ) → Listing → (units number : ℕ) → State → Event → Result (Unit {0}) Refused → List ℕ
+entry_of taken refused p units number s e (Ok done) = taken number (ring_in units s) e (changes_of p s e (after p s e))
+entry_of taken refused p units number s e (Err why) = refused number (ring_in units s) e why
 
 -- What is told of events from a state on, with n events allowed before them; the first has this number. `tell`
 -- says it of one event, by its number, the state before it and its answer.

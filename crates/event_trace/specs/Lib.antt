@@ -1,3 +1,4 @@
+pub mod Ring
 pub mod Changes
 pub mod Foresight
 pub mod TraceText

@@ -63,7 +63,7 @@ unit_name p position task = codes "unit " ++ (decimal position ++ (codes ", task
 abbrev pub change_text : Listing → List Position → Change → List ℕ
 change_text p places (change.AtUnit position task c) = unit_name p position task ++ (codes ": " ++ unit_text p places c)
 change_text p places (change.Loaded at word) = codes "loads " ++ (decimal word ++ (codes " from " ++ address_text at))
-change_text p places (change.Stored at word) = codes "stores " ++ (decimal word ++ (codes " at " ++ address_text at))
+change_text p places (change.Stored at word size) = codes "stores " ++ (decimal word ++ (codes " at " ++ address_text at))
 change_text p places (change.Wrote r word) = codes "writes " ++ register_text r word
 change_text p places (change.Sent r word) = codes "sends " ++ register_text r word
 change_text p places (change.PutOut word) = codes "puts out " ++ decimal word

@@ -24,10 +24,11 @@ pub enum Change {
         address: u32,
         word: u32,
     },
-    /// The instruction stored at this address; the word has the bytes that it stored, and zeros above them.
+    /// The instruction stored so many bytes at this address; the word has them, and zeros above them.
     Stored {
         address: u32,
         word: u32,
+        size: u32,
     },
     /// The instruction wrote this word to this register.
     Wrote {

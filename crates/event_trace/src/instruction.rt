@@ -93,6 +93,17 @@ fn stored_bytes(kind: StoreKind, word: u32) -> u32
     }
 }
 
+/// How many bytes a store writes.
+fn stored_size(kind: StoreKind) -> u32
+    ensures { result ≡ store_size kind }
+{
+    match kind {
+        StoreKind::Sw => 4,
+        StoreKind::Sh => 2,
+        StoreKind::Sb => 1,
+    }
+}
+
 /// Adds what an instruction with these operands did outside the registers.
 fn add_outside(
     changes: &mut Vec<Change>,
@@ -113,7 +124,15 @@ fn add_outside(
         Op::Store(kind, _, _, n) => {
             let address = effective_address(a, n);
             let word = stored_bytes(kind, b);
-            add(changes, Change::Stored { address, word })?;
+            let size = stored_size(kind);
+            add(
+                changes,
+                Change::Stored {
+                    address,
+                    word,
+                    size,
+                },
+            )?;
         }
         Op::Out(_) => add(changes, Change::PutOut { word: a })?,
         _ => {}

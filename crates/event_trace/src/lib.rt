@@ -9,6 +9,7 @@ mod foresight;
 mod instruction;
 pub mod places;
 mod registers;
+pub mod ring;
 pub mod telling;
 pub mod text;
 pub mod told;

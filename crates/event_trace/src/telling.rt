@@ -1,6 +1,7 @@
 //! Events on a walk, told in some form.
 
 use crate::change::Change;
+use crate::ring::Ring;
 use crate::told::Told;
 use crate::walk::Walk;
 use machine_events::event::{Event, Refused};
@@ -15,34 +16,37 @@ pub trait Telling {
     ghost use Rattle.machine_events.specs.declared.event.Event.{Event};
     ghost use Rattle.machine_events.specs.declared.event.Refused.{Refused};
     ghost use Rattle.event_trace.specs.declared.change.Change.{Change};
+    ghost use Rattle.event_trace.specs.Ring.{RingView};
 
-    // What is told of the event of a number that was taken, and changed this.
-    ghost taken: { Self → ℕ → Event → List Change → List ℕ };
+    // What is told of the event of a number, before which the ring was this, that was taken, and changed this.
+    ghost taken: { Self → ℕ → RingView → Event → List Change → List ℕ };
 
-    // What is told of the event of a number that was refused for this reason.
-    ghost refused: { Self → ℕ → Event → Refused → List ℕ };
+    // What is told of the event of a number, before which the ring was this, that was refused for this reason.
+    ghost refused: { Self → ℕ → RingView → Event → Refused → List ℕ };
 
-    /// Adds the event of this number, which the machine took, and what it changed. An error says that memory
-    /// was refused.
+    /// Adds the event of this number, which the machine took, and what it changed. `ring` is the ring before it.
+    /// An error says that memory was refused.
     fn write_taken(
         &self,
         text: &mut String,
         number: usize,
+        ring: &Ring,
         event: Event,
         changes: &[Change],
     ) -> Result<(), AllocError>
-        ensures { OnOk result (string_bytes text.new ≡ string_bytes text.old ++ taken self.now number event changes.now) };
+        ensures { OnOk result (string_bytes text.new ≡ string_bytes text.old ++ taken self.now number ring.now event changes.now) };
 
-    /// Adds the event of this number, which the machine refused, and the reason. An error says that memory was
-    /// refused.
+    /// Adds the event of this number, which the machine refused, and the reason. `ring` is the ring before it. An
+    /// error says that memory was refused.
     fn write_refused(
         &self,
         text: &mut String,
         number: usize,
+        ring: &Ring,
         event: Event,
         refusal: Refused,
     ) -> Result<(), AllocError>
-        ensures { OnOk result (string_bytes text.new ≡ string_bytes text.old ++ refused self.now number event refusal) };
+        ensures { OnOk result (string_bytes text.new ≡ string_bytes text.old ++ refused self.now number ring.now event refusal) };
 }
 
 ghost use Rattle.std.specs.Prelude.{◌≡◌, ◌++◌, ◌<◌, ◌≤◌, length, IfOk, OnOk};
@@ -65,13 +69,33 @@ pub fn entries<'a, T: Telling>(
     requires some { 0 < units }
     requires few { units ≤ 16 }
     ensures told { IfOk result (λ left. string_bytes left.0
-        ≡ entries_from (entry_of (T.taken telling.now) (T.refused telling.now) accepted.now.program) accepted.now.program units 1 0 (opening accepted.now.program) events.now) }
+        ≡ entries_from (entry_of (T.taken telling.now) (T.refused telling.now) accepted.now.program units) accepted.now.program units 1 0 (opening accepted.now.program) events.now) }
     ensures machine { IfOk result (λ left. state left.1 ≡ (play accepted.now.program units events.now).state) }
 {
-    let start = Walk::new(alloc, accepted, units)?;
     let mut text = String::new(alloc);
-    let walk = write_entries(alloc, &mut text, start, events, telling)?;
-    Ok((text, walk.into_machine()))
+    let machine = add_entries(alloc, &mut text, accepted, units, events, telling)?;
+    Ok((text, machine))
+}
+
+/// Adds what is told of each of some events on a machine of so many units that is at the start of an accepted
+/// program. The machine as the events leave it. An error says that memory was refused.
+pub fn add_entries<'a, T: Telling>(
+    alloc: Global,
+    text: &mut String,
+    accepted: &'a Accepted,
+    units: u32,
+    events: &[Event],
+    telling: &T,
+) -> Result<Machine<'a>, AllocError>
+    requires some { 0 < units }
+    requires few { units ≤ 16 }
+    ensures told { OnOk result (string_bytes text.new ≡ string_bytes text.old
+        ++ entries_from (entry_of (T.taken telling.now) (T.refused telling.now) accepted.now.program units) accepted.now.program units 1 0 (opening accepted.now.program) events.now) }
+    ensures machine { IfOk result (λ machine. state machine ≡ (play accepted.now.program units events.now).state) }
+{
+    let start = Walk::new(alloc, accepted, units)?;
+    let walk = write_entries(alloc, text, start, events, telling)?;
+    Ok(walk.into_machine())
 }
 
 /// Adds what is told of some events on a walk, and goes on behind them.
@@ -85,7 +109,7 @@ fn write_entries<'a, T: Telling>(
     ensures left { IfOk result (λ next. state next
         ≡ state_from walk.entry.accepted.program (units_of walk.entry) (length walk.entry.history) (state walk.entry) events.now) }
     ensures told { OnOk result (string_bytes text.new ≡ string_bytes text.old
-        ++ entries_from (entry_of (T.taken telling.now) (T.refused telling.now) walk.entry.accepted.program) walk.entry.accepted.program (units_of walk.entry) 1 (length walk.entry.history) (state walk.entry) events.now) }
+        ++ entries_from (entry_of (T.taken telling.now) (T.refused telling.now) walk.entry.accepted.program (units_of walk.entry)) walk.entry.accepted.program (units_of walk.entry) 1 (length walk.entry.history) (state walk.entry) events.now) }
 {
     for (index, event) in events.iter().enumerate() {
         walk = write_entry(alloc, text, walk, index + 1, event, telling)?;
@@ -104,25 +128,27 @@ fn write_entry<'a, T: Telling>(
 ) -> Result<Walk<'a>, AllocError>
     ensures on { IfOk result (λ next. GoesOn walk.entry event.now next) }
     ensures told { OnOk result (string_bytes text.new ≡ string_bytes text.old
-        ++ entry_of (T.taken telling.now) (T.refused telling.now) walk.entry.accepted.program number (state walk.entry) event.now (answer_to walk.entry event.now)) }
+        ++ entry_of (T.taken telling.now) (T.refused telling.now) walk.entry.accepted.program (units_of walk.entry) number (state walk.entry) event.now (answer_to walk.entry event.now)) }
 {
+    let ring = walk.ring();
     let (next, told) = walk.step(alloc, event)?;
-    write_told(text, number, *event, &told, telling)?;
+    write_told(text, number, &ring, *event, &told, telling)?;
     Ok(next)
 }
 
-/// Adds the event of this number, with what is told of it.
+/// Adds the event of this number, with what is told of it; `ring` is the ring before it.
 fn write_told<T: Telling>(
     text: &mut String,
     number: usize,
+    ring: &Ring,
     event: Event,
     told: &Told,
     telling: &T,
 ) -> Result<(), AllocError>
-    ensures { OnOk result (string_bytes text.new ≡ string_bytes text.old ++ told_of (T.taken telling.now) (T.refused telling.now) number event told.now) }
+    ensures { OnOk result (string_bytes text.new ≡ string_bytes text.old ++ told_of (T.taken telling.now) (T.refused telling.now) number ring.now event told.now) }
 {
     match told {
-        Told::Taken(changes) => telling.write_taken(text, number, event, changes),
-        Told::Refused(refusal) => telling.write_refused(text, number, event, *refusal),
+        Told::Taken(changes) => telling.write_taken(text, number, ring, event, changes),
+        Told::Refused(refusal) => telling.write_refused(text, number, ring, event, *refusal),
     }
 }

@@ -154,7 +154,7 @@ fn write_change(
             write_unit_change(text, program, places, change)
         }
         Change::Loaded { address, word } => write_access(text, "loads", word, "from", address),
-        Change::Stored { address, word } => write_access(text, "stores", word, "at", address),
+        Change::Stored { address, word, .. } => write_access(text, "stores", word, "at", address),
         Change::Wrote { register, word } => {
             write!(text, "writes ")?;
             write_register(text, register, word)

@@ -2,15 +2,17 @@
 
 ghost use Rattle.std.specs.Prelude.{◌≡◌, ◌<◌, ◌≤◌, IfOk};
 ghost use Rattle.std.specs.String.{string_bytes};
+ghost use Rattle.machine_model.specs.Answer.{play};
 ghost use Rattle.event_trace.specs.Entries.{places_of};
 ghost use Rattle.event_trace.specs.Trace.{trace_text};
 
 use crate::change::Change;
 use crate::ending::write_end;
 use crate::places::places;
+use crate::ring::Ring;
 use crate::telling::{Telling, entries};
 use crate::text::{write_refused, write_taken};
-use machine_events::event::{Event, Refused};
+use machine_events::event::{Event, Refused, Standing};
 use mark_checker::accept::Accepted;
 use source_map::position::Position;
 use std::alloc::{AllocError, Global};
@@ -33,6 +35,25 @@ pub fn trace(
     ensures { IfOk result (λ text. string_bytes text
         ≡ trace_text accepted.now.program (places_of program_text.now) units events.now) }
 {
+    let (text, _) = trace_and_standing(alloc, accepted, units, program_text, events)?;
+    Ok(text)
+}
+
+/// The trace of some events, as `trace` writes it, and how the run stands after them. An error says that memory
+/// was refused.
+pub fn trace_and_standing(
+    alloc: Global,
+    accepted: &Accepted,
+    units: u32,
+    program_text: &[u8],
+    events: &[Event],
+) -> Result<(String, Standing), AllocError>
+    requires some { 0 < units }
+    requires few { units ≤ 16 }
+    ensures text { IfOk result (λ traced. string_bytes traced.0
+        ≡ trace_text accepted.now.program (places_of program_text.now) units events.now) }
+    ensures standing { IfOk result (λ traced. traced.1 ≡ (play accepted.now.program units events.now).state.outcome) }
+{
     let program = accepted.program();
     let places = places(alloc, program_text)?;
     let telling = InWords {
@@ -41,7 +62,7 @@ pub fn trace(
     };
     let (mut text, machine) = entries(alloc, accepted, units, events, &telling)?;
     write_end(&mut text, program, &machine)?;
-    Ok(text)
+    Ok((text, machine.outcome()))
 }
 
 /// The words of a script, and lines for a reader. An instruction is told by its line in the program text.
@@ -54,14 +75,15 @@ struct InWords<'p, 't> {
 impl Telling for InWords<'_, '_> {
     ghost use Rattle.event_trace.specs.TraceText.{taken_text, refused_text};
 
-    ghost taken = { λ told. taken_text told.program.now told.places.now };
+    ghost taken = { λ told number ring. taken_text told.program.now told.places.now number };
 
-    ghost refused = { λ told. refused_text told.program.now };
+    ghost refused = { λ told number ring. refused_text told.program.now number };
 
     fn write_taken(
         &self,
         text: &mut String,
         number: usize,
+        _ring: &Ring,
         event: Event,
         changes: &[Change],
     ) -> Result<(), AllocError> {
@@ -72,6 +94,7 @@ impl Telling for InWords<'_, '_> {
         &self,
         text: &mut String,
         number: usize,
+        _ring: &Ring,
         event: Event,
         refusal: Refused,
     ) -> Result<(), AllocError> {

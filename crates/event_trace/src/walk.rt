@@ -2,6 +2,7 @@
 
 use crate::changes::changes;
 use crate::foresight::foresee;
+use crate::ring::Ring;
 use crate::told::Told;
 use machine_events::event::{Event, Refused};
 use machine_model::laws::next_is_after;
@@ -15,18 +16,19 @@ use task_descriptor::program::Program;
 #[derive(Drop)]
 pub struct Walk<'a> {
     accepted: &'a Accepted,
+    units: u32,
     machine: Machine<'a>,
 }
 
 impl<'a> Model for Walk<'a> {
-    ghost use Rattle.std.specs.Prelude.{◌≡◌};
-    ghost use Rattle.sequencer.specs.Machines.{MachineView};
+    ghost use Rattle.std.specs.Prelude.{◌≡◌, ◌<◌};
+    ghost use Rattle.sequencer.specs.Machines.{MachineView, units_of};
 
     ghost Value = { MachineView };
 
     ghost view = { λ w. w.machine };
 
-    ghost invariant = { λ w. w.machine.accepted ≡ w.accepted.now };
+    ghost invariant = { λ w. (w.machine.accepted ≡ w.accepted.now) × (units_of w.machine ≡ w.units) × (0 < w.units) };
 }
 
 ghost use Rattle.std.specs.Prelude.{◌≡◌, ◌<◌, ◌≤◌, [], IfOk, OnOk};
@@ -34,6 +36,7 @@ ghost use Rattle.machine_model.specs.Machine.{opening};
 ghost use Rattle.sequencer.specs.Machines.{answer_to, state, units_of};
 ghost use Rattle.event_trace.specs.Entries.{Tells};
 ghost use Rattle.event_trace.specs.Following.{GoesOn};
+ghost use Rattle.event_trace.specs.Ring.{ring_in};
 
 impl<'a> Walk<'a> {
     /// A walk that begins at the start of an accepted program, on so many units. An error says that memory
@@ -47,7 +50,11 @@ impl<'a> Walk<'a> {
         ensures opening { IfOk result (λ walk. state walk ≡ opening accepted.now.program) }
     {
         match Machine::new(alloc, accepted, units) {
-            Ok(machine) => Ok(Walk { accepted, machine }),
+            Ok(machine) => Ok(Walk {
+                accepted,
+                units,
+                machine,
+            }),
             Err(MachineFault::OutOfMemory) => Err(AllocError),
             Err(MachineFault::Units) => unreachable!(),
         }
@@ -61,11 +68,25 @@ impl<'a> Walk<'a> {
     {
         let Walk {
             accepted,
+            units,
             mut machine,
         } = self;
         let told = advance(alloc, accepted.program(), &mut machine, event)?;
-        let walk = Walk { accepted, machine };
+        let walk = Walk {
+            accepted,
+            units,
+            machine,
+        };
         Ok((walk, told))
+    }
+
+    /// The units round the ring, as the events so far leave them.
+    pub fn ring(&self) -> Ring
+        ensures { result ≡ ring_in (units_of self.now) (state self.now) }
+    {
+        let retired = self.machine.commits().len();
+        let head = (retired % self.units as usize) as u32;
+        Ring::new(head, self.units)
     }
 
     /// The machine as the events so far leave it.

@@ -10,6 +10,7 @@ use Rattle.machine_events.specs.declared.event.Standing.{Standing}
 use Rattle.machine_events.specs.declared.event.Standing.TheVariants.{Running, Halted, Trapped, Unlisted}
 use Rattle.event_script.specs.ScriptText.{event_text}
 use Rattle.event_trace.specs.Entries.{entries_from, entry_of}
+use Rattle.event_trace.specs.Ring.{RingView}
 use Rattle.event_trace.specs.TraceText.{address_text}
 use Rattle.event_trace.specs.declared.change.Change.{Change}
 use Rattle.event_trace.specs.declared.change.Change.TheVariants as change
@@ -29,7 +30,7 @@ expectation_of_change (change.AtUnit position task c) = brought c
 expectation_of_change (change.Wrote r word) = Some (Register r word)
 expectation_of_change (change.Sent r word) = Some (Sends r word)
 expectation_of_change (change.Loaded at word) = Some (Memory at word)
-expectation_of_change (change.Stored at word) = Some (Memory at word)
+expectation_of_change (change.Stored at word size) = Some (Memory at word)
 expectation_of_change (change.PutOut word) = Some (Output word)
 expectation_of_change (change.StoppedAt at) = Some (Stops at)
 expectation_of_change (change.Ended standing) = Some (Ends standing)
@@ -63,13 +64,13 @@ parts_written first [] = []
 parts_written first (c ∷ more) =
     part_written first (expectation_of_change c) ++ parts_written (still_first first (expectation_of_change c)) more
 
-abbrev pub valued_line : Listing → (number : ℕ) → Event → List Change → List ℕ
-valued_line p number e changes = event_text p e ++ (parts_written true changes ++ 10 ∷ [])
+abbrev pub valued_line : Listing → (number : ℕ) → RingView → Event → List Change → List ℕ
+valued_line p number ring e changes = event_text p e ++ (parts_written true changes ++ 10 ∷ [])
 
 -- an event that is refused changes nothing, and is a comment
-abbrev pub refused_line : Listing → (number : ℕ) → Event → Refused → List ℕ
-refused_line p number e why = codes "# refused: " ++ (event_text p e ++ 10 ∷ [])
+abbrev pub refused_line : Listing → (number : ℕ) → RingView → Event → Refused → List ℕ
+refused_line p number ring e why = codes "# refused: " ++ (event_text p e ++ 10 ∷ [])
 
 -- the script of some events on a machine of so many units at the start of a program
 abbrev pub valued_script : Listing → (units : ℕ) → List Event → List ℕ
-valued_script p units events = entries_from (entry_of (valued_line p) (refused_line p) p) p units 1 0 (opening p) events
+valued_script p units events = entries_from (entry_of (valued_line p) (refused_line p) p units) p units 1 0 (opening p) events

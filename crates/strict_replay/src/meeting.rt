@@ -85,6 +85,7 @@ fn shows_memory(address: u32, word: u32, change: Change) -> bool
         Change::Stored {
             address: at,
             word: there,
+            ..
         } => at == address && there == word,
         _ => false,
     }

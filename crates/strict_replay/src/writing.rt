@@ -7,6 +7,7 @@ ghost use Rattle.strict_replay.specs.ValuedScript.{brought, ending_words, expect
 use crate::expectation::Expectation;
 use event_script::writing::write_event;
 use event_trace::change::Change;
+use event_trace::ring::Ring;
 use event_trace::telling::{Telling, entries};
 use event_trace::unit_change::UnitChange;
 use machine_events::event::{Event, Refused, Standing};
@@ -53,6 +54,7 @@ impl Telling for Valued<'_> {
         &self,
         text: &mut String,
         _number: usize,
+        _ring: &Ring,
         event: Event,
         changes: &[Change],
     ) -> Result<(), AllocError> {
@@ -65,6 +67,7 @@ impl Telling for Valued<'_> {
         &self,
         text: &mut String,
         _number: usize,
+        _ring: &Ring,
         event: Event,
         _refusal: Refused,
     ) -> Result<(), AllocError> {
@@ -93,7 +96,7 @@ fn expectation_of_change(change: Change) -> Option<Expectation>
         Change::AtUnit { change, .. } => brought(change),
         Change::Wrote { register, word } => Some(Expectation::Register { register, word }),
         Change::Sent { register, word } => Some(Expectation::Sends { register, word }),
-        Change::Loaded { address, word } | Change::Stored { address, word } => {
+        Change::Loaded { address, word } | Change::Stored { address, word, .. } => {
             Some(Expectation::Memory { address, word })
         }
         Change::PutOut { word } => Some(Expectation::Output { word }),

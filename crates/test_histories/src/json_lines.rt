@@ -15,11 +15,12 @@ fn a_task_given_up(rt: HostRuntime) {
         Event::Drop(0),
     ];
     let expected =
-        "{\"event\":1,\"kind\":\"assign\",\"task\":\"A\",\"answer\":\"ok\",\"changes\":[{\"change\":\"began\",\"unit\":0,\"task\":\"A\",\"index\":0,\"line\":4}]}
-{\"event\":2,\"kind\":\"assign\",\"task\":\"B\",\"answer\":\"ok\",\"changes\":[{\"change\":\"began\",\"unit\":1,\"task\":\"B\",\"index\":1,\"line\":5}]}
-{\"event\":3,\"kind\":\"exec\",\"unit\":1,\"answer\":\"ok\",\"changes\":[{\"change\":\"executed\",\"unit\":1,\"task\":\"B\",\"index\":1,\"line\":5},{\"change\":\"wrote\",\"register\":9,\"word\":2},{\"change\":\"sent\",\"register\":9,\"word\":2},{\"change\":\"stopped_at\",\"address\":4194312,\"index\":2,\"line\":6}]}
-{\"event\":4,\"kind\":\"drop\",\"unit\":1,\"answer\":\"ok\",\"changes\":[{\"change\":\"dropped\",\"unit\":1,\"task\":\"B\"}]}
-{\"event\":5,\"kind\":\"drop\",\"unit\":0,\"answer\":\"refused\",\"code\":3,\"name\":\"NoSuch\",\"changes\":[]}
+        "{\"format\":\"multiscalar-trace\",\"version\":1,\"units\":4,\"instructions\":3}
+{\"event\":1,\"kind\":\"assign\",\"task\":\"A\",\"answer\":\"ok\",\"changes\":[{\"change\":\"began\",\"unit\":0,\"ring\":0,\"task\":\"A\",\"index\":0,\"line\":4}]}
+{\"event\":2,\"kind\":\"assign\",\"task\":\"B\",\"answer\":\"ok\",\"changes\":[{\"change\":\"began\",\"unit\":1,\"ring\":1,\"task\":\"B\",\"index\":1,\"line\":5}]}
+{\"event\":3,\"kind\":\"exec\",\"unit\":1,\"ring\":1,\"answer\":\"ok\",\"changes\":[{\"change\":\"executed\",\"unit\":1,\"ring\":1,\"task\":\"B\",\"index\":1,\"line\":5},{\"change\":\"wrote\",\"register\":9,\"word\":2},{\"change\":\"sent\",\"register\":9,\"word\":2},{\"change\":\"stopped_at\",\"address\":4194312,\"index\":2,\"line\":6}]}
+{\"event\":4,\"kind\":\"drop\",\"unit\":1,\"ring\":1,\"answer\":\"ok\",\"changes\":[{\"change\":\"dropped\",\"unit\":1,\"ring\":1,\"task\":\"B\"}]}
+{\"event\":5,\"kind\":\"drop\",\"unit\":0,\"ring\":0,\"answer\":\"refused\",\"code\":3,\"name\":\"NoSuch\",\"changes\":[]}
 {\"end\":\"running\",\"registers\":[],\"memory\":[]}
 ";
     expect_lines(&rt, rt.alloc(), PAIR, 4, &events, expected);
@@ -42,10 +43,11 @@ fn an_exit_without_an_instruction(rt: HostRuntime) {
         Event::Fault,
     ];
     let expected =
-        "{\"event\":1,\"kind\":\"assign\",\"task\":\"A\",\"answer\":\"ok\",\"changes\":[{\"change\":\"began\",\"unit\":0,\"task\":\"A\",\"index\":0,\"line\":2}]}
-{\"event\":2,\"kind\":\"exec\",\"unit\":0,\"answer\":\"ok\",\"changes\":[{\"change\":\"executed\",\"unit\":0,\"task\":\"A\",\"index\":0,\"line\":2},{\"change\":\"wrote\",\"register\":8,\"word\":4194304},{\"change\":\"moved_to\",\"index\":1,\"line\":3}]}
-{\"event\":3,\"kind\":\"exec\",\"unit\":0,\"answer\":\"ok\",\"changes\":[{\"change\":\"executed\",\"unit\":0,\"task\":\"A\",\"index\":1,\"line\":3},{\"change\":\"wrote\",\"register\":8,\"word\":4194320},{\"change\":\"moved_to\",\"index\":2,\"line\":4}]}
-{\"event\":4,\"kind\":\"exec\",\"unit\":0,\"answer\":\"ok\",\"changes\":[{\"change\":\"executed\",\"unit\":0,\"task\":\"A\",\"index\":2,\"line\":4},{\"change\":\"stopped_at\",\"address\":4194320}]}
+        "{\"format\":\"multiscalar-trace\",\"version\":1,\"units\":1,\"instructions\":3}
+{\"event\":1,\"kind\":\"assign\",\"task\":\"A\",\"answer\":\"ok\",\"changes\":[{\"change\":\"began\",\"unit\":0,\"ring\":0,\"task\":\"A\",\"index\":0,\"line\":2}]}
+{\"event\":2,\"kind\":\"exec\",\"unit\":0,\"ring\":0,\"answer\":\"ok\",\"changes\":[{\"change\":\"executed\",\"unit\":0,\"ring\":0,\"task\":\"A\",\"index\":0,\"line\":2},{\"change\":\"wrote\",\"register\":8,\"word\":4194304},{\"change\":\"moved_to\",\"index\":1,\"line\":3}]}
+{\"event\":3,\"kind\":\"exec\",\"unit\":0,\"ring\":0,\"answer\":\"ok\",\"changes\":[{\"change\":\"executed\",\"unit\":0,\"ring\":0,\"task\":\"A\",\"index\":1,\"line\":3},{\"change\":\"wrote\",\"register\":8,\"word\":4194320},{\"change\":\"moved_to\",\"index\":2,\"line\":4}]}
+{\"event\":4,\"kind\":\"exec\",\"unit\":0,\"ring\":0,\"answer\":\"ok\",\"changes\":[{\"change\":\"executed\",\"unit\":0,\"ring\":0,\"task\":\"A\",\"index\":2,\"line\":4},{\"change\":\"stopped_at\",\"address\":4194320}]}
 {\"event\":5,\"kind\":\"fault\",\"answer\":\"ok\",\"changes\":[{\"change\":\"ended\",\"standing\":\"unlisted\",\"address\":4194320}]}
 {\"end\":\"unlisted\",\"address\":4194320,\"registers\":[{\"register\":8,\"word\":4194320}],\"memory\":[]}
 ";
@@ -70,10 +72,11 @@ fn a_store_and_a_trap(rt: HostRuntime) {
         Event::Retire,
     ];
     let expected =
-        "{\"event\":1,\"kind\":\"assign\",\"task\":\"A\",\"answer\":\"ok\",\"changes\":[{\"change\":\"began\",\"unit\":0,\"task\":\"A\",\"index\":0,\"line\":2}]}
-{\"event\":2,\"kind\":\"exec\",\"unit\":0,\"answer\":\"ok\",\"changes\":[{\"change\":\"executed\",\"unit\":0,\"task\":\"A\",\"index\":0,\"line\":2},{\"change\":\"wrote\",\"register\":8,\"word\":268500992},{\"change\":\"moved_to\",\"index\":1,\"line\":3}]}
-{\"event\":3,\"kind\":\"exec\",\"unit\":0,\"answer\":\"ok\",\"changes\":[{\"change\":\"executed\",\"unit\":0,\"task\":\"A\",\"index\":1,\"line\":3},{\"change\":\"stored\",\"address\":268500996,\"word\":268500992},{\"change\":\"moved_to\",\"index\":2,\"line\":4}]}
-{\"event\":4,\"kind\":\"exec\",\"unit\":0,\"answer\":\"ok\",\"changes\":[{\"change\":\"executed\",\"unit\":0,\"task\":\"A\",\"index\":2,\"line\":4},{\"change\":\"ended\",\"standing\":\"trapped\",\"code\":1,\"name\":\"Unaligned\"}]}
+        "{\"format\":\"multiscalar-trace\",\"version\":1,\"units\":1,\"instructions\":4}
+{\"event\":1,\"kind\":\"assign\",\"task\":\"A\",\"answer\":\"ok\",\"changes\":[{\"change\":\"began\",\"unit\":0,\"ring\":0,\"task\":\"A\",\"index\":0,\"line\":2}]}
+{\"event\":2,\"kind\":\"exec\",\"unit\":0,\"ring\":0,\"answer\":\"ok\",\"changes\":[{\"change\":\"executed\",\"unit\":0,\"ring\":0,\"task\":\"A\",\"index\":0,\"line\":2},{\"change\":\"wrote\",\"register\":8,\"word\":268500992},{\"change\":\"moved_to\",\"index\":1,\"line\":3}]}
+{\"event\":3,\"kind\":\"exec\",\"unit\":0,\"ring\":0,\"answer\":\"ok\",\"changes\":[{\"change\":\"executed\",\"unit\":0,\"ring\":0,\"task\":\"A\",\"index\":1,\"line\":3},{\"change\":\"stored\",\"address\":268500996,\"word\":268500992,\"bytes\":4},{\"change\":\"moved_to\",\"index\":2,\"line\":4}]}
+{\"event\":4,\"kind\":\"exec\",\"unit\":0,\"ring\":0,\"answer\":\"ok\",\"changes\":[{\"change\":\"executed\",\"unit\":0,\"ring\":0,\"task\":\"A\",\"index\":2,\"line\":4},{\"change\":\"ended\",\"standing\":\"trapped\",\"code\":1,\"name\":\"Unaligned\"}]}
 {\"event\":5,\"kind\":\"retire\",\"answer\":\"refused\",\"code\":1,\"name\":\"Ended\",\"changes\":[]}
 {\"end\":\"trapped\",\"code\":1,\"name\":\"Unaligned\",\"registers\":[{\"register\":8,\"word\":268500992}],\"memory\":[{\"address\":268500996,\"word\":268500992}]}
 ";

@@ -4,6 +4,7 @@ ghost use Rattle.std.specs.Prelude.{◌<◌, ◌≤◌};
 
 use annotated_asm::assembler::assemble;
 use annotator::certify::certify;
+use event_json::last_line::LastLine;
 use event_json::lines::lines;
 use event_trace::trace::trace;
 use machine_events::event::Event;
@@ -51,7 +52,8 @@ pub(crate) fn expect_lines(
     requires few { units ≤ 16 }
 {
     let accepted = certified(rt, alloc, program);
-    let text = lines(alloc, &accepted, units, program.as_bytes(), events);
+    let last = LastLine::AsItStands;
+    let text = lines(alloc, &accepted, units, program.as_bytes(), events, last);
     let text = text.ok().expect(rt, "room for lines");
     assert!(rt; text.as_str() == expected);
 }

@@ -19,6 +19,7 @@ use Rattle.run_timeline.specs.declared.clock.Clock.TheVariants as clock
 use Rattle.event_trace.specs.Entries.{places_of}
 use Rattle.event_trace.specs.Trace.{trace_text}
 use Rattle.event_json.specs.Json.{json_text}
+use Rattle.event_json.specs.declared.last_line.LastLine.TheVariants.{AsItStands}
 use Rattle.strict_replay.specs.StandText.{stand_text}
 use Rattle.jobs.specs.declared.job.ReplayEmit.{ReplayEmit}
 use Rattle.jobs.specs.declared.job.ReplayEmit.TheVariants as emit
@@ -60,7 +61,7 @@ played_text emit.Answers units text p events played = answers_text played.answer
 played_text emit.Summary units text p events played = summary_text p (lives_of units (allowed events played.answers))
 played_text emit.Picture units text p events played = picture_text p units (allowed events played.answers)
 played_text emit.Trace units text p events played = trace_text p (places_of text) units events
-played_text emit.Json units text p events played = json_text p (places_of text) units events
+played_text emit.Json units text p events played = json_text p (places_of text) units events AsItStands
 played_text emit.Timeline units text p events played = timeline_text p units clock.Events (allowed events played.answers)
 played_text emit.State units text p events played = machine_text played.state ++ stand_text p (places_of text) played.state
 

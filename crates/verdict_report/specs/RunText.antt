@@ -22,6 +22,8 @@ use Rattle.event_trace.specs.Trace.{trace_text}
 use Rattle.wait_table.specs.TableText.{waits_text}
 use Rattle.run_waveform.specs.Waveform.{waveform_text}
 use Rattle.event_json.specs.Json.{json_text}
+use Rattle.event_json.specs.declared.last_line.LastLine.{LastLine}
+use Rattle.event_json.specs.declared.last_line.LastLine.TheVariants as last_line
 use Rattle.threaded_runner.specs.declared.report.How.{How}
 use Rattle.threaded_runner.specs.declared.report.How.TheVariants.{Ended, OutOfBudget}
 use Rattle.synchronous_runner.specs.Steps.{beginning, after_steps, Takes}
@@ -90,6 +92,11 @@ abbrev pub clock_of : Option ℕ → Clock
 clock_of None = clock.Events
 clock_of (Some count) = clock.Steps
 
+-- what the last line in JSON says: how a run that has ended stands, or that it was out of budget
+abbrev pub last_line_of : How → LastLine
+last_line_of Ended = last_line.AsItStands
+last_line_of OutOfBudget = last_line.OutOfBudget
+
 -- what is written of a run: its end; its history as a script, which is read as that history; or what the
 -- tasks that it assigned came to, and its steps; or a picture of its history, by events or by steps; or the trace of its history, by
 -- the lines of the program text, or the same in JSON; or the table of its waits, its waveform or its timeline
@@ -101,7 +108,7 @@ IsWrittenOf emit.Summary units text p run bytes = bytes ≡ summary_text p (live
 IsWrittenOf emit.Picture units text p run bytes = bytes ≡ picture_text p units run.history
 IsWrittenOf emit.StepPicture units text p run bytes = bytes ≡ step_picture_text p units run.state.outcome run.history
 IsWrittenOf emit.Trace units text p run bytes = bytes ≡ trace_text p (places_of text) units run.history
-IsWrittenOf emit.Json units text p run bytes = bytes ≡ json_text p (places_of text) units run.history
+IsWrittenOf emit.Json units text p run bytes = bytes ≡ json_text p (places_of text) units run.history (last_line_of run.how)
 IsWrittenOf emit.Waits units text p run bytes = bytes ≡ waits_text p (places_of text) units run.history
 IsWrittenOf emit.Waveform units text p run bytes = bytes ≡ waveform_text p units run.history
 IsWrittenOf emit.Timeline units text p run bytes = bytes ≡ timeline_text p units (clock_of run.steps) run.history

@@ -11,6 +11,7 @@ pub mod event_text;
 pub mod fault;
 pub mod machine_text;
 pub mod ran;
+mod replay_form;
 pub mod replaying;
 pub mod running;
 pub mod scheduled;

@@ -11,6 +11,7 @@ ghost use Rattle.event_trace.specs.Trace.{trace_text};
 ghost use Rattle.event_json.specs.Json.{json_text};
 ghost use Rattle.verdict_report.specs.MachineText.{machine_text, retired_text, standing_status, standing_text};
 
+use event_json::last_line::LastLine;
 use event_json::lines::lines;
 use event_trace::trace::trace;
 use jobs::ranges::Units;
@@ -122,18 +123,19 @@ pub fn trace_of(
     Ok(text.into_bytes())
 }
 
-/// The trace of some events in JSON: an object on each line.
+/// The trace of some events in JSON: an object on each line, of which the last says this of the end.
 pub fn lines_of(
     alloc: Global,
     units: Units,
     accepted: &Accepted,
     program_text: &[u8],
     events: &[Event],
+    last: LastLine,
 ) -> Result<Vec<u8>, AllocError>
     ensures { IfOk result (λ bytes. bytes.items
-        ≡ json_text accepted.now.program (places_of program_text.now) units events.now) }
+        ≡ json_text accepted.now.program (places_of program_text.now) units events.now last) }
 {
-    let text = lines(alloc, accepted, units.get(), program_text, events)?;
+    let text = lines(alloc, accepted, units.get(), program_text, events, last)?;
     Ok(text.into_bytes())
 }
 

@@ -2,21 +2,25 @@
 ghost use Rattle.std.specs.Prelude.{◌≡◌, ◌++◌, List, [], ◌∷◌, Result, IfOk, take};
 ghost use Rattle.machine_model.specs.Answer.{play, play_event};
 ghost use Rattle.machine_model.specs.Machine.{opening};
+ghost use Rattle.machine_events.specs.declared.event.Event.{Event};
 ghost use Rattle.machine_events.specs.declared.event.Refused.{Refused};
+ghost use Rattle.jobs.specs.declared.job.ReplayEmit.TheVariants as emit;
 ghost use Rattle.sequencer.specs.Machines.{SameRing, state, units_of};
 ghost use Rattle.event_trace.specs.Entries.{places_of};
 ghost use Rattle.report_texts.specs.CertificateTexts.{OfCertificate};
 ghost use Rattle.strict_replay.specs.StandText.{stand_text};
 ghost use Rattle.verdict_report.specs.MachineText.{machine_text};
-ghost use Rattle.verdict_report.specs.Playing.{played_so_far};
+ghost use Rattle.verdict_report.specs.Playing.{machine_emit, played_so_far};
 ghost use Rattle.verdict_report.specs.ReplayText.{allowed, answers_text, events_report, first_events, played_text, replay_text, script_report};
 
 use crate::event_text::{refused_script, write_answers};
-use crate::machine_text::{
-    lines_of, picture_of, standing_status_of, summary_of, timeline_of, trace_of, write_machine,
-};
+use crate::machine_text::{picture_of, standing_status_of, summary_of, timeline_of, write_machine};
+use crate::replay_form::{MachineForm, ReplayForm, form_of};
+use event_json::last_line::LastLine;
+use event_json::lines::lines_and_standing;
 use event_script::fault::ScriptFault;
 use event_script::reading::read;
+use event_trace::trace::trace_and_standing;
 use jobs::job::{CertificateSource, ReplayEmit, Texts};
 use jobs::ranges::{Budget, Units};
 use machine_events::event::{Event, Refused};
@@ -90,35 +94,6 @@ fn first_of(events: &[Event], most: usize) -> &[Event]
     &events[..most.min(events.len())]
 }
 
-// What is written of a machine behind the events of a script, to which it answered so.
-fn bytes_of(
-    alloc: Global,
-    units: Units,
-    emit: ReplayEmit,
-    text: &[u8],
-    accepted: &Accepted,
-    machine: &Machine<'_>,
-    answers: &[Result<(), Refused>],
-    events: &[Event],
-) -> Result<Vec<u8>, AllocError>
-    requires over { machine.now.accepted.program ≡ accepted.now.program }
-    requires units { units_of machine.now ≡ units }
-    requires history { machine.now.history ≡ allowed events.now answers.now }
-    ensures { IfOk result (λ bytes. bytes.items ≡ played_text emit units text.now accepted.now.program events.now (played_so_far machine.now answers.now)) }
-{
-    match emit {
-        ReplayEmit::Answers => answers_of(alloc, answers, machine),
-        ReplayEmit::Summary => summary_of(alloc, units, machine, accepted.program()),
-        ReplayEmit::Picture => picture_of(alloc, units, machine, accepted.program()),
-        ReplayEmit::Trace => trace_of(alloc, units, accepted, text, events),
-        ReplayEmit::Json => lines_of(alloc, units, accepted, text, events),
-        ReplayEmit::Timeline => {
-            timeline_of(alloc, units, Clock::Events, machine, accepted.program())
-        }
-        ReplayEmit::State => state_of(alloc, text, accepted, machine),
-    }
-}
-
 // What `replay` writes of an accepted program with its text, and events.
 fn replay_events(
     alloc: Global,
@@ -130,12 +105,82 @@ fn replay_events(
 ) -> Result<Report, AllocError>
     ensures { IfOk result (λ report. report ≡ events_report emit units text.now accepted.now.program events.now) }
 {
+    match form_of(emit) {
+        ReplayForm::Trace => trace_report(alloc, units, text, accepted, events),
+        ReplayForm::Lines => lines_report(alloc, units, text, accepted, events),
+        ReplayForm::OfMachine(form) => machine_report(alloc, units, form, text, accepted, events),
+    }
+}
+
+// The trace of the events.
+fn trace_report(
+    alloc: Global,
+    units: Units,
+    text: &[u8],
+    accepted: &Accepted,
+    events: &[Event],
+) -> Result<Report, AllocError>
+    ensures { IfOk result (λ report. report ≡ events_report emit.Trace units text.now accepted.now.program events.now) }
+{
+    let (trace, standing) = trace_and_standing(alloc, accepted, units.get(), text, events)?;
+    Ok(Report::new(trace.into_bytes(), standing_status_of(standing)))
+}
+
+// The trace of the events in JSON: an object on each line.
+fn lines_report(
+    alloc: Global,
+    units: Units,
+    text: &[u8],
+    accepted: &Accepted,
+    events: &[Event],
+) -> Result<Report, AllocError>
+    ensures { IfOk result (λ report. report ≡ events_report emit.Json units text.now accepted.now.program events.now) }
+{
+    let last = LastLine::AsItStands;
+    let (lines, standing) = lines_and_standing(alloc, accepted, units.get(), text, events, last)?;
+    Ok(Report::new(lines.into_bytes(), standing_status_of(standing)))
+}
+
+// What is written of the machine that the events leave.
+fn machine_report(
+    alloc: Global,
+    units: Units,
+    form: MachineForm,
+    text: &[u8],
+    accepted: &Accepted,
+    events: &[Event],
+) -> Result<Report, AllocError>
+    ensures { IfOk result (λ report. report ≡ events_report (machine_emit form) units text.now accepted.now.program events.now) }
+{
     let mut machine = machine_of(alloc, units, accepted)?;
     let answers = play_events(alloc, &mut machine, events)?;
-    let bytes = bytes_of(
-        alloc, units, emit, text, accepted, &machine, &answers, events,
-    )?;
+    let bytes = bytes_of(alloc, units, form, text, accepted, &machine, &answers)?;
     Ok(Report::new(bytes, standing_status_of(machine.outcome())))
+}
+
+// What is written of a machine after the events of a script, to which it answered so.
+fn bytes_of(
+    alloc: Global,
+    units: Units,
+    form: MachineForm,
+    text: &[u8],
+    accepted: &Accepted,
+    machine: &Machine<'_>,
+    answers: &[Result<(), Refused>],
+) -> Result<Vec<u8>, AllocError>
+    requires over { machine.now.accepted.program ≡ accepted.now.program }
+    requires units { units_of machine.now ≡ units }
+    ensures { IfOk result (λ bytes. (events : List Event) → machine.now.history ≡ allowed events answers.now
+        → bytes.items ≡ played_text (machine_emit form) units text.now accepted.now.program events (played_so_far machine.now answers.now)) }
+{
+    let program = accepted.program();
+    match form {
+        MachineForm::Answers => answers_of(alloc, answers, machine),
+        MachineForm::Summary => summary_of(alloc, units, machine, program),
+        MachineForm::Picture => picture_of(alloc, units, machine, program),
+        MachineForm::Timeline => timeline_of(alloc, units, Clock::Events, machine, program),
+        MachineForm::State => state_of(alloc, text, accepted, machine),
+    }
 }
 
 // A machine of so many units at the start of an accepted program.

@@ -2,7 +2,7 @@
 ghost use Rattle.std.specs.Prelude.{◌≡◌, ◌≢◌, ◌≤◌, ◌++◌, Err, Ok, IfOk};
 ghost use Rattle.std.specs.String.{string_bytes};
 ghost use Rattle.sequencer.specs.Machines.{state, units_of};
-ghost use Rattle.verdict_report.specs.RunText.{IsRunReport, IsRunText, IsWrittenOf, clock_of, ending_status, ending_text, steps_text};
+ghost use Rattle.verdict_report.specs.RunText.{IsRunReport, IsRunText, IsWrittenOf, clock_of, ending_status, ending_text, last_line_of, steps_text};
 ghost use Rattle.report_texts.specs.CertificateTexts.{OfCertificate};
 ghost use Rattle.verdict_report.specs.Runs.{run_of};
 ghost use Rattle.task_lives.specs.Lives.{lives_of};
@@ -21,6 +21,7 @@ use crate::machine_text::{
 };
 use crate::ran::{Extent, Ran};
 use crate::scheduled::run_scheduled;
+use event_json::last_line::LastLine;
 use event_script::writing::write;
 use jobs::job::{CertificateSource, Prediction, RunEmit, Texts};
 use jobs::ranges::Units;
@@ -116,7 +117,7 @@ pub(crate) fn report_of_run(
         }
         RunEmit::Json => {
             let events = single_events(alloc, ran.machine.history())?;
-            lines_of(alloc, units, accepted, text, &events)?
+            lines_of(alloc, units, accepted, text, &events, last_line_of(ran))?
         }
         RunEmit::Waits => waits_of(alloc, units, ran, accepted, text)?,
         RunEmit::Waveform => waveform_of(alloc, units, ran, accepted)?,
@@ -257,6 +258,16 @@ fn clock_of(ran: &Ran<'_>) -> Clock
     match ran.steps {
         None => Clock::Events,
         Some(_) => Clock::Steps,
+    }
+}
+
+// What the last line of the run in JSON says.
+fn last_line_of(ran: &Ran<'_>) -> LastLine
+    ensures { result ≡ last_line_of ran.now.how }
+{
+    match ran.how {
+        How::Ended => LastLine::AsItStands,
+        How::OutOfBudget => LastLine::OutOfBudget,
     }
 }
 

@@ -10,7 +10,7 @@ use Rattle.event_json.proofs.change.write_changes.Goals as goal
 
 pub returns : goal.returns
 returns c =
-    let json : Change → Json = change_json c.args.program.now c.args.places.now in
+    let json : Change → Json = change_json c.args.program.now c.args.places.now c.args.ring.now in
     list_written c.args.out.now c.begin_list.new.self c.write_each_change.new.out c.end_list.new.self
     (codes "changes") (map json c.args.changes.now)
     c.in_ok-begin_list.ensures

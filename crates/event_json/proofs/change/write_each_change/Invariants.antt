@@ -6,4 +6,4 @@ use Rattle.event_json.specs.ChangeJson.{change_json}
 use Rattle.event_json.proofs.change.write_each_change.Given as goal
 
 abbrev pub invariant-loop-change : goal.invariant-loop-change
-invariant-loop-change l = l.out ≡ l.initial.out ++ flat_map (λ c. json_tokens (change_json l.program l.places c)) (take l.change-index l.changes)
+invariant-loop-change l = l.out ≡ l.initial.out ++ flat_map (λ c. json_tokens (change_json l.program l.places l.ring c)) (take l.change-index l.changes)

@@ -9,10 +9,10 @@ use Rattle.event_json.proofs.event.write_refused.Goals as goal
 pub returns : goal.returns
 returns c =
     let p = c.args.program.now in
-    let numbered = numbered_fields p c.args.number c.args.event.now in
+    let numbered = numbered_fields p c.args.number c.args.ring.now c.args.event.now in
     let answer = answer_field (codes "refused") in
     let reason = refusal_fields c.args.refusal in
-    let changes = changes_field p c.args.places.now [] in
+    let changes = changes_field p c.args.places.now c.args.ring.now [] in
     let one = c.begin_object.new.self in
     let two = c.write_numbered.new.out in
     let three = c.text.new.self in

@@ -1,5 +1,5 @@
 -- An event more is told.
-use Rattle.std.proofs.Common.{◌+◌, ◌++◌, length, ◌∙◌, ap, arith}
+use Rattle.std.proofs.Common.{ℕ, ◌+◌, ◌++◌, length, ◌∙◌, ap, arith}
 use Rattle.std.specs.String.{string_bytes}
 use Rattle.mark_checker.specs.Places.{Checked}
 use Rattle.sequencer.specs.Machines.{answer_to, state, units_of}
@@ -29,9 +29,11 @@ loop-index-preserved g c =
           (ap (λ (a : Checked). a.program) kept.accepted) kept.units on (omega (arith, c.loop-index-test.true)) c.index-events-index.is
           l.invariant.left;
       told =
-          entries_on (entry p) p (units_of m) l.index l.walk c.in_ok-walk.walk events event
-          (string_bytes l.text) (string_bytes c.write_entry.new.text) (old ++ entries_from (entry p) p (units_of m) 1 (length m.history) (state m) events)
+          entries_on (entry p (units_of m)) p (units_of m) l.index l.walk c.in_ok-walk.walk events event
+          (string_bytes l.text) (string_bytes c.write_entry.new.text) (old ++ entries_from (entry p (units_of m)) p (units_of m) 1 (length m.history) (state m) events)
           (ap (λ (a : Checked). a.program) kept.accepted) kept.units on (omega (arith, c.loop-index-test.true)) c.index-events-index.is
-          (c.in_ok-walk.ensures.told ∙ ap (λ (a : Checked). string_bytes l.text ++ entry a.program (l.index + 1) (state l.walk) event (answer_to l.walk event)) kept.accepted)
+          (c.in_ok-walk.ensures.told
+          ∙ ap (λ (a : Checked). string_bytes l.text ++ entry a.program (units_of l.walk) (l.index + 1) (state l.walk) event (answer_to l.walk event)) kept.accepted
+          ∙ ap (λ (k : ℕ). string_bytes l.text ++ entry p k (l.index + 1) (state l.walk) event (answer_to l.walk event)) kept.units)
           l.invariant.told;
     }

@@ -10,7 +10,7 @@ abbrev pub invariant-loop-index : goal.invariant-loop-index
 invariant-loop-index g l =
     let m = l.initial.walk in
     let p = m.accepted.program in
-    let tell = entry_of (g.T.Telling.taken l.telling) (g.T.Telling.refused l.telling) p in
+    let tell = entry_of (g.T.Telling.taken l.telling) (g.T.Telling.refused l.telling) p (units_of m) in
     record {
       kept : SameRing m l.walk;
       left : state_from p (units_of m) (length l.walk.history) (state l.walk) (drop l.index l.events)

@@ -10,11 +10,11 @@ use Rattle.event_trace.specs.Entries.{entries_from, entry_of}
 use Rattle.event_trace.specs.Ending.{end_text}
 use Rattle.event_trace.specs.Trace.{trace_text}
 use Rattle.event_trace.specs.TraceText.{taken_text, refused_text}
-use Rattle.event_trace.proofs.trace.trace.Goals as goal
+use Rattle.event_trace.proofs.trace.trace_and_standing.Goals as goal
 
-pub returns : goal.returns
+pub returns-clause-text : goal.returns-clause-text
 unfolding trace_text
-returns c =
+returns-clause-text c =
     let p = c.args.accepted.now.program in
     let units = c.args.units in
     let events = c.args.events.now in
@@ -22,7 +22,7 @@ returns c =
     let text = c.in_ok-text.text in
     let machine = c.in_ok-text.machine in
     let told : Listing → List Position → List ℕ =
-    λ q places. entries_from (entry_of (taken_text q places) (refused_text q) p) p units 1 0 (opening p) events in
+    λ q places. entries_from (entry_of (λ number ring. taken_text q places number) (λ number ring. refused_text q number) p units) p units 1 0 (opening p) events in
     c.in_ok-write_end.ensures
     ∙ ap (λ (q : Listing). string_bytes text ++ end_text q (state machine)) c.program-program.ensures.value
     ∙ ap (λ (t : State). string_bytes text ++ end_text p t) c.in_ok-text.ensures.machine
@@ -30,3 +30,6 @@ returns c =
     (c.in_ok-text.ensures.told
     ∙ ap (λ (q : Listing). told q c.deref.result.now) c.program-program.ensures.value
     ∙ ap (λ (places : List Position). told p places) (c.deref.ensures.value ∙ c.in_ok-places.ensures))
+
+pub returns-clause-standing : goal.returns-clause-standing
+returns-clause-standing c = c.outcome.ensures.value ∙ ap (λ (s : State). s.outcome) c.in_ok-text.ensures.machine

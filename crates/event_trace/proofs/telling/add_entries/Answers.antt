@@ -1,5 +1,6 @@
--- At the start of a walk nothing is told, and the machine is at the start of the program.
+-- At the start of a walk the machine is at the start of the program.
 use Rattle.std.proofs.Common.{ℕ, List, ◌++◌, length, ◌∙◌, ap}
+use Rattle.std.specs.String.{string_bytes}
 use Rattle.mark_checker.specs.Places.{Checked}
 use Rattle.machine_model.specs.Machine.{State}
 use Rattle.machine_events.specs.declared.event.Event.{Event}
@@ -7,7 +8,7 @@ use Rattle.sequencer.specs.Machines.{MachineView, state, units_of}
 use Rattle.event_trace.specs.Entries.{entries_from, entry_of}
 use Rattle.event_trace.specs.Following.{state_from}
 use Rattle.event_trace.proofs.Steps.{played}
-use Rattle.event_trace.proofs.telling.entries.Goals as goal
+use Rattle.event_trace.proofs.telling.add_entries.Goals as goal
 
 pub returns-clause-told : goal.returns-clause-told
 returns-clause-told g c =
@@ -16,12 +17,12 @@ returns-clause-told g c =
     let events = c.args.events.now in
     let p = c.args.accepted.now.program in
     let entry = entry_of (g.T.Telling.taken c.args.telling.now) (g.T.Telling.refused c.args.telling.now) in
+    let old = string_bytes c.args.text.now in
     c.in_ok-walk.ensures.told
-    ∙ ap (λ (front : List ℕ). front ++ entries_from (entry m.accepted.program) m.accepted.program (units_of m) 1 (length m.history) (state m) events) c.new-text.ensures.bytes
-    ∙ ap (λ (a : Checked). entries_from (entry a.program) a.program (units_of m) 1 (length m.history) (state m) events) start.accepted
-    ∙ ap (λ (k : ℕ). entries_from (entry p) p k 1 (length m.history) (state m) events) start.units
-    ∙ ap (λ (es : List Event). entries_from (entry p) p c.args.units 1 (length es) (state m) events) start.history
-    ∙ ap (λ (s : State). entries_from (entry p) p c.args.units 1 0 s events) start.opening
+    ∙ ap (λ (a : Checked). old ++ entries_from (entry a.program (units_of m)) a.program (units_of m) 1 (length m.history) (state m) events) start.accepted
+    ∙ ap (λ (k : ℕ). old ++ entries_from (entry p k) p k 1 (length m.history) (state m) events) start.units
+    ∙ ap (λ (es : List Event). old ++ entries_from (entry p c.args.units) p c.args.units 1 (length es) (state m) events) start.history
+    ∙ ap (λ (s : State). old ++ entries_from (entry p c.args.units) p c.args.units 1 0 s events) start.opening
 
 pub returns-clause-machine : goal.returns-clause-machine
 returns-clause-machine g c =

@@ -1,0 +1,43 @@
+-- The first line, the lines of the events, and the last one.
+use Rattle.std.proofs.Common.{ℕ, List, ◌++◌, ◌∙◌, ap}
+use Rattle.std.specs.String.{string_bytes}
+use Rattle.task_descriptor.specs.Listing.{Listing}
+use Rattle.machine_model.specs.Answer.{play}
+use Rattle.machine_model.specs.Machine.{State, opening}
+use Rattle.source_map.specs.declared.position.Position.{Position}
+use Rattle.sequencer.specs.Machines.{state}
+use Rattle.event_trace.specs.Entries.{entries_from, entry_of, places_of}
+use Rattle.event_json.specs.Fields.{line_of}
+use Rattle.event_json.specs.StartJson.{start_json}
+use Rattle.event_json.specs.EventJson.{taken_line, refused_line}
+use Rattle.event_json.specs.EndJson.{end_json}
+use Rattle.event_json.specs.Json.{json_text}
+use Rattle.event_json.proofs.Tokens.{three_texts}
+use Rattle.event_json.proofs.lines.lines_and_standing.Goals as goal
+
+pub returns-clause-text : goal.returns-clause-text
+unfolding json_text
+returns-clause-text c =
+    let p = c.args.accepted.now.program in
+    let units = c.args.units in
+    let events = c.args.events.now in
+    let last = c.args.last in
+    let one = string_bytes c.new-text.result in
+    let two = string_bytes c.write_first_line.new.text in
+    let three = string_bytes c.add_entries.new.text in
+    let machine = c.in_ok-machine.machine in
+    let told : Listing → List Position → List ℕ =
+    λ q places. entries_from (entry_of (taken_line q places) (refused_line q places) p units) p units 1 0 (opening p) events in
+    three_texts one two three (string_bytes c.write_last_line.new.text)
+    (line_of (start_json p units)) (told p (places_of c.args.program_text.now)) (line_of (end_json p last (play p units events).state))
+    c.new-text.ensures.bytes
+    (c.in_ok-write_first_line.ensures ∙ ap (λ (q : Listing). one ++ line_of (start_json q units)) c.program-program.ensures.value)
+    (c.in_ok-machine.ensures.told
+    ∙ ap (λ (q : Listing). two ++ told q c.deref.result.now) c.program-program.ensures.value
+    ∙ ap (λ (places : List Position). two ++ told p places) (c.deref.ensures.value ∙ c.in_ok-places.ensures))
+    (c.in_ok-write_last_line.ensures
+    ∙ ap (λ (q : Listing). three ++ line_of (end_json q last (state machine))) c.program-program.ensures.value
+    ∙ ap (λ (t : State). three ++ line_of (end_json p last t)) c.in_ok-machine.ensures.machine)
+
+pub returns-clause-standing : goal.returns-clause-standing
+returns-clause-standing c = c.outcome.ensures.value ∙ ap (λ (s : State). s.outcome) c.in_ok-machine.ensures.machine

@@ -1,0 +1,43 @@
+//! The first line, as an object of JSON: what the lines are, and of what machine and program.
+
+ghost use Rattle.std.specs.Prelude.{◌≡◌, ◌++◌, OnOk};
+ghost use Rattle.json.specs.Tree.{json_tokens};
+ghost use Rattle.event_json.specs.Fields.{fields_tokens};
+ghost use Rattle.event_json.specs.StartJson.{form_fields, size_fields, start_json};
+
+use json_writer::writer::JsonWriter;
+use std::alloc::AllocError;
+use task_descriptor::program::Program;
+
+/// Adds what the lines are, how many units the machine has and how many instructions the program. An error says
+/// that memory was refused.
+pub(crate) fn write_start(
+    out: &mut JsonWriter,
+    program: &Program,
+    units: u32,
+) -> Result<(), AllocError>
+    ensures { OnOk result (out.new ≡ out.old ++ json_tokens (start_json program.now units)) }
+{
+    out.begin_object()?;
+    write_form(out)?;
+    write_sizes(out, program, units)?;
+    out.end_object()?;
+    Ok(())
+}
+
+/// Adds what the lines are, and their version.
+fn write_form(out: &mut JsonWriter) -> Result<(), AllocError>
+    ensures { OnOk result (out.new ≡ out.old ++ fields_tokens form_fields) }
+{
+    out.text("format", "multiscalar-trace")?;
+    out.number("version", 1)
+}
+
+/// Adds how many units there are, and how many instructions.
+fn write_sizes(out: &mut JsonWriter, program: &Program, units: u32) -> Result<(), AllocError>
+    ensures { OnOk result (out.new ≡ out.old ++ fields_tokens (size_fields program.now units)) }
+{
+    let instructions = program.code().len();
+    out.number("units", units as usize)?;
+    out.number("instructions", instructions)
+}

@@ -1,0 +1,41 @@
+//! The units round the ring.
+
+use std::marker::Model;
+
+/// The units round the ring: the number of the head there, and how many units there are.
+#[derive(Debug, Drop)]
+pub struct Ring {
+    head: u32,
+    units: u32,
+}
+
+impl Model for Ring {
+    ghost use Rattle.std.specs.Prelude.{◌<◌};
+    ghost use Rattle.event_trace.specs.Ring.{RingView};
+
+    ghost Value = { RingView };
+
+    ghost view = { λ r. record { head = r.head; units = r.units } };
+
+    ghost invariant = { λ r. 0 < r.units };
+}
+
+ghost use Rattle.std.specs.Prelude.{◌≡◌, ◌<◌};
+ghost use Rattle.event_trace.specs.Ring.{number_at};
+
+impl Ring {
+    /// A ring of so many units, where the head has this number.
+    pub(crate) fn new(head: u32, units: u32) -> Ring
+        requires { 0 < units }
+        ensures { result ≡ record { head = head; units = units } }
+    {
+        Ring { head, units }
+    }
+
+    /// The number round the ring of the unit at a position from the head.
+    pub fn number_at(&self, position: u32) -> usize
+        ensures { result ≡ number_at self.now position }
+    {
+        (self.head as usize + position as usize) % self.units as usize
+    }
+}

@@ -1,0 +1,46 @@
+//! What `replay` writes, by where it comes from.
+ghost use Rattle.std.specs.Prelude.{◌≡◌};
+ghost use Rattle.verdict_report.specs.Playing.{emit_of};
+
+use jobs::job::ReplayEmit;
+
+/// What is written of the machine that the events leave.
+#[derive(Clone, Copy, Debug, PartialEq, Eq)]
+pub(crate) enum MachineForm {
+    /// What it answered to each event, and how it stands.
+    Answers,
+    /// What the tasks came to that it assigned.
+    Summary,
+    /// The events that it allowed, as a picture.
+    Picture,
+    /// The events that it allowed, as a timeline.
+    Timeline,
+    /// How it stands, and its units.
+    State,
+}
+
+/// What is written of the events of a script.
+#[derive(Clone, Copy, Debug, PartialEq, Eq)]
+pub(crate) enum ReplayForm {
+    /// Each event with what it changed, as lines for a reader: told while the events are played.
+    Trace,
+    /// The same as lines of JSON.
+    Lines,
+    /// The machine that the events leave.
+    OfMachine(MachineForm),
+}
+
+/// Where what is to be written comes from.
+pub(crate) fn form_of(emit: ReplayEmit) -> ReplayForm
+    ensures { emit_of result ≡ emit }
+{
+    match emit {
+        ReplayEmit::Trace => ReplayForm::Trace,
+        ReplayEmit::Json => ReplayForm::Lines,
+        ReplayEmit::Answers => ReplayForm::OfMachine(MachineForm::Answers),
+        ReplayEmit::Summary => ReplayForm::OfMachine(MachineForm::Summary),
+        ReplayEmit::Picture => ReplayForm::OfMachine(MachineForm::Picture),
+        ReplayEmit::Timeline => ReplayForm::OfMachine(MachineForm::Timeline),
+        ReplayEmit::State => ReplayForm::OfMachine(MachineForm::State),
+    }
+}
