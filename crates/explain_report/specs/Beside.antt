@@ -22,13 +22,17 @@ abbrev pub is_silent : List Diagnostic → Bool
 is_silent [] = true
 is_silent (d ∷ ds) = false
 
--- the checker has so many findings with a certificate, and so many with the least one
+-- so many faults
+abbrev pub many_text : (found : ℕ) → List ℕ
+many_text found = decimal found ++ codes " faults"
+
 abbrev pub faults_text : (found : ℕ) → List ℕ
-faults_text found = if found == 1 then codes "1 fault" else decimal found ++ codes " faults"
+faults_text found = if found == 1 then codes "1 fault" else many_text found
 
 abbrev pub count_text : (least : ℕ) → List ℕ
 count_text least = if least == 0 then codes "none" else decimal least
 
+-- the checker has so many findings with a certificate, and so many with the least one
 abbrev pub unfit_message : (found least : ℕ) → List ℕ
 unfit_message found least =
     codes "with this certificate check finds " ++ (faults_text found ++ (codes ", with the least one " ++ (count_text least ++ codes ": a mask is too large")))

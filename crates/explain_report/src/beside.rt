@@ -9,7 +9,7 @@ ghost use Rattle.annotator.specs.Least.{IsLeast};
 ghost use Rattle.input_diagnostics.specs.CertificateErrors.{certificate_errors};
 ghost use Rattle.program_tokens.specs.Lines.{lines};
 ghost use Rattle.explain_report.specs.Inputs.{ArePlaces};
-ghost use Rattle.explain_report.specs.Beside.{IsCertificateSaid, IsFileSaid, IsFitSaid, IsFurtherSaid, count_text, faults_text, is_silent, unfit_error, unfit_errors, unfit_message};
+ghost use Rattle.explain_report.specs.Beside.{IsCertificateSaid, IsFileSaid, IsFitSaid, IsFurtherSaid, count_text, faults_text, is_silent, many_text, unfit_error, unfit_errors, unfit_message};
 
 use crate::inputs::{lines_of, spans_in};
 use diagnostics::code::Code;
@@ -196,15 +196,22 @@ fn unfit_error(alloc: Global, found: usize, least: usize) -> Result<Diagnostic, 
     })
 }
 
-// So many faults.
+// So many faults, one or more than one.
 fn faults_text(alloc: Global, found: usize) -> Result<Words, AllocError>
     ensures { IfOk result (λ words. words ≡ faults_text found) }
 {
     if found == 1 {
         Words::of(alloc, "1 fault")
     } else {
-        words!(in alloc; "{found} faults")
+        many_text(alloc, found)
     }
+}
+
+// So many faults.
+fn many_text(alloc: Global, found: usize) -> Result<Words, AllocError>
+    ensures { IfOk result (λ words. words ≡ many_text found) }
+{
+    words!(in alloc; "{found} faults")
 }
 
 // So many, or none.
