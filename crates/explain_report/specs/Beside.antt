@@ -1,6 +1,6 @@
 -- What `explain` says of a certificate that is given beside a program (own choice): what is wrong with it alone; or, where
 -- nothing is, that the checker finds more with it than with the least certificate.
-use Rattle.std.specs.Prelude.{◌≡◌, ℕ, Bool, true, false, nat_lt, if◌then◌else◌, List, [], ◌∷◌, ◌++◌, codes, length, Option, Some, None, Result, Ok, Err}
+use Rattle.std.specs.Prelude.{◌≡◌, ◌==◌, ℕ, Bool, true, false, nat_lt, if◌then◌else◌, List, [], ◌∷◌, ◌++◌, codes, length, Option, Some, None, Result, Ok, Err}
 use Rattle.std.specs.Fmt.{decimal}
 use Rattle.task_descriptor.specs.Listing.{Listing}
 use Rattle.program_tokens.specs.Lines.{lines}
@@ -22,11 +22,20 @@ abbrev pub is_silent : List Diagnostic → Bool
 is_silent [] = true
 is_silent (d ∷ ds) = false
 
+-- so many faults
+abbrev pub many_text : (found : ℕ) → List ℕ
+many_text found = decimal found ++ codes " faults"
+
+abbrev pub faults_text : (found : ℕ) → List ℕ
+faults_text found = if found == 1 then codes "1 fault" else many_text found
+
+abbrev pub count_text : (least : ℕ) → List ℕ
+count_text least = if least == 0 then codes "none" else decimal least
+
 -- the checker has so many findings with a certificate, and so many with the least one
 abbrev pub unfit_message : (found least : ℕ) → List ℕ
 unfit_message found least =
-    codes "this is not a certificate of the program as it stands; findings with it: "
-    ++ (decimal found ++ (codes ", with the least certificate: " ++ decimal least))
+    codes "with this certificate check finds " ++ (faults_text found ++ (codes ", with the least one " ++ (count_text least ++ codes ": a mask is too large")))
 
 abbrev pub unfit_error : (found least : ℕ) → Diagnostic
 unfit_error found least = record {
@@ -36,7 +45,7 @@ unfit_error found least = record {
   span = None;
   message = unfit_message found least;
   notes = [];
-  help = Some (in_words (codes "make it anew: multiscalar annotate --emit keep PROGRAM > CERT"));
+  help = Some (in_words (codes "make a new one: multiscalar annotate --emit keep PROGRAM > CERT"));
 }
 
 -- nothing where there are no more
@@ -58,7 +67,9 @@ pub record IsFileSaid (text : List ℕ) (p : Listing) (certificate : List ℕ) (
   pub code : List Span
   pub places : ArePlaces text code
   pub alone : List Diagnostic
-  pub wrong : alone ≡ certificate_errors p (record { rows = lines text; code = code }) certificate
+  pub least : List (List (ℕ × ℕ))
+  pub is_least : IsLeast p least
+  pub wrong : alone ≡ certificate_errors p (record { rows = lines text; code = code }) least certificate
   pub further : List Diagnostic
   pub fits : IsFurtherSaid (is_silent alone) p certificate further
   pub is : said ≡ alone ++ further

@@ -9,6 +9,8 @@ use Rattle.diagnostics.specs.declared.diagnostic.Diagnostic.{Diagnostic}
 use Rattle.text_diagnostics.specs.Refusals.{refusal}
 use Rattle.mark_diagnostics.specs.Errors.{AreMarkErrors}
 use Rattle.mark_diagnostics.specs.Warnings.{AreMarkWarnings}
+use Rattle.input_diagnostics.specs.declared.mistaken.Mistaken.{Mistaken}
+use Rattle.input_diagnostics.specs.MistakenTexts.{mistaken_kind, mistaken_error}
 use Rattle.input_diagnostics.specs.ScriptErrors.{script_errors}
 use Rattle.explain_report.specs.declared.explanation.Explanation.{Explanation}
 use Rattle.explain_report.specs.Beside.{IsCertificateSaid, is_silent}
@@ -42,10 +44,18 @@ pub record IsProgramExplained (cert_file script_file : Option (List ℕ)) (warni
   pub marked : e.has_wrong_marks ≡ not (is_silent errors)
   pub status : e.status ≡ said_status (errors ++ (beside ++ script_said script_file p script))
 
+-- what is said of a text that spells no program: only what it is, if it begins as a certificate or a script of events does
+abbrev pub refused_by : Option Mistaken → (text : List ℕ) → AsmFault → List Diagnostic
+refused_by None text fault = refusal text fault
+refused_by (Some kind) text fault = mistaken_error kind text ∷ []
+
+abbrev pub refused_said : (text : List ℕ) → AsmFault → List Diagnostic
+refused_said text fault = refused_by (mistaken_kind text) text fault
+
 abbrev pub IsReadExplained : (cert_file script_file : Option (List ℕ)) → (warnings : Bool) → (text certificate script : List ℕ) → Result Listing AsmFault → Explanation → Type 0
 IsReadExplained cert_file script_file warnings text certificate script (Ok p) e =
     IsProgramExplained cert_file script_file warnings text certificate script p e
-IsReadExplained cert_file script_file warnings text certificate script (Err fault) e = e ≡ record { said = in_order (refusal text fault); has_wrong_marks = false; status = 1 }
+IsReadExplained cert_file script_file warnings text certificate script (Err fault) e = e ≡ record { said = in_order (refused_said text fault); has_wrong_marks = false; status = 1 }
 
 -- what is said of a program text, with warnings or without, and of a certificate and of a script, if a file of one is named
 abbrev pub IsExplained : (cert_file script_file : Option (List ℕ)) → (warnings : Bool) → (text certificate script : List ℕ) → Explanation → Type 0

@@ -9,7 +9,7 @@ ghost use Rattle.annotator.specs.Least.{IsLeast};
 ghost use Rattle.input_diagnostics.specs.CertificateErrors.{certificate_errors};
 ghost use Rattle.program_tokens.specs.Lines.{lines};
 ghost use Rattle.explain_report.specs.Inputs.{ArePlaces};
-ghost use Rattle.explain_report.specs.Beside.{IsCertificateSaid, IsFileSaid, IsFitSaid, IsFurtherSaid, is_silent, unfit_error, unfit_errors, unfit_message};
+ghost use Rattle.explain_report.specs.Beside.{IsCertificateSaid, IsFileSaid, IsFitSaid, IsFurtherSaid, count_text, faults_text, is_silent, many_text, unfit_error, unfit_errors, unfit_message};
 
 use crate::inputs::{lines_of, spans_in};
 use diagnostics::code::Code;
@@ -81,7 +81,7 @@ fn file_said(
     ensures { IfOk result (λ list. IsFileSaid text.now program.now certificate.now list.items) }
 {
     let code = spans_in(alloc, text, program)?;
-    let alone = alone_said(alloc, text, &code, program, certificate)?;
+    let alone = alone_said(alloc, text, &code, program, least, certificate)?;
     let silent = is_silent(&alone);
     let further = further_said(alloc, silent, program, least, certificate)?;
     let list = both(alone, further)?;
@@ -94,14 +94,15 @@ fn alone_said(
     text: &[u8],
     code: &[Span],
     program: &Program,
+    least: &Cert,
     certificate: &[u8],
 ) -> Result<Vec<Diagnostic>, AllocError>
     ensures { IfOk result (λ list. list.items
-        ≡ certificate_errors program.now (record { rows = lines text.now; code = code.now }) certificate.now) }
+        ≡ certificate_errors program.now (record { rows = lines text.now; code = code.now }) least.now certificate.now) }
 {
     let rows = lines_of(alloc, text)?;
     let lines = ProgramLines::new(&rows, code);
-    certificate_errors(alloc, certificate, program, &lines)
+    certificate_errors(alloc, certificate, program, &lines, least)
 }
 
 // What is said of a certificate beside the program's marks, where nothing is wrong with it alone.
@@ -182,7 +183,7 @@ fn unfit_error(alloc: Global, found: usize, least: usize) -> Result<Diagnostic, 
     let message = unfit_message(alloc, found, least)?;
     let help = Words::of(
         alloc,
-        "make it anew: multiscalar annotate --emit keep PROGRAM > CERT",
+        "make a new one: multiscalar annotate --emit keep PROGRAM > CERT",
     )?;
     Ok(Diagnostic {
         severity: Severity::Error,
@@ -195,9 +196,40 @@ fn unfit_error(alloc: Global, found: usize, least: usize) -> Result<Diagnostic, 
     })
 }
 
+// So many faults, one or more than one.
+fn faults_text(alloc: Global, found: usize) -> Result<Words, AllocError>
+    ensures { IfOk result (λ words. words ≡ faults_text found) }
+{
+    if found == 1 {
+        Words::of(alloc, "1 fault")
+    } else {
+        many_text(alloc, found)
+    }
+}
+
+// So many faults.
+fn many_text(alloc: Global, found: usize) -> Result<Words, AllocError>
+    ensures { IfOk result (λ words. words ≡ many_text found) }
+{
+    words!(in alloc; "{found} faults")
+}
+
+// So many, or none.
+fn count_text(alloc: Global, least: usize) -> Result<Words, AllocError>
+    ensures { IfOk result (λ words. words ≡ count_text least) }
+{
+    if least == 0 {
+        Words::of(alloc, "none")
+    } else {
+        words!(in alloc; "{least}")
+    }
+}
+
 // How many findings the checker has with a certificate, and with the least one.
 fn unfit_message(alloc: Global, found: usize, least: usize) -> Result<Words, AllocError>
     ensures { IfOk result (λ words. words ≡ unfit_message found least) }
 {
-    words!(in alloc; "this is not a certificate of the program as it stands; findings with it: {found}, with the least certificate: {least}")
+    let faults = faults_text(alloc, found)?;
+    let count = count_text(alloc, least)?;
+    words!(in alloc; "with this certificate check finds {faults}, with the least one {count}: a mask is too large")
 }

@@ -1,12 +1,13 @@
 //! What `explain` says, as diagnostics, of which each form is made.
-ghost use Rattle.std.specs.Prelude.{◌≡◌, ◌&&◌, ◌++◌, Ok, not, false, true, IfOk};
+ghost use Rattle.std.specs.Prelude.{◌≡◌, ◌&&◌, ◌++◌, ◌∷◌, [], Ok, not, false, true, IfOk};
 ghost use Rattle.std.specs.Option.{option_map};
 ghost use Rattle.std.specs.String.{string_bytes};
 ghost use Rattle.annotated_asm.specs.ProgramText.{parse};
 ghost use Rattle.annotator.specs.Least.{IsLeast};
 ghost use Rattle.text_diagnostics.specs.Refusals.{refusal};
+ghost use Rattle.input_diagnostics.specs.MistakenTexts.{mistaken_error};
 ghost use Rattle.explain_report.specs.Beside.{IsCertificateSaid, is_silent};
-ghost use Rattle.explain_report.specs.Explained.{AreWarned, IsExplained, IsProgramExplained, said_status, script_said};
+ghost use Rattle.explain_report.specs.Explained.{AreWarned, IsExplained, IsProgramExplained, refused_said, said_status, script_said};
 ghost use Rattle.explain_report.specs.Order.{in_order};
 
 use crate::beside::{both, certificate_said, is_silent};
@@ -17,6 +18,7 @@ use annotated_asm::fault::AsmFault;
 use annotator::certify::certify;
 use diagnostics::diagnostic::Diagnostic;
 use diagnostics::listed::Listed;
+use input_diagnostics::mistaken::{Mistaken, mistaken_error, mistaken_kind};
 use input_diagnostics::script::script_errors;
 use mark_diagnostics::error::mark_errors;
 use mark_diagnostics::warning::mark_warnings;
@@ -61,11 +63,30 @@ pub fn explained(
     }
 }
 
+// What is wrong with a text that spells no program: only what it is, if it begins as a certificate or a script of events does.
+fn refused_said(alloc: Global, text: &[u8], fault: AsmFault) -> Result<Vec<Diagnostic>, AllocError>
+    ensures { IfOk result (λ list. list.items ≡ refused_said text.now fault) }
+{
+    match mistaken_kind(text) {
+        Some(kind) => mistaken_said(alloc, kind, text),
+        None => refusal(alloc, text, fault),
+    }
+}
+
+// What is said of a certificate or a script of events.
+fn mistaken_said(alloc: Global, kind: Mistaken, text: &[u8]) -> Result<Vec<Diagnostic>, AllocError>
+    ensures { IfOk result (λ list. list.items ≡ mistaken_error kind text.now ∷ []) }
+{
+    let mut list = Vec::new(alloc);
+    list.push(mistaken_error(alloc, kind, text)?)?;
+    Ok(list)
+}
+
 // What is said of a text that spells no program.
 fn refusal_explained(alloc: Global, text: &[u8], fault: AsmFault) -> Result<Explanation, AllocError>
-    ensures { IfOk result (λ explained. explained ≡ record { said = in_order (refusal text.now fault); has_wrong_marks = false; status = 1 }) }
+    ensures { IfOk result (λ explained. explained ≡ record { said = in_order (refused_said text.now fault); has_wrong_marks = false; status = 1 }) }
 {
-    let said = in_order(alloc, refusal(alloc, text, fault)?)?;
+    let said = in_order(alloc, refused_said(alloc, text, fault)?)?;
     Ok(Explanation {
         said: Listed::new(said),
         has_wrong_marks: false,

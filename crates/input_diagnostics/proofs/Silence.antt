@@ -57,15 +57,15 @@ silent_list p text list said law =
 
 -- ---- certificates
 
-told_none : (p : Listing) (cert : List (List (ℕ × ℕ))) (digits : ℕ) (lines : ProgramView) (fs : List Finding) (more : List Diagnostic)
-    → take most_shown (told_from p cert digits lines None fs) ++ more ≡ [] → fs ≡ []
-told_none p cert digits lines [] more e = refl
-told_none p cert digits lines (f ∷ fs) more e = absurd cc
+told_none : (p : Listing) (cert least : List (List (ℕ × ℕ))) (digits : ℕ) (lines : ProgramView) (fs : List Finding) (more : List Diagnostic)
+    → take most_shown (told_from p cert least digits lines None fs) ++ more ≡ [] → fs ≡ []
+told_none p cert least digits lines [] more e = refl
+told_none p cert least digits lines (f ∷ fs) more e = absurd cc
 
-pub silent_misfit : (p : Listing) (cert : List (List (ℕ × ℕ))) (digits : ℕ) (lines : ProgramView) → (misfit_errors p cert digits lines ≡ []) ↔ (own_findings p cert ≡ [])
-silent_misfit p cert digits lines = (
-  λ e. told_none p cert digits lines (own_findings p cert) _ e,
-  λ none. ap (λ (fs : List Finding). take most_shown (told_from p cert digits lines None fs) ++ more_note Certificate (length (told_from p cert digits lines None fs) - most_shown) (codes "error") (codes "errors")) none,
+pub silent_misfit : (p : Listing) (cert least : List (List (ℕ × ℕ))) (digits : ℕ) (lines : ProgramView) → (misfit_errors p cert least digits lines ≡ []) ↔ (own_findings p cert ≡ [])
+silent_misfit p cert least digits lines = (
+  λ e. told_none p cert least digits lines (own_findings p cert) _ e,
+  λ none. ap (λ (fs : List Finding). take most_shown (told_from p cert least digits lines None fs) ++ more_note Certificate (length (told_from p cert least digits lines None fs) - most_shown) (codes "error") (codes "errors")) none,
 )
 
 pub refused_said : (p : Listing) (text : List ℕ) (why : CertFault) → (why ≡ fault.OutOfMemory → ⊥) → refused_error p text why ≡ [] → ⊥
@@ -76,8 +76,8 @@ refused_said p text fault.MissingTask other e = cc
 refused_said p text fault.Shape other e = cc
 refused_said p text fault.OutOfMemory other e = other refl
 
-pub silent_certificate : (p : Listing) (cert : List (List (ℕ × ℕ))) (digits : ℕ) (lines : ProgramView) (list : List Diagnostic)
-    (read : Result (List (List (ℕ × ℕ))) CertFault) → list ≡ misfit_errors p cert digits lines → read ≡ Ok cert → (list ≡ []) ↔ Serves p read
-silent_certificate p cert digits lines list read said is =
+pub silent_certificate : (p : Listing) (cert least : List (List (ℕ × ℕ))) (digits : ℕ) (lines : ProgramView) (list : List Diagnostic)
+    (read : Result (List (List (ℕ × ℕ))) CertFault) → list ≡ misfit_errors p cert least digits lines → read ≡ Ok cert → (list ≡ []) ↔ Serves p read
+silent_certificate p cert least digits lines list read said is =
     subst (λ (r : Result (List (List (ℕ × ℕ))) CertFault). (list ≡ []) ↔ Serves p r) (sym is)
-    (subst (λ (ds : List Diagnostic). (ds ≡ []) ↔ (own_findings p cert ≡ [])) (sym said) (silent_misfit p cert digits lines))
+    (subst (λ (ds : List Diagnostic). (ds ≡ []) ↔ (own_findings p cert ≡ [])) (sym said) (silent_misfit p cert least digits lines))

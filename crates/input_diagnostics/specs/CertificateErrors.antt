@@ -7,13 +7,14 @@ use Rattle.diagnostics.specs.declared.diagnostic.Diagnostic.{Diagnostic}
 use Rattle.input_diagnostics.specs.RefusedCertificates.{digits_in, refused_error}
 use Rattle.input_diagnostics.specs.Misfits.{ProgramView, own_findings, misfit_errors}
 
-abbrev pub errors_by : Listing → ProgramView → (text : List ℕ) → Result (List (List (ℕ × ℕ))) CertFault → List Diagnostic
-errors_by p lines text (Ok cert) = misfit_errors p cert (digits_in text) lines
-errors_by p lines text (Err fault) = refused_error p text fault
+abbrev pub errors_by : Listing → ProgramView → (least : List (List (ℕ × ℕ))) → (text : List ℕ) → Result (List (List (ℕ × ℕ))) CertFault → List Diagnostic
+errors_by p lines least text (Ok cert) = misfit_errors p cert least (digits_in text) lines
+errors_by p lines least text (Err fault) = refused_error p text fault
 
--- what is wrong with the text of a certificate: why it is refused, or where it does not fit the program
-abbrev pub certificate_errors : Listing → ProgramView → (text : List ℕ) → List Diagnostic
-certificate_errors p lines text = errors_by p lines text (cert_parse text (names_of p))
+-- what is wrong with the text of a certificate: why it is refused, or where it does not fit the program, which has this least
+-- certificate
+abbrev pub certificate_errors : Listing → ProgramView → (least : List (List (ℕ × ℕ))) → (text : List ℕ) → List Diagnostic
+certificate_errors p lines least text = errors_by p lines least text (cert_parse text (names_of p))
 
 -- The text is a certificate, and the rules 1 to 4, which judge it alone, find nothing in it.
 abbrev pub Serves : Listing → Result (List (List (ℕ × ℕ))) CertFault → Type 0

@@ -1,5 +1,5 @@
 -- Worked examples, computed by the checker.
-use Rattle.std.specs.Prelude.{◌≡◌, ℕ, List, [], ◌∷◌, map, codes, Option, Some}
+use Rattle.std.specs.Prelude.{◌≡◌, ℕ, List, [], ◌∷◌, map, codes, Option, Some, None}
 use Rattle.std.specs.Fmt.{digits}
 use Rattle.std.specs.Option.{option_map}
 use Rattle.std.specs.Str.{is_utf8, chars}
@@ -17,6 +17,8 @@ use Rattle.diagnostics.specs.declared.diagnostic.Diagnostic.{Diagnostic}
 use Rattle.diagnostics.specs.declared.diagnostic.Span.{Span}
 use Rattle.diagnostics.specs.Excerpt.{is_readable, letter_start}
 use Rattle.diagnostics.specs.Quotations.{as_shown, quoted}
+use Rattle.input_diagnostics.specs.declared.mistaken.Mistaken.TheVariants.{Certificate, Script}
+use Rattle.input_diagnostics.specs.MistakenTexts.{mistaken_kind}
 use Rattle.input_diagnostics.specs.ScriptErrors.{script_errors}
 use Rattle.input_diagnostics.specs.RefusedCertificates.{refused_error}
 use Rattle.input_diagnostics.specs.Misfits.{misfit_error}
@@ -131,9 +133,28 @@ pub index_twice : map told (refused_error program (codes "cert 1\ntask MAIN\n1 0
 index_twice = refl
 
 -- the mask of LOOP at 2 lacks $8 and $10
-pub lacking : told (misfit_error program (((0, 0) ∷ []) ∷ ((1, 0x700) ∷ (2, 0x200) ∷ []) ∷ []) 16 (record { rows = []; code = [] })
+pub lacking : told (misfit_error program (((0, 0) ∷ []) ∷ ((1, 0x700) ∷ (2, 0x200) ∷ []) ∷ []) (((0, 0) ∷ []) ∷ ((1, 0x700) ∷ (2, 0x700) ∷ []) ∷ []) 16 (record { rows = []; code = [] })
     (record { task = 1; index = 2; rule = rule.LacksDestination; reg = Some 8 })
     (record { task = 1; index = 2; rule = rule.LacksDestination; reg = Some 8 } ∷ record { task = 1; index = 2; rule = rule.LacksNext; reg = Some 10 } ∷ []))
     ≡ (at 6 3 16, codes "the mask of task LOOP at index 2 lacks $8,$10", Some (codes "write 0000000000000700"))
 unfolding digits members
 lacking = refl
+
+-- the mask of LOOP at 2 is too large, and so the right one at 1 lacks what it has
+pub idle : told (misfit_error program (((0, 0) ∷ []) ∷ ((1, 0x200) ∷ (2, 0x300) ∷ []) ∷ []) (((0, 0) ∷ []) ∷ ((1, 0x200) ∷ (2, 0x200) ∷ []) ∷ []) 16 (record { rows = []; code = [] })
+    (record { task = 1; index = 1; rule = rule.LacksNext; reg = Some 8 })
+    (record { task = 1; index = 1; rule = rule.LacksNext; reg = Some 8 } ∷ []))
+    ≡ (at 5 3 16, codes "the mask of task LOOP at index 1 lacks $8, which the mask at index 2 has and no path from there writes", Some (codes "write 0000000000000200 at index 2"))
+unfolding digits
+idle = refl
+
+-- ---- texts that are given as programs
+
+pub a_certificate : mistaken_kind (codes "cert 2\ntask MAIN\n") ≡ Some Certificate
+a_certificate = refl
+
+pub a_script : mistaken_kind (codes "assign MAIN\nexec 0\n") ≡ Some Script
+a_script = refl
+
+pub a_program : mistaken_kind (codes "assign:\nhalt\n") ≡ None
+a_program = refl

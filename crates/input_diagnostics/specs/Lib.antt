@@ -1,7 +1,9 @@
 pub mod Saying
 pub mod Meant
 pub mod ScriptErrors
+pub mod MistakenTexts
 pub mod RefusedCertificates
+pub mod Larger
 pub mod Misfits
 pub mod CertificateErrors
 pub mod Examples

@@ -1,12 +1,12 @@
 -- What is said of a certificate that does not fit its program: of the findings of the rules 1 to 4, which judge it alone
 -- (own choice).
-use Rattle.std.specs.Prelude.{ℕ, zero, suc, ◌+◌, ◌-◌, ◌^◌, min, Bool, true, false, ◌&&◌, ◌||◌, ◌==◌, nat_lt, nat_le, if◌then◌else◌, List, [], ◌∷◌, ◌++◌, length, map, take, drop, filter, slice_get, position, bit_or, codes, unwrap_or, Option, Some, None}
+use Rattle.std.specs.Prelude.{ℕ, zero, suc, ◌+◌, ◌-◌, ◌^◌, min, Bool, true, false, ◌&&◌, ◌||◌, ◌==◌, nat_lt, nat_le, if◌then◌else◌, List, [], ◌∷◌, ◌++◌, length, take, drop, filter, slice_get, position, bit_or, codes, unwrap_or, Option, Some, None}
 use Rattle.std.specs.Fmt.{decimal}
 use Rattle.std.specs.List.{take_while}
+use Rattle.std.specs.Option.{option_map}
 use Rattle.task_descriptor.specs.Listing.{Listing}
-use Rattle.canonical_text.specs.CanonicalText.{listed, members, register_text}
 use Rattle.event_script.specs.ScriptText.{name_at}
-use Rattle.mask_certificate.specs.Lists.{list_of, mask_at}
+use Rattle.mask_certificate.specs.Lists.{list_of}
 use Rattle.mask_certificate.specs.CertificateText.{hexadecimal}
 use Rattle.mark_checker.specs.Numbers.{number_of}
 use Rattle.mark_checker.specs.Rules.{all_rules}
@@ -23,6 +23,7 @@ use Rattle.diagnostics.specs.declared.diagnostic.Span.{Span}
 use Rattle.diagnostics.specs.Quotations.{quoted}
 use Rattle.diagnostics.specs.Helps.{by_text}
 use Rattle.diagnostics.specs.More.{more_note}
+use Rattle.input_diagnostics.specs.Larger.{mask_or_none, wanting, registers_text, first_idle, entry_at}
 use Rattle.input_diagnostics.specs.Saying.{error, row_at, span, most_shown}
 use Rattle.input_diagnostics.specs.RefusedCertificates.{anew}
 
@@ -103,7 +104,7 @@ with_missing mask (f ∷ fs) = with_missing (bit_or mask (2 ^ register_in f.reg)
 
 -- the registers of some findings
 abbrev pub missing_text : List Finding → List ℕ
-missing_text group = listed (map register_text (members (with_missing 0 group)))
+missing_text group = registers_text (with_missing 0 group)
 
 -- ---- what is said
 
@@ -113,38 +114,80 @@ code_by rule.NextWithoutMask = NextWithoutMask
 code_by rule.LacksDestination = LacksDestination
 code_by _ = LacksNext
 
-abbrev pub lacking_message : (name : List ℕ) → (index : ℕ) → (group : List Finding) → List ℕ
-lacking_message name index group =
-    codes "the mask of task " ++ (name ++ (codes " at index " ++ (decimal index ++ (codes " lacks " ++ missing_text group))))
+abbrev pub lacks_message : (name : List ℕ) → (index : ℕ) → (registers : List ℕ) → List ℕ
+lacks_message name index registers =
+    codes "the mask of task " ++ (name ++ (codes " at index " ++ (decimal index ++ (codes " lacks " ++ registers))))
 
-abbrev pub message_by : Rule → (name : List ℕ) → (index : ℕ) → (group : List Finding) → List ℕ
-message_by rule.EntryWithoutMask name index group =
-    codes "task " ++ (name ++ (codes " has no mask at its entry, index " ++ decimal index))
-message_by rule.NextWithoutMask name index group =
-    codes "task " ++ (name ++ (codes " goes on from index " ++ (decimal index ++ codes " to an instruction without a mask")))
-message_by _ name index group = lacking_message name index group
+abbrev pub idle_words : (name : List ℕ) → (index register other : ℕ) → List ℕ
+idle_words name index register other =
+    codes "the mask of task " ++ (name ++ (codes " at index " ++ (decimal index ++ (codes " lacks $" ++ (decimal register
+    ++ (codes ", which the mask at index " ++ (decimal other ++ codes " has and no path from there writes")))))))
 
--- the mask that is right in place of one that lacks the registers of a group
-abbrev pub whole_mask : (cert : List (List (ℕ × ℕ))) → Finding → (group : List Finding) → ℕ
-whole_mask cert f group = with_missing (unwrap_or (mask_at (list_of cert f.task) f.index) 0) group
+-- of a mask that lacks only what another mask, at an index, has for no reason
+abbrev pub idle_message : (name : List ℕ) → Finding → (group : List Finding) → (other : Option ℕ) → List ℕ
+idle_message name f group None = lacks_message name f.index (missing_text group)
+idle_message name f group (Some other) = idle_words name f.index (register_in f.reg) other
 
--- to write a mask; of 8 digits it can be one of registers 0 to 31 alone
+-- the index of the entry that has a register for no reason
+abbrev pub idle_index : (cert least : List (List (ℕ × ℕ))) → Finding → Option ℕ
+idle_index cert least f = option_map (λ place. (entry_at (list_of cert f.task) place).0) (first_idle cert least f)
+
+abbrev pub lacking_message : (cert least : List (List (ℕ × ℕ))) → (name : List ℕ) → Finding → (group : List Finding) → List ℕ
+lacking_message cert least name f group =
+    if wanting cert least f == 0 then idle_message name f group (idle_index cert least f)
+    else lacks_message name f.index (registers_text (wanting cert least f))
+
+abbrev pub message_by : Rule → (cert least : List (List (ℕ × ℕ))) → (name : List ℕ) → Finding → (group : List Finding) → List ℕ
+message_by rule.EntryWithoutMask cert least name f group =
+    codes "task " ++ (name ++ (codes " has no mask at its entry, index " ++ decimal f.index))
+message_by rule.NextWithoutMask cert least name f group =
+    codes "task " ++ (name ++ (codes " goes on from index " ++ (decimal f.index ++ codes " to an instruction without a mask")))
+message_by _ cert least name f group = lacking_message cert least name f group
+
+-- whether a mask can be written in so many digits: 8 digits are those of registers 0 to 31
+abbrev pub is_short : (digits mask : ℕ) → Bool
+is_short digits mask = digits == 16 || nat_lt mask (2 ^ 32)
+
+-- to write a mask, or where it has too many digits, a new certificate
 abbrev pub mask_help : (digits mask : ℕ) → Span → Help
 mask_help digits mask at =
-    if digits == 16 || nat_lt mask (2 ^ 32)
+    if is_short digits mask
     then by_text (codes "write " ++ hexadecimal digits mask) at (hexadecimal digits mask)
     else anew
 
-abbrev pub help_by : Rule → (cert : List (List (ℕ × ℕ))) → (digits : ℕ) → Span → Finding → (group : List Finding) → Help
-help_by rule.EntryWithoutMask cert digits at f group = anew
-help_by rule.NextWithoutMask cert digits at f group = anew
-help_by _ cert digits at f group = mask_help digits (whole_mask cert f group) at
+-- the mask of an entry of a task
+abbrev pub entry_span : (cert : List (List (ℕ × ℕ))) → (task place digits : ℕ) → Span
+entry_span cert task place digits =
+    span (further (further (task_line cert task) 1) place) (further (index_width (entry_at (list_of cert task) place).0) 1) digits
 
-abbrev pub misfit_error : Listing → (cert : List (List (ℕ × ℕ))) → (digits : ℕ) → ProgramView → Finding → (group : List Finding) → Diagnostic
-misfit_error p cert digits lines f group =
+-- to write the least mask at the index of the entry that has a register for no reason
+abbrev pub least_help : (index digits mask : ℕ) → Span → Help
+least_help index digits mask at =
+    if is_short digits mask
+    then by_text (codes "write " ++ (hexadecimal digits mask ++ (codes " at index " ++ decimal index))) at (hexadecimal digits mask)
+    else anew
+
+abbrev pub idle_help : (cert least : List (List (ℕ × ℕ))) → (digits task : ℕ) → (place : Option ℕ) → Help
+idle_help cert least digits task None = anew
+idle_help cert least digits task (Some place) =
+    let index = (entry_at (list_of cert task) place).0 in
+    least_help index digits (mask_or_none (list_of least task) index) (entry_span cert task place digits)
+
+abbrev pub lacking_help : (cert least : List (List (ℕ × ℕ))) → (digits : ℕ) → Span → Finding → Help
+lacking_help cert least digits at f =
+    if wanting cert least f == 0 then idle_help cert least digits f.task (first_idle cert least f)
+    else mask_help digits (mask_or_none (list_of least f.task) f.index) at
+
+abbrev pub help_by : Rule → (cert least : List (List (ℕ × ℕ))) → (digits : ℕ) → Span → Finding → Help
+help_by rule.EntryWithoutMask cert least digits at f = anew
+help_by rule.NextWithoutMask cert least digits at f = anew
+help_by _ cert least digits at f = lacking_help cert least digits at f
+
+abbrev pub misfit_error : Listing → (cert least : List (List (ℕ × ℕ))) → (digits : ℕ) → ProgramView → Finding → (group : List Finding) → Diagnostic
+misfit_error p cert least digits lines f group =
     let at = span_by f.rule p cert digits f in
-    error Certificate (code_by f.rule) at (message_by f.rule (task_name p f.task) f.index group)
-    (instruction_note lines f.index) (help_by f.rule cert digits at f group)
+    error Certificate (code_by f.rule) at (message_by f.rule cert least (task_name p f.task) f group)
+    (instruction_note lines f.index) (help_by f.rule cert least digits at f)
 
 -- a finding that is told with the one before it
 abbrev pub goes_on : (before : Option Finding) → Finding → Bool
@@ -152,14 +195,14 @@ goes_on None f = false
 goes_on (Some g) f = is_same_mask g f
 
 -- what is said of some findings
-abbrev pub told_from : Listing → (cert : List (List (ℕ × ℕ))) → (digits : ℕ) → ProgramView → (before : Option Finding) → List Finding → List Diagnostic
-told_from p cert digits lines before [] = []
-told_from p cert digits lines before (f ∷ fs) =
-    (if goes_on before f then [] else misfit_error p cert digits lines f (take_while (is_same_mask f) (f ∷ fs)) ∷ [])
-    ++ told_from p cert digits lines (Some f) fs
+abbrev pub told_from : Listing → (cert least : List (List (ℕ × ℕ))) → (digits : ℕ) → ProgramView → (before : Option Finding) → List Finding → List Diagnostic
+told_from p cert least digits lines before [] = []
+told_from p cert least digits lines before (f ∷ fs) =
+    (if goes_on before f then [] else misfit_error p cert least digits lines f (take_while (is_same_mask f) (f ∷ fs)) ∷ [])
+    ++ told_from p cert least digits lines (Some f) fs
 
--- what is said of a certificate of masks with so many digits
-abbrev pub misfit_errors : Listing → (cert : List (List (ℕ × ℕ))) → (digits : ℕ) → ProgramView → List Diagnostic
-misfit_errors p cert digits lines =
-    let told = told_from p cert digits lines None (own_findings p cert) in
+-- what is said of a certificate of masks with so many digits, beside the program's least one
+abbrev pub misfit_errors : Listing → (cert least : List (List (ℕ × ℕ))) → (digits : ℕ) → ProgramView → List Diagnostic
+misfit_errors p cert least digits lines =
+    let told = told_from p cert least digits lines None (own_findings p cert) in
     take most_shown told ++ more_note Certificate (length told - most_shown) (codes "error") (codes "errors")

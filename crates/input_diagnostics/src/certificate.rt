@@ -8,14 +8,15 @@ use crate::misfit::misfit_errors;
 use crate::program_lines::ProgramLines;
 use crate::refused::{digits_in, refused_error};
 use diagnostics::diagnostic::Diagnostic;
+use mask_certificate::certificate::Cert;
 use mask_certificate::fault::CertFault;
 use mask_certificate::reading::read;
 use std::alloc::{AllocError, Global};
 use task_descriptor::program::Program;
 
-/// What is wrong with the text of a certificate that is given beside a program, of which these are the lines: why the text
-/// is refused; or an error for each mask that lacks registers and for each mask that is missing, at most 1,000, and how
-/// many more there are. There is none exactly where the text is a certificate in which the rules 1 to 4 find nothing:
+/// What is wrong with the text of a certificate that is given beside a program, of which these are the lines and the least
+/// certificate: why the text is refused; or an error for each mask that lacks registers, with the least mask to write, and
+/// for each mask that is missing, at most 1,000, and how many more there are. There is none exactly where the text is a certificate in which the rules 1 to 4 find nothing:
 /// those are the rules that judge it alone. So a mask that has more registers than it needs is no error.
 ///
 /// # Errors
@@ -26,13 +27,14 @@ pub fn certificate_errors(
     text: &[u8],
     program: &Program,
     lines: &ProgramLines<'_>,
+    least: &Cert,
 ) -> Result<Vec<Diagnostic>, AllocError>
-    ensures said { IfOk result (λ list. list.items ≡ certificate_errors program.now lines.now text.now) }
+    ensures said { IfOk result (λ list. list.items ≡ certificate_errors program.now lines.now least.now text.now) }
     ensures silent { IfOk result (λ list. (list.items ≡ []) ↔ Serves program.now (cert_parse text.now (names_of program.now))) }
 {
     match read(alloc, text, program) {
         Ok(cert) => {
-            let list = misfit_errors(alloc, program, &cert, digits_in(text), lines)?;
+            let list = misfit_errors(alloc, program, &cert, least, digits_in(text), lines)?;
             Ok(list)
         }
         Err(CertFault::OutOfMemory) => Err(AllocError),

@@ -2,9 +2,11 @@
 #![tactic(auto)]
 
 pub mod certificate;
+mod larger;
 mod lines;
 mod meant;
 mod misfit;
+pub mod mistaken;
 pub mod program_lines;
 pub mod refused;
 mod saying;

@@ -6,13 +6,14 @@ ghost use Rattle.std.specs.Char.{digit_char};
 ghost use Rattle.std.specs.List.{take_while};
 ghost use Rattle.std.specs.String.{string_bytes};
 ghost use Rattle.mask_certificate.specs.CertificateText.{hexadecimal};
-ghost use Rattle.input_diagnostics.specs.Misfits.{is_own, own_findings, further, task_line, entry_line, index_width, span_by, instruction_in, note_by, instruction_note, lacks, is_same_mask, register_in, with_missing, missing_text, code_by, lacking_message, message_by, whole_mask, mask_help, help_by, misfit_error, goes_on, told_from, misfit_errors};
+ghost use Rattle.input_diagnostics.specs.Larger.{entry_at, registers_text};
+ghost use Rattle.input_diagnostics.specs.Misfits.{is_own, own_findings, further, task_line, entry_line, index_width, span_by, instruction_in, note_by, instruction_note, lacks, is_same_mask, register_in, with_missing, missing_text, code_by, lacks_message, idle_words, idle_message, idle_index, lacking_message, message_by, is_short, mask_help, entry_span, least_help, idle_help, lacking_help, help_by, misfit_error, goes_on, told_from, misfit_errors};
 
+use crate::larger::{entry_at, first_idle, mask_or_none, wanting, write_mask};
 use crate::lines::row_at;
 use crate::program_lines::ProgramLines;
 use crate::refused::anew;
 use crate::saying::{MOST_SHOWN, error, span};
-use canonical_text::print::write_create;
 use diagnostics::code::Code;
 use diagnostics::diagnostic::{Diagnostic, Help, Note, Source, Span};
 use diagnostics::helps::by_text;
@@ -236,10 +237,7 @@ fn with_missing(mask: u64, findings: &[Finding]) -> u64
 fn write_missing(text: &mut String, findings: &[Finding]) -> Result<(), AllocError>
     ensures { OnOk result (string_bytes text.new ≡ string_bytes text.old ++ missing_text findings.now) }
 {
-    match RegSet::from_bits(with_missing(0, findings)) {
-        Some(set) => write_create(text, set),
-        None => unreachable!(),
-    }
+    write_mask(text, with_missing(0, findings))
 }
 
 /// The rule that a finding is an instance of.
@@ -254,32 +252,101 @@ fn code_by(rule: Rule) -> Code
     }
 }
 
-/// What a mask lacks.
-fn lacking_message(
+/// That the mask at an index lacks these registers.
+fn lacks_message(
     alloc: Global,
     name: &str,
     index: u32,
-    findings: &[Finding],
-) -> Result<Words, AllocError>
-    ensures { IfOk result (λ words. words ≡ lacking_message name.now index findings.now) }
+    registers: u64,
+) -> Result<String, AllocError>
+    requires { registers < 2 ^ 34 }
+    ensures { IfOk result (λ text. string_bytes text ≡ lacks_message name.now index (registers_text registers)) }
 {
     let mut text = String::new(alloc);
     write!(&mut text, "the mask of task {name} at index {index} lacks ")?;
-    write_missing(&mut text, findings)?;
+    write_mask(&mut text, registers)?;
+    Ok(text)
+}
+
+/// That the mask at an index lacks a register that the mask at another index has for no reason.
+fn idle_words(
+    alloc: Global,
+    name: &str,
+    index: u32,
+    register: u8,
+    other: u32,
+) -> Result<Words, AllocError>
+    ensures { IfOk result (λ words. words ≡ idle_words name.now index register other) }
+{
+    words!(
+        in alloc;
+        "the mask of task {name} at index {index} lacks ${register}, which the mask at index {other} has and no path from there writes"
+    )
+}
+
+/// That a mask lacks a register that another mask, at an index, has for no reason; or if there is none, what it lacks.
+fn idle_message(
+    alloc: Global,
+    name: &str,
+    finding: &Finding,
+    findings: &[Finding],
+    other: Option<u32>,
+) -> Result<Words, AllocError>
+    ensures { IfOk result (λ words. words ≡ idle_message name.now finding.now findings.now other) }
+{
+    let index = finding.index;
+    match other {
+        Some(other) => idle_words(alloc, name, index, register_in(finding.reg), other),
+        None => {
+            let text = lacks_message(alloc, name, index, with_missing(0, findings))?;
+            Ok(Words::new(text))
+        }
+    }
+}
+
+/// The index of the entry that has a register for no reason.
+fn idle_index(cert: &Cert, least: &Cert, finding: &Finding) -> Option<u32>
+    ensures { result ≡ idle_index cert.now least.now finding.now }
+{
+    match first_idle(cert, least, finding) {
+        Some(place) => Some(entry_at(cert.list(finding.task), place).0),
+        None => None,
+    }
+}
+
+/// What a mask lacks.
+fn lacking_message(
+    alloc: Global,
+    cert: &Cert,
+    least: &Cert,
+    name: &str,
+    finding: &Finding,
+    findings: &[Finding],
+) -> Result<Words, AllocError>
+    ensures { IfOk result (λ words. words ≡ lacking_message cert.now least.now name.now finding.now findings.now) }
+{
+    let registers = wanting(cert, least, finding);
+    if registers == 0 {
+        let idle = idle_index(cert, least, finding);
+        return idle_message(alloc, name, finding, findings, idle);
+    }
+    let text = lacks_message(alloc, name, finding.index, registers)?;
     Ok(Words::new(text))
 }
 
 /// What is wrong.
 fn message_by(
     alloc: Global,
-    rule: Rule,
+    cert: &Cert,
+    least: &Cert,
     name: &str,
-    index: u32,
+    finding: &Finding,
     findings: &[Finding],
 ) -> Result<Words, AllocError>
-    ensures { IfOk result (λ words. words ≡ message_by rule name.now index findings.now) }
+    ensures { IfOk result (λ words. words ≡ message_by finding.now.rule cert.now least.now name.now finding.now findings.now) }
 {
-    match rule {
+    let index = finding.index;
+    match finding.rule {
         Rule::EntryWithoutMask => {
             words!(in alloc; "task {name} has no mask at its entry, index {index}")
         }
@@ -287,17 +354,7 @@ fn message_by(
             in alloc;
             "task {name} goes on from index {index} to an instruction without a mask"
         ),
-        _ => lacking_message(alloc, name, index, findings),
-    }
-}
-
-/// The mask that is right in place of one that lacks the registers of some findings.
-fn whole_mask(cert: &Cert, finding: &Finding, findings: &[Finding]) -> u64
-    ensures { result ≡ whole_mask cert.now finding.now findings.now }
-{
-    match cert.mask(finding.task, finding.index) {
-        Some(mask) => with_missing(mask.bits(), findings),
-        None => with_missing(0, findings),
+        _ => lacking_message(alloc, cert, least, name, finding, findings),
     }
 }
 
@@ -324,33 +381,127 @@ fn write_digits(text: &mut String, digits: usize, number: u64) -> Result<(), All
     Ok(())
 }
 
+/// Whether a mask can be written in so many digits.
+fn is_short(digits: usize, mask: u64) -> bool
+    ensures { result ≡ is_short digits mask }
+{
+    digits == 16 || mask < 1 << 32
+}
+
+/// The digits of a mask.
+fn digits_of(alloc: Global, digits: usize, mask: u64) -> Result<Words, AllocError>
+    ensures { IfOk result (λ words. words ≡ hexadecimal digits mask) }
+{
+    let mut text = String::new(alloc);
+    write_digits(&mut text, digits, mask)?;
+    Ok(Words::new(text))
+}
+
 /// What to do about a mask: the one to write, if it can be written in so many digits.
 fn mask_help(alloc: Global, digits: usize, mask: u64, at: Span) -> Result<Help, AllocError>
     ensures { IfOk result (λ help. help ≡ mask_help digits mask at) }
 {
-    if digits != 16 && mask >= 1 << 32 {
+    if !is_short(digits, mask) {
         return anew(alloc);
     }
-    let mut text = String::new(alloc);
-    write_digits(&mut text, digits, mask)?;
-    let text = Words::new(text);
+    let text = digits_of(alloc, digits, mask)?;
     by_text(alloc, words!(in alloc; "write {text}")?, at, text)
+}
+
+/// The mask of an entry of a task.
+fn entry_span(
+    alloc: Global,
+    cert: &Cert,
+    task: u32,
+    place: usize,
+    digits: usize,
+) -> Result<Span, AllocError>
+    ensures { IfOk result (λ at. at ≡ entry_span cert.now task place digits) }
+{
+    let width = index_width(alloc, entry_at(cert.list(task), place).0)?;
+    let line = task_line(cert, task)
+        .saturating_add(1)
+        .saturating_add(place);
+    Ok(span(line, width.saturating_add(1), digits))
+}
+
+/// What to do about the mask at another index: the one to write there, if it can be written in so many digits.
+fn least_help(
+    alloc: Global,
+    index: u32,
+    digits: usize,
+    mask: u64,
+    at: Span,
+) -> Result<Help, AllocError>
+    ensures { IfOk result (λ help. help ≡ least_help index digits mask at) }
+{
+    if !is_short(digits, mask) {
+        return anew(alloc);
+    }
+    let text = digits_of(alloc, digits, mask)?;
+    by_text(
+        alloc,
+        words!(in alloc; "write {text} at index {index}")?,
+        at,
+        text,
+    )
+}
+
+/// What to do where an entry of the task has a register for no reason.
+fn idle_help(
+    alloc: Global,
+    cert: &Cert,
+    least: &Cert,
+    digits: usize,
+    task: u32,
+    place: Option<usize>,
+) -> Result<Help, AllocError>
+    ensures { IfOk result (λ help. help ≡ idle_help cert.now least.now digits task place) }
+{
+    match place {
+        Some(place) => {
+            let index = entry_at(cert.list(task), place).0;
+            let mask = mask_or_none(least, task, index).bits();
+            let at = entry_span(alloc, cert, task, place, digits)?;
+            least_help(alloc, index, digits, mask, at)
+        }
+        None => anew(alloc),
+    }
+}
+
+/// What to do about a mask that lacks registers.
+fn lacking_help(
+    alloc: Global,
+    cert: &Cert,
+    least: &Cert,
+    digits: usize,
+    at: Span,
+    finding: &Finding,
+) -> Result<Help, AllocError>
+    ensures { IfOk result (λ help. help ≡ lacking_help cert.now least.now digits at finding.now) }
+{
+    if wanting(cert, least, finding) == 0 {
+        let place = first_idle(cert, least, finding);
+        return idle_help(alloc, cert, least, digits, finding.task, place);
+    }
+    let mask = mask_or_none(least, finding.task, finding.index).bits();
+    mask_help(alloc, digits, mask, at)
 }
 
 /// What to do.
 fn help_of(
     alloc: Global,
     cert: &Cert,
+    least: &Cert,
     digits: usize,
     at: Span,
     finding: &Finding,
-    findings: &[Finding],
 ) -> Result<Help, AllocError>
-    ensures { IfOk result (λ help. help ≡ help_by finding.now.rule cert.now digits at finding.now findings.now) }
+    ensures { IfOk result (λ help. help ≡ help_by finding.now.rule cert.now least.now digits at finding.now) }
 {
     match finding.rule {
         Rule::EntryWithoutMask | Rule::NextWithoutMask => anew(alloc),
-        _ => mask_help(alloc, digits, whole_mask(cert, finding, findings), at),
+        _ => lacking_help(alloc, cert, least, digits, at, finding),
     }
 }
 
@@ -359,18 +510,19 @@ fn misfit_error(
     alloc: Global,
     program: &Program,
     cert: &Cert,
+    least: &Cert,
     digits: usize,
     lines: &ProgramLines<'_>,
     finding: &Finding,
     findings: &[Finding],
 ) -> Result<Diagnostic, AllocError>
-    ensures { IfOk result (λ said. said ≡ misfit_error program.now cert.now digits lines.now finding.now findings.now) }
+    ensures { IfOk result (λ said. said ≡ misfit_error program.now cert.now least.now digits lines.now finding.now findings.now) }
 {
     let at = span_of(alloc, program, cert, digits, finding)?;
     let name = task_name(program, finding.task);
-    let message = message_by(alloc, finding.rule, name, finding.index, findings)?;
+    let message = message_by(alloc, cert, least, name, finding, findings)?;
     let notes = instruction_note(alloc, lines, finding.index)?;
-    let help = help_of(alloc, cert, digits, at, finding, findings)?;
+    let help = help_of(alloc, cert, least, digits, at, finding)?;
     let code = code_by(finding.rule);
     Ok(error(Source::Certificate, code, at, message, notes, help))
 }
@@ -391,6 +543,7 @@ fn add_error(
     list: &mut Vec<Diagnostic>,
     program: &Program,
     cert: &Cert,
+    least: &Cert,
     digits: usize,
     lines: &ProgramLines<'_>,
     finding: &Finding,
@@ -400,11 +553,11 @@ fn add_error(
     requires { length list.old.items ≤ most }
     ensures room { OnOk result (length list.new.items ≤ most) }
     ensures added { OnOk result (list.new.items ≡ take most (list.old.items
-        ++ misfit_error program.now cert.now digits lines.now finding.now (take_while (is_same_mask finding.now) findings.now) ∷ [])) }
+        ++ misfit_error program.now cert.now least.now digits lines.now finding.now (take_while (is_same_mask finding.now) findings.now) ∷ [])) }
 {
     if list.len() < most {
         let group = same_mask(alloc, finding, findings)?;
-        let said = misfit_error(alloc, program, cert, digits, lines, finding, &group)?;
+        let said = misfit_error(alloc, program, cert, least, digits, lines, finding, &group)?;
         list.push(said)?;
     }
     Ok(())
@@ -415,13 +568,14 @@ fn told_of(
     alloc: Global,
     program: &Program,
     cert: &Cert,
+    least: &Cert,
     digits: usize,
     lines: &ProgramLines<'_>,
     findings: &[Finding],
     most: usize,
 ) -> Result<(Vec<Diagnostic>, usize), AllocError>
-    ensures first { IfOk result (λ told. told.0.items ≡ take most (told_from program.now cert.now digits lines.now None findings.now)) }
-    ensures count { IfOk result (λ told. told.1 ≡ length (told_from program.now cert.now digits lines.now None findings.now)) }
+    ensures first { IfOk result (λ told. told.0.items ≡ take most (told_from program.now cert.now least.now digits lines.now None findings.now)) }
+    ensures count { IfOk result (λ told. told.1 ≡ length (told_from program.now cert.now least.now digits lines.now None findings.now)) }
 {
     let mut list = Vec::new(alloc);
     let mut count = 0;
@@ -430,7 +584,7 @@ fn told_of(
     while let [finding, others @ ..] = rest {
         if !goes_on(before, finding) {
             add_error(
-                alloc, &mut list, program, cert, digits, lines, finding, rest, most,
+                alloc, &mut list, program, cert, least, digits, lines, finding, rest, most,
             )?;
             count += 1;
         }
@@ -445,13 +599,16 @@ pub(crate) fn misfit_errors(
     alloc: Global,
     program: &Program,
     cert: &Cert,
+    least: &Cert,
     digits: usize,
     lines: &ProgramLines<'_>,
 ) -> Result<Vec<Diagnostic>, AllocError>
-    ensures { IfOk result (λ list. list.items ≡ misfit_errors program.now cert.now digits lines.now) }
+    ensures { IfOk result (λ list. list.items ≡ misfit_errors program.now cert.now least.now digits lines.now) }
 {
     let findings = own_findings(alloc, program, cert)?;
-    let (mut list, count) = told_of(alloc, program, cert, digits, lines, &findings, MOST_SHOWN)?;
+    let (mut list, count) = told_of(
+        alloc, program, cert, least, digits, lines, &findings, MOST_SHOWN,
+    )?;
     let more = count.saturating_sub(MOST_SHOWN);
     add_more(
         alloc,

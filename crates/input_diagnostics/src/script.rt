@@ -23,7 +23,7 @@ use std::alloc::{AllocError, Global};
 use task_descriptor::program::Program;
 
 /// The words that events begin with.
-const VERBS: [&str; 8] = [
+pub(crate) const VERBS: [&str; 8] = [
     "assign", "exec", "transfer", "drain", "squash", "retire", "fault", "drop",
 ];
 

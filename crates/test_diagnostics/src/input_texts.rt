@@ -1,6 +1,7 @@
 //! What is said of a certificate and of an event script.
 
 use annotated_asm::assembler::assemble;
+use annotator::certify::certify;
 use diagnostics::colour::Colour;
 use diagnostics::diagnostic::{Diagnostic, Span};
 use diagnostics::files::{Files, TextFile};
@@ -76,8 +77,9 @@ fn program(alloc: Global) -> Option<Program> {
 
 fn of_certificate(alloc: Global, text: &str) -> Option<Vec<Diagnostic>> {
     let program = program(alloc)?;
+    let least = certify(alloc, &program).ok()?;
     let lines = ProgramLines::new(&ROWS, &CODE);
-    certificate_errors(alloc, text.as_bytes(), &program, &lines).ok()
+    certificate_errors(alloc, text.as_bytes(), &program, &lines, &least).ok()
 }
 
 fn of_script(alloc: Global, text: &str) -> Option<Vec<Diagnostic>> {

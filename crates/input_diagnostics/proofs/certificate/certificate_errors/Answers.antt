@@ -6,5 +6,5 @@ use Rattle.input_diagnostics.proofs.certificate.certificate_errors.Goals as goal
 
 pub returns-in_ok-list-in-Ok-clause-silent : goal.returns-in_ok-list-in-Ok-clause-silent
 returns-in_ok-list-in-Ok-clause-silent c =
-    silent_certificate c.args.program.now _ _ c.args.lines.now c.in_ok-list-in-Ok.list.items (cert_parse c.args.text.now (names_of c.args.program.now))
+    silent_certificate c.args.program.now _ c.args.least.now _ c.args.lines.now c.in_ok-list-in-Ok.list.items (cert_parse c.args.text.now (names_of c.args.program.now))
     c.in_ok-list-in-Ok.ensures (⊎_elim (λ none. absurd cc) (λ some. sym some) c.in-Ok.ensures.parsed)

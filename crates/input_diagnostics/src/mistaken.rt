@@ -1,0 +1,95 @@
+//! A certificate or a script of events that is given as a program.
+
+ghost use Rattle.std.specs.Prelude.{◌≡◌, map as each, IfOk};
+ghost use Rattle.std.specs.List.{list_any};
+ghost use Rattle.std.specs.Str.{bytes_eq};
+ghost use Rattle.input_diagnostics.specs.MistakenTexts.{first_row, mistaken_kind, mistaken_message, mistaken_help, mistaken_error};
+
+use crate::saying::{plain_error, span};
+use crate::script::VERBS;
+use diagnostics::code::Code;
+use diagnostics::diagnostic::{Diagnostic, Source};
+use diagnostics::helps::in_words;
+use diagnostics::words::Words;
+use event_script::bad_line::first_word;
+use event_script::reading::next_line;
+use std::alloc::{AllocError, Global};
+
+/// What a text is that was given as a program.
+#[derive(Clone, Copy, Debug, PartialEq, Eq)]
+pub enum Mistaken {
+    /// A certificate.
+    Certificate,
+    /// A script of events.
+    Script,
+}
+
+/// The first line of a text.
+fn first_row(text: &[u8]) -> &[u8]
+    ensures { result.now ≡ first_row text.now }
+{
+    if text.is_empty() {
+        return text;
+    }
+    let (line, _) = next_line(text);
+    line
+}
+
+/// Whether a word is one of some words.
+fn is_one_of(word: &[u8], words: &[&str]) -> bool
+    ensures { result ≡ list_any (bytes_eq word.now) (each (λ other. other.now) words.now) }
+{
+    for other in words {
+        if word == other.as_bytes() {
+            return true;
+        }
+    }
+    false
+}
+
+/// What a text is that was given as a program, by how it begins: a certificate, a script of events, or neither.
+pub fn mistaken_kind(text: &[u8]) -> Option<Mistaken>
+    ensures { result ≡ mistaken_kind text.now }
+{
+    if text.starts_with(b"cert ") {
+        return Some(Mistaken::Certificate);
+    }
+    if is_one_of(first_word(first_row(text)), &VERBS) {
+        return Some(Mistaken::Script);
+    }
+    None
+}
+
+/// What a text is.
+fn mistaken_message(kind: Mistaken) -> &'static str
+    ensures { result.now ≡ mistaken_message kind }
+{
+    match kind {
+        Mistaken::Certificate => "this is a certificate, not a program",
+        Mistaken::Script => "this is a script of events, not a program",
+    }
+}
+
+/// The command that explains it.
+fn mistaken_help(kind: Mistaken) -> &'static str
+    ensures { result.now ≡ mistaken_help kind }
+{
+    match kind {
+        Mistaken::Certificate => "multiscalar explain PROGRAM --certificate FILE explains it",
+        Mistaken::Script => "multiscalar explain PROGRAM --script FILE explains it",
+    }
+}
+
+/// What is said of a text that is no program, but a certificate or a script of events.
+///
+/// # Errors
+///
+/// `AllocError` where memory was refused.
+pub fn mistaken_error(alloc: Global, kind: Mistaken, text: &[u8]) -> Result<Diagnostic, AllocError>
+    ensures { IfOk result (λ said. said ≡ mistaken_error kind text.now) }
+{
+    let message = Words::of(alloc, mistaken_message(kind))?;
+    let help = in_words(alloc, Words::of(alloc, mistaken_help(kind))?);
+    let at = span(1, 0, first_row(text).len());
+    Ok(plain_error(alloc, Source::Program, Code::Mnemonic, at, message, help))
+}
