@@ -24,11 +24,13 @@ places_text places (at ∷ rest) = place_text places at ++ flat_map (step_text p
 abbrev pub left_out_text : ℕ → List ℕ
 left_out_text n = if nat_eq n 0 then [] else codes ", and " ++ (decimal n ++ codes " more")
 
+-- what a path ends with
+abbrev pub path_end : (left_out : ℕ) → List ℕ
+path_end n = left_out_text n ++ (codes "; perhaps no run takes it, or no task reads a wrong word after it" ++ 10 ∷ [])
+
 -- a path, of which twelve places are named
 abbrev pub path_text : List Position → (path : List ℕ) → List ℕ
-path_text places path =
-    codes "its path: " ++ (places_text places (take 12 path) ++ (left_out_text (length path - 12)
-    ++ (codes "; perhaps no run takes it, or no task reads a wrong word after it" ++ 10 ∷ [])))
+path_text places path = codes "its path: " ++ (places_text places (take 12 path) ++ path_end (length path - 12))
 
 abbrev pub path_line : List Position → Option (Vec ℕ Global) → List ℕ
 path_line places None = []
@@ -39,11 +41,17 @@ abbrev pub register_text : Option ℕ → List ℕ
 register_text None = []
 register_text (Some r) = codes ", $" ++ decimal r
 
--- a finding of the checker: where it is, in which task, which rule it breaks, with which register
+-- the task of a finding; the rule that it breaks, with which register
+abbrev pub task_text : Listing → Finding → List ℕ
+task_text p f = codes " of task " ++ name_at (slice_get p.tasks f.task)
+
+abbrev pub rule_text : Finding → List ℕ
+rule_text f = codes ", rule " ++ (decimal (number_of f.rule) ++ (register_text f.reg ++ 10 ∷ []))
+
+-- a finding of the checker, and where it is
 abbrev pub wrong_text : Listing → List Position → Finding → List ℕ
 wrong_text p places f =
-    codes "the first of them: " ++ (place_text places f.index ++ (codes " of task " ++ (name_at (slice_get p.tasks f.task)
-    ++ (codes ", rule " ++ (decimal (number_of f.rule) ++ (register_text f.reg ++ 10 ∷ []))))))
+    codes "the first of them: " ++ (place_text places f.index ++ (task_text p f ++ rule_text f))
 
 -- the finding, and the path that shows it
 abbrev pub finding_text : Listing → List Position → ShownFinding → List ℕ

@@ -3,7 +3,7 @@
 ghost use Rattle.std.specs.Prelude.{◌≡◌, ◌++◌, ◌∷◌, IfOk, OnOk, flat_map, codes, option_map, map};
 ghost use Rattle.std.specs.String.{string_bytes};
 ghost use Rattle.finding_paths.specs.Shown.{AreShown};
-ghost use Rattle.demonstration_text.specs.FindingText.{finding_text, left_out_text, path_line, path_text, places_text, register_text, step_text, wrong_text};
+ghost use Rattle.demonstration_text.specs.FindingText.{finding_text, left_out_text, path_end, path_line, path_text, places_text, register_text, rule_text, step_text, task_text, wrong_text};
 
 use annotator::certify::certify;
 use event_script::writing::task_name;
@@ -57,7 +57,7 @@ fn write_shown(
     }
 }
 
-/// Adds a finding: where it is, in which task, which rule it breaks, with which register.
+/// Adds a finding, and where it is.
 fn write_wrong(
     text: &mut String,
     program: &Program,
@@ -68,9 +68,24 @@ fn write_wrong(
 {
     text.push_str("the first of them: ")?;
     write_place(text, places, finding.index)?;
-    let name = task_name(program, finding.task);
+    write_task(text, program, finding)?;
+    write_rule(text, finding)
+}
+
+/// Adds the task of a finding.
+fn write_task(text: &mut String, program: &Program, finding: &Finding) -> Result<(), AllocError>
+    ensures { OnOk result (string_bytes text.new ≡ string_bytes text.old ++ task_text program.now finding.now) }
+{
+    text.push_str(" of task ")?;
+    text.push_str(task_name(program, finding.task))
+}
+
+/// Adds the rule that a finding breaks, with which register.
+fn write_rule(text: &mut String, finding: &Finding) -> Result<(), AllocError>
+    ensures { OnOk result (string_bytes text.new ≡ string_bytes text.old ++ rule_text finding.now) }
+{
     let rule = finding.rule.number();
-    write!(text, " of task {name}, rule {rule}")?;
+    write!(text, ", rule {rule}")?;
     write_register(text, finding.reg)?;
     writeln!(text, "")
 }
@@ -96,7 +111,14 @@ fn write_path(text: &mut String, places: &[Position], path: &[u32]) -> Result<()
     let named = path.len().min(MOST_PLACES);
     text.push_str("its path: ")?;
     write_places(text, places, &path[..named])?;
-    write_left_out(text, path.len() - named)?;
+    write_path_end(text, path.len() - named)
+}
+
+/// Adds what a path ends with.
+fn write_path_end(text: &mut String, left_out: usize) -> Result<(), AllocError>
+    ensures { OnOk result (string_bytes text.new ≡ string_bytes text.old ++ path_end left_out) }
+{
+    write_left_out(text, left_out)?;
     writeln!(
         text,
         "; perhaps no run takes it, or no task reads a wrong word after it"
@@ -121,10 +143,17 @@ fn write_steps(text: &mut String, places: &[Position], path: &[u32]) -> Result<(
     ensures { OnOk result (string_bytes text.new ≡ string_bytes text.old ++ flat_map (step_text places.now) path.now) }
 {
     for index in path {
-        text.push_str(", ")?;
-        write_place(text, places, *index)?;
+        write_step(text, places, *index)?;
     }
     Ok(())
+}
+
+/// Adds a further place.
+fn write_step(text: &mut String, places: &[Position], index: u32) -> Result<(), AllocError>
+    ensures { OnOk result (string_bytes text.new ≡ string_bytes text.old ++ step_text places.now index) }
+{
+    text.push_str(", ")?;
+    write_place(text, places, index)
 }
 
 /// Adds how many places are left out.
