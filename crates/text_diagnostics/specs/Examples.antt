@@ -1,5 +1,5 @@
 -- Worked examples, computed by the checker.
-use Rattle.std.specs.Prelude.{◌≡◌, ℕ, List, [], ◌∷◌, Bool, true, codes, Some, None, refl}
+use Rattle.std.specs.Prelude.{◌≡◌, ℕ, [], ◌∷◌, true, codes, Some, None, refl}
 use Rattle.std.specs.Str.{is_utf8, chars}
 use lib.Utf8.{encode}
 use Rattle.program_tokens.specs.Numbers.{number_of, magnitude_of, number_in}
@@ -9,7 +9,7 @@ use Rattle.program_tokens.specs.Spans.{spans_after}
 use Rattle.program_tokens.specs.declared.span.Span.{Span}
 use Rattle.program_statements.specs.Operands.{base_at, operand_at, after_one, after_two, operands_of}
 use Rattle.program_statements.specs.Rows.{three, imm, branch_two, nop, halt}
-use Rattle.program_statements.specs.declared.statement.Section.TheVariants.{Text, Data, Rodata}
+use Rattle.program_statements.specs.declared.statement.Section.TheVariants.{Text, Data}
 use Rattle.diagnostics.specs.Excerpt.{is_readable}
 use Rattle.diagnostics.specs.Quotations.{as_shown}
 use Rattle.syntax_tree.specs.declared.item.LineFaultKind.TheVariants as kind

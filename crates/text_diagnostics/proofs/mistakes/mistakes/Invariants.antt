@@ -1,5 +1,5 @@
 -- What was found, with what is found in the items that are left, is all.
-use Rattle.std.proofs.Common.{◌≡◌, ◌++◌, drop, map, Option, None}
+use Rattle.std.proofs.Common.{◌≡◌, ◌++◌, drop, map, None}
 use Rattle.text_diagnostics.specs.Mistakes.{mistakes_from}
 use Rattle.text_diagnostics.proofs.mistakes.mistakes.Given as goal
 
