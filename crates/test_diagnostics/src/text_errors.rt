@@ -12,39 +12,39 @@ const WORDS: &[u8] =
 
 const WORDS_SAID: &str =
     "p.s:1:1: error: there is no instruction or directive `A` [4 Mnemonic line 1]
-p.s:1:1: help: did you mean A:?
+p.s:1:1: help: if this is to be a label, write A: with a colon
 p.s:2:1: error: there is no instruction or directive `ADDIU` [4 Mnemonic line 2]
 p.s:2:1: help: did you mean addiu?
 p.s:3:1: error: there is no instruction or directive `addui` [4 Mnemonic line 3]
 p.s:3:1: help: did you mean addiu?
 p.s:4:6: error: `addu` cannot take `r8` here [5 Operand line 4]
 p.s:4:6: help: did you mean $8?
-p.s:5:4: error: `.asciiz` is not in this profile [4 Mnemonic line 5]
-p.s:5:4: help: write .byte with the letters' numbers, and 0
+p.s:5:4: error: there is no instruction or directive `.asciiz` [4 Mnemonic line 5]
+p.s:5:4: help: write .byte with the letters' numbers and 0, as .byte 104,105,0 for hi
 p.s:6:6: error: there is no mark `!x` [7 Mark line 6]
-p.s:6:6: help: remove it
+p.s:6:6: help: the marks are !f (forward), !s (stop), !st (stop if taken) and !sn (stop if not taken)
 p.s:7:1: error: there is no instruction or directive `hlat` [4 Mnemonic line 7]
 p.s:7:1: help: did you mean halt?
-p.s:8:1: error: `ble` is not in this profile [4 Mnemonic line 8]
-p.s:8:1: help: write slt $1,rt,rs and beq $1,$0,T
+p.s:8:1: error: there is no instruction or directive `ble` [4 Mnemonic line 8]
+p.s:8:1: help: write slt $1,rt,rs and beq $1,$0,T, or for a number slti $1,rs,n+1 and bne $1,$0,T
 p.s:9:11: error: the operands of `addu` end too early [5 Operand line 9]
-p.s:9:11: help: the form is addu rd,rs,rt
+p.s:9:11: help: write it as in addu $8,$9,$10
 ";
 
 const NAMES: &[u8] = b".task D create=- targets=AB,E\nABC: j ABC !st\n.data\nD:";
 
 const NAMES_SAID: &str =
     "p.s:1:7: error: `D` is a label of data, where no task begins [9 Unknown line 1]
-p.s:4:1: note: the label stands here
+p.s:4:1: note: the label is here
 p.s:1:7: help: name a label that stands in .text
 p.s:1:26: error: there is no label `AB` [9 Unknown line 1]
 p.s:1:26: help: did you mean ABC?
 p.s:1:29: error: there is no label `E` [9 Unknown line 1]
 p.s:1:29: help: a label is a name with a colon after it; a task has the name of the label where it begins
-p.s:2:6: error: !st or !sn stands on an instruction that is no conditional branch [10 Build 6 BadMark]
+p.s:2:6: error: !st or !sn is on an instruction that is no conditional branch [10 Build 6 BadMark]
 p.s:2:12: help: write !s, which stops always
 p.s:2:6: error: the program starts where no task begins [10 Build 7 BadStart]
-p.s:2:6: help: .start names a task; without it the program starts at its first instruction
+p.s:2:6: help: add a line for the task that begins there, such as .task A create=$8 targets=A,B
 ";
 
 // The text form without the lines of the text.

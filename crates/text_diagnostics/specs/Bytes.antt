@@ -1,5 +1,5 @@
 -- Bytes of a line (own choice): those of a place, the first that no text has, and the first that form no token.
-use Rattle.std.specs.Prelude.{ℕ, ◌+◌, ◌-◌, ◌^◌, min, List, [], ◌∷◌, Bool, not, take, drop, slice_get, codes, Option, Some, None, unwrap_or, is_ok, if◌then◌else◌, ◌==◌, ◌||◌}
+use Rattle.std.specs.Prelude.{ℕ, ◌+◌, ◌-◌, ◌^◌, min, List, [], ◌∷◌, Bool, not, take, drop, slice_get, nat_lt, codes, Option, Some, None, unwrap_or, is_ok, if◌then◌else◌, ◌==◌, ◌||◌}
 use Rattle.std.specs.List.{position}
 use Rattle.std.specs.Str.{byte}
 use Rattle.std.specs.Str.Lines.{strip_carriage_return}
@@ -44,8 +44,15 @@ token_span line = token_from line (line_spans line)
 -- what tokens that begin with this byte are
 abbrev pub token_help : (first : ℕ) → List ℕ
 token_help first =
-    if first == byte "$" then codes "a register is $0 to $33 or has a name, such as $sp, $t0 or $hi"
+    if first == byte "$" then codes "a register is $0 to $31 or has a name, such as $sp or $t0"
     else (if first == byte "@" then codes "a place is @ and decimal digits, such as @7"
-    else (if first == byte "-" || is_ascii_digit first then codes "a number is decimal digits, or 0x and hexadecimal digits, such as -4 or 0x1f"
+    else (if first == byte "-" || is_ascii_digit first then codes "a number is decimal digits, or 0x and hexadecimal digits, such as -4 or 0x1f; a name begins with a letter or _"
     else (if first == byte "_" || is_ascii_alphabetic first then codes "a name has at most 32 letters, digits and _"
-    else codes "tokens are names, registers, numbers, places, directives, marks and , : = ( ) -")))
+    else codes "a line has names, registers, numbers, places, directives, marks and , : = ( ) -")))
+
+-- what to do about a byte that no text has: 239 begins a byte order mark, and 128 and more are of other alphabets
+abbrev pub byte_help : (byte : ℕ) → List ℕ
+byte_help b =
+    if b == 239 then codes "save the file as plain ASCII, without a byte order mark"
+    else (if nat_lt b 128 then codes "a text has printable ASCII characters, spaces and tabs"
+    else codes "write an ASCII character in its place, such as - for a dash")

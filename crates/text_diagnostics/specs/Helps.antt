@@ -1,6 +1,8 @@
 -- What to do about each mistake (own words).
-use Rattle.std.specs.Prelude.{ℕ, List, [], ◌++◌, ◌&&◌, ◌||◌, ◌==◌, codes, take, find, position, slice_get, nat_lt, length, Bool, true, false, not, Option, Some, None, is_some, unwrap_or, if◌then◌else◌}
-use Rattle.std.specs.Str.{byte}
+use Rattle.std.specs.Prelude.{ℕ, List, [], ◌∷◌, ◌++◌, ◌&&◌, ◌||◌, ◌==◌, codes, take, find, position, slice_get, nat_lt, length, Bool, true, false, not, Option, Some, None, is_some, unwrap_or, if◌then◌else◌}
+use Rattle.std.specs.List.{flat_map}
+use Rattle.std.specs.Str.{byte, bytes_eq, str_to_ascii_lowercase}
+use Rattle.program_tokens.specs.Numbers.{begins_with_digit}
 use Rattle.program_tokens.specs.declared.span.Span.{Span as Place}
 use Rattle.program_tokens.specs.declared.token.Token.{Token}
 use Rattle.program_tokens.specs.declared.token.Token.TheVariants as token
@@ -9,10 +11,10 @@ use Rattle.program_statements.specs.declared.statement.Section.{Section}
 use Rattle.program_statements.specs.declared.statement.Section.TheVariants as section
 use Rattle.program_statements.specs.declared.statement.Instruction.TheVariants as instruction
 use Rattle.program_statements.specs.declared.statement.Statement.TheVariants as statement
-use Rattle.text_diagnostics.specs.Bytes.{bytes_at, byte_at, token_help}
-use Rattle.text_diagnostics.specs.Meant.{span_at, number_index}
+use Rattle.text_diagnostics.specs.Bytes.{bytes_at, byte_at, byte_help, token_help}
+use Rattle.text_diagnostics.specs.Meant.{span_at, number_index, mark_index, is_directive}
 use Rattle.near_words.specs.Near.{is_near}
-use Rattle.text_diagnostics.specs.Shapes.{shape_of, near_statement, form_text, range_text}
+use Rattle.text_diagnostics.specs.Shapes.{shape_of, form_text, range_text}
 use Rattle.text_diagnostics.specs.declared.shape.Shape.{Shape}
 use Rattle.syntax_tree.specs.declared.item.LineFaultKind.{LineFaultKind}
 use Rattle.syntax_tree.specs.declared.item.LineFaultKind.TheVariants as kind
@@ -27,9 +29,10 @@ use Rattle.text_diagnostics.specs.declared.mistake.Kind.{Kind}
 use Rattle.text_diagnostics.specs.declared.mistake.Kind.TheVariants.{LabelTwice, TaskTwice, StartTwice, NoLabel, DataLabel, Passes, CreatesZero, UnfitForward, StopOnHalt, OneSidedStop, ReleasesZero, NoInstruction, SameEntry, NoTaskThere}
 use Rattle.text_diagnostics.specs.declared.rows.Reading.{Reading}
 use Rattle.text_diagnostics.specs.Rows.{reading_of}
-use Rattle.text_diagnostics.specs.Candidates.{instead}
+use Rattle.text_diagnostics.specs.ForeignWords.{instead, operand_instead}
 use Rattle.text_diagnostics.specs.LinePlaces.{word_in, shape_named}
-use Rattle.text_diagnostics.specs.Mending.{mended}
+use Rattle.text_diagnostics.specs.Mending.{mended, may_be_label}
+use Rattle.text_diagnostics.specs.Messages.{is_no_mark}
 use Rattle.text_diagnostics.specs.Places.{span_in}
 
 -- Of a line that cannot be read.
@@ -37,54 +40,91 @@ use Rattle.text_diagnostics.specs.Places.{span_in}
 abbrev pub meant_text : (text : List ℕ) → List ℕ
 meant_text text = codes "did you mean " ++ (text ++ codes "?")
 
--- a text that mends the line
-abbrev pub mending_help : LineFaultKind → Span → (text : List ℕ) → Help
-mending_help kind.Mark span text = by_text (codes "remove it") span text
-mending_help _ span text = by_text (meant_text text) span text
+-- the first of some texts, or any other
+abbrev pub either : (first : List ℕ) → (others : List (List ℕ)) → List ℕ
+either first others = first ++ flat_map (λ other. codes " or " ++ other) others
+
+-- what is said of the one text that mends a line
+abbrev pub begins_with_comma : List ℕ → Bool
+begins_with_comma [] = false
+begins_with_comma (b ∷ bs) = b == byte ","
+
+abbrev pub mending_text : (text : List ℕ) → List ℕ
+mending_text text =
+    if bytes_eq text (codes " ") then codes "remove it"
+    else if begins_with_comma text then codes "a comma is missing: write " ++ text
+    else meant_text text
+
+-- where a word of another section may stand
+abbrev pub move_help : Section → List ℕ
+move_help section.Text = codes "write .data before it and its label, and .text after it"
+move_help _ = codes "write .text before it and its label"
+
+abbrev pub here_help : Section → List ℕ
+here_help section.Text = codes ".text holds instructions; .start, .task and section lines may stand anywhere"
+here_help _ = codes ".data and .rodata hold .word, .byte and .space; .start, .task and section lines may stand anywhere"
 
 -- what may stand in a section
-abbrev pub section_help : Section → List ℕ
-section_help section.Text = codes "in .text stand instructions and .start, .task, .text, .data and .rodata"
-section_help _ = codes "in .data and .rodata stand .word, .byte and .space, and .start, .task, .text, .data and .rodata"
+abbrev pub section_help : Section → (word : List ℕ) → List ℕ
+section_help here word =
+    if begins_with_digit word then codes "there are no numbered labels: write a name that begins with a letter or _"
+    else here_help here
 
--- of a word: what is done instead of one of other assemblers, or one that is near, if it belongs to no other section
-abbrev pub word_help : Section → (is_ours : Bool) → (instead near : Option (List ℕ)) → List ℕ
-word_help here false (Some text) near = text
-word_help here false None (Some near) = meant_text near
-word_help here _ _ _ = section_help here
+-- of a word: what is written instead of one of other assemblers; of any other that it may be a label
+abbrev pub word_help : Section → (is_ours may_be_label : Bool) → (instead : Option (List ℕ)) → (word : List ℕ) → List ℕ
+word_help here true labelled other word = move_help here
+word_help here false labelled (Some text) word = text
+word_help here false true None word = codes "if this is to be a label, write " ++ (as_shown word ++ codes ": with a colon")
+word_help here false false None word = section_help here word
 
--- of what is no token: what is done instead of a word that takes it, or what tokens begin with its first byte (34 and
--- 39 are quotation marks)
-abbrev pub token_words : (instead : Option (List ℕ)) → (first : ℕ) → List ℕ
-token_words (Some text) first = text
-token_words None first =
-    if first == byte "!" then codes "a mark is !f, !s, !st or !sn, in small letters"
-    else if first == 34 then codes "a text has no strings: write .byte with the numbers of the letters"
-    else if first == 39 then codes "a text has no letters in quotation marks: write the number of the letter"
-    else if first == byte ";" || first == byte "/" then codes "a comment begins with #"
-    else token_help first
+-- of what is no token: what is written instead of the statement's word or of it, or what begins with its first byte
+abbrev pub token_words : (word meant : Option (List ℕ)) → (first : ℕ) → List ℕ
+token_words (Some text) meant first = text
+token_words None (Some text) first = text
+token_words None None first = token_help first
 
 abbrev pub number_help : Option Token → Shape → List ℕ
 number_help (Some (token.Index n)) shape = codes "a place is @0 to @4096"
 number_help _ shape = range_text shape
 
+-- of a mark: an instruction alone has marks; there are four; `!f` and a stop can each be there once
+abbrev pub stop_words : Option Token → List ℕ
+stop_words (Some (token.Mark mark.Forward)) = codes "write !f once"
+stop_words _ = codes "keep one stop: !s stops always, !st if the branch is taken, !sn if it is not"
+
+abbrev pub mark_words : (on_directive is_none : Bool) → (instead : Option (List ℕ)) → Option Token → List ℕ
+mark_words true is_none other t = codes "remove it: an instruction alone has marks"
+mark_words false true (Some text) t = text
+mark_words false true None t = codes "the marks are !f (forward), !s (stop), !st (stop if taken) and !sn (stop if not taken)"
+mark_words false false other t = stop_words t
+
+-- of an operand: what is written instead, or how operands may be written
+abbrev pub operand_words : (word meant : List ℕ) → List ℕ
+operand_words word meant =
+    let form = form_text (shape_named word) in
+    unwrap_or (operand_instead word form meant) (codes "write it as in " ++ (as_shown word ++ form))
+
 unfoldable pub line_words : LineFaultKind → Section → (line : List ℕ) → Reading → Place → List ℕ
-line_words kind.NotAscii here line r at = codes "a text has printable ASCII characters, blanks and tabs"
-line_words kind.Token here line r at = token_words (instead (word_in line r)) (byte_at line at)
+line_words kind.NotAscii here line r at = byte_help (byte_at line at)
+line_words kind.Token here line r at = token_words (instead (word_in line r)) (instead (bytes_at line at)) (byte_at line at)
 line_words kind.Mnemonic here line r at =
-    let word = bytes_at line at in word_help here (is_some (shape_of word)) (instead word) (near_statement word)
-line_words kind.Operand here line r at = codes "the form is " ++ (as_shown (word_in line r) ++ form_text (shape_named (word_in line r)))
+    let word = bytes_at line at in
+    word_help here (is_some (shape_of word)) (may_be_label here line at) (instead word) word
+line_words kind.Operand here line r at = operand_words (word_in line r) (bytes_at line at)
 line_words kind.Number here line r at =
     let shape = shape_named (word_in line r) in number_help (slice_get r.tokens (number_index shape r.tokens)) shape
-line_words kind.Mark here line r at = codes "an instruction may have !f, and one of !s, !st and !sn"
+line_words kind.Mark here line r at =
+    let found = slice_get r.tokens (mark_index r.tokens) in
+    mark_words (is_directive r.tokens) (is_no_mark found) (instead (bytes_at line at)) found
 
--- a text that mends the line, if one is known
-abbrev pub help_by : LineFaultKind → (words : List ℕ) → Span → Option (List ℕ) → Help
-help_by k words span None = in_words words
-help_by k words span (Some text) = mending_help k span text
+-- a text that mends the line, if one is known; if several are, a question
+abbrev pub help_by : (words : List ℕ) → Span → (mended : List (List ℕ)) → Help
+help_by words span [] = in_words words
+help_by words span (text ∷ []) = by_text (mending_text text) span text
+help_by words span (text ∷ others) = in_words (meant_text (either text others))
 
 abbrev pub line_help : LineFaultKind → (n : ℕ) → Section → (line : List ℕ) → Reading → Place → Help
-line_help k n here line r at = help_by k (line_words k here line r at) (span_in n at) (mended k here line at)
+line_help k n here line r at = help_by (line_words k here line r at) (span_in n at) (mended k here line at)
 
 -- Of an item.
 
@@ -102,7 +142,7 @@ mark_place is_stop r = span_at r.places (unwrap_or (position (is_mark_of is_stop
 abbrev pub mark_help : (n : ℕ) → (line : List ℕ) → (is_stop : Bool) → (words text : List ℕ) → Help
 mark_help n line is_stop words text = by_text words (span_in n (mark_place is_stop (reading_of line))) text
 
--- the first label that is near to a name, among the first 4,096 items: one of code, but after `la` any
+-- the first label that is near to a name, or has other capitals, among the first 4,096 items: one of code, but after `la` any
 abbrev pub is_loaded : Said → Bool
 is_loaded (said.Statement (statement.Code (instruction.LoadAddress rd name) marks)) = true
 is_loaded _ = false
@@ -112,7 +152,8 @@ is_code section.Text = true
 is_code _ = false
 
 abbrev pub is_near_said : (name : List ℕ) → Said → Bool
-is_near_said name (said.Label label) = is_near name label
+is_near_said name (said.Label label) =
+    is_near name label || bytes_eq (str_to_ascii_lowercase name) (str_to_ascii_lowercase label)
 is_near_said name _ = false
 
 abbrev pub is_near_label : (any : Bool) → (name : List ℕ) → Item → Bool
@@ -136,7 +177,7 @@ near_help kind span (Some item) = said_help kind span item.said
 
 -- in words, for what has no text to write
 abbrev pub item_words : Kind → List ℕ
-item_words LabelTwice = codes "give one of them another name"
+item_words LabelTwice = codes "give this one another name, and write it in the lines that mean it"
 item_words TaskTwice = codes "remove one of them, or give it another name"
 item_words StartTwice = codes "remove one of them"
 item_words (Passes limit) = codes "at most 4096 instructions, 1024 tasks, 16 targets of a task, 65536 bytes of .data and 65536 of .rodata"
@@ -144,7 +185,7 @@ item_words CreatesZero = codes "leave $0 out of the create mask"
 item_words ReleasesZero = codes "leave $0 out, or write nop in place of a release of nothing else"
 item_words NoInstruction = codes "write an instruction after the label"
 item_words SameEntry = codes "remove one of the tasks, or write an instruction between their labels"
-item_words NoTaskThere = codes ".start names a task; without it the program starts at its first instruction"
+item_words NoTaskThere = codes "add a line for the task that begins there, such as .task A create=$8 targets=A,B"
 item_words _ = []
 
 -- with a text to write, where it is known

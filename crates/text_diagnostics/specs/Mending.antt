@@ -1,32 +1,25 @@
 -- Which texts mend a line, in place of what is wrong in it (own choice).
-use Rattle.std.specs.Prelude.{ℕ, ◌+◌, ◌-◌, ◌^◌, min, Bool, false, ◌||◌, List, ◌++◌, length, take, drop, find, nat_le, Option, Result, Ok, Err, is_ok}
-use Rattle.std.specs.Option.{option_map}
-use Rattle.program_tokens.specs.Grammar.{line_tokens}
+use Rattle.std.specs.Prelude.{ℕ, ◌+◌, ◌-◌, ◌^◌, min, Bool, false, not, ◌&&◌, ◌||◌, List, ◌++◌, length, take, drop, filter, map, codes, nat_le, is_none}
+use Rattle.std.specs.Str.{bytes_eq}
 use Rattle.program_tokens.specs.declared.span.Span.{Span}
-use Rattle.program_tokens.specs.declared.token.Token.{Token}
-use Rattle.program_tokens.specs.declared.token.LineFault.{LineFault}
-use Rattle.program_statements.specs.Statements.{statement_of}
 use Rattle.program_statements.specs.declared.statement.Section.{Section}
 use Rattle.text_diagnostics.specs.Bytes.{bytes_at, span}
-use Rattle.text_diagnostics.specs.Meant.{label_tokens, operand_span}
+use Rattle.text_diagnostics.specs.Meant.{operand_span}
 use Rattle.syntax_tree.specs.declared.item.LineFaultKind.{LineFaultKind}
 use Rattle.syntax_tree.specs.declared.item.LineFaultKind.TheVariants as kind
 use Rattle.diagnostics.specs.Quotations.{as_shown}
 use Rattle.text_diagnostics.specs.Rows.{reading_of}
 use Rattle.text_diagnostics.specs.LinePlaces.{word_in, shape_named}
 use Rattle.text_diagnostics.specs.Candidates.{candidates}
+use Rattle.text_diagnostics.specs.Sections.{fault_in}
 
 -- a line with a text in place of a part
 abbrev pub replaced : (line : List ℕ) → Span → (text : List ℕ) → List ℕ
 replaced line at text = take (at.column - 1) line ++ (text ++ drop at.len (drop (at.column - 1) line))
 
 -- a line can be read in a section
-abbrev pub reads_by : Section → Result (List Token) LineFault → Bool
-reads_by here (Ok tokens) = is_ok (statement_of here (drop (label_tokens tokens) tokens))
-reads_by here (Err f) = false
-
-unfoldable pub reads : Section → (line : List ℕ) → Bool
-reads here line = reads_by here (line_tokens line)
+abbrev pub reads : Section → (line : List ℕ) → Bool
+reads here line = is_none (fault_in here line)
 
 -- the first token of a line that is no operand stands after a part of it
 unfoldable pub goes_further : Span → (line : List ℕ) → Bool
@@ -38,14 +31,19 @@ goes_further at line =
 abbrev pub taken_by : Span → (text : List ℕ) → Span
 taken_by at text = span at.column (length text)
 
--- A text mends a line where the line then can be read; of several wrong operands, also where all of the text is then right.
-abbrev pub is_righted : LineFaultKind → Span → (mended : List ℕ) → Bool
-is_righted kind.Operand at line = goes_further at line
-is_righted _ at line = false
+-- A text mends a line where the line then can be read; of several wrong operands, also where all of the text is then right,
+-- if it is more than a space.
+abbrev pub is_righted : LineFaultKind → Span → (text mended : List ℕ) → Bool
+is_righted kind.Operand at text line = not (bytes_eq text (codes " ")) && goes_further at line
+is_righted _ at text line = false
 
 abbrev pub mends : LineFaultKind → Section → (line : List ℕ) → Span → (text : List ℕ) → Bool
-mends k here line at text = reads here (replaced line at text) || is_righted k (taken_by at text) (replaced line at text)
+mends k here line at text = reads here (replaced line at text) || is_righted k (taken_by at text) text (replaced line at text)
 
--- the first text that does, in place of what is wrong, as it is shown
-unfoldable pub mended : LineFaultKind → Section → (line : List ℕ) → Span → Option (List ℕ)
-mended k here line at = option_map as_shown (find (mends k here line at) (candidates k (bytes_at line at)))
+-- the texts that do, in place of what is wrong, as they are shown
+unfoldable pub mended : LineFaultKind → Section → (line : List ℕ) → Span → List (List ℕ)
+mended k here line at = map as_shown (filter (mends k here line at) (candidates k (bytes_at line at)))
+
+-- a word may be a label that lacks its colon
+unfoldable pub may_be_label : Section → (line : List ℕ) → Span → Bool
+may_be_label here line at = reads here (replaced line at (bytes_at line at ++ codes ":"))

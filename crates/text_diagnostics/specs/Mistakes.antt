@@ -24,15 +24,14 @@ use Rattle.syntax_tree.specs.Repeats.{repeated}
 use Rattle.syntax_tree.specs.UnknownNames.{unknown_said, is_code_label}
 use Rattle.syntax_tree.specs.WholeFaults.{limit_passed, creates_zero}
 use Rattle.text_diagnostics.specs.declared.mistake.Kind.{Kind}
-use Rattle.text_diagnostics.specs.declared.mistake.Kind.TheVariants.{Line, LabelTwice, TaskTwice, StartTwice, NoLabel, DataLabel, Passes, CreatesZero, UnfitForward, StopOnHalt, OneSidedStop, ReleasesZero, NoInstruction, SameEntry, NoTaskThere}
+use Rattle.text_diagnostics.specs.declared.mistake.Kind.TheVariants.{LabelTwice, TaskTwice, StartTwice, NoLabel, DataLabel, Passes, CreatesZero, UnfitForward, StopOnHalt, OneSidedStop, ReleasesZero, NoInstruction, SameEntry, NoTaskThere}
 use Rattle.text_diagnostics.specs.declared.mistake.Mistake.{Mistake}
 use Rattle.text_diagnostics.specs.declared.known.Known.{Known}
+use Rattle.program_statements.specs.declared.statement.Section.{Section}
+use Rattle.text_diagnostics.specs.Rows.{line_at}
+use Rattle.text_diagnostics.specs.Sections.{line_kind, meant_after}
 
 -- Names and limits.
-
-abbrev pub line_kind : Said → Option Kind
-line_kind (said.Fault kind) = Some (Line kind)
-line_kind _ = None
 
 abbrev pub twice_kind : Said → Kind
 twice_kind (said.Label name) = LabelTwice
@@ -172,23 +171,26 @@ abbrev pub with_other : (k : ℕ) → Option (Kind × ℕ) → List Mistake
 with_other k None = []
 with_other k (Some x) = record { item = k; kind = x.0; other = Some x.1 } ∷ []
 
-abbrev pub name_mistakes : List Item → Known → (k : ℕ) → Item → List Mistake
-name_mistakes items known k item =
-    alone k (line_kind item.said) ++ (with_other k (twice known k item.said)
+abbrev pub name_mistakes : List Item → Known → (k : ℕ) → Item → (line : Option Kind) → List Mistake
+name_mistakes items known k item line =
+    alone k line ++ (with_other k (twice known k item.said)
     ++ (alone k (limit_kind known k item) ++ unknown_mistakes items known k item.said))
 
 abbrev pub fit_mistakes : List Item → Known → (k : ℕ) → Said → List Mistake
 fit_mistakes items known k s =
     alone k (zero_kind s) ++ (alone k (unfit_kind s) ++ (with_other k (bad_entry known k s) ++ alone k (start_kind items known k s)))
 
-unfoldable pub item_mistakes : List Item → Known → (k : ℕ) → Item → List Mistake
-item_mistakes items known k item = name_mistakes items known k item ++ fit_mistakes items known k item.said
+unfoldable pub item_mistakes : List Item → Known → (k : ℕ) → Item → (line : Option Kind) → List Mistake
+item_mistakes items known k item line = name_mistakes items known k item line ++ fit_mistakes items known k item.said
 
--- of these items, the first of which has number k
-abbrev pub mistakes_from : List Item → Known → (k : ℕ) → List Item → List Mistake
-mistakes_from items known k [] = []
-mistakes_from items known k (item ∷ rest) = item_mistakes items known k item ++ mistakes_from items known (k + 1) rest
+-- of these items, the first of which has number k, where a section is meant
+abbrev pub mistakes_from : (rows : List (List ℕ)) → List Item → Known → (k : ℕ) → (meant : Option Section) → List Item → List Mistake
+mistakes_from rows items known k meant [] = []
+mistakes_from rows items known k meant (item ∷ rest) =
+    let line = line_at rows item.line in
+    let wrong = line_kind meant line item in
+    item_mistakes items known k item wrong ++ mistakes_from rows items known (k + 1) (meant_after meant line wrong item) rest
 
--- what is wrong with a text, in the order of its items
-unfoldable pub mistakes : List Item → Known → List Mistake
-mistakes items known = mistakes_from items known 0 items
+-- what is wrong with a text of these lines, in the order of its items
+unfoldable pub mistakes : (rows : List (List ℕ)) → List Item → Known → List Mistake
+mistakes rows items known = mistakes_from rows items known 0 None items

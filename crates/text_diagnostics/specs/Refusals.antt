@@ -80,10 +80,10 @@ kind_code _ = code.BadMark
 -- Notes: another item that shows it.
 
 abbrev pub note_text : Kind → List ℕ
-note_text (DataLabel as_what) = codes "the label stands here"
-note_text NoInstruction = codes "its label stands here, with no instruction after it"
+note_text (DataLabel as_what) = codes "the label is here"
+note_text NoInstruction = codes "its label is here, with no instruction after it"
 note_text SameEntry = codes "this task begins there, too"
-note_text _ = codes "it stands here first"
+note_text _ = codes "it is first defined here"
 
 abbrev pub note_at : Kind → Option Item → List Note
 note_at kind None = []
@@ -111,7 +111,7 @@ unfoldable pub line_diagnostic : LineFaultKind → (n : ℕ) → Section → (li
 line_diagnostic k n here line =
     let r = reading_of line in
     let at = line_place k line r in
-    error_of (told_as (fault_at n k)).0 (Some (span_in n at)) (line_message k line r at) [] (Some (line_help k n here line r at))
+    error_of (told_as (fault_at n k)).0 (Some (span_in n at)) (line_message k here line r at) [] (Some (line_help k n here line r at))
 
 -- an item of a line
 unfoldable pub item_diagnostic : List Item → Mistake → Item → (line : List ℕ) → Diagnostic
@@ -122,7 +122,7 @@ item_diagnostic items m item line =
     (Some (item_help items item line m.kind name span))
 
 abbrev pub diagnostic_by : Kind → List Item → Mistake → Item → (line : List ℕ) → Diagnostic
-diagnostic_by (Line k) items m item line = line_diagnostic k item.line item.section line
+diagnostic_by (Line k here) items m item line = line_diagnostic k item.line here line
 diagnostic_by kind items m item line = item_diagnostic items m item line
 
 abbrev pub said_at : (rows : List (List ℕ)) → List Item → Mistake → Option Item → List Diagnostic
@@ -157,7 +157,7 @@ unfoldable pub told : (text : List ℕ) → List Diagnostic
 told text =
     let items = tree_of text in
     let known = known_in items in
-    told_of (lines text) items known (mistakes items known)
+    told_of (lines text) items known (mistakes (lines text) items known)
 
 -- The first fault, at which the assembler stops, is always told: where it is not among these, by itself.
 

@@ -1,12 +1,11 @@
 -- What operands each statement takes (`.start`, `.task` are own): an instruction those of its form in the
 -- instruction table, a directive those of its row here.
-use Rattle.std.specs.Prelude.{ℕ, ℤ, pos, negsuc, List, [], ◌∷◌, map, codes, Option, Some, None, length, nat_lt, if◌then◌else◌}
+use Rattle.std.specs.Prelude.{ℕ, ℤ, pos, negsuc, List, [], ◌∷◌, codes, Option, Some, None, if◌then◌else◌}
 use Rattle.std.specs.Option.{option_or, option_map}
 use Rattle.std.specs.Str.{bytes_eq}
-use Rattle.mips_instructions.specs.InstructionTable.{word_of, form_of, every_mnemonic, mnemonics, mnemonic_named}
+use Rattle.mips_instructions.specs.InstructionTable.{form_of, mnemonics, mnemonic_named}
 use Rattle.mips_instructions.specs.declared.instruction.Form.{Form}
 use Rattle.mips_instructions.specs.declared.instruction.Form.TheVariants as form
-use Rattle.near_words.specs.Near.{nearest}
 use Rattle.text_diagnostics.specs.declared.shape.Shape.{Shape}
 use Rattle.text_diagnostics.specs.declared.shape.Shape.TheVariants as shape
 use Rattle.text_diagnostics.specs.declared.shape.Range.{Range}
@@ -18,12 +17,6 @@ directives =
     ∷ (codes ".data", shape.Nothing) ∷ (codes ".rodata", shape.Nothing) ∷ (codes ".word", shape.Words)
     ∷ (codes ".byte", shape.Bytes) ∷ (codes ".space", shape.Space) ∷ []
 
--- the first word that begins a statement and is near to this one; to a word of one letter none is
-unfoldable pub near_statement : (word : List ℕ) → Option (List ℕ)
-near_statement word =
-    if nat_lt (length word) 2 then None
-    else option_or (nearest word (map word_of every_mnemonic)) (nearest word (map (λ row. row.0) directives))
-
 -- the shape of this word in a table
 abbrev pub shape_in : (word : List ℕ) → List (List ℕ × Shape) → Option Shape
 shape_in word [] = None
@@ -34,35 +27,35 @@ unfoldable pub shape_of : (word : List ℕ) → Option Shape
 shape_of word =
     option_or (option_map (λ m. shape.Instruction (form_of m)) (mnemonic_named word mnemonics)) (shape_in word directives)
 
--- the operands, as they are written after the word: r, rd, rs, rt and base are registers, n a number, T a place
+-- operands as they may stand after the word
 abbrev pub instruction_text : Form → List ℕ
-instruction_text form.Three = codes " rd,rs,rt"
-instruction_text form.ShiftBy = codes " rd,rt,n"
-instruction_text form.ShiftVar = codes " rd,rt,rs"
-instruction_text form.Signed = codes " rt,rs,n"
-instruction_text form.Unsigned = codes " rt,rs,n"
-instruction_text form.Upper = codes " rt,n"
-instruction_text form.Sources = codes " rs,rt"
-instruction_text form.Dest = codes " rd"
-instruction_text form.Source = codes " rs"
-instruction_text form.Memory = codes " rt,n(base)"
-instruction_text form.BranchTwo = codes " rs,rt,T"
-instruction_text form.BranchOne = codes " rs,T"
-instruction_text form.Jump = codes " T"
-instruction_text form.DestSource = codes " rd,rs"
-instruction_text form.Registers = codes " r,r,.."
+instruction_text form.Three = codes " $8,$9,$10"
+instruction_text form.ShiftBy = codes " $8,$9,4"
+instruction_text form.ShiftVar = codes " $8,$9,$10"
+instruction_text form.Signed = codes " $8,$9,4"
+instruction_text form.Unsigned = codes " $8,$9,4"
+instruction_text form.Upper = codes " $8,4"
+instruction_text form.Sources = codes " $8,$9"
+instruction_text form.Dest = codes " $8"
+instruction_text form.Source = codes " $8"
+instruction_text form.Memory = codes " $8,4($9)"
+instruction_text form.BranchTwo = codes " $8,$9,LABEL"
+instruction_text form.BranchOne = codes " $8,LABEL"
+instruction_text form.Jump = codes " LABEL"
+instruction_text form.DestSource = codes " $8,$9"
+instruction_text form.Registers = codes " $8,$9"
 instruction_text form.Nothing = []
-instruction_text form.LoadImmediate = codes " rd,n"
-instruction_text form.LoadAddress = codes " rd,NAME"
+instruction_text form.LoadImmediate = codes " $8,4"
+instruction_text form.LoadAddress = codes " $8,LABEL"
 
 abbrev pub form_text : Shape → List ℕ
 form_text (shape.Instruction f) = instruction_text f
 form_text shape.Nothing = []
-form_text shape.Start = codes " NAME"
-form_text shape.Task = codes " NAME create=REGS targets=TS"
-form_text shape.Words = codes " n,.."
-form_text shape.Bytes = codes " n,.."
-form_text shape.Space = codes " n"
+form_text shape.Start = codes " A"
+form_text shape.Task = codes " A create=$8,$9 targets=A,B"
+form_text shape.Words = codes " 1,2"
+form_text shape.Bytes = codes " 1,2"
+form_text shape.Space = codes " 4"
 
 -- the numbers that a statement takes
 abbrev pub range : (low high : ℤ) → Range

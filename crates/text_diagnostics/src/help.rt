@@ -1,21 +1,24 @@
 //! What to do about each mistake.
 
-ghost use Rattle.std.specs.Prelude.{◌≡◌, find, take, position, slice_get, IfOk};
+ghost use Rattle.std.specs.Prelude.{◌≡◌, ◌++◌, codes, find, take, position, slice_get, IfOk, OnOk};
+ghost use Rattle.std.specs.List.{flat_map};
 ghost use Rattle.std.specs.Option.{option_copied, option_map};
-ghost use Rattle.text_diagnostics.specs.Shapes.{near_statement};
+ghost use Rattle.std.specs.Str.{bytes_eq, str_to_ascii_lowercase};
+ghost use Rattle.std.specs.String.{string_bytes};
 ghost use Rattle.diagnostics.specs.Quotations.{as_shown};
-ghost use Rattle.text_diagnostics.specs.Candidates.{instead};
-ghost use Rattle.text_diagnostics.specs.Helps.{meant_text, mending_help, section_help, word_help, token_words, number_help, line_words, help_by, line_help, is_mark_of, mark_place, mark_help, is_loaded, is_code, is_near_said, is_near_label, near_item, name_words, said_help, near_help, item_words, item_help};
+ghost use Rattle.text_diagnostics.specs.Helps.{meant_text, either, mending_text, move_help, section_help, word_help, token_words, stop_words, mark_words, operand_words, number_help, line_words, help_by, line_help, is_mark_of, mark_place, mark_help, is_loaded, is_code, is_near_said, is_near_label, near_item, name_words, said_help, near_help, item_words, item_help};
 
-use crate::bytes::{byte_at, bytes_at, token_help};
-use crate::candidates::instead;
+use crate::bytes::{byte_at, byte_help, bytes_at, token_help};
+use crate::candidates::begins_with_digit;
+use crate::foreign_words::{instead, operand_instead};
 use crate::line_place::{shape_named, word_in};
-use crate::meant::{number_index, span_at};
-use crate::mending::mended;
+use crate::meant::{is_directive, mark_index, number_index, span_at};
+use crate::mending::{may_be_label, mended};
+use crate::message::is_no_mark;
 use crate::mistake::Kind;
 use crate::place::span_in;
 use crate::rows::{Reading, read};
-use crate::shape::{Shape, form_text, near_statement, range_text, shape_of};
+use crate::shape::{Shape, form_text, range_text, shape_of};
 use crate::slices::first;
 use diagnostics::diagnostic::{Help, Span};
 use diagnostics::helps::{by_text, in_words};
@@ -27,6 +30,7 @@ use program_statements::statement::{Instruction, Section, Statement};
 use program_tokens::span::Span as Place;
 use program_tokens::token::{Mark, Token};
 use std::alloc::{AllocError, Global};
+use std::fmt::Write;
 use syntax_tree::item::{Item, LineFaultKind, Said};
 
 /// A text that may be meant, as a question.
@@ -36,77 +40,150 @@ fn meant_text(alloc: Global, text: &str) -> Result<Words, AllocError>
     words!(in alloc; "did you mean {text}?")
 }
 
-/// A text that mends a line.
-fn mending_help(
-    alloc: Global,
-    kind: LineFaultKind,
-    span: Span,
-    text: Words,
-) -> Result<Help, AllocError>
-    ensures { IfOk result (λ help. help ≡ mending_help kind span text) }
+/// Adds some texts, each after an "or".
+fn add_others(text: &mut String, others: &[Words]) -> Result<(), AllocError>
+    ensures { OnOk result (string_bytes text.new
+        ≡ string_bytes text.old ++ flat_map (λ other. codes " or " ++ other) others.now) }
 {
-    let message = match kind {
-        LineFaultKind::Mark => Words::of(alloc, "remove it")?,
-        _ => meant_text(alloc, text.as_str())?,
-    };
-    by_text(alloc, message, span, text)
+    for other in others {
+        write!(text, " or {other}")?;
+    }
+    Ok(())
 }
 
-/// What may stand in a section.
-fn section_help(section: Section) -> &'static str
-    ensures { result.now ≡ section_help section }
+/// The first of some texts, or any other.
+fn either(alloc: Global, first: &Words, others: &[Words]) -> Result<Words, AllocError>
+    ensures { IfOk result (λ words. words ≡ either first.now others.now) }
+{
+    let mut text = String::new(alloc);
+    text.push_str(first.as_str())?;
+    add_others(&mut text, others)?;
+    Ok(Words::new(text))
+}
+
+/// What is said of the one text that mends a line.
+fn mending_text(alloc: Global, text: &str) -> Result<Words, AllocError>
+    ensures { IfOk result (λ words. words ≡ mending_text text.now) }
+{
+    match text.as_bytes() {
+        b" " => Words::of(alloc, "remove it"),
+        [b',', ..] => words!(in alloc; "a comma is missing: write {text}"),
+        _ => meant_text(alloc, text),
+    }
+}
+
+/// Where a word of another section may stand.
+fn move_help(section: Section) -> &'static str
+    ensures { result.now ≡ move_help section }
 {
     match section {
-        Section::Text => "in .text stand instructions and .start, .task, .text, .data and .rodata",
+        Section::Text => "write .data before it and its label, and .text after it",
+        Section::Data | Section::Rodata => "write .text before it and its label",
+    }
+}
+
+/// What may stand in a section, to an author of this word.
+fn section_help(section: Section, word: &[u8]) -> &'static str
+    ensures { result.now ≡ section_help section word.now }
+{
+    if begins_with_digit(word) {
+        return "there are no numbered labels: write a name that begins with a letter or _";
+    }
+    match section {
+        Section::Text => {
+            ".text holds instructions; .start, .task and section lines may stand anywhere"
+        }
         Section::Data | Section::Rodata => {
-            "in .data and .rodata stand .word, .byte and .space, and .start, .task, .text, .data and .rodata"
+            ".data and .rodata hold .word, .byte and .space; .start, .task and section lines may stand anywhere"
         }
     }
 }
 
-/// What to do about a word that begins no statement, or one of another section.
+/// What to do about a word that begins no statement of its section.
 fn word_help(
     alloc: Global,
     section: Section,
     is_ours: bool,
+    may_be_label: bool,
     instead: Option<&'static str>,
-    near: Option<&'static str>,
+    word: &[u8],
 ) -> Result<Words, AllocError>
     ensures { IfOk result (λ words. words
-        ≡ word_help section is_ours (option_map (λ text. text.now) instead.entry) (option_map (λ text. text.now) near.entry)) }
+        ≡ word_help section is_ours may_be_label (option_map (λ text. text.now) instead.entry) word.now) }
 {
     if is_ours {
-        return Words::of(alloc, section_help(section));
+        return Words::of(alloc, move_help(section));
     }
-    match instead {
-        Some(text) => Words::of(alloc, text),
-        None => match near {
-            Some(near) => meant_text(alloc, near),
-            None => Words::of(alloc, section_help(section)),
+    if let Some(text) = instead {
+        return Words::of(alloc, text);
+    }
+    if may_be_label {
+        let word = as_shown(alloc, word)?;
+        return words!(in alloc; "if this is to be a label, write {word}: with a colon");
+    }
+    Words::of(alloc, section_help(section, word))
+}
+
+/// What to do about what is no token.
+fn token_words(word: Option<&'static str>, meant: Option<&'static str>, first: u8) -> &'static str
+    ensures { result.now
+        ≡ token_words (option_map (λ text. text.now) word.entry) (option_map (λ text. text.now) meant.entry) first }
+{
+    match word {
+        Some(text) => text,
+        None => match meant {
+            Some(text) => text,
+            None => token_help(first),
         },
     }
 }
 
-/// What to do about what is no token.
-fn token_words(instead: Option<&'static str>, first: u8) -> &'static str
-    ensures { result.now ≡ token_words (option_map (λ text. text.now) instead.entry) first }
+/// What to do about a second `!f`, or a second stop.
+fn stop_words(mark: Option<&Token>) -> &'static str
+    ensures { result.now ≡ stop_words (option_copied mark.entry) }
 {
-    if let Some(text) = instead {
-        return text;
+    match mark {
+        Some(Token::Mark(Mark::Forward)) => "write !f once",
+        _ => "keep one stop: !s stops always, !st if the branch is taken, !sn if it is not",
     }
-    if first == b'!' {
-        return "a mark is !f, !s, !st or !sn, in small letters";
+}
+
+/// What to do about a mark.
+fn mark_words(
+    on_directive: bool,
+    is_none: bool,
+    instead: Option<&'static str>,
+    mark: Option<&Token>,
+) -> &'static str
+    ensures { result.now
+        ≡ mark_words on_directive is_none (option_map (λ text. text.now) instead.entry) (option_copied mark.entry) }
+{
+    if on_directive {
+        return "remove it: an instruction alone has marks";
     }
-    if first == b'"' {
-        return "a text has no strings: write .byte with the numbers of the letters";
+    if !is_none {
+        return stop_words(mark);
     }
-    if first == b'\'' {
-        return "a text has no letters in quotation marks: write the number of the letter";
+    match instead {
+        Some(text) => text,
+        None => {
+            "the marks are !f (forward), !s (stop), !st (stop if taken) and !sn (stop if not taken)"
+        }
     }
-    if first == b';' || first == b'/' {
-        return "a comment begins with #";
+}
+
+/// What to do about an operand that does not fit.
+fn operand_words(alloc: Global, word: &[u8], meant: &[u8]) -> Result<Words, AllocError>
+    ensures { IfOk result (λ words. words ≡ operand_words word.now meant.now) }
+{
+    let form = form_text(shape_named(word));
+    match operand_instead(word, form, meant) {
+        Some(text) => Words::of(alloc, text),
+        None => {
+            let word = as_shown(alloc, word)?;
+            words!(in alloc; "write it as in {word}{form}")
+        }
     }
-    token_help(first)
 }
 
 /// The range of a number.
@@ -132,42 +209,54 @@ fn line_words(
     ensures { IfOk result (λ words. words ≡ line_words kind section line.now reading.now place) }
 {
     let word = word_in(line, reading);
-    let shape = shape_named(word);
+    let meant = bytes_at(line, place);
     let tokens = reading.tokens.as_slice();
     match kind {
-        LineFaultKind::NotAscii => {
-            Words::of(
-                alloc,
-                "a text has printable ASCII characters, blanks and tabs",
-            )
-        }
+        LineFaultKind::NotAscii => Words::of(alloc, byte_help(byte_at(line, place))),
         LineFaultKind::Token => {
-            Words::of(alloc, token_words(instead(word), byte_at(line, place)))
+            let first = byte_at(line, place);
+            Words::of(alloc, token_words(instead(word), instead(meant), first))
         }
         LineFaultKind::Mnemonic => {
-            let word = bytes_at(line, place);
-            let is_ours = shape_of(word).is_some();
-            word_help(alloc, section, is_ours, instead(word), near_statement(word))
+            let is_ours = shape_of(meant).is_some();
+            let labelled = may_be_label(alloc, section, line, place)?;
+            word_help(alloc, section, is_ours, labelled, instead(meant), meant)
         }
-        LineFaultKind::Operand => {
-            let word = as_shown(alloc, word)?;
-            let form = form_text(shape);
-            words!(in alloc; "the form is {word}{form}")
-        }
+        LineFaultKind::Operand => operand_words(alloc, word, meant),
         LineFaultKind::Number => {
+            let shape = shape_named(word);
             let number = tokens.get(number_index(shape, tokens));
             Words::of(alloc, number_help(number, shape))
         }
         LineFaultKind::Mark => {
+            let mark = tokens.get(mark_index(tokens));
+            let other = instead(meant);
             Words::of(
                 alloc,
-                "an instruction may have !f, and one of !s, !st and !sn",
+                mark_words(is_directive(tokens), is_no_mark(mark), other, mark),
             )
         }
     }
 }
 
-/// What to do about a line that cannot be read: a text that mends it, if one is known, else words.
+/// What to do about a line that some texts mend: the text, if it is one alone; if none does, words.
+fn help_by(alloc: Global, words: Words, span: Span, mended: &[Words]) -> Result<Help, AllocError>
+    ensures { IfOk result (λ help. help ≡ help_by words span mended.now) }
+{
+    match mended {
+        [] => Ok(in_words(alloc, words)),
+        [text] => {
+            let message = mending_text(alloc, text.as_str())?;
+            by_text(alloc, message, span, Words::of(alloc, text.as_str())?)
+        }
+        [first, others @ ..] => {
+            let either = either(alloc, first, others)?;
+            Ok(in_words(alloc, meant_text(alloc, either.as_str())?))
+        }
+    }
+}
+
+/// What to do about a line that cannot be read.
 pub(crate) fn line_help(
     alloc: Global,
     kind: LineFaultKind,
@@ -179,13 +268,9 @@ pub(crate) fn line_help(
 ) -> Result<Help, AllocError>
     ensures { IfOk result (λ help. help ≡ line_help kind number section line.now reading.now place) }
 {
-    match mended(alloc, kind, section, line, place)? {
-        Some(text) => mending_help(alloc, kind, span_in(number, place), text),
-        None => {
-            let words = line_words(alloc, kind, section, line, reading, place)?;
-            Ok(in_words(alloc, words))
-        }
-    }
+    let words = line_words(alloc, kind, section, line, reading, place)?;
+    let texts = mended(alloc, kind, section, line, place)?;
+    help_by(alloc, words, span_in(number, place), &texts)
 }
 
 /// Whether a token is a stop, or the mark `!f`.
@@ -231,12 +316,19 @@ fn is_code(section: Section) -> bool
     matches!(section, Section::Text)
 }
 
+/// Whether two names are the same but for capitals.
+fn has_letters(name: &[u8], other: &[u8]) -> bool
+    ensures { result ≡ bytes_eq (str_to_ascii_lowercase name.now) (str_to_ascii_lowercase other.now) }
+{
+    name.eq_ignore_ascii_case(other)
+}
+
 /// Whether it is a label near to a name.
 fn is_near_said(name: &[u8], said: &Said) -> bool
     ensures { result ≡ is_near_said name.now said.now }
 {
     match said {
-        Said::Label(label) => is_near(name, label.bytes()),
+        Said::Label(label) => is_near(name, label.bytes()) || has_letters(name, label.bytes()),
         _ => false,
     }
 }
@@ -308,7 +400,7 @@ fn item_words(kind: Kind) -> &'static str
     ensures { result.now ≡ item_words kind }
 {
     match kind {
-        Kind::LabelTwice => "give one of them another name",
+        Kind::LabelTwice => "give this one another name, and write it in the lines that mean it",
         Kind::TaskTwice => "remove one of them, or give it another name",
         Kind::StartTwice => "remove one of them",
         Kind::Passes(_) => {
@@ -319,7 +411,7 @@ fn item_words(kind: Kind) -> &'static str
         Kind::NoInstruction => "write an instruction after the label",
         Kind::SameEntry => "remove one of the tasks, or write an instruction between their labels",
         Kind::NoTaskThere => {
-            ".start names a task; without it the program starts at its first instruction"
+            "add a line for the task that begins there, such as .task A create=$8 targets=A,B"
         }
         _ => "",
     }

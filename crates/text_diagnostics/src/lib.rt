@@ -4,6 +4,7 @@
 
 mod bytes;
 mod candidates;
+mod foreign_words;
 mod form;
 mod help;
 mod known;
@@ -17,5 +18,6 @@ mod mistakes;
 mod place;
 pub mod refusal;
 mod rows;
+mod section;
 mod shape;
 mod slices;

@@ -23,7 +23,7 @@ fn is_label(line: &[u8], name: Span, colon: Span) -> bool
 }
 
 /// Where the first word of a line's statement stands, after its labels.
-fn word_place(line: &[u8], places: &[Span]) -> Span
+pub(crate) fn word_place(line: &[u8], places: &[Span]) -> Span
     ensures { result ≡ word_place line.now places.now }
 {
     let mut rest = places;

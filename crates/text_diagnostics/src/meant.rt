@@ -162,7 +162,7 @@ fn bad_mark(tokens: &[Token]) -> usize
 }
 
 /// Whether the statement is a directive.
-fn is_directive(tokens: &[Token]) -> bool
+pub(crate) fn is_directive(tokens: &[Token]) -> bool
     ensures { result ≡ is_directive tokens.now }
 {
     match after(tokens, label_tokens(tokens)) {

@@ -1,25 +1,20 @@
 //! Which texts mend a line, in place of what is wrong in it.
 
-ghost use Rattle.std.specs.Prelude.{◌≡◌, is_ok, find, map as each, IfOk};
-ghost use Rattle.std.specs.Option.{option_map};
-ghost use Rattle.program_statements.specs.Statements.{statement_of};
-ghost use Rattle.text_diagnostics.specs.Meant.{label_tokens};
-ghost use Rattle.text_diagnostics.specs.Mending.{replaced, reads, goes_further, taken_by, mends, mended};
+ghost use Rattle.std.specs.Prelude.{◌≡◌, filter, map as each, IfOk};
+ghost use Rattle.diagnostics.specs.Quotations.{as_shown};
+ghost use Rattle.text_diagnostics.specs.Mending.{replaced, goes_further, taken_by, mends, mended, may_be_label};
 
 use crate::bytes::bytes_at;
 use crate::candidates::candidates;
 use crate::line_place::{shape_named, word_in};
-use crate::meant::{label_tokens, operand_span};
+use crate::meant::operand_span;
 use crate::rows::read;
+use crate::section::reads;
 use crate::slices::{after, first};
 use diagnostics::quotation::as_shown;
 use diagnostics::words::Words;
-use program_statements::fault::StatementError;
-use program_statements::line::statement_of;
 use program_statements::statement::Section;
-use program_tokens::line::line_tokens;
 use program_tokens::span::Span;
-use program_tokens::token::{Token, TokenFault};
 use std::alloc::{AllocError, Global};
 use syntax_tree::item::LineFaultKind;
 
@@ -32,29 +27,6 @@ fn replaced(alloc: Global, line: &[u8], place: Span, text: &[u8]) -> Result<Vec<
     bytes.extend_from_slice(text)?;
     bytes.extend_from_slice(after(after(line, before), place.len))?;
     Ok(bytes)
-}
-
-/// Whether tokens are a statement of a section.
-fn is_statement(alloc: Global, section: Section, tokens: &[Token]) -> Result<bool, AllocError>
-    ensures { IfOk result (λ yes. yes ≡ is_ok (statement_of section tokens.now)) }
-{
-    match statement_of(alloc, section, tokens) {
-        Ok(_) => Ok(true),
-        Err(StatementError::Fault(_)) => Ok(false),
-        Err(StatementError::OutOfMemory) => Err(AllocError),
-    }
-}
-
-/// Whether a line can be read in a section.
-#[tactic(auto, unfolding(crate::specs::Mending::reads))]
-fn reads(alloc: Global, section: Section, line: &[u8]) -> Result<bool, AllocError>
-    ensures { IfOk result (λ yes. yes ≡ reads section line.now) }
-{
-    match line_tokens(alloc, line) {
-        Ok(tokens) => is_statement(alloc, section, &tokens[label_tokens(&tokens)..]),
-        Err(TokenFault::NotAscii | TokenFault::Token) => Ok(false),
-        Err(TokenFault::OutOfMemory) => Err(AllocError),
-    }
 }
 
 /// Whether the first token of a line that is no operand stands after a part of it.
@@ -94,32 +66,35 @@ fn mends(
         return Ok(true);
     }
     match kind {
-        LineFaultKind::Operand => goes_further(alloc, taken_by(place, text), &mended),
+        LineFaultKind::Operand if text != " ".as_bytes() => {
+            goes_further(alloc, taken_by(place, text), &mended)
+        }
         _ => Ok(false),
     }
 }
 
-/// The first of some texts that mends a line.
-fn first_mending<'a>(
+/// Those of some texts that mend a line, as they are shown.
+fn mending(
     alloc: Global,
     kind: LineFaultKind,
     section: Section,
     line: &[u8],
     place: Span,
-    texts: &'a [Vec<u8>],
-) -> Result<Option<&'a Vec<u8>>, AllocError>
-    ensures { IfOk result (λ text. option_map (λ text. text.now.items) text
-        ≡ find (mends kind section line.now place) (each (λ text. text.items) texts.now)) }
+    texts: &[Vec<u8>],
+) -> Result<Vec<Words>, AllocError>
+    ensures { IfOk result (λ list. list.items
+        ≡ each as_shown (filter (mends kind section line.now place) (each (λ text. text.items) texts.now))) }
 {
+    let mut list = Vec::new(alloc);
     for text in texts {
         if mends(alloc, kind, section, line, place, text)? {
-            return Ok(Some(text));
+            list.push(as_shown(alloc, text)?)?;
         }
     }
-    Ok(None)
+    Ok(list)
 }
 
-/// The first text that mends a line, in place of what is wrong in it, if one is known, as it is shown.
+/// The texts that mend a line, in place of what is wrong in it, as they are shown.
 #[tactic(auto, unfolding(crate::specs::Mending::mended))]
 pub(crate) fn mended(
     alloc: Global,
@@ -127,12 +102,24 @@ pub(crate) fn mended(
     section: Section,
     line: &[u8],
     place: Span,
-) -> Result<Option<Words>, AllocError>
-    ensures { IfOk result (λ text. text ≡ mended kind section line.now place) }
+) -> Result<Vec<Words>, AllocError>
+    ensures { IfOk result (λ list. list.items ≡ mended kind section line.now place) }
 {
     let texts = candidates(alloc, kind, bytes_at(line, place))?;
-    match first_mending(alloc, kind, section, line, place, &texts)? {
-        Some(text) => Ok(Some(as_shown(alloc, text)?)),
-        None => Ok(None),
-    }
+    mending(alloc, kind, section, line, place, &texts)
+}
+
+/// Whether a word may be a label that lacks its colon.
+#[tactic(auto, unfolding(crate::specs::Mending::may_be_label))]
+pub(crate) fn may_be_label(
+    alloc: Global,
+    section: Section,
+    line: &[u8],
+    place: Span,
+) -> Result<bool, AllocError>
+    ensures { IfOk result (λ yes. yes ≡ may_be_label section line.now place) }
+{
+    let mut label = bytes_at(line, place).to_vec(alloc)?;
+    label.push(b':')?;
+    reads(alloc, section, &replaced(alloc, line, place, &label)?)
 }

@@ -3,19 +3,18 @@
 ghost use Rattle.std.specs.Prelude.{◌≡◌, is_some, IfOk};
 ghost use Rattle.std.specs.Option.{option_copied};
 ghost use Rattle.diagnostics.specs.Quotations.{quoted};
-ghost use Rattle.text_diagnostics.specs.Candidates.{instead};
-ghost use Rattle.text_diagnostics.specs.Messages.{mnemonic_message, operand_message, is_no_mark, mark_message, line_message, nameless_message, item_message};
+ghost use Rattle.text_diagnostics.specs.Messages.{mnemonic_message, token_message, operand_message, is_no_mark, second_message, mark_message, line_message, nameless_message, item_message};
 
 use crate::bytes::{byte_at, bytes_at};
-use crate::candidates::instead;
 use crate::line_place::word_in;
-use crate::meant::mark_index;
+use crate::meant::{is_directive, mark_index};
 use crate::mistake::Kind;
 use crate::rows::Reading;
 use crate::shape::shape_of;
 use diagnostics::quotation::quoted;
 use diagnostics::words;
 use diagnostics::words::Words;
+use program_statements::statement::Section;
 use program_tokens::span::Span;
 use program_tokens::token::{Mark, Token};
 use std::alloc::{AllocError, Global};
@@ -23,22 +22,36 @@ use syntax_tree::item::LineFaultKind;
 use syntax_tree::unknown_names::UsedAs;
 use syntax_tree::whole_faults::Limit;
 
-/// Of a word that begins no statement here: one of another section, of other assemblers, or any other.
+/// Of a word that begins no statement here: one of another section, or any other.
 fn mnemonic_message(
     alloc: Global,
-    ours: bool,
-    theirs: bool,
+    section: Section,
+    is_ours: bool,
     word: &Words,
 ) -> Result<Words, AllocError>
-    ensures { IfOk result (λ words. words ≡ mnemonic_message ours theirs word.now) }
+    ensures { IfOk result (λ words. words ≡ mnemonic_message section is_ours word.now) }
 {
-    if ours {
-        return words!(in alloc; "{word} cannot stand in this section");
+    if !is_ours {
+        return words!(in alloc; "there is no instruction or directive {word}");
     }
-    if theirs {
-        return words!(in alloc; "{word} is not in this profile");
+    match section {
+        Section::Text => words!(in alloc; ".text cannot hold {word}"),
+        Section::Data => words!(in alloc; ".data cannot hold {word}"),
+        Section::Rodata => words!(in alloc; ".rodata cannot hold {word}"),
     }
-    words!(in alloc; "there is no instruction or directive {word}")
+}
+
+/// Of what forms no token, by its first byte.
+fn token_message(alloc: Global, first: u8, meant: &Words) -> Result<Words, AllocError>
+    ensures { IfOk result (λ words. words ≡ token_message first meant.now) }
+{
+    if first == b'$' {
+        return words!(in alloc; "there is no register {meant}");
+    }
+    if first == b'!' {
+        return words!(in alloc; "there is no mark {meant}");
+    }
+    words!(in alloc; "this is not a name, a register or a number: {meant}")
 }
 
 /// Of operands of a word: that they end, or that this is none.
@@ -58,20 +71,39 @@ fn operand_message(
 }
 
 /// Whether a token is a mark that there is not.
-fn is_no_mark(mark: Option<&Token>) -> bool
+pub(crate) fn is_no_mark(mark: Option<&Token>) -> bool
     ensures { result ≡ is_no_mark (option_copied mark.entry) }
 {
     matches!(mark, Some(Token::Mark(Mark::Unknown)))
 }
 
-/// Of a mark that cannot stand where it does.
-fn mark_message(alloc: Global, is_none: bool, meant: &Words) -> Result<Words, AllocError>
-    ensures { IfOk result (λ words. words ≡ mark_message is_none meant.now) }
+/// Of a second `!f`, or a second stop.
+fn second_message(alloc: Global, mark: Option<&Token>, meant: &Words) -> Result<Words, AllocError>
+    ensures { IfOk result (λ words. words ≡ second_message (option_copied mark.entry) meant.now) }
 {
+    match mark {
+        Some(Token::Mark(Mark::Forward)) => words!(in alloc; "the line has a second {meant}"),
+        _ => words!(in alloc; "the line has a second stop, {meant}"),
+    }
+}
+
+/// Of a mark that cannot stand where it does.
+fn mark_message(
+    alloc: Global,
+    on_directive: bool,
+    is_none: bool,
+    mark: Option<&Token>,
+    meant: &Words,
+) -> Result<Words, AllocError>
+    ensures { IfOk result (λ words. words ≡ mark_message on_directive is_none (option_copied mark.entry) meant.now) }
+{
+    if on_directive {
+        return words!(in alloc; "a directive cannot have the mark {meant}");
+    }
     if is_none {
         return words!(in alloc; "there is no mark {meant}");
     }
-    words!(in alloc; "the mark {meant} cannot stand here")
+    second_message(alloc, mark, meant)
 }
 
 /// Of a line that cannot be read.
@@ -79,11 +111,12 @@ fn mark_message(alloc: Global, is_none: bool, meant: &Words) -> Result<Words, Al
 pub(crate) fn line_message(
     alloc: Global,
     kind: LineFaultKind,
+    section: Section,
     line: &[u8],
     reading: &Reading,
     place: Span,
 ) -> Result<Words, AllocError>
-    ensures { IfOk result (λ words. words ≡ line_message kind line.now reading.now place) }
+    ensures { IfOk result (λ words. words ≡ line_message kind section line.now reading.now place) }
 {
     let bytes = bytes_at(line, place);
     let tokens = reading.tokens.as_slice();
@@ -93,14 +126,9 @@ pub(crate) fn line_message(
             let byte = byte_at(line, place);
             words!(in alloc; "a program text cannot have the byte {byte}")
         }
-        LineFaultKind::Token => words!(in alloc; "{meant} is no token"),
+        LineFaultKind::Token => token_message(alloc, byte_at(line, place), &meant),
         LineFaultKind::Mnemonic => {
-            mnemonic_message(
-                alloc,
-                shape_of(bytes).is_some(),
-                instead(bytes).is_some(),
-                &meant,
-            )
+            mnemonic_message(alloc, section, shape_of(bytes).is_some(), &meant)
         }
         LineFaultKind::Operand => {
             let word = quoted(alloc, word_in(line, reading))?;
@@ -108,8 +136,9 @@ pub(crate) fn line_message(
         }
         LineFaultKind::Number => words!(in alloc; "{meant} is out of its range"),
         LineFaultKind::Mark => {
-            mark_message(alloc, is_no_mark(tokens.get(mark_index(tokens))), &meant)
-        },
+            let mark = tokens.get(mark_index(tokens));
+            mark_message(alloc, is_directive(tokens), is_no_mark(mark), mark, &meant)
+        }
     }
 }
 
@@ -118,16 +147,16 @@ fn nameless_message(kind: Kind) -> &'static str
     ensures { result.now ≡ nameless_message kind }
 {
     match kind {
-        Kind::StartTwice => ".start stands a second time",
+        Kind::StartTwice => "the start is defined a second time",
         Kind::Passes(Limit::Code) => "the program has more than 4096 instructions",
         Kind::Passes(Limit::Bytes) => "the program has more than 65536 bytes of .data",
         Kind::Passes(Limit::Fixed) => "the program has more than 65536 bytes of .rodata",
         Kind::Passes(Limit::Tasks) => "the program has more than 1024 tasks",
         Kind::Passes(Limit::Targets) => "the task has more than 16 targets",
         Kind::CreatesZero => "a create mask has $0, which nothing writes",
-        Kind::UnfitForward => "!f stands on an instruction that writes no register",
-        Kind::StopOnHalt => "a stop stands on halt, which ends the program",
-        Kind::OneSidedStop => "!st or !sn stands on an instruction that is no conditional branch",
+        Kind::UnfitForward => "!f is on an instruction that writes no register",
+        Kind::StopOnHalt => "a stop is on halt, which ends the program",
+        Kind::OneSidedStop => "!st or !sn is on an instruction that is no conditional branch",
         Kind::ReleasesZero => "a release names $0, which is always 0",
         Kind::NoTaskThere => "the program starts where no task begins",
         _ => "",
@@ -140,12 +169,12 @@ pub(crate) fn item_message(alloc: Global, kind: Kind, name: &Words) -> Result<Wo
     ensures { IfOk result (λ words. words ≡ item_message kind name.now) }
 {
     match kind {
-        Kind::LabelTwice => words!(in alloc; "the label {name} stands a second time"),
-        Kind::TaskTwice => words!(in alloc; "the task {name} stands a second time"),
+        Kind::LabelTwice => words!(in alloc; "the label {name} is defined a second time"),
+        Kind::TaskTwice => words!(in alloc; "the task {name} is defined a second time"),
         Kind::NoLabel(UsedAs::Task) => words!(in alloc; "there is no label for the task {name}"),
         Kind::NoLabel(_) => words!(in alloc; "there is no label {name}"),
         Kind::DataLabel(UsedAs::Operand) => {
-            words!(in alloc; "{name} is a label of data, where no instruction stands")
+            words!(in alloc; "{name} is a label of data, where there is no instruction")
         }
         Kind::DataLabel(_) => words!(in alloc; "{name} is a label of data, where no task begins"),
         Kind::NoInstruction => {

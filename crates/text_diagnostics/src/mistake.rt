@@ -1,5 +1,6 @@
 //! What is wrong with an item of a text.
 
+use program_statements::statement::Section;
 use syntax_tree::item::LineFaultKind;
 use syntax_tree::unknown_names::UsedAs;
 use syntax_tree::whole_faults::Limit;
@@ -7,8 +8,8 @@ use syntax_tree::whole_faults::Limit;
 /// What is wrong with an item of a text.
 #[derive(Clone, Copy, Debug, PartialEq, Eq)]
 pub(crate) enum Kind {
-    /// Its line cannot be read.
-    Line(LineFaultKind),
+    /// Its line cannot be read in this section.
+    Line(LineFaultKind, Section),
     /// It is a label of a name that another has.
     LabelTwice,
     /// It is a task of a name that another has.

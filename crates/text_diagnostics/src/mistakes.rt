@@ -2,10 +2,12 @@
 
 ghost use Rattle.std.specs.Prelude.{◌≡◌, ◌++◌, map as each, find, slice_get, OnOk, IfOk};
 ghost use Rattle.std.specs.Option.{option_copied};
-ghost use Rattle.text_diagnostics.specs.Mistakes.{line_kind, twice_kind, twice, limit_kind, unknown_kind, unknown_mistake, unknown_mistakes, zero_kind, writes, is_branch, is_halt, releases_zero, is_stop, is_one_sided, unfit, unfit_kind, entry_of, first_at, beside, entry_by, bad_entry, code_before, label_index, is_first, start_index, start_by, start_kind, alone, with_other, name_mistakes, fit_mistakes, item_mistakes, mistakes};
+ghost use Rattle.text_diagnostics.specs.Mistakes.{twice_kind, twice, limit_kind, unknown_kind, unknown_mistake, unknown_mistakes, zero_kind, writes, is_branch, is_halt, releases_zero, is_stop, is_one_sided, unfit, unfit_kind, entry_of, first_at, beside, entry_by, bad_entry, code_before, label_index, is_first, start_index, start_by, start_kind, alone, with_other, name_mistakes, fit_mistakes, item_mistakes, mistakes};
 
 use crate::known::Known;
 use crate::mistake::{Kind, Mistake};
+use crate::rows::line_at;
+use crate::section::{line_kind, meant_after};
 use mips_instructions::instruction::Op;
 use program_statements::statement::{Instruction, Marks, Statement};
 use std::alloc::{AllocError, Global};
@@ -15,16 +17,6 @@ use syntax_tree::unknown_names::{UnknownName, UsedAs, is_code_label, unknown_nam
 use syntax_tree::whole_faults::{TaskEntry, creates_zero, limit_passed};
 use task_descriptor::descriptor::Stop;
 use task_descriptor::marks::has_member;
-
-/// Why its line cannot be read.
-fn line_kind(said: &Said) -> Option<Kind>
-    ensures { result ≡ line_kind said.now }
-{
-    match said {
-        Said::Fault(kind) => Some(Kind::Line(*kind)),
-        _ => None,
-    }
-}
 
 /// What stands a second time.
 fn twice_kind(said: &Said) -> Kind
@@ -349,10 +341,11 @@ fn add_name_mistakes(
     known: &Known,
     number: usize,
     item: &Item,
+    line: Option<Kind>,
 ) -> Result<(), AllocError>
-    ensures { OnOk result (found.new.items ≡ found.old.items ++ name_mistakes items.now known.now number item.now) }
+    ensures { OnOk result (found.new.items ≡ found.old.items ++ name_mistakes items.now known.now number item.now line) }
 {
-    add_alone(found, number, line_kind(&item.said))?;
+    add_alone(found, number, line)?;
     add_with_other(found, number, twice(known, number, &item.said))?;
     add_alone(found, number, limit_kind(known, number, item))?;
     add_unknown(alloc, found, items, known, number, &item.said)
@@ -383,25 +376,31 @@ fn add_item_mistakes(
     known: &Known,
     number: usize,
     item: &Item,
+    line: Option<Kind>,
 ) -> Result<(), AllocError>
-    ensures { OnOk result (found.new.items ≡ found.old.items ++ item_mistakes items.now known.now number item.now) }
+    ensures { OnOk result (found.new.items ≡ found.old.items ++ item_mistakes items.now known.now number item.now line) }
 {
-    add_name_mistakes(alloc, found, items, known, number, item)?;
+    add_name_mistakes(alloc, found, items, known, number, item, line)?;
     add_fit_mistakes(found, items, known, number, &item.said)
 }
 
-/// What is wrong with each item of a text, in the order of the items.
+/// What is wrong with each item of a text of these lines, in the order of the items.
 #[tactic(auto, unfolding(crate::specs::Mistakes::mistakes))]
 pub(crate) fn mistakes(
     alloc: Global,
+    rows: &[&[u8]],
     items: &[Item],
     known: &Known,
 ) -> Result<Vec<Mistake>, AllocError>
-    ensures { IfOk result (λ found. found.items ≡ mistakes items.now known.now) }
+    ensures { IfOk result (λ found. found.items ≡ mistakes (each (λ row. row.now) rows.now) items.now known.now) }
 {
     let mut found = Vec::new(alloc);
+    let mut meant = None;
     for (number, item) in items.iter().enumerate() {
-        add_item_mistakes(alloc, &mut found, items, known, number, item)?;
+        let line = line_at(rows, item.line);
+        let wrong = line_kind(alloc, meant, line, item)?;
+        meant = meant_after(alloc, meant, line, wrong, item)?;
+        add_item_mistakes(alloc, &mut found, items, known, number, item, wrong)?;
     }
     Ok(found)
 }

@@ -58,10 +58,10 @@ fn note_text(kind: Kind) -> &'static str
     ensures { result.now ≡ note_text kind }
 {
     match kind {
-        Kind::DataLabel(_) => "the label stands here",
-        Kind::NoInstruction => "its label stands here, with no instruction after it",
+        Kind::DataLabel(_) => "the label is here",
+        Kind::NoInstruction => "its label is here, with no instruction after it",
         Kind::SameEntry => "this task begins there, too",
-        _ => "it stands here first",
+        _ => "it is first defined here",
     }
 }
 
@@ -121,7 +121,7 @@ fn line_diagnostic(
 {
     let reading = read(alloc, line)?;
     let place = line_place(alloc, kind, line, &reading)?;
-    let message = line_message(alloc, kind, line, &reading, place)?;
+    let message = line_message(alloc, kind, section, line, &reading, place)?;
     let help = line_help(alloc, kind, number, section, line, &reading, place)?;
     let span = span_in(number, place);
     let notes = Listed::new(Vec::new(alloc));
@@ -162,7 +162,7 @@ fn diagnostic_by(
     ensures { IfOk result (λ said. said ≡ diagnostic_by mistake.now.kind items.now mistake.now item.now line.now) }
 {
     match mistake.kind {
-        Kind::Line(kind) => line_diagnostic(alloc, kind, item.line, item.section, line),
+        Kind::Line(kind, section) => line_diagnostic(alloc, kind, item.line, section, line),
         _ => item_diagnostic(alloc, items, mistake, item, line),
     }
 }
@@ -363,7 +363,7 @@ fn told(alloc: Global, text: &[u8], items: &[Item]) -> Result<Vec<Diagnostic>, A
 {
     let rows = lines_of(alloc, text)?;
     let known = known_in(alloc, items)?;
-    let found = mistakes(alloc, items, &known)?;
+    let found = mistakes(alloc, &rows, items, &known)?;
     told_of(alloc, &rows, items, &known, &found)
 }
 

@@ -60,7 +60,7 @@ fn tokens_of(alloc: Global, line: &[u8]) -> Result<Vec<Token>, AllocError>
 }
 
 /// Where the tokens of a line stand.
-fn places_of(alloc: Global, line: &[u8]) -> Result<Vec<Span>, AllocError>
+pub(crate) fn places_of(alloc: Global, line: &[u8]) -> Result<Vec<Span>, AllocError>
     ensures { IfOk result (λ places. places.items ≡ line_spans line.now) }
 {
     let mut places = Vec::new(alloc);

@@ -1,12 +1,9 @@
 //! What operands each statement takes.
 
-ghost use Rattle.std.specs.Prelude.{◌≡◌, map, option_map};
-ghost use Rattle.mips_instructions.specs.InstructionTable.{word_of};
-ghost use Rattle.text_diagnostics.specs.Shapes.{shape_in, shape_of, near_statement, instruction_text, form_text, range_of, range_text};
-ghost use Rattle.near_words.specs.Near.{nearest};
+ghost use Rattle.std.specs.Prelude.{◌≡◌, map};
+ghost use Rattle.text_diagnostics.specs.Shapes.{shape_in, shape_of, instruction_text, form_text, range_of, range_text};
 
-use mips_instructions::instruction::{Form, MNEMONICS, Mnemonic};
-use near_words::is_near;
+use mips_instructions::instruction::{Form, Mnemonic};
 
 /// What the operands of a statement are.
 #[derive(Clone, Copy, Debug, PartialEq, Eq)]
@@ -37,7 +34,7 @@ pub(crate) struct Range {
 }
 
 /// Every directive, with what operands follow it.
-const DIRECTIVES: [(&str, Shape); 8] = [
+pub(crate) const DIRECTIVES: [(&str, Shape); 8] = [
     (".start", Shape::Start),
     (".task", Shape::Task),
     (".text", Shape::Nothing),
@@ -71,81 +68,35 @@ pub(crate) fn shape_of(word: &[u8]) -> Option<Shape>
     }
 }
 
-/// The first mnemonic that is near.
-fn near_mnemonic(mnemonics: &[Mnemonic], word: &[u8]) -> Option<&'static str>
-    ensures { option_map (λ near. near.now) result ≡ nearest word.now (map word_of mnemonics.now) }
-{
-    for mnemonic in mnemonics {
-        if is_near(word, mnemonic.word().as_bytes()) {
-            return Some(mnemonic.word());
-        }
-    }
-    None
-}
-
-/// The first word of a table that is near.
-fn near_in(rows: &[(&'static str, Shape)], word: &[u8]) -> Option<&'static str>
-    ensures { option_map (λ near. near.now) result ≡ nearest word.now (map (λ row. row.0.now) rows.now) }
-{
-    for (name, shape) in rows {
-        if is_near(word, name.as_bytes()) {
-            return Some(*name);
-        }
-    }
-    None
-}
-
-/// The word that begins a statement and is near to this one, if there is one; the first where there are
-/// several, the mnemonics before the directives. To a word of one letter none is.
-#[tactic(auto, unfolding(crate::specs::Shapes::near_statement))]
-pub(crate) fn near_statement(word: &[u8]) -> Option<&'static str>
-    ensures { option_map (λ near. near.now) result ≡ near_statement word.now }
-{
-    if word.len() < 2 {
-        return None;
-    }
-    match near_mnemonic(&MNEMONICS, word) {
-        Some(near) => Some(near),
-        None => near_in(&DIRECTIVES, word),
-    }
-}
-
-/// The operands of an instruction.
+/// Operands of an instruction, as they may stand after its word.
 fn instruction_text(form: Form) -> &'static str
     ensures { result.now ≡ instruction_text form }
 {
     match form {
-        Form::Three => " rd,rs,rt",
-        Form::ShiftBy => " rd,rt,n",
-        Form::ShiftVar => " rd,rt,rs",
-        Form::Signed | Form::Unsigned => " rt,rs,n",
-        Form::Upper => " rt,n",
-        Form::Sources => " rs,rt",
-        Form::Dest => " rd",
-        Form::Source => " rs",
-        Form::Memory => " rt,n(base)",
-        Form::BranchTwo => " rs,rt,T",
-        Form::BranchOne => " rs,T",
-        Form::Jump => " T",
-        Form::DestSource => " rd,rs",
-        Form::Registers => " r,r,..",
+        Form::Three | Form::ShiftVar => " $8,$9,$10",
+        Form::ShiftBy | Form::Signed | Form::Unsigned => " $8,$9,4",
+        Form::Upper | Form::LoadImmediate => " $8,4",
+        Form::Sources | Form::DestSource | Form::Registers => " $8,$9",
+        Form::Dest | Form::Source => " $8",
+        Form::Memory => " $8,4($9)",
+        Form::BranchTwo => " $8,$9,LABEL",
+        Form::BranchOne | Form::LoadAddress => " $8,LABEL",
+        Form::Jump => " LABEL",
         Form::Nothing => "",
-        Form::LoadImmediate => " rd,n",
-        Form::LoadAddress => " rd,NAME",
     }
 }
 
-/// The operands, as they are written after the word and a blank; nothing where there are none.
+/// Operands as they may stand after the word, with the blank before them; nothing where there are none.
 pub(crate) fn form_text(shape: Shape) -> &'static str
     ensures { result.now ≡ form_text shape }
 {
     match shape {
         Shape::Instruction(form) => instruction_text(form),
         Shape::Nothing => "",
-        Shape::Start => " NAME",
-        Shape::Task => " NAME create=REGS targets=TS",
-        Shape::Words | Shape::Bytes => " n,..",
-        Shape::Space => " n",
+        Shape::Start => " A",
+        Shape::Task => " A create=$8,$9 targets=A,B",
+        Shape::Words | Shape::Bytes => " 1,2",
+        Shape::Space => " 4",
     }
 }
 

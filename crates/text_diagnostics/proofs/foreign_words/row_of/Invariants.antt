@@ -1,7 +1,7 @@
 -- The word is looked up in the rows that are left.
 use Rattle.std.proofs.Common.{◌≡◌, drop, map}
-use Rattle.text_diagnostics.specs.Candidates.{row_of}
-use Rattle.text_diagnostics.proofs.candidates.row_of.Given as goal
+use Rattle.text_diagnostics.specs.ForeignWords.{row_of}
+use Rattle.text_diagnostics.proofs.foreign_words.row_of.Given as goal
 
 abbrev pub invariant-loop-name : goal.invariant-loop-name
 invariant-loop-name l =
