@@ -14,8 +14,7 @@ fn a_task_given_up(rt: HostRuntime) {
         Event::Drop(1),
         Event::Drop(0),
     ];
-    let expected =
-        "{\"format\":\"multiscalar-trace\",\"version\":1,\"units\":4,\"instructions\":3}
+    let expected = "{\"format\":\"multiscalar-trace\",\"version\":1,\"units\":4,\"instructions\":3}
 {\"event\":1,\"kind\":\"assign\",\"task\":\"A\",\"answer\":\"ok\",\"changes\":[{\"change\":\"began\",\"unit\":0,\"ring\":0,\"task\":\"A\",\"index\":0,\"line\":4}]}
 {\"event\":2,\"kind\":\"assign\",\"task\":\"B\",\"answer\":\"ok\",\"changes\":[{\"change\":\"began\",\"unit\":1,\"ring\":1,\"task\":\"B\",\"index\":1,\"line\":5}]}
 {\"event\":3,\"kind\":\"exec\",\"unit\":1,\"ring\":1,\"answer\":\"ok\",\"changes\":[{\"change\":\"executed\",\"unit\":1,\"ring\":1,\"task\":\"B\",\"index\":1,\"line\":5},{\"change\":\"wrote\",\"register\":9,\"word\":2},{\"change\":\"sent\",\"register\":9,\"word\":2},{\"change\":\"stopped_at\",\"address\":4194312,\"index\":2,\"line\":6}]}
@@ -42,8 +41,7 @@ fn an_exit_without_an_instruction(rt: HostRuntime) {
         Event::Exec(0),
         Event::Fault,
     ];
-    let expected =
-        "{\"format\":\"multiscalar-trace\",\"version\":1,\"units\":1,\"instructions\":3}
+    let expected = "{\"format\":\"multiscalar-trace\",\"version\":1,\"units\":1,\"instructions\":3}
 {\"event\":1,\"kind\":\"assign\",\"task\":\"A\",\"answer\":\"ok\",\"changes\":[{\"change\":\"began\",\"unit\":0,\"ring\":0,\"task\":\"A\",\"index\":0,\"line\":2}]}
 {\"event\":2,\"kind\":\"exec\",\"unit\":0,\"ring\":0,\"answer\":\"ok\",\"changes\":[{\"change\":\"executed\",\"unit\":0,\"ring\":0,\"task\":\"A\",\"index\":0,\"line\":2},{\"change\":\"wrote\",\"register\":8,\"word\":4194304},{\"change\":\"moved_to\",\"index\":1,\"line\":3}]}
 {\"event\":3,\"kind\":\"exec\",\"unit\":0,\"ring\":0,\"answer\":\"ok\",\"changes\":[{\"change\":\"executed\",\"unit\":0,\"ring\":0,\"task\":\"A\",\"index\":1,\"line\":3},{\"change\":\"wrote\",\"register\":8,\"word\":4194320},{\"change\":\"moved_to\",\"index\":2,\"line\":4}]}
@@ -71,8 +69,7 @@ fn a_store_and_a_trap(rt: HostRuntime) {
         Event::Exec(0),
         Event::Retire,
     ];
-    let expected =
-        "{\"format\":\"multiscalar-trace\",\"version\":1,\"units\":1,\"instructions\":4}
+    let expected = "{\"format\":\"multiscalar-trace\",\"version\":1,\"units\":1,\"instructions\":4}
 {\"event\":1,\"kind\":\"assign\",\"task\":\"A\",\"answer\":\"ok\",\"changes\":[{\"change\":\"began\",\"unit\":0,\"ring\":0,\"task\":\"A\",\"index\":0,\"line\":2}]}
 {\"event\":2,\"kind\":\"exec\",\"unit\":0,\"ring\":0,\"answer\":\"ok\",\"changes\":[{\"change\":\"executed\",\"unit\":0,\"ring\":0,\"task\":\"A\",\"index\":0,\"line\":2},{\"change\":\"wrote\",\"register\":8,\"word\":268500992},{\"change\":\"moved_to\",\"index\":1,\"line\":3}]}
 {\"event\":3,\"kind\":\"exec\",\"unit\":0,\"ring\":0,\"answer\":\"ok\",\"changes\":[{\"change\":\"executed\",\"unit\":0,\"ring\":0,\"task\":\"A\",\"index\":1,\"line\":3},{\"change\":\"stored\",\"address\":268500996,\"word\":268500992,\"bytes\":4},{\"change\":\"moved_to\",\"index\":2,\"line\":4}]}
