@@ -48,10 +48,12 @@ task_text p f = codes " of task " ++ name_at (slice_get p.tasks f.task)
 abbrev pub rule_text : Finding → List ℕ
 rule_text f = codes ", rule " ++ (decimal (number_of f.rule) ++ (register_text f.reg ++ 10 ∷ []))
 
--- a finding of the checker, and where it is
+-- a finding of the checker: where it is, and what it is
+abbrev pub place_and_rule : Listing → List Position → Finding → List ℕ
+place_and_rule p places f = place_text places f.index ++ (task_text p f ++ rule_text f)
+
 abbrev pub wrong_text : Listing → List Position → Finding → List ℕ
-wrong_text p places f =
-    codes "the first of them: " ++ (place_text places f.index ++ (task_text p f ++ rule_text f))
+wrong_text p places f = codes "the first of them: " ++ place_and_rule p places f
 
 -- the finding, and the path that shows it
 abbrev pub finding_text : Listing → List Position → ShownFinding → List ℕ

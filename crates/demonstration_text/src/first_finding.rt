@@ -3,7 +3,7 @@
 ghost use Rattle.std.specs.Prelude.{◌≡◌, ◌++◌, ◌∷◌, IfOk, OnOk, flat_map, codes, option_map, map};
 ghost use Rattle.std.specs.String.{string_bytes};
 ghost use Rattle.finding_paths.specs.Shown.{AreShown};
-ghost use Rattle.demonstration_text.specs.FindingText.{finding_text, left_out_text, path_end, path_line, path_text, places_text, register_text, rule_text, step_text, task_text, wrong_text};
+ghost use Rattle.demonstration_text.specs.FindingText.{finding_text, left_out_text, path_end, path_line, path_text, place_and_rule, places_text, register_text, rule_text, step_text, task_text, wrong_text};
 
 use annotator::certify::certify;
 use event_script::writing::task_name;
@@ -57,7 +57,7 @@ fn write_shown(
     }
 }
 
-/// Adds a finding, and where it is.
+/// Adds a finding of the checker.
 fn write_wrong(
     text: &mut String,
     program: &Program,
@@ -67,6 +67,18 @@ fn write_wrong(
     ensures { OnOk result (string_bytes text.new ≡ string_bytes text.old ++ wrong_text program.now places.now finding.now) }
 {
     text.push_str("the first of them: ")?;
+    write_place_and_rule(text, program, places, finding)
+}
+
+/// Adds where a finding is, and what it is.
+fn write_place_and_rule(
+    text: &mut String,
+    program: &Program,
+    places: &[Position],
+    finding: &Finding,
+) -> Result<(), AllocError>
+    ensures { OnOk result (string_bytes text.new ≡ string_bytes text.old ++ place_and_rule program.now places.now finding.now) }
+{
     write_place(text, places, finding.index)?;
     write_task(text, program, finding)?;
     write_rule(text, finding)

@@ -22,22 +22,22 @@ use Rattle.strict_replay.specs.StandText.{stand_text}
 use Rattle.strict_replay.specs.StrictScript.{content, event_text, expected_parts, is_silent}
 use Rattle.strict_replay.specs.StrictReplay.{answer_departure, at_line, count_after, departed, departure_of, event_departure, first_unmet, meaning_of, report_from, state_after, unless_departed, unmet_departure}
 
-taken_by : (p : Listing) (places : List Position) (number : ℕ) (parts : List (List ℕ)) (s : State) (e : Event) (a : Result (Unit {0}) Refused) (changes : Vec Change Global) (u : Option Unmet)
+taken_by : (p : Listing) (places : List Position) (units number : ℕ) (parts : List (List ℕ)) (s : State) (e : Event) (a : Result (Unit {0}) Refused) (changes : Vec Change Global) (u : Option Unmet)
     → Tells p s e a (told.Taken changes) → u ≡ first_unmet changes.items 1 parts
-    → answer_departure p number parts (entry_text p places number s e a ++ stand_text p places (state_behind p s e a)) s e a
+    → answer_departure p number parts (entry_text p places units number s e a ++ stand_text p places (state_behind p s e a)) s e a
     ≡ unmet_departure number (taken_text p places number e changes.items ++ stand_text p places (state_behind p s e a)) u
-taken_by p places number parts s e (Ok done) changes u tells is =
+taken_by p places units number parts s e (Ok done) changes u tells is =
     let stand = stand_text p places (state_behind p s e (Ok done)) in
     ap (λ (cs : List Change). unmet_departure number (taken_text p places number e cs ++ stand) (first_unmet cs 1 parts)) (sym tells)
     ∙ ap (λ (v : Option Unmet). unmet_departure number (taken_text p places number e changes.items ++ stand) v) (sym is)
-taken_by p places number parts s e (Err why) changes u tells is = absurd tells
+taken_by p places units number parts s e (Err why) changes u tells is = absurd tells
 
-refused_by : (p : Listing) (places : List Position) (number : ℕ) (parts : List (List ℕ)) (s : State) (e : Event) (a : Result (Unit {0}) Refused) (refusal : Refused)
+refused_by : (p : Listing) (places : List Position) (units number : ℕ) (parts : List (List ℕ)) (s : State) (e : Event) (a : Result (Unit {0}) Refused) (refusal : Refused)
     → Tells p s e a (told.Refused refusal)
-    → answer_departure p number parts (entry_text p places number s e a ++ stand_text p places (state_behind p s e a)) s e a
+    → answer_departure p number parts (entry_text p places units number s e a ++ stand_text p places (state_behind p s e a)) s e a
     ≡ Some (at_line number (codes "this event is not allowed") ++ (refused_text p number e refusal ++ stand_text p places (state_behind p s e a)))
-refused_by p places number parts s e (Ok done) refusal tells = absurd tells
-refused_by p places number parts s e (Err why) refusal tells =
+refused_by p places units number parts s e (Ok done) refusal tells = absurd tells
+refused_by p places units number parts s e (Err why) refusal tells =
     ap (λ (r : Refused). Some (at_line number (codes "this event is not allowed") ++ (refused_text p number e r ++ stand_text p places s))) (sym tells)
 
 -- an event that was taken departs as its first part does that is not met
@@ -49,7 +49,7 @@ taken_departs p places number parts m m' e changes u over on tells is =
     let q = m.accepted.program in
     let own : event_departure q places (units_of m) number (length m.history) parts (state m) e
     ≡ unmet_departure number (taken_text q places number e changes.items ++ stand_text q places (state m')) u =
-    taken_by q places number parts (state m) e (answer_to m e) changes u tells is
+    taken_by q places (units_of m) number parts (state m) e (answer_to m e) changes u tells is
     ∙ ap (λ (t : State). unmet_departure number (taken_text q places number e changes.items ++ stand_text q places t) u) (sym on.state) in
     subst (λ (r : Listing). event_departure r places (units_of m) number (length m.history) parts (state m) e
     ≡ unmet_departure number (taken_text r places number e changes.items ++ stand_text r places (state m')) u) over own
@@ -64,7 +64,7 @@ refused_departs p places number parts m m' e refusal over on tells =
     let said = at_line number (codes "this event is not allowed") in
     let own : event_departure q places (units_of m) number (length m.history) parts (state m) e
     ≡ Some (said ++ (refused_text q number e refusal ++ stand_text q places (state m'))) =
-    refused_by q places number parts (state m) e (answer_to m e) refusal tells
+    refused_by q places (units_of m) number parts (state m) e (answer_to m e) refusal tells
     ∙ ap (λ (t : State). Some (said ++ (refused_text q number e refusal ++ stand_text q places t))) (sym on.state) in
     subst (λ (r : Listing). event_departure r places (units_of m) number (length m.history) parts (state m) e
     ≡ Some (said ++ (refused_text r number e refusal ++ stand_text r places (state m')))) over own

@@ -113,7 +113,7 @@ unmet_departure number told (Some unmet) = Some (at_line number (unmet_said unme
 -- what is told with a departure: the event with the machine's answer and what it changed, and how the units then stand
 abbrev pub told_after : Listing → List Position → (units number n : ℕ) → State → Event → List ℕ
 told_after p places units number n s e =
-    entry_text p places number s e (answer p units s n e) ++ stand_text p places (state_behind p s e (answer p units s n e))
+    entry_text p places units number s e (answer p units s n e) ++ stand_text p places (state_behind p s e (answer p units s n e))
 
 abbrev pub answer_departure : Listing → (number : ℕ) → (parts : List (List ℕ)) → (told : List ℕ) → State → Event → Result (Unit {0}) Refused → Option (List ℕ)
 answer_departure p number parts told s e (Ok done) = unmet_departure number told (first_unmet (changes_of p s e (after p s e)) 1 parts)
