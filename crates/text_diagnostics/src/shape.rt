@@ -10,7 +10,7 @@ use near_words::is_near;
 
 /// What the operands of a statement are.
 #[derive(Clone, Copy, Debug, PartialEq, Eq)]
-pub(crate) enum Shape {
+pub enum Shape {
     /// Those of an instruction.
     Instruction(Form),
     /// No operands.
@@ -29,11 +29,11 @@ pub(crate) enum Shape {
 
 /// The numbers that a statement takes.
 #[derive(Clone, Copy, Debug, PartialEq, Eq)]
-pub(crate) struct Range {
+pub struct Range {
     /// The least.
-    pub(crate) low: i64,
+    pub low: i64,
     /// The greatest.
-    pub(crate) high: i64,
+    pub high: i64,
 }
 
 /// Every directive, with what operands follow it.
