@@ -17,14 +17,14 @@ ghost use Rattle.text_diagnostics.specs.Meant.{without_marks};
 ghost use Rattle.operand_forms.specs.OperandForms.{fault_of, instruction_shape, instruction_fault, directive_shape, shape_fault, NamesFirst};
 ghost use Rattle.operand_forms.specs.ShapeTexts.{parts_named, has_dots, from_to, ends_in, takes_number};
 
-/// The assembler refuses the operands of an instruction exactly if they do not fit its form, and a number exactly if they
-/// fit and one is out of the form's range.
+/// The assembler refuses the operands of an instruction exactly if they do not fit its form, and one of their numbers
+/// exactly if they fit and it is out of the form's range.
 pub fn instructions_are_read_by_form()
     ensures { (m : Mnemonic) (operands : List Token) → fault_of (instruction_of m operands) ≡ instruction_fault m operands }
 {}
 
-/// It refuses those of a directive by the directive's shape, and a word that is no directive exactly if it has no shape.
-/// This is said of data, where each directive may stand.
+/// It refuses those of a directive by the directive's shape, and a word that is no directive exactly if that has no shape.
+/// This is said of the data section, where each directive may stand.
 pub fn directives_are_read_by_form()
     ensures { (letters : List ℕ) (operands : List Token) → fault_of (directive_of Data (directive_named letters) operands) ≡ shape_fault (directive_shape letters) operands }
 {}
@@ -40,7 +40,7 @@ pub fn first_unfit_token_is_named()
     ensures { (m : Mnemonic) (operands : List Token) → NamesFirst (λ tokens. fault_of (instruction_of m tokens)) (instruction_shape m) operands }
 {}
 
-/// So it does of those of a directive.
+/// It does so of those of a directive, too.
 pub fn first_unfit_token_of_a_directive_is_named()
     ensures { (letters : List ℕ) (s : Shape) (operands : List Token) → directive_shape letters ≡ Some s → NamesFirst (λ tokens. fault_of (directive_of Data (directive_named letters) tokens)) s operands }
 {}
