@@ -14,7 +14,7 @@ use program_tokens::token::Token;
 
 /// A part of the operands of a statement.
 #[derive(Clone, Copy, Debug, PartialEq, Eq)]
-pub(crate) enum Part {
+pub enum Part {
     /// A general register, `$0` to `$31`.
     Register,
     /// A number.
@@ -47,7 +47,7 @@ pub(crate) enum Part {
 
 /// How far the first part has come.
 #[derive(Clone, Copy, Debug, PartialEq, Eq)]
-pub(crate) enum Inside {
+pub enum Inside {
     /// It has not begun.
     Before,
     /// A member of its list has just been read.

@@ -7,7 +7,7 @@ use mips_instructions::instruction::{Form, Mnemonic};
 
 /// What the operands of a statement are.
 #[derive(Clone, Copy, Debug, PartialEq, Eq)]
-pub(crate) enum Shape {
+pub enum Shape {
     /// Those of an instruction.
     Instruction(Form),
     /// No operands.
@@ -26,11 +26,11 @@ pub(crate) enum Shape {
 
 /// The numbers that a statement takes.
 #[derive(Clone, Copy, Debug, PartialEq, Eq)]
-pub(crate) struct Range {
+pub struct Range {
     /// The least.
-    pub(crate) low: i64,
+    pub low: i64,
     /// The greatest.
-    pub(crate) high: i64,
+    pub high: i64,
 }
 
 /// Every directive, with what operands follow it.

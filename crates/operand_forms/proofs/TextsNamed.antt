@@ -1,0 +1,45 @@
+-- Each text, computed.
+use Rattle.std.proofs.Common.{◌≡◌, Bool, true, false, not, refl}
+use Rattle.std.specs.Prelude.{◌||◌}
+use Rattle.std.specs.Fmt.{digits}
+use Rattle.program_tokens.specs.Grammar.{line_tokens, tokens_after, token_of, kind_of}
+use Rattle.mips_instructions.specs.declared.instruction.Form.{Form}
+use Rattle.mips_instructions.specs.declared.instruction.Form.TheVariants as form
+use Rattle.text_diagnostics.specs.declared.shape.Shape.{Shape}
+use Rattle.text_diagnostics.specs.declared.shape.Shape.TheVariants as shape
+use Rattle.text_diagnostics.specs.Shapes.{form_text, range_of, range_text}
+use Rattle.text_diagnostics.specs.Forms.{form_of as parts_of}
+use Rattle.operand_forms.specs.ShapeTexts.{parts_named, has_dots, from_to, ends_in, takes_number}
+
+form_named : (f : Form) → has_dots (shape.Instruction f) ≡ false → parts_named (form_text (shape.Instruction f)) ≡ parts_of (shape.Instruction f)
+unfolding line_tokens tokens_after token_of kind_of
+form_named form.Registers e = absurd cc
+form_named _ e = refl
+
+pub shape_named : (s : Shape) → has_dots s ≡ false → parts_named (form_text s) ≡ parts_of s
+unfolding line_tokens tokens_after token_of kind_of
+shape_named (shape.Instruction f) e = form_named f e
+shape_named shape.Words e = absurd cc
+shape_named shape.Bytes e = absurd cc
+shape_named _ e = refl
+
+-- one with a number has a range
+abbrev is_ranged : Shape → Bool
+is_ranged s = not (takes_number (parts_of s)) || ends_in (from_to (range_of s)) (range_text s)
+
+form_ranged : (f : Form) → is_ranged (shape.Instruction f) ≡ true
+unfolding digits
+form_ranged form.Three = refl
+form_ranged _ = refl
+
+each_ranged : (s : Shape) → is_ranged s ≡ true
+unfolding digits
+each_ranged (shape.Instruction f) = form_ranged f
+each_ranged _ = refl
+
+then_so : (a b : Bool) → a ≡ true → (not a || b) ≡ true → b ≡ true
+then_so true b e h = h
+then_so false b e h = absurd cc
+
+pub shape_ranged : (s : Shape) → takes_number (parts_of s) ≡ true → ends_in (from_to (range_of s)) (range_text s) ≡ true
+shape_ranged s e = then_so (takes_number (parts_of s)) (ends_in (from_to (range_of s)) (range_text s)) e (each_ranged s)

@@ -1,0 +1,3 @@
+pub mod OperandForms
+pub mod ShapeTexts
+pub mod Examples
