@@ -9,19 +9,17 @@ use Rattle.text_diagnostics.specs.declared.shape.Shape.{Shape}
 use Rattle.text_diagnostics.specs.declared.shape.Shape.TheVariants as shape
 use Rattle.text_diagnostics.specs.Shapes.{form_text, range_of, range_text}
 use Rattle.text_diagnostics.specs.Forms.{form_of as parts_of}
-use Rattle.operand_forms.specs.ShapeTexts.{parts_named, has_dots, from_to, ends_in, takes_number}
+use Rattle.operand_forms.specs.ShapeTexts.{is_example, from_to, ends_in, takes_number}
 
-form_named : (f : Form) → has_dots (shape.Instruction f) ≡ false → parts_named (form_text (shape.Instruction f)) ≡ parts_of (shape.Instruction f)
+form_taken : (f : Form) → is_example (shape.Instruction f) (form_text (shape.Instruction f)) ≡ true
 unfolding line_tokens tokens_after token_of kind_of
-form_named form.Registers e = absurd cc
-form_named _ e = refl
+form_taken form.Three = refl
+form_taken _ = refl
 
-pub shape_named : (s : Shape) → has_dots s ≡ false → parts_named (form_text s) ≡ parts_of s
+pub example_taken : (s : Shape) → is_example s (form_text s) ≡ true
 unfolding line_tokens tokens_after token_of kind_of
-shape_named (shape.Instruction f) e = form_named f e
-shape_named shape.Words e = absurd cc
-shape_named shape.Bytes e = absurd cc
-shape_named _ e = refl
+example_taken (shape.Instruction f) = form_taken f
+example_taken _ = refl
 
 -- one with a number has a range
 abbrev is_ranged : Shape → Bool

@@ -15,7 +15,7 @@ ghost use Rattle.text_diagnostics.specs.Shapes.{form_text, range_of, range_text}
 ghost use Rattle.text_diagnostics.specs.Forms.{form_of as parts_of};
 ghost use Rattle.text_diagnostics.specs.Meant.{without_marks};
 ghost use Rattle.operand_forms.specs.OperandForms.{fault_of, instruction_shape, instruction_fault, directive_shape, shape_fault, NamesFirst};
-ghost use Rattle.operand_forms.specs.ShapeTexts.{parts_named, has_dots, from_to, ends_in, takes_number};
+ghost use Rattle.operand_forms.specs.ShapeTexts.{is_example, from_to, ends_in, takes_number};
 
 /// The assembler refuses the operands of an instruction exactly if they do not fit its form, and one of their numbers
 /// exactly if they fit and it is out of the form's range.
@@ -45,9 +45,9 @@ pub fn first_unfit_token_of_a_directive_is_named()
     ensures { (letters : List ℕ) (s : Shape) (operands : List Token) → directive_shape letters ≡ Some s → NamesFirst (λ tokens. fault_of (directive_of Data (directive_named letters) tokens)) s operands }
 {}
 
-/// The text in which `explain` names operands has the parts that they are tested by.
-pub fn texts_name_the_parts()
-    ensures { (s : Shape) → has_dots s ≡ false → parts_named (form_text s) ≡ parts_of s }
+/// The operands that `explain` gives as an example are taken: they fit the shape, and their numbers are in its range.
+pub fn examples_are_taken()
+    ensures { (s : Shape) → is_example s (form_text s) ≡ true }
 {}
 
 /// The text in which it names a range ends in the numbers of that range.
