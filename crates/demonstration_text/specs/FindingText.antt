@@ -49,13 +49,13 @@ abbrev pub rule_text : Finding → List ℕ
 rule_text f = codes ", rule " ++ (decimal (number_of f.rule) ++ (register_text f.reg ++ 10 ∷ []))
 
 -- a finding of the checker: where it is, and what it is
-abbrev pub place_and_rule : Listing → List Position → Finding → List ℕ
+unfoldable pub place_and_rule : Listing → List Position → Finding → List ℕ
 place_and_rule p places f = place_text places f.index ++ (task_text p f ++ rule_text f)
 
-abbrev pub wrong_text : Listing → List Position → Finding → List ℕ
+unfoldable pub wrong_text : Listing → List Position → Finding → List ℕ
 wrong_text p places f = codes "the first of them: " ++ place_and_rule p places f
 
 -- the finding, and the path that shows it
-abbrev pub finding_text : Listing → List Position → ShownFinding → List ℕ
+unfoldable pub finding_text : Listing → List Position → ShownFinding → List ℕ
 finding_text p places shown =
     wrong_text p places shown.finding ++ path_line places shown.path

@@ -42,6 +42,7 @@ pub(crate) fn write_findings(
 }
 
 /// Adds a finding, and the path that shows it.
+#[tactic(auto, unfolding(crate::specs::FindingText::finding_text))]
 fn write_shown(
     text: &mut String,
     program: &Program,
@@ -58,6 +59,7 @@ fn write_shown(
 }
 
 /// Adds a finding of the checker.
+#[tactic(auto, unfolding(crate::specs::FindingText::wrong_text))]
 fn write_wrong(
     text: &mut String,
     program: &Program,
@@ -71,6 +73,7 @@ fn write_wrong(
 }
 
 /// Adds where a finding is, and what it is.
+#[tactic(auto, unfolding(crate::specs::FindingText::place_and_rule))]
 fn write_place_and_rule(
     text: &mut String,
     program: &Program,
