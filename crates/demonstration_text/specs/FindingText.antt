@@ -52,7 +52,7 @@ rule_text f = codes ", rule " ++ (decimal (number_of f.rule) ++ (register_text f
 unfoldable pub place_and_rule : Listing → List Position → Finding → List ℕ
 place_and_rule p places f = place_text places f.index ++ (task_text p f ++ rule_text f)
 
-unfoldable pub wrong_text : Listing → List Position → Finding → List ℕ
+abbrev pub wrong_text : Listing → List Position → Finding → List ℕ
 wrong_text p places f = codes "the first of them: " ++ place_and_rule p places f
 
 -- the finding, and the path that shows it

@@ -59,7 +59,6 @@ fn write_shown(
 }
 
 /// Adds a finding of the checker.
-#[tactic(auto, unfolding(crate::specs::FindingText::wrong_text))]
 fn write_wrong(
     text: &mut String,
     program: &Program,
