@@ -1,12 +1,13 @@
 //! The job `demonstrate`.
 
-ghost use Rattle.std.specs.Prelude.{◌≡◌, ◌≢◌, ◌++◌, IfOk, IfSome, OnOk};
+ghost use Rattle.std.specs.Prelude.{◌≡◌, ◌≢◌, ◌++◌, IfOk, IfSome, OnOk, flat_map};
 ghost use Rattle.std.specs.String.{string_bytes};
 ghost use Rattle.task_graph.specs.Soundness.{Sound};
 ghost use Rattle.event_script.specs.ScriptText.{line_text, script_text};
 ghost use Rattle.event_trace.specs.Entries.{places_of};
 ghost use Rattle.demonstration.specs.Found.{IsDemonstration};
 ghost use Rattle.demonstration_text.specs.DemonstrateText.{IsDemonstrateReport, FindsNothing, IsDemonstrated, TellsOfRun, nothing_found_text, nothing_to_show as nothing_to_show_report, plural as plural_of, run_text as run_text_of, shown_text, units_text};
+ghost use Rattle.demonstration_text.specs.FindingText.{finding_text};
 
 use crate::first_finding::{first_finding, write_findings};
 use crate::harm_text::write_harm;
@@ -18,6 +19,7 @@ use demonstration::search;
 use demonstration::search::Demonstration;
 use event_script::writing::write_event;
 use event_trace::places::places;
+use finding_paths::shown::ShownFinding;
 use jobs::job::DemonstrateEmit;
 use jobs::ranges::{Budget, Units};
 use machine_events::event::Event;
@@ -97,10 +99,26 @@ fn nothing_found(
     ensures { IfOk result (FindsNothing units steps program.now places.now) }
 {
     let first = first_finding(alloc, program)?;
+    let text = told_nothing(alloc, units, steps, places, program, first.list.as_slice())?;
+    Ok(Report::new(text.into_bytes(), 3))
+}
+
+/// That no run is found, and findings.
+fn told_nothing(
+    alloc: Global,
+    units: Units,
+    steps: Budget,
+    places: &[Position],
+    program: &Program,
+    findings: &[ShownFinding],
+) -> Result<String, AllocError>
+    ensures { IfOk result (λ text. string_bytes text
+        ≡ nothing_found_text units steps ++ flat_map (finding_text program.now places.now) findings.now) }
+{
     let mut text = String::new(alloc);
     write_nothing_found(&mut text, units.get(), steps.get())?;
-    write_findings(&mut text, program, places, first.list.as_slice())?;
-    Ok(Report::new(text.into_bytes(), 3))
+    write_findings(&mut text, program, places, findings)?;
+    Ok(text)
 }
 
 /// Adds that no run is found.
