@@ -16,7 +16,7 @@ import time
 import accepted as generator
 import explain
 from accepted import accepted
-from explain import MOST_SHOWN, Bench, changed, laid_out, lists, places, plant, region_of, spelled
+from explain import MOST_SHOWN, Bench, changed, laid_out, lists, place_of, places, plant, region_of, spelled
 from model import Fault, assemble, certify, dests, exits, inner, print_program, verdict
 
 R = random.Random()
@@ -72,48 +72,81 @@ def warnings(program):
     return found
 
 
-CODES = {"stop": "NoExit", "never": "NeverProduced", "last": "NotForwarded", "sent": "SentBefore", "unreached": "Unreached"}
+OF_TASKS = ("runs", "untaken", "never", "stop")
+CODES = {"runs": "Unreached", "untaken": "TargetNotTaken", "stop": "NoExit", "never": "NeverProduced", "last": "NotForwarded", "sent": "SentBefore", "unreached": "Unreached"}
 
 
-def unended(program):
-    """The tasks that have targets, but come to no stop."""
+def untaken(program, number):
+    """The targets of a task that no exit takes, by their positions."""
+    taken = {j for i in walk(program, [program.tasks[number][1]]) for j in exits(program, i)}
+    return [k for k, j in enumerate(program.tasks[number][3]) if j not in taken]
+
+
+def forgotten(program):
+    """The tasks that never run; those that have targets, but come to no stop; and those with a target that no exit takes."""
     for number, (_, entry, _, targets) in enumerate(program.tasks):
+        if program.start != entry and not any(entry in it[3] for it in program.tasks if it[1] != entry):
+            yield "runs", number, None
         seen = walk(program, [entry])
-        leaves = lambda i: exits(program, i) or (program.code[i][0][0] in ("jr", "jalr") and program.code[i][2])
-        if targets and not any(leaves(i) for i in seen):
-            yield number
+        anywhere = any(program.code[i][0][0] in ("jr", "jalr") and program.code[i][2] for i in seen)
+        if targets and not anywhere and not any(exits(program, i) for i in seen):
+            yield "stop", number, None
+        elif not anywhere and untaken(program, number):
+            yield "untaken", number, None
+
+
+def released_next(program, i):
+    """The instruction that comes next, if it releases all that this one writes."""
+    return next((k for k in inner(program, i)[:1] if k < len(program.code) and dests(program.code[i][0]) <= released(program.code[k][0])), None)
+
+
+def last_sentence(program, text, i):
+    """What is said of a last update."""
+    k = released_next(program, i)
+    if k is None:
+        return "this is a last update without !f: later tasks wait for what it writes."
+    written = ",".join(spelled(text, r) for r in sorted(dests(program.code[i][0])))
+    return f"this is a last update without !f: {written} is sent only by the release on line {places(text)[1][k][0]}."
 
 
 def sentence(program, text, warning):
     """What is said of a program with this text."""
     kind, number, register = warning
     written = None if register is None else spelled(text, register)
-    name = program.tasks[number][0] if kind in ("never", "stop") else None
+    name = program.tasks[number][0] if kind in OF_TASKS else None
+    if kind == "last":
+        return last_sentence(program, text, number)
+    unled = ",".join(place_of(program, text, program.tasks[number][3][k]) for k in untaken(program, number)) if kind == "untaken" else ""
     return {
-        "stop": f"task {name} has targets, but comes to no stop.",
+        "runs": f"task {name} never runs: no other task has it as a target, and the program starts at {place_of(program, text, program.start)}.",
+        "untaken": f"no exit of task {name} leads to {unled}: a unit that is given such a target after it is always squashed.",
+        "stop": f"task {name} has targets, but never reaches a stop.",
         "never": f"the create mask of task {name} has {written}, which no instruction of the task writes or releases.",
-        "last": "this is a last update without !f: later tasks wait for what it writes.",
         "sent": f"{written} was sent before on each path to this release.",
         "unreached": "no task reaches the code from here on.",
     }[kind]
 
 
-def meant(text, warning):
+def meant(program, text, warning):
     """The line, the column and the width of what a warning is about."""
     kind, number, _ = warning
     tasks, code = places(text)
+    if kind == "runs":
+        return *tasks[number], 5
+    if kind == "untaken":
+        return tasks[number][0], *lists(text)[number][2][untaken(program, number)[0]]
     return (tasks[number][0], *lists(text)[number][kind == "stop"]) if kind in ("never", "stop") else code[number]
 
 
 def shown(program, text):
     """The warnings of right marks that are shown, in the order of the places where they stand."""
-    found = [("stop", number, None) for number in unended(program)] + warnings(program)
-    return sorted(found[:MOST_SHOWN], key=lambda warning: tuple(meant(text, warning))[:2])
+    found = list(forgotten(program)) + warnings(program)
+    return sorted(found[:MOST_SHOWN], key=lambda warning: tuple(meant(program, text, warning))[:2])
 
 
 def told(program, text):
     """All that is said of right marks: code, place and sentence of each."""
-    return [(f"warning-{CODES[it[0]]}", tuple(meant(text, it)), sentence(program, text, it)) for it in shown(program, text)]
+    return [(f"warning-{CODES[it[0]]}", tuple(meant(program, text, it)), sentence(program, text, it)) for it in shown(program, text)]
 
 
 def said_of(results):
@@ -170,7 +203,7 @@ def loosened(text):
 def unmended(program, text, warning, after, was_right):
     """What is wrong after a change."""
     new = assemble(after.encode("latin-1"))
-    if warning in warnings(new):
+    if warning in warnings(new) or warning in forgotten(new):
         return f"{warning} is there after its change:\n{after}"
     if was_right and verdict(new, certify(new)):
         return f"wrong marks after the change of {warning}:\n{after}"

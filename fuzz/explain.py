@@ -4,7 +4,8 @@
 Takes random programs whose marks are right, plants wrong marks, and lays the text out anew: labels on
 lines of their own or before their statement, blanks, comments, blank lines. It reads the log of each: its errors
 must be what the model tells, at the same places; each path must be a path inside the task that leads where the rule
-says, and none may be shorter. Then it makes the changes of each fix alone, and what the error stands for must be gone.
+says, and none may be shorter. Then it makes the changes of each fix alone, and what the error stands for must be gone; of one that puts a stop
+where a task goes on into a target, that edge.
 Of a refused text the model's first fault must be told. Every third program is explained together with a certificate:
 that of the program, one with a wrong mask or a line too few, or a text that is none. It asks for no warnings, which
 `costly_marks.py` compares. PROGRAM is the built `multiscalar`.
@@ -143,9 +144,13 @@ def spot(program, text, index):
 
 
 def place_of(program, text, index):
-    """How a place is named, as a pattern."""
+    """How a place is named, as a pattern: the task that begins there, its label, or its line."""
     begins = {entry: name for name, entry, *_ in reversed(program.tasks)}
-    return begins.get(index) or ("the end of the program" if index == len(program.code) else spot(program, text, index))
+    if index in begins or index >= len(program.code):
+        return begins.get(index) or ("the end of the program" if index == len(program.code) else f"@{index}")
+    if text is None:
+        return r"(?:line \d+|\w+)"
+    return label_of(text, index) or f"line {places(text)[1][index][0]}"
 
 
 @functools.lru_cache(maxsize=4)
@@ -160,8 +165,8 @@ def spellings(text):
 
 
 def spelled(text, register):
-    """How a register is written: as the text first writes it, else by its number."""
-    return spellings(text).get(register, f"${register}")
+    """How a register is written: as the text first writes it, else by its number, and HI and LO by their names."""
+    return spellings(text).get(register, {32: "$hi", 33: "$lo"}.get(register, f"${register}"))
 
 
 def sentence(program, error, text, any_place=False):
@@ -170,17 +175,18 @@ def sentence(program, error, text, any_place=False):
     task, listed = program.tasks[number][0], ",".join(re.escape(spelled(text, r)) for r in registers if r is not None)
     text = None if any_place else text
     targets, begins = program.tasks[number][3], {it[1] for it in program.tasks}
-    place = "(?:" + "|".join(place_of(program, text, j) for j in [*exits(program, index), *inner(program, index)]
-                             if (j not in targets if rule == 9 else j >= len(program.code))) + ")"
+    ends = [j for j in [*exits(program, index), *inner(program, index)] if (j not in targets if rule == 9 else j >= len(program.code))]
+    place = "(?:" + "|".join(place_of(program, text, j) for j in ends) + ")"
+    one = "|".join(place_of(program, text, j) + (", which is not one of its targets" if j in begins else ", where no task begins") for j in ends)
     wrong = next((j for j in targets if j not in begins), 0)
     return {
         5: f"the create mask of task {task} lacks {listed}",
         8: f"the create mask of task {task} lacks {listed}",
         6: f"task {task} forwards {listed} here and may write it again",
         7: f"task {task} releases {listed} here and may write it again",
-        9: rf"(?:if the branch is (?:not )?taken, )?task {task} ends here and goes on to {place}"
-           rf"(?:, which is not one of its targets|, or to {place} if the branch is taken; neither is one of its targets)",
-        10: f"task {task} can go on from here to {place}, where no instruction is",
+        9: rf"(?:if the branch is (?:not )?taken, )?task {task} ends here and goes on to "
+           rf"(?:{one}|{place}, or to {place} if the branch is taken; neither is one of its targets)",
+        10: f"task {task} can go on from here to {place}, where there is no instruction",
         11: f"this jump to an address in a register has to end task {task}",
         12: f"task {task} lists the target {spot(program, text, wrong)}, where no task begins",
     }[rule]
@@ -271,6 +277,15 @@ def changed(text, result):
         line = lines[region["startLine"] - 1]
         lines[region["startLine"] - 1] = line[:region["startColumn"] - 1] + put + line[region["endColumn"] - 1:]
     return "\n".join(lines)
+
+
+def stops(program, after, error, text, advice):
+    """Whether a change puts a stop on the line that it names, where the task of an error goes on into one of its targets."""
+    edges = lambda p: {(i, j) for i in range(len(p.code)) for j in inner(p, i)}
+    gone, code = edges(program) - edges(after), places(text)[1]
+    begins, (_, entry, _, targets) = {it[1] for it in program.tasks}, program.tasks[error[0]]
+    line = int(re.match(r"put !s[tn]? on line (\d+), where ", advice).group(1))
+    return edges(after) < edges(program) and all(code[i][0] == line for i, _ in gone) and any(j in begins and j in targets for _, j in gone)
 
 
 def code_of(fault):
@@ -452,7 +467,13 @@ class Bench:
             if after is None:
                 self.counts["helps in words"] += 1
                 continue
-            left = told(assemble(after.encode("latin-1")))
+            changed_program = assemble(after.encode("latin-1"))
+            if result["fixes"][0]["description"]["text"].startswith("put !"):
+                self.counts["stops put"] += 1
+                if not stops(program, changed_program, error, text, result["fixes"][0]["description"]["text"]):
+                    return f"a stop put for {error}:\n{after}"
+                continue
+            left = told(changed_program)
             if any(it[0] == error[0] and it[2] in MASK for it in left) if error[2] in MASK else error in left:
                 return f"{error} is there after its fix:\n{after}"
             self.counts["fixes that mend"] += 1

@@ -10,7 +10,7 @@ use std::process::Abort;
 const ASTRAY: &str = ".task A create=$8 targets=-\nA: j B !s\nB: halt\n";
 
 const SAID_OF_ASTRAY: &str =
-    "p.s:2:4: error: task A ends here and goes on to B, which is not one of its targets [rule 9]
+    "p.s:2:4: error: task A ends here and goes on to B, where no task begins [rule 9]
     2 | A: j B !s
       |    ^~~~~~
 p.s:3:4: note: no task begins here

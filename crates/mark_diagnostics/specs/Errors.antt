@@ -1,6 +1,6 @@
 -- What is wrong with the marks of a program: what is said of each finding that is told, by its rule. (The rules 1 to 4
 -- find nothing with a least certificate.)
-use Rattle.std.specs.Prelude.{◌≡◌, ◌↔◌, ℕ, ◌-◌, List, [], ◌∷◌, ◌++◌, codes, map, take, length, slice_get, Option, Some, None}
+use Rattle.std.specs.Prelude.{◌≡◌, ◌↔◌, ℕ, ◌-◌, List, [], ◌++◌, codes, map, take, length, slice_get, Option, Some, None}
 use Rattle.std.specs.List.{All, AllZip}
 use Rattle.task_graph.specs.Soundness.{Sound}
 use Rattle.mark_checker.specs.declared.finding.Rule.{Rule}
@@ -17,13 +17,14 @@ use Rattle.diagnostics.specs.declared.diagnostic.Source.TheVariants.{Program}
 use Rattle.diagnostics.specs.declared.diagnostic.Note.{Note}
 use Rattle.diagnostics.specs.declared.diagnostic.Help.{Help}
 use Rattle.diagnostics.specs.declared.diagnostic.Diagnostic.{Diagnostic}
-use Rattle.mark_diagnostics.specs.Subjects.{Judged, IsJudged, register_text, registers_text, task_name, spot_text, place_text, instruction_span, create_span, target_span, after}
-use Rattle.mark_diagnostics.specs.Parts.{by_text, way_notes}
+use Rattle.mark_diagnostics.specs.Subjects.{Judged, IsJudged, register_text, registers_text, task_name, spot_text, place_text, instruction_span, create_span, target_span}
+use Rattle.mark_diagnostics.specs.Parts.{way_notes}
 use Rattle.mark_diagnostics.specs.Told.{all_told, most_shown, about, register_in}
-use Rattle.mark_diagnostics.specs.Steps.{path_in}
+use Rattle.mark_diagnostics.specs.Steps.{path_in, first_entered, stop_note, stop_or}
 use Rattle.mark_diagnostics.specs.Masks.{missing, mask_notes, mask_help}
 use Rattle.mark_diagnostics.specs.Sending.{later, forward_help, release_help, early_notes}
 use Rattle.mark_diagnostics.specs.Exits.{exit_message, exit_notes, exit_help, beyond, beyond_help, wrong_number, wrong_target, place_note, target_help}
+use Rattle.mark_diagnostics.specs.Calls.{return_help}
 use Rattle.mark_diagnostics.specs.More.{more_note}
 
 abbrev pub code_of : Rule → Code
@@ -52,7 +53,7 @@ early_text s f sends =
     codes "task " ++ (task_name s f.task ++ (codes " " ++ (sends ++ (codes " " ++ (register_text s (register_in f.reg) ++ codes " here and may write it again")))))
 
 abbrev pub beyond_text : (task place : List ℕ) → List ℕ
-beyond_text task place = codes "task " ++ (task ++ (codes " can go on from here to " ++ (place ++ codes ", where no instruction is")))
+beyond_text task place = codes "task " ++ (task ++ (codes " can go on from here to " ++ (place ++ codes ", where there is no instruction")))
 
 abbrev pub indirect_text : Judged → (task : ℕ) → List ℕ
 indirect_text s task = codes "this jump to an address in a register has to end task " ++ task_name s task
@@ -79,15 +80,14 @@ notes_by rule.ExitNotListed s f path about shown = exit_notes s f path
 notes_by rule.FallsOff s f path about shown = way_notes s f.index path
 notes_by rule.IndirectGoesOn s f path about shown = way_notes s f.index path
 notes_by rule.TargetNotEntry s f path about shown = place_note s (wrong_target s f.task)
-notes_by _ s f path about shown = mask_notes s f.task about shown
+notes_by _ s f path about shown = mask_notes s about shown
 
 abbrev pub help_by : Rule → Judged → Finding → (path : List ℕ) → (about : List Finding) → Help
 help_by rule.ForwardedInNext s f path about = forward_help s f (later s f path)
 help_by rule.ReleasedInNext s f path about = release_help s f (later s f path)
 help_by rule.ExitNotListed s f path about = exit_help s f
 help_by rule.FallsOff s f path about = beyond_help s f.index
-help_by rule.IndirectGoesOn s f path about =
-    by_text (codes "end the task here: add !s") (after (instruction_span s f.index)) (codes " !s")
+help_by rule.IndirectGoesOn s f path about = return_help s f.task f.index path
 help_by rule.TargetNotEntry s f path about = target_help s f.task
 help_by _ s f path about = mask_help s f.task about
 
@@ -103,8 +103,8 @@ error_diagnostic s f about shown = record {
   source = Program;
   span = Some (span_by f.rule s f);
   message = message_by f.rule s f about;
-  notes = notes_by f.rule s f (first_path (slice_get shown 0)) about shown;
-  help = Some (help_by f.rule s f (first_path (slice_get shown 0)) about);
+  notes = stop_note s f.task (first_entered s shown) ++ notes_by f.rule s f (first_path (slice_get shown 0)) about shown;
+  help = Some (stop_or s f.task (first_entered s shown) (help_by f.rule s f (first_path (slice_get shown 0)) about));
 }
 
 -- The diagnostic says what the finding is: the first five of those that are told with it are shown, each by a shortest

@@ -21,7 +21,10 @@ use Rattle.mark_diagnostics.specs.Subjects.{Judged, which, targets_text}
 use Rattle.mark_diagnostics.specs.MarkPlaces.{mark_from}
 use Rattle.mark_diagnostics.specs.Spellings.{spelled, first_spelling, names_in}
 use Rattle.mark_diagnostics.specs.Told.{told, leaders}
-use Rattle.mark_diagnostics.specs.Steps.{entered}
+use Rattle.mark_diagnostics.specs.declared.meant_stop.MeantStop.TheVariants.{Edge}
+use Rattle.mark_diagnostics.specs.Stops.{missing_stop}
+use Rattle.mark_diagnostics.specs.Steps.{entered, is_target}
+use Rattle.mark_diagnostics.specs.Meant.{meant, may_end, edge_stop, edge_name, edge_advice}
 use Rattle.mark_diagnostics.specs.Masks.{widened}
 use Rattle.mark_diagnostics.specs.Sending.{later, first_left, advice, release_text}
 use Rattle.mark_diagnostics.specs.Exits.{exit_said, both}
@@ -97,6 +100,33 @@ said_once = refl
 pub listed_once : targets_text judged (0 ∷ both (Some 4) (Some 4)) ≡ codes "targets=A,B"
 listed_once = refl
 
+-- The branch ends its task, of which only the edge back leads to a target: its stop may be meant. Where both edges lead
+-- to targets, a stop on the line before may be meant for the branch.
+
+abbrev pub tasks_with : (targets : List ℕ) → Judged
+tasks_with targets = record judged {
+  program = record unstopped {
+    tasks = (record { name = 65 ∷ []; entry = 0; create = 0; targets = targets }) ∷ (record { name = 66 ∷ []; entry = 4; create = 0; targets = [] }) ∷ [];
+  };
+}
+
+pub edge_back : meant (tasks_with (0 ∷ [])) 0 3 4 ≡ Edge true 0
+edge_back = refl
+
+pub branch_may_end : may_end (tasks_with (0 ∷ 4 ∷ [])) 0 3 ≡ true
+branch_may_end = refl
+
+pub edge_words : edge_advice (edge_stop true) (edge_name true) (codes "LOOP") (codes "let a task begin on line 8")
+    ≡ codes "write !st: the task then ends only if the branch is taken, at LOOP, which is a target; or let a task begin on line 8"
+edge_words = refl
+
+-- the step back leads into a target: its stop is forgotten
+pub back_is_target : is_target judged 0 0 ≡ true
+back_is_target = refl
+
+pub stop_of_step : missing_stop judged 3 ≡ codes "!s"
+stop_of_step = refl
+
 -- A forward bit is taken out with the blank before it; a release without registers is none.
 
 pub mark_found : mark_from (byte "f") 0 (codes "addiu $8,$8,1 !f") ≡ Some 14
@@ -121,6 +151,10 @@ as_operand = refl
 pub by_number : first_spelling (spelled with_names) 31 ≡ codes "$31"
 unfolding line_tokens tokens_after token_of kind_of number_of magnitude_of number_in register_of register_named spans_after
 by_number = refl
+
+pub hi_by_name : first_spelling (spelled with_names) 32 ≡ codes "$hi"
+unfolding line_tokens tokens_after token_of kind_of number_of magnitude_of number_in register_of register_named spans_after
+hi_by_name = refl
 
 pub not_written : first_spelling (spelled with_names) 9 ≡ codes "$9"
 unfolding line_tokens tokens_after token_of kind_of number_of magnitude_of number_in register_of register_named spans_after digits

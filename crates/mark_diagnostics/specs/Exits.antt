@@ -1,14 +1,15 @@
 -- Where a task goes: exits that are not listed (rule 9), an inner edge that leads to no instruction (rule 10), and
 -- targets where no task begins (rule 12).
-use Rattle.std.specs.Prelude.{ℕ, ◌-◌, Bool, true, false, not, ◌&&◌, ◌||◌, ◌==◌, nat_eq, nat_lt, nat_le, List, [], ◌∷◌, ◌++◌, codes, filter, flat_map, position, length, slice_index_or, is_some, unwrap_or, Option, Some, None, if◌then◌else◌}
+use Rattle.std.specs.Prelude.{ℕ, ◌-◌, Bool, true, false, not, ◌&&◌, ◌||◌, ◌==◌, nat_eq, nat_lt, nat_le, List, [], ◌∷◌, ◌++◌, codes, filter, flat_map, position, length, slice_index_or, unwrap_or, Option, Some, None, if◌then◌else◌}
 use Rattle.std.specs.Option.{option_or, option_to_list}
 use Rattle.std.specs.Fmt.{decimal}
 use Rattle.std.specs.List.{find, list_any}
 use Rattle.mark_checker.specs.declared.finding.Finding.{Finding}
 use Rattle.diagnostics.specs.declared.diagnostic.Note.{Note}
 use Rattle.diagnostics.specs.declared.diagnostic.Help.{Help}
-use Rattle.mark_diagnostics.specs.Subjects.{Judged, task_name, targets_of, entries_of, task_at, is_entry, place_text, label_at, targets_text, is_branch, exit_end, inner_end, targets_span}
+use Rattle.mark_diagnostics.specs.Subjects.{Judged, task_name, targets_of, entries_of, task_at, is_entry, place_text, label_at, targets_text, is_branch, exit_end, inner_end, is_end, instruction_span, targets_span}
 use Rattle.mark_diagnostics.specs.Parts.{in_words, by_text, written, note_at, way_notes}
+use Rattle.mark_diagnostics.specs.Meant.{meant, meant_help}
 
 -- a note on a place, if an instruction is there
 abbrev pub begins_text : Judged → Option ℕ → List ℕ
@@ -23,13 +24,13 @@ abbrev pub labelled_text : (label besides : List ℕ) → List ℕ
 labelled_text label besides =
     codes "let a task begin at " ++ (label ++ (codes ": add a line .task " ++ (label ++ (codes " create=- targets=-" ++ besides))))
 
-abbrev pub unlabelled_text : (index : ℕ) → (besides : List ℕ) → List ℕ
-unlabelled_text j besides =
-    codes "let a task begin at @" ++ (decimal j ++ (codes ": give it a label and a line .task LABEL create=- targets=-" ++ besides))
+abbrev pub unlabelled_text : (line : ℕ) → (besides : List ℕ) → List ℕ
+unlabelled_text line besides =
+    codes "let a task begin on line " ++ (decimal line ++ (codes ": give it a label and a line .task LABEL create=- targets=-" ++ besides))
 
-abbrev pub begin_by : Option (List ℕ) → (index : ℕ) → (besides : List ℕ) → List ℕ
-begin_by None j besides = unlabelled_text j besides
-begin_by (Some label) j besides = labelled_text label besides
+abbrev pub begin_by : Option (List ℕ) → (line : ℕ) → (besides : List ℕ) → List ℕ
+begin_by None line besides = unlabelled_text line besides
+begin_by (Some label) line besides = labelled_text label besides
 
 -- the last instruction, where an index is too great
 abbrev pub last_text : Judged → List ℕ
@@ -38,7 +39,7 @@ last_text s = codes "let it go on to an instruction of the program, the last of 
 -- and what else is to be done; at the end of the program an instruction is to be added, too
 abbrev pub task_to_begin : Judged → (index : ℕ) → (besides : List ℕ) → List ℕ
 task_to_begin s j besides =
-    if nat_lt j (length s.program.code) then begin_by (label_at s j) j besides
+    if nat_lt j (length s.program.code) then begin_by (label_at s j) (instruction_span s j).line besides
     else if nat_eq j (length s.program.code)
     then codes "let a task begin there: add a line LABEL: halt at the end of the code and a line .task LABEL create=- targets=-" ++ besides
     else last_text s
@@ -59,10 +60,18 @@ edge_text false taken = []
 edge_text true false = codes "if the branch is not taken, "
 edge_text true true = codes "if the branch is taken, "
 
+-- why an exit may not lead there
+abbrev pub why_not : (begins : Bool) → List ℕ
+why_not true = codes ", which is not one of its targets"
+why_not false = codes ", where no task begins"
+
 -- what is said of an exit to one place, and of exits to two
-abbrev pub exit_text : (edge task place : List ℕ) → List ℕ
-exit_text edge task place =
-    edge ++ (codes "task " ++ (task ++ (codes " ends here and goes on to " ++ (place ++ codes ", which is not one of its targets"))))
+abbrev pub exit_text : (edge task place why : List ℕ) → List ℕ
+exit_text edge task place why =
+    edge ++ (codes "task " ++ (task ++ (codes " ends here and goes on to " ++ (place ++ why))))
+
+abbrev pub exit_to : Judged → (task : ℕ) → (edge : List ℕ) → (to : ℕ) → List ℕ
+exit_to s task edge j = exit_text edge (task_name s task) (place_text s j) (why_not (is_entry s j))
 
 abbrev pub exits_text : (task place second : List ℕ) → List ℕ
 exits_text task place second =
@@ -70,10 +79,10 @@ exits_text task place second =
 
 abbrev pub exit_said : Judged → Finding → (onward taken : Option ℕ) → List ℕ
 exit_said s f (Some j) (Some k) =
-    if nat_eq j k then exit_text [] (task_name s f.task) (place_text s j)
+    if nat_eq j k then exit_to s f.task [] j
     else exits_text (task_name s f.task) (place_text s j) (place_text s k)
-exit_said s f (Some j) None = exit_text (edge_text (is_branch s f.index) false) (task_name s f.task) (place_text s j)
-exit_said s f None (Some k) = exit_text (edge_text (is_branch s f.index) true) (task_name s f.task) (place_text s k)
+exit_said s f (Some j) None = exit_to s f.task (edge_text (is_branch s f.index) false) j
+exit_said s f None (Some k) = exit_to s f.task (edge_text (is_branch s f.index) true) k
 exit_said s f None None = []
 
 abbrev pub exit_message : Judged → Finding → List ℕ
@@ -100,23 +109,24 @@ targets_help s task targets =
 abbrev pub entries_listed : Judged → (task : ℕ) → List ℕ
 entries_listed s task = filter (is_entry s) (targets_of s task)
 
--- where no task begins, one is to begin, and to be a target
+-- where no task begins, another stop may be meant; else one is to begin, and to be a target
 abbrev pub listed_too : (name : List ℕ) → List ℕ
 listed_too name = codes ", and make it a target of task " ++ name
 
-abbrev pub begin_help : Judged → (task index : ℕ) → Help
-begin_help s task j = in_words (task_to_begin s j (listed_too (task_name s task)))
+abbrev pub begin_help : Judged → Finding → (to : ℕ) → Help
+begin_help s f j =
+    meant_help s f.index (meant s f.task f.index j) (task_to_begin s j (listed_too (task_name s f.task)))
 
--- these places are no targets; at the first of them, where no task begins, one is to begin
-abbrev pub unlisted_help_by : Judged → (task : ℕ) → (places : List ℕ) → Option ℕ → Help
-unlisted_help_by s task places None = targets_help s task (entries_listed s task ++ places)
-unlisted_help_by s task places (Some j) = begin_help s task j
+-- these places are no targets; at the first of them where no task begins, one is to begin
+abbrev pub unlisted_help_by : Judged → Finding → (places : List ℕ) → Option ℕ → Help
+unlisted_help_by s f places None = targets_help s f.task (entries_listed s f.task ++ places)
+unlisted_help_by s f places (Some j) = begin_help s f j
 
-abbrev pub unlisted_help : Judged → (task : ℕ) → (places : List ℕ) → Help
-unlisted_help s task places = unlisted_help_by s task places (find (λ j. not (is_entry s j)) places)
+abbrev pub unlisted_help : Judged → Finding → (places : List ℕ) → Help
+unlisted_help s f places = unlisted_help_by s f places (find (λ j. not (is_entry s j)) places)
 
 abbrev pub exit_help : Judged → Finding → Help
-exit_help s f = unlisted_help s f.task (lacking s f)
+exit_help s f = unlisted_help s f (lacking s f)
 
 -- Rule 10: where the instruction leads without ending the task, if no instruction is there; else 0.
 
@@ -133,10 +143,6 @@ beyond_help s i =
     in_words (if nat_eq (beyond s i) (length s.program.code) then codes "add halt at the end of the code" else last_text s)
 
 -- Rule 12.
-
-abbrev pub is_end : Option ℕ → (to : ℕ) → Bool
-is_end None j = false
-is_end (Some k) j = k == j
 
 -- some exit of an instruction that the task reaches leads there
 abbrev pub is_taken : Judged → (task to : ℕ) → Bool

@@ -3,13 +3,17 @@ pub mod Spellings
 pub mod Subjects
 pub mod MarkPlaces
 pub mod Parts
+pub mod Stops
 pub mod Told
 pub mod Steps
 pub mod Masks
 pub mod Sending
+pub mod Meant
 pub mod Exits
 pub mod More
+pub mod Calls
 pub mod Errors
 pub mod Remarks
+pub mod Updates
 pub mod Warnings
 pub mod Examples

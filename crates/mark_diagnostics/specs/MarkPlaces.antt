@@ -19,19 +19,20 @@ abbrev pub mark_from : (letter at : ℕ) → List ℕ → Option ℕ
 mark_from letter at [] = None
 mark_from letter at (b ∷ bs) = if begins_mark letter (b ∷ bs) then Some at else mark_from letter (at + 1) bs
 
--- the mark `!f` and the blank before it, if there is one
-abbrev pub forward_at : List ℕ → Span → (before : ℕ) → Span
-forward_at bytes span before =
+-- a mark of one letter and the blank before it, if there is one
+abbrev pub mark_at : List ℕ → Span → (before : ℕ) → Span
+mark_at bytes span before =
     if is_blank (slice_index_or bytes (before - 1) 0)
     then record { line = span.line; column = column_after span.column (before - 1); width = 3 }
     else record { line = span.line; column = column_after span.column before; width = 2 }
 
-abbrev pub forward_in : List ℕ → Span → Option ℕ → Option Span
-forward_in bytes span None = None
-forward_in bytes span (Some before) = Some (forward_at bytes span before)
+abbrev pub mark_by : List ℕ → Span → Option ℕ → Option Span
+mark_by bytes span None = None
+mark_by bytes span (Some before) = Some (mark_at bytes span before)
 
-abbrev pub forward_span : (rows : List (List ℕ)) → Span → Option Span
-forward_span rows span = forward_in (bytes_at rows span) span (mark_from (byte "f") 0 (bytes_at rows span))
+-- the first mark with this letter, as the `!f` or the `!s` of an instruction
+abbrev pub mark_span : (letter : ℕ) → (rows : List (List ℕ)) → Span → Option Span
+mark_span letter rows span = mark_by (bytes_at rows span) span (mark_from letter 0 (bytes_at rows span))
 
 -- the instruction up to its marks
 abbrev pub operands_in : Span → Option ℕ → Span

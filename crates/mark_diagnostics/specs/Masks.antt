@@ -12,7 +12,7 @@ use Rattle.diagnostics.specs.declared.diagnostic.Note.{Note}
 use Rattle.diagnostics.specs.declared.diagnostic.Help.{Help}
 use Rattle.mark_diagnostics.specs.Subjects.{Judged, register_text, registers_text, which, create_span}
 use Rattle.mark_diagnostics.specs.Parts.{written, path_note, last_or}
-use Rattle.mark_diagnostics.specs.Steps.{path_in, stop_note, first_entered}
+use Rattle.mark_diagnostics.specs.Steps.{path_in}
 use Rattle.mark_diagnostics.specs.Told.{register_in}
 
 -- the registers of some findings
@@ -38,9 +38,8 @@ further_note s registers =
     then record { span = None; message = further_text s registers; path = [] } ∷ []
     else []
 
-abbrev pub mask_notes : Judged → (task : ℕ) → (about : List Finding) → (shown : List ShownFinding) → List Note
-mask_notes s task about shown =
-    stop_note s task (first_entered s shown) ++ (map (register_note s) shown ++ further_note s (missing (drop 5 about)))
+abbrev pub mask_notes : Judged → (about : List Finding) → (shown : List ShownFinding) → List Note
+mask_notes s about shown = map (register_note s) shown ++ further_note s (missing (drop 5 about))
 
 -- the create mask as it would be right
 abbrev pub widened : Option Descriptor → (missing : List ℕ) → List ℕ

@@ -1,8 +1,9 @@
 -- The parts that diagnostics are made of.
-use Rattle.std.specs.Prelude.{ℕ, ◌-◌, List, [], ◌∷◌, ◌++◌, codes, map, length, slice_get, unwrap_or, nat_eq, if◌then◌else◌, Some}
+use Rattle.std.specs.Prelude.{ℕ, ◌-◌, List, [], ◌∷◌, ◌++◌, codes, map, length, slice_get, unwrap_or, nat_eq, if◌then◌else◌, Option, Some, None}
 use Rattle.diagnostics.specs.declared.diagnostic.Span.{Span}
 use Rattle.diagnostics.specs.declared.diagnostic.Note.{Note}
 use Rattle.diagnostics.specs.declared.diagnostic.Help.{Help}
+use Rattle.diagnostics.specs.declared.diagnostic.Replacement.{Replacement}
 use Rattle.mark_diagnostics.specs.Subjects.{Judged, instruction_span}
 
 -- a remedy in words alone, one that replaces a part of the text, and a list of a `.task` written anew
@@ -14,6 +15,11 @@ by_text message span text = record { message = message; replacements = record { 
 
 abbrev pub written : Span → (text : List ℕ) → Help
 written span text = by_text (codes "write " ++ text) span text
+
+-- a part of the text is taken out, if it is there
+abbrev pub take_out : Option Span → List Replacement
+take_out None = []
+take_out (Some span) = record { span = span; text = [] } ∷ []
 
 -- what is said of an instruction, and what of a path that leads to it
 abbrev pub note_at : Judged → (index : ℕ) → (message : List ℕ) → Note

@@ -1,23 +1,20 @@
--- Where a stop may be forgotten: a task comes to no exit, a target is taken by no exit, or a task goes on into the first
--- instruction of a task.
-use Rattle.std.specs.Prelude.{ℕ, Bool, true, false, not, ◌&&◌, ◌||◌, List, [], ◌∷◌, ◌++◌, codes, filter, flat_map, length, slice_get, is_some, position, unwrap_or, option_map, Option, Some, None, if◌then◌else◌}
+-- What may be forgotten: a way to a task; or a stop, where a task comes to no exit, a target is taken by no exit, or a
+-- task goes on into the first instruction of a task.
+use Rattle.std.specs.Prelude.{ℕ, Bool, true, false, not, ◌&&◌, ◌||◌, ◌==◌, List, [], ◌∷◌, ◌++◌, codes, filter, flat_map, length, slice_get, is_some, position, unwrap_or, option_map, Option, Some, None, if◌then◌else◌}
 use Rattle.std.specs.List.{find, list_any, range_with_len}
 use Rattle.std.specs.Option.{option_or}
-use Rattle.std.specs.Str.{byte}
+use Rattle.task_descriptor.specs.declared.descriptor.Descriptor.{Descriptor}
 use Rattle.task_descriptor.specs.declared.descriptor.Marked.{Marked}
-use Rattle.task_descriptor.specs.declared.descriptor.Stop.{Stop}
-use Rattle.task_descriptor.specs.declared.descriptor.Stop.TheVariants as stop
 use Rattle.task_graph.specs.Edges.{is_indirect}
 use Rattle.mark_checker.specs.Rules.{stops_always, rules}
 use Rattle.mark_checker.specs.declared.finding.Rule.{Rule}
 use Rattle.mark_checker.specs.declared.finding.Rule.TheVariants as rule
-use Rattle.diagnostics.specs.declared.diagnostic.Span.{Span}
 use Rattle.diagnostics.specs.declared.diagnostic.Help.{Help}
 use Rattle.mark_diagnostics.specs.declared.remark.StopRemark.{StopRemark}
-use Rattle.mark_diagnostics.specs.declared.remark.StopRemark.TheVariants.{NoExit, NotTaken, GoesInto}
-use Rattle.mark_diagnostics.specs.Subjects.{Judged, targets_of, entries_of, task_at, targets_text, is_branch, exit_end, inner_end, instruction_span, targets_span, column_after, after}
-use Rattle.mark_diagnostics.specs.MarkPlaces.{bytes_at, mark_from}
+use Rattle.mark_diagnostics.specs.declared.remark.StopRemark.TheVariants.{NeverRuns, NoExit, NotTaken, GoesInto}
+use Rattle.mark_diagnostics.specs.Subjects.{Judged, targets_of, entries_of, targets_text, exit_end, targets_span}
 use Rattle.mark_diagnostics.specs.Parts.{by_text}
+use Rattle.mark_diagnostics.specs.Stops.{stop_put, into, missing_stop}
 use Rattle.mark_diagnostics.specs.Exits.{is_taken, entries_listed}
 
 -- Exits of a task.
@@ -50,25 +47,35 @@ abbrev pub has_untaken : Judged → (task : ℕ) → Bool
 has_untaken s task = list_any (λ j. not (is_taken s task j)) (targets_of s task)
 
 -- what is remarked of the exits of a task that has targets
-abbrev pub of_exits : Judged → (task : ℕ) → (asked : Bool) → List StopRemark
-of_exits s task asked =
+abbrev pub of_exits : Judged → (task : ℕ) → List StopRemark
+of_exits s task =
     if not (list_any (λ e. exits s e.0) (entries_of s task)) then NoExit task ∷ []
-    else if list_any (λ e. exits_anywhere s e.0) (entries_of s task) || not (asked && has_untaken s task) then []
+    else if list_any (λ e. exits_anywhere s e.0) (entries_of s task) || not (has_untaken s task) then []
     else NotTaken task ∷ []
 
-abbrev pub of_targets : List ℕ → Judged → (task : ℕ) → (asked : Bool) → List StopRemark
-of_targets [] s task asked = []
-of_targets (j ∷ js) s task asked = of_exits s task asked
+abbrev pub of_targets : List ℕ → Judged → (task : ℕ) → List StopRemark
+of_targets [] s task = []
+of_targets (j ∷ js) s task = of_exits s task
+
+-- A task that never runs: the program starts elsewhere, and no other task has it as a target.
+
+abbrev pub entry_in : Option Descriptor → ℕ
+entry_in None = 0
+entry_in (Some d) = d.entry
+
+abbrev pub entry_of : Judged → (task : ℕ) → ℕ
+entry_of s task = entry_in (slice_get s.program.tasks task)
+
+abbrev pub follows : (entry : ℕ) → Descriptor → Bool
+follows entry d = not (d.entry == entry) && list_any (λ t. t == entry) d.targets
+
+abbrev pub never_runs : Judged → (task : ℕ) → Bool
+never_runs s task = not (s.program.start == entry_of s task) && not (list_any (follows (entry_of s task)) s.program.tasks)
+
+abbrev pub of_start : Judged → (task : ℕ) → List StopRemark
+of_start s task = if never_runs s task then NeverRuns task ∷ [] else []
 
 -- An instruction that goes on into the first instruction of a task.
-
--- the task that an inner edge leads into
-abbrev pub task_in : Judged → Option ℕ → Option ℕ
-task_in s None = None
-task_in s (Some j) = task_at s j
-
-abbrev pub into : Judged → (index : ℕ) → (taken : Bool) → Option ℕ
-into s i taken = task_in s (inner_end s i taken)
 
 abbrev pub entered_task : Judged → (index : ℕ) → Option ℕ
 entered_task s i = option_or (into s i false) (into s i true)
@@ -88,38 +95,14 @@ step_at s task (Some i) = step_by task i (entered_task s i)
 abbrev pub of_step : Judged → (task : ℕ) → List StopRemark
 of_step s task = step_at s task (first_step s task)
 
-abbrev pub stop_in : Option Marked → Stop
-stop_in None = stop.None
-stop_in (Some m) = m.stop
-
-abbrev pub stop_of : Judged → (index : ℕ) → Stop
-stop_of s i = stop_in (slice_get s.program.code i)
-
--- the stop that ends the task on these edges
-abbrev pub stop_word : (onward taken : Option ℕ) → Stop → (branch : Bool) → List ℕ
-stop_word (Some a) None stop.None true = codes "!sn"
-stop_word None (Some b) stop.None true = codes "!st"
-stop_word _ _ _ _ = codes "!s"
-
--- where to write it: after the instruction, or in place of the stop that is there
-abbrev pub stop_place : Stop → Span → Option ℕ → Span
-stop_place stop.None span found = after span
-stop_place _ span None = after span
-stop_place _ span (Some before) = record { line = span.line; column = column_after span.column before; width = 3 }
-
-abbrev pub blank_before : Stop → List ℕ
-blank_before stop.None = codes " "
-blank_before _ = []
-
 abbrev pub into_help : Judged → (index : ℕ) → Help
-into_help s i =
-    let word = stop_word (into s i false) (into s i true) (stop_of s i) (is_branch s i) in
-    by_text (codes "write " ++ (word ++ codes " here, if the task is to end"))
-    (stop_place (stop_of s i) (instruction_span s i) (mark_from (byte "s") 0 (bytes_at s.rows (instruction_span s i))))
-    (blank_before (stop_of s i) ++ word)
+into_help s i = record {
+  message = codes "write " ++ (missing_stop s i ++ codes " here, if the task is to end");
+  replacements = stop_put s i (missing_stop s i) ∷ [];
+}
 
--- A target that no exit takes, and a step into a task, are common in sound programs. So they are remarked where all
--- remarks are wanted, else only of a task of which a finding may come of a forgotten stop: one of the rules 5, 6 and 7.
+-- A step into a task is common in sound programs. So it is remarked where all remarks are wanted, else only of a task
+-- of which a finding may come of a forgotten stop: one of the rules 5, 6 and 7.
 abbrev pub may_lack_stop : Rule → Bool
 may_lack_stop rule.ExceedsCreate = true
 may_lack_stop rule.ForwardedInNext = true
@@ -133,9 +116,9 @@ abbrev pub step_if : (asked : Bool) → Judged → (task : ℕ) → List StopRem
 step_if false s task = []
 step_if true s task = of_step s task
 
--- What is remarked of a program, one task after another; of each at most two things.
+-- What is remarked of a program, one task after another; of each at most three things.
 abbrev pub of_task : Judged → (all : Bool) → (task : ℕ) → List StopRemark
-of_task s all task = of_targets (targets_of s task) s task (is_asked s all task) ++ step_if (is_asked s all task) s task
+of_task s all task = of_start s task ++ (of_targets (targets_of s task) s task ++ step_if (is_asked s all task) s task)
 
 abbrev pub stop_remarks : Judged → (all : Bool) → List StopRemark
 stop_remarks s all = flat_map (of_task s all) (range_with_len 0 (length s.program.tasks))

@@ -2,22 +2,21 @@
 use Rattle.std.specs.Prelude.{ℕ, Bool, true, false, not, ◌&&◌, ◌||◌, ◌==◌, nat_eq, nat_lt, List, [], ◌∷◌, ◌++◌, codes, length, slice_get, is_some, Option, Some, None, if◌then◌else◌}
 use Rattle.std.specs.Option.{option_or}
 use Rattle.std.specs.Fmt.{decimal}
+use Rattle.std.specs.Str.{byte}
 use Rattle.mips_instructions.specs.Words.{has}
 use Rattle.mips_instructions.specs.Instruction.{dests}
 use Rattle.task_descriptor.specs.declared.descriptor.Marked.{Marked}
 use Rattle.mask_certificate.specs.Lists.{mask_at}
 use Rattle.mark_checker.specs.Rules.{in_mask}
 use Rattle.mark_checker.specs.declared.finding.Finding.{Finding}
-use Rattle.diagnostics.specs.declared.diagnostic.Span.{Span}
 use Rattle.diagnostics.specs.declared.diagnostic.Note.{Note}
 use Rattle.diagnostics.specs.declared.diagnostic.Help.{Help}
 use Rattle.diagnostics.specs.declared.diagnostic.Replacement.{Replacement}
 use Rattle.mark_diagnostics.specs.declared.later.Later.{Later}
 use Rattle.mark_diagnostics.specs.declared.later.Later.TheVariants.{Nowhere, Left, Is, Put}
 use Rattle.mark_diagnostics.specs.Subjects.{Judged, register_text, registers_text, which, entries_of, forwards, releases, inner_end, instruction_span, after}
-use Rattle.mark_diagnostics.specs.MarkPlaces.{forward_span, first_mark, operands_span}
-use Rattle.mark_diagnostics.specs.Parts.{path_note, last_or}
-use Rattle.mark_diagnostics.specs.Steps.{entered, stop_note}
+use Rattle.mark_diagnostics.specs.MarkPlaces.{mark_span, first_mark, operands_span}
+use Rattle.mark_diagnostics.specs.Parts.{take_out, path_note, last_or}
 use Rattle.mark_diagnostics.specs.Told.{register_in}
 
 -- Where the register could be sent instead: at the end of the path, which writes it again.
@@ -107,14 +106,10 @@ advice s first r Nowhere = nowhere_text first (register_text s r)
 
 -- The forward bit is taken out.
 
-abbrev pub take_out : Option Span → List Replacement
-take_out None = []
-take_out (Some span) = record { span = span; text = [] } ∷ []
-
 abbrev pub forward_help : Judged → Finding → Later → Help
 forward_help s f later = record {
   message = advice s (codes "remove !f") (register_in f.reg) later;
-  replacements = take_out (forward_span s.rows (instruction_span s f.index)) ++ put_bit s later;
+  replacements = take_out (mark_span (byte "f") s.rows (instruction_span s f.index)) ++ put_bit s later;
 }
 
 -- The register is taken out of the release.
@@ -147,7 +142,7 @@ release_help s f later =
       replacements = release_written s f.index text ∷ [] ++ put_bit s later;
     }
 
--- A stop that may be forgotten, and where the register is written again.
+-- Where the register is written again.
 
 abbrev pub again_text : Judged → (register : ℕ) → List ℕ
 again_text s r = register_text s r ++ codes " is written again here"
@@ -156,4 +151,4 @@ abbrev pub again_note : Judged → Finding → (path : List ℕ) → Note
 again_note s f path = path_note s (last_or f.index path) (again_text s (register_in f.reg)) path
 
 abbrev pub early_notes : Judged → Finding → (path : List ℕ) → List Note
-early_notes s f path = stop_note s f.task (entered s path) ++ again_note s f path ∷ []
+early_notes s f path = again_note s f path ∷ []

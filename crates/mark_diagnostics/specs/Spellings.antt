@@ -1,5 +1,5 @@
 -- How the text of a program writes its registers: each by its number, as `$8`, or by its name, as `$t0`.
-use Rattle.std.specs.Prelude.{ℕ, ◌-◌, ◌==◌, List, [], ◌∷◌, ◌++◌, codes, map, flat_map, take, drop, slice_get, if◌then◌else◌, Option, Some, None}
+use Rattle.std.specs.Prelude.{ℕ, ◌-◌, ◌==◌, List, [], ◌∷◌, ◌++◌, codes, map, flat_map, take, drop, slice_get, nat_eq, if◌then◌else◌, Option, Some, None}
 use Rattle.std.specs.Fmt.{decimal}
 use Rattle.task_descriptor.specs.Listing.{registers}
 use Rattle.program_tokens.specs.Grammar.{line_tokens}
@@ -35,11 +35,11 @@ spelled_in line = spelled_by line (tokens_or_none (line_tokens line)) (line_span
 abbrev pub spelled : (rows : List (List ℕ)) → List Spelling
 spelled rows = flat_map spelled_in rows
 
--- a register by its number
+-- a register by its number; HI and LO by their names
 abbrev pub numbered : (register : ℕ) → List ℕ
-numbered r = codes "$" ++ decimal r
+numbered r = if nat_eq r 32 then codes "$hi" else if nat_eq r 33 then codes "$lo" else codes "$" ++ decimal r
 
--- a register as it is written first; by its number where it is not written
+-- a register as it is written first; where it is not written, in this way
 abbrev pub first_spelling : List Spelling → (register : ℕ) → List ℕ
 first_spelling [] r = numbered r
 first_spelling (first ∷ rest) r = if first.register == r then first.word else first_spelling rest r

@@ -1,11 +1,13 @@
 -- What diagnostics about marks are about: a program, its text, and what the least certificate says of it; and how its
 -- registers, tasks and places are named, and where in the text they stand.
-use Rattle.std.specs.Prelude.{◌≡◌, ℕ, ◌+◌, ◌-◌, ◌==◌, filter, min, Bool, true, false, List, [], ◌∷◌, ◌++◌, codes, flat_map, position, slice_get, slice_index_or, is_some, nat_eq, length, if◌then◌else◌, Option, Some, None, Ok}
+use Rattle.std.specs.Prelude.{◌≡◌, ℕ, ◌+◌, ◌-◌, ◌==◌, filter, min, Bool, true, false, List, [], ◌∷◌, ◌++◌, codes, flat_map, position, slice_get, slice_index_or, is_some, nat_eq, nat_lt, length, if◌then◌else◌, Option, Some, None, Ok}
 use Rattle.std.specs.Fmt.{decimal}
 use Rattle.mips_instructions.specs.Instruction.{released}
 use Rattle.task_descriptor.specs.Listing.{Listing, registers, is_conditional}
 use Rattle.task_descriptor.specs.declared.descriptor.Marked.{Marked}
 use Rattle.task_descriptor.specs.declared.descriptor.Descriptor.{Descriptor}
+use Rattle.task_descriptor.specs.declared.descriptor.Stop.{Stop}
+use Rattle.task_descriptor.specs.declared.descriptor.Stop.TheVariants as stop
 use Rattle.task_graph.specs.Edges.{end_of}
 use Rattle.source_map.specs.declared.position.Position.{Position}
 use Rattle.source_map.specs.declared.position.Stretch.{Stretch}
@@ -95,22 +97,9 @@ spot_by (Some label) j = label
 abbrev pub spot_text : Judged → (index : ℕ) → List ℕ
 spot_text s j = spot_by (label_at s j) j
 
--- a place: by the task that begins there, else by its label, else as `@index`; the one after the last instruction in words
-abbrev pub place_by : Judged → Option ℕ → (index : ℕ) → List ℕ
-place_by s None j = if nat_eq j (length s.program.code) then codes "the end of the program" else spot_text s j
-place_by s (Some task) j = task_name s task
-
-abbrev pub place_text : Judged → (index : ℕ) → List ℕ
-place_text s j = place_by s (task_at s j) j
-
--- a list of places
-abbrev pub places_text : Judged → (places : List ℕ) → List ℕ
-places_text s [] = codes "-"
-places_text s (first ∷ rest) = place_text s first ++ flat_map (λ j. codes "," ++ place_text s j) rest
-
--- `targets=` with these places
-abbrev pub targets_text : Judged → (places : List ℕ) → List ℕ
-targets_text s places = codes "targets=" ++ places_text s places
+abbrev pub is_end : Option ℕ → (to : ℕ) → Bool
+is_end None j = false
+is_end (Some k) j = k == j
 
 -- Instructions, by their indices.
 
@@ -134,6 +123,13 @@ conditional_in (Some m) = is_conditional m.op
 
 abbrev pub is_branch : Judged → (index : ℕ) → Bool
 is_branch s i = conditional_in (slice_get s.program.code i)
+
+abbrev pub stop_in : Option Marked → Stop
+stop_in None = stop.None
+stop_in (Some m) = m.stop
+
+abbrev pub stop_of : Judged → (index : ℕ) → Stop
+stop_of s i = stop_in (slice_get s.program.code i)
 
 -- where an edge ends, if it is there and of that kind
 abbrev pub end_in : (leaving : Bool) → Option Marked → (index : ℕ) → (taken : Bool) → Option ℕ
@@ -165,6 +161,10 @@ span_at _ _ = first_byte
 abbrev pub instruction_span : Judged → (index : ℕ) → Span
 instruction_span s index = span_at (slice_get s.sources.code index) (slice_get s.sources.widths index)
 
+-- `.task`, with which a task is declared
+abbrev pub task_span : Judged → (task : ℕ) → Span
+task_span s task = span_at (slice_get s.sources.tasks task) (Some 5)
+
 -- `create=` of a task with its registers, `targets=` with its targets, and the target of a number
 abbrev pub create_in : Option TaskLists → Option Stretch
 create_in None = None
@@ -194,3 +194,33 @@ column_after column count = column + min count (18446744073709551615 - column)
 -- the place after a part of a line
 abbrev pub after : Span → Span
 after span = record { line = span.line; column = column_after span.column span.width; width = 0 }
+
+-- Places in sentences.
+
+-- a place where no task begins: by its label, else by its line; what is no instruction as `@index`, the one after the
+-- last instruction in words
+abbrev pub unnamed_text : Judged → (index : ℕ) → List ℕ
+unnamed_text s j =
+    if nat_lt j (length s.program.code) then codes "line " ++ decimal (instruction_span s j).line
+    else if nat_eq j (length s.program.code) then codes "the end of the program" else codes "@" ++ decimal j
+
+abbrev pub unnamed_by : Judged → Option (List ℕ) → (index : ℕ) → List ℕ
+unnamed_by s None j = unnamed_text s j
+unnamed_by s (Some label) j = label
+
+-- any place: by the task that begins there, if one does
+abbrev pub place_by : Judged → Option ℕ → (index : ℕ) → List ℕ
+place_by s None j = unnamed_by s (label_at s j) j
+place_by s (Some task) j = task_name s task
+
+abbrev pub place_text : Judged → (index : ℕ) → List ℕ
+place_text s j = place_by s (task_at s j) j
+
+-- a list of places
+abbrev pub places_text : Judged → (places : List ℕ) → List ℕ
+places_text s [] = codes "-"
+places_text s (first ∷ rest) = place_text s first ++ flat_map (λ j. codes "," ++ place_text s j) rest
+
+-- `targets=` with these places
+abbrev pub targets_text : Judged → (places : List ℕ) → List ℕ
+targets_text s places = codes "targets=" ++ places_text s places

@@ -1,6 +1,7 @@
 -- What could be better about the marks of a program: what is said of each remark, by its kind.
-use Rattle.std.specs.Prelude.{◌≡◌, ℕ, ◌-◌, Bool, false, not, ◌&&◌, ◌==◌, List, [], ◌∷◌, ◌++◌, codes, map, take, length, slice_get, Option, Some, None}
+use Rattle.std.specs.Prelude.{◌≡◌, ℕ, ◌-◌, Bool, true, false, not, is_some, if◌then◌else◌, ◌&&◌, ◌==◌, List, [], ◌∷◌, ◌++◌, codes, map, take, length, slice_get, Option, Some, None}
 use Rattle.std.specs.List.{list_any}
+use Rattle.std.specs.Fmt.{decimal}
 use Rattle.mips_instructions.specs.Words.{has}
 use Rattle.task_descriptor.specs.Listing.{Listing}
 use Rattle.task_descriptor.specs.declared.descriptor.Descriptor.{Descriptor}
@@ -18,12 +19,15 @@ use Rattle.diagnostics.specs.declared.diagnostic.Diagnostic.{Diagnostic}
 use Rattle.mark_diagnostics.specs.declared.remark.Remark.{Remark}
 use Rattle.mark_diagnostics.specs.declared.remark.Remark.TheVariants.{Stop, Costly}
 use Rattle.mark_diagnostics.specs.declared.remark.StopRemark.{StopRemark}
-use Rattle.mark_diagnostics.specs.declared.remark.StopRemark.TheVariants.{NoExit, NotTaken, GoesInto}
-use Rattle.mark_diagnostics.specs.Subjects.{Judged, IsJudged, register_text, which, task_name, places_text, releases, instruction_span, create_span, targets_span, target_span, after}
-use Rattle.mark_diagnostics.specs.Parts.{in_words, by_text}
+use Rattle.mark_diagnostics.specs.declared.remark.StopRemark.TheVariants.{NeverRuns, NoExit, NotTaken, GoesInto}
+use Rattle.mark_diagnostics.specs.Subjects.{Judged, IsJudged, register_text, which, task_name, place_text, places_text, releases, is_end, instruction_span, task_span, create_span, targets_span, target_span}
+use Rattle.mark_diagnostics.specs.MarkPlaces.{first_mark}
+use Rattle.mark_diagnostics.specs.Parts.{in_words}
 use Rattle.mark_diagnostics.specs.Told.{most_shown}
 use Rattle.mark_diagnostics.specs.Masks.{create_help}
-use Rattle.mark_diagnostics.specs.Sending.{release_text, release_written}
+use Rattle.mark_diagnostics.specs.Sending.{is_none_left, release_text, release_written}
+use Rattle.mark_diagnostics.specs.Calls.{back}
+use Rattle.mark_diagnostics.specs.Updates.{released_next, update_text, update_help}
 use Rattle.mark_diagnostics.specs.Remarks.{untaken, first_untaken, not_taken_help, into_help, stop_remarks}
 use Rattle.mark_diagnostics.specs.More.{more_note}
 
@@ -32,6 +36,7 @@ code_of (Costly (NeverProduced task register)) = code.NeverProduced
 code_of (Costly (NotForwarded index)) = code.NotForwarded
 code_of (Costly (SentBefore index register)) = code.SentBefore
 code_of (Costly (Unreached index)) = code.Unreached
+code_of (Stop (NeverRuns task)) = code.Unreached
 code_of (Stop (NoExit task)) = code.NoExit
 code_of (Stop (NotTaken task)) = code.TargetNotTaken
 code_of (Stop (GoesInto task index into)) = code.GoesIntoTask
@@ -41,6 +46,7 @@ span_of s (Costly (NeverProduced task register)) = create_span s task
 span_of s (Costly (NotForwarded index)) = instruction_span s index
 span_of s (Costly (SentBefore index register)) = instruction_span s index
 span_of s (Costly (Unreached index)) = instruction_span s index
+span_of s (Stop (NeverRuns task)) = task_span s task
 span_of s (Stop (NoExit task)) = targets_span s task
 span_of s (Stop (NotTaken task)) = target_span s task (first_untaken s task)
 span_of s (Stop (GoesInto task index into)) = instruction_span s index
@@ -48,7 +54,7 @@ span_of s (Stop (GoesInto task index into)) = instruction_span s index
 abbrev pub costly_text : Judged → CostlyMark → List ℕ
 costly_text s (NeverProduced task register) =
     codes "the create mask of task " ++ (task_name s task ++ (codes " has " ++ (register_text s register ++ codes ", which no instruction of the task writes or releases")))
-costly_text s (NotForwarded index) = codes "this is a last update without !f: later tasks wait for what it writes"
+costly_text s (NotForwarded index) = update_text s index (released_next s index)
 costly_text s (SentBefore index register) = register_text s register ++ codes " was sent before on each path to this release"
 costly_text s (Unreached index) = codes "no task reaches the code from here on"
 
@@ -56,9 +62,18 @@ abbrev pub goes_into_text : (task into : List ℕ) → List ℕ
 goes_into_text task into =
     codes "task " ++ (task ++ (codes " goes on into task " ++ (into ++ codes " without a stop; was !s meant here?")))
 
+abbrev pub not_taken_text : (task places : List ℕ) → List ℕ
+not_taken_text task places =
+    codes "no exit of task " ++ (task ++ (codes " leads to " ++ (places ++ codes ": a unit that is given such a target after it is always squashed")))
+
+abbrev pub never_runs_text : (task start : List ℕ) → List ℕ
+never_runs_text task start =
+    codes "task " ++ (task ++ (codes " never runs: no other task has it as a target, and the program starts at " ++ start))
+
 abbrev pub stop_text : Judged → StopRemark → List ℕ
-stop_text s (NoExit task) = codes "task " ++ (task_name s task ++ codes " has targets, but comes to no stop")
-stop_text s (NotTaken task) = codes "no exit of task " ++ (task_name s task ++ (codes " leads to " ++ places_text s (untaken s task)))
+stop_text s (NeverRuns task) = never_runs_text (task_name s task) (place_text s s.program.start)
+stop_text s (NoExit task) = codes "task " ++ (task_name s task ++ codes " has targets, but never reaches a stop")
+stop_text s (NotTaken task) = not_taken_text (task_name s task) (places_text s (untaken s task))
 stop_text s (GoesInto task index into) = goes_into_text (task_name s task) (task_name s into)
 
 abbrev pub message_of : Judged → Remark → List ℕ
@@ -85,15 +100,35 @@ is_before index r _ = false
 abbrev pub still_released : Judged → List CostlyMark → (index : ℕ) → List ℕ
 still_released s list i = which (λ r. releases s i r && not (list_any (is_before i r) list))
 
-abbrev pub before_help : Judged → (index : ℕ) → (text : List ℕ) → Help
-before_help s i text = record { message = codes "write " ++ text; replacements = release_written s i text ∷ [] }
+-- a release of no register does nothing, and may as well be removed if nothing else is in its line
+abbrev pub or_removed : (none marked : Bool) → List ℕ
+or_removed true false = codes ", or remove it if no place is given as @n"
+or_removed none marked = []
+
+abbrev pub before_help : Judged → (index : ℕ) → (registers : List ℕ) → Help
+before_help s i registers = record {
+  message = codes "write " ++ (release_text s registers ++ or_removed (is_none_left registers) (is_some (first_mark s.rows (instruction_span s i))));
+  replacements = release_written s i (release_text s registers) ∷ [];
+}
+
+-- code that no task reaches: a call before it may come back to it
+abbrev pub called_text : (line : ℕ) → List ℕ
+called_text line = codes "let a task begin here, as a target: the call on line " ++ (decimal line ++ codes " may come back to it")
+
+abbrev pub unreached_text : Judged → (index : ℕ) → List ℕ
+unreached_text s i =
+    if is_end (back s (i - 1)) i then called_text (instruction_span s (i - 1)).line
+    else codes "let a task go on to it; or remove it, up to the next instruction that a task reaches, if no label there is used"
+
+abbrev pub start_text : (task : List ℕ) → List ℕ
+start_text task = codes "write .start " ++ (task ++ codes ", in place of another .start, or make it a target of another task")
 
 abbrev pub help_of : Judged → List CostlyMark → Remark → Help
 help_of s list (Costly (NeverProduced task register)) = create_help s task (produced s list task)
-help_of s list (Costly (NotForwarded index)) = by_text (codes "add !f here") (after (instruction_span s index)) (codes " !f")
-help_of s list (Costly (SentBefore index register)) = before_help s index (release_text s (still_released s list index))
-help_of s list (Costly (Unreached index)) =
-    in_words (codes "let a task go on to it; or remove it up to the next instruction that a task reaches, where no name refers to it")
+help_of s list (Costly (NotForwarded index)) = update_help s index
+help_of s list (Costly (SentBefore index register)) = before_help s index (still_released s list index)
+help_of s list (Costly (Unreached index)) = in_words (unreached_text s index)
+help_of s list (Stop (NeverRuns task)) = in_words (start_text (task_name s task))
 help_of s list (Stop (NoExit task)) = in_words (codes "put !s, !st or !sn where it is to end")
 help_of s list (Stop (NotTaken task)) = not_taken_help s task
 help_of s list (Stop (GoesInto task index into)) = into_help s index

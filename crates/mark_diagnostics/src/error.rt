@@ -9,17 +9,16 @@ ghost use Rattle.mark_diagnostics.specs.Exits.{place_note, beyond as beyond_of, 
 ghost use Rattle.mark_diagnostics.specs.Subjects.{task_name, spot_text, place_text};
 ghost use Rattle.mark_diagnostics.specs.Errors.{code_of, span_by, early_text, beyond_text, indirect_text, target_text, mask_text, message_by, notes_by, help_by, first_path, error_diagnostic, Says, AreMarkErrors};
 
+use crate::call::return_help;
 use crate::exit::{
     add_place_note, beyond, beyond_help, exit_help, exit_message, exit_notes, target_help,
     wrong_number, wrong_target,
 };
 use crate::mask::{mask_help, mask_notes, missing};
-use crate::parts::{
-    add_more, by_text, first_of, place_words, registers_words, spot_words, way_notes,
-};
+use crate::parts::{add_more, first_of, place_words, registers_words, spot_words, way_notes};
 use crate::sending::{early_notes, forward_help, later, release_help};
-use crate::step::path_in;
-use crate::subject::{Made, Subject, after};
+use crate::step::{first_entered, path_in, stop_note, stop_or};
+use crate::subject::{Made, Subject};
 use crate::told::{about, first_told, register_in};
 use annotator::laws::least_decides;
 use diagnostics::code::Code;
@@ -80,11 +79,11 @@ fn early_words(subject: &Subject, finding: &Finding, sends: &str) -> Made<Words>
     words!(in subject.alloc(); "task {task} {sends} {register} here and may write it again")
 }
 
-/// What is said of a task that can go on to a place where no instruction is.
+/// What is said of a task that can go on to a place where there is no instruction.
 fn beyond_words(alloc: Global, task: &str, place: &str) -> Made<Words>
     ensures { IfOk result (λ words. words ≡ beyond_text task.now place.now) }
 {
-    words!(in alloc; "task {task} can go on from here to {place}, where no instruction is")
+    words!(in alloc; "task {task} can go on from here to {place}, where there is no instruction")
 }
 
 /// What is said of an edge that leads to no instruction.
@@ -153,7 +152,7 @@ fn target_notes(subject: &Subject, task: u32) -> Made<Vec<Note>>
 }
 
 /// What shows it.
-fn notes(
+fn notes_of(
     subject: &Subject,
     finding: &Finding,
     path: &[u32],
@@ -167,7 +166,7 @@ fn notes(
         Rule::ExitNotListed => exit_notes(subject, finding, path),
         Rule::FallsOff | Rule::IndirectGoesOn => way_notes(subject, finding.index, path),
         Rule::TargetNotEntry => target_notes(subject, finding.task),
-        _ => mask_notes(subject, finding.task, about, shown),
+        _ => mask_notes(subject, about, shown),
     }
 }
 
@@ -175,17 +174,12 @@ fn notes(
 fn help(subject: &Subject, finding: &Finding, path: &[u32], about: &[Finding]) -> Made<Help>
     ensures { IfOk result (λ help. help ≡ help_by finding.now.rule subject.now finding.now path.now about.now) }
 {
-    let alloc = subject.alloc();
     match finding.rule {
         Rule::ForwardedInNext => { forward_help(subject, finding, later(subject, finding, path)?) }
         Rule::ReleasedInNext => { release_help(subject, finding, later(subject, finding, path)?) }
         Rule::ExitNotListed => exit_help(subject, finding),
         Rule::FallsOff => beyond_help(subject, finding.index),
-        Rule::IndirectGoesOn => {
-            let advice = Words::of(alloc, "end the task here: add !s")?;
-            let place = after(subject.span(finding.index));
-            by_text(alloc, advice, place, Words::of(alloc, " !s")?)
-        }
+        Rule::IndirectGoesOn => return_help(subject, finding.task, finding.index, path),
         Rule::TargetNotEntry => target_help(subject, finding.task),
         _ => mask_help(subject, finding.task, about),
     }
@@ -211,9 +205,13 @@ fn error_diagnostic(
     ensures { IfOk result (λ said. said ≡ error_diagnostic subject.now finding.now about.now shown.now) }
 {
     let path = first_path(shown);
+    let step = first_entered(subject, shown);
     let message = message(subject, finding, about)?;
-    let notes = notes(subject, finding, path, about, shown)?;
+    let mut notes = stop_note(subject, finding.task, step)?;
+    let mut shown_notes = notes_of(subject, finding, path, about, shown)?;
+    notes.append(&mut shown_notes)?;
     let help = help(subject, finding, path, about)?;
+    let help = stop_or(subject, finding.task, step, help)?;
     Ok(Diagnostic {
         severity: Severity::Error,
         code: code_of(finding.rule),

@@ -3,11 +3,12 @@
 ghost use Rattle.std.specs.Prelude.{◌≡◌, ◌++◌, ◌==◌, ◌&&◌, ◌||◌, true, false, not, position, IfOk, OnOk};
 ghost use Rattle.std.specs.List.{find, flat_map, list_any};
 ghost use Rattle.std.specs.Option.{option_copied};
-ghost use Rattle.mark_diagnostics.specs.Subjects.{task_name, place_text, targets_of, is_entry, exit_end};
-ghost use Rattle.mark_diagnostics.specs.Exits.{begins_text, place_note, labelled_text, unlabelled_text, begin_by, task_to_begin, unlisted, edge_text, exit_text, exits_text, exit_said, exit_message, both, lacking, exit_notes, targets_help, entries_listed, listed_too, begin_help, unlisted_help, exit_help, is_beyond, beyond, last_text, beyond_help, is_end, is_taken, wrong_number, wrong_target, wrong_but_taken, target_help};
+ghost use Rattle.mark_diagnostics.specs.Subjects.{task_name, place_text, targets_of, is_entry, is_end as is_end_of, exit_end};
+ghost use Rattle.mark_diagnostics.specs.Exits.{begins_text, place_note, labelled_text, unlabelled_text, begin_by, task_to_begin, unlisted, edge_text, why_not, exit_text, exit_to, exits_text, exit_said, exit_message, both, lacking, exit_notes, targets_help, entries_listed, listed_too, begin_help, unlisted_help, exit_help, is_beyond, beyond, last_text, beyond_help, is_taken, wrong_number, wrong_target, wrong_but_taken, target_help};
 
+use crate::meant::{is_among, meant, meant_help};
 use crate::parts::{by_text, in_words, note_at, place_words, targets_words, way_notes, written};
-use crate::subject::{Made, Subject};
+use crate::subject::{Made, Subject, is_end};
 use diagnostics::diagnostic::{Help, Note};
 use diagnostics::words;
 use diagnostics::words::Words;
@@ -48,19 +49,19 @@ fn labelled_words(alloc: Global, label: &str, besides: &str) -> Made<Words>
 }
 
 /// What would let a task begin at a place that has no label.
-fn unlabelled_words(alloc: Global, index: u32, besides: &str) -> Made<Words>
-    ensures { IfOk result (λ words. words ≡ unlabelled_text index besides.now) }
+fn unlabelled_words(alloc: Global, line: u32, besides: &str) -> Made<Words>
+    ensures { IfOk result (λ words. words ≡ unlabelled_text line besides.now) }
 {
-    words!(in alloc; "let a task begin at @{index}: give it a label and a line .task LABEL create=- targets=-{besides}")
+    words!(in alloc; "let a task begin on line {line}: give it a label and a line .task LABEL create=- targets=-{besides}")
 }
 
 /// What would let a task begin at a place that has this label, or none.
-fn begin_words(alloc: Global, label: Option<Name>, index: u32, besides: &str) -> Made<Words>
-    ensures { IfOk result (λ words. words ≡ begin_by label index besides.now) }
+fn begin_words(alloc: Global, label: Option<Name>, line: u32, besides: &str) -> Made<Words>
+    ensures { IfOk result (λ words. words ≡ begin_by label line besides.now) }
 {
     match label {
         Some(label) => labelled_words(alloc, label.as_str(), besides),
-        None => unlabelled_words(alloc, index, besides),
+        None => unlabelled_words(alloc, line, besides),
     }
 }
 
@@ -79,19 +80,13 @@ fn task_to_begin(subject: &Subject, index: u32, besides: &str) -> Made<Words>
     let alloc = subject.alloc();
     let end = subject.code().len();
     if (index as usize) < end {
-        return begin_words(alloc, subject.label(index), index, besides);
+        let line = subject.span(index).line;
+        return begin_words(alloc, subject.label(index), line, besides);
     }
     if index as usize == end {
         return words!(in alloc; "let a task begin there: add a line LABEL: halt at the end of the code and a line .task LABEL create=- targets=-{besides}");
     }
     last_words(subject)
-}
-
-/// Whether an index is that of a target.
-fn is_among(targets: &[Place], index: u32) -> bool
-    ensures { result ≡ list_any (λ t. t == index) targets.now }
-{
-    targets.iter().any(|target| target.get() == index)
 }
 
 /// Where the exit of a finding leads, a branch being taken or not, if that is no target.
@@ -116,11 +111,22 @@ fn edge_text(branch: bool, taken: bool) -> &'static str
     }
 }
 
-/// What is said of an exit to a place.
-fn exit_words(alloc: Global, edge: &str, task: &str, place: &str) -> Made<Words>
-    ensures { IfOk result (λ words. words ≡ exit_text edge.now task.now place.now) }
+/// Why an exit may not lead to a place.
+fn why_not(begins: bool) -> &'static str
+    ensures { result.now ≡ why_not begins }
 {
-    words!(in alloc; "{edge}task {task} ends here and goes on to {place}, which is not one of its targets")
+    if begins {
+        ", which is not one of its targets"
+    } else {
+        ", where no task begins"
+    }
+}
+
+/// What is said of an exit to a place.
+fn exit_words(alloc: Global, edge: &str, task: &str, place: &str, why: &str) -> Made<Words>
+    ensures { IfOk result (λ words. words ≡ exit_text edge.now task.now place.now why.now) }
+{
+    words!(in alloc; "{edge}task {task} ends here and goes on to {place}{why}")
 }
 
 /// What is said of exits to two places.
@@ -132,10 +138,12 @@ fn exits_words(alloc: Global, task: &str, place: &str, second: &str) -> Made<Wor
 
 /// What is said of an exit by an edge.
 fn one_said(subject: &Subject, edge: &str, task: u32, index: u32) -> Made<Words>
-    ensures { IfOk result (λ words. words ≡ exit_text edge.now (task_name subject.now task) (place_text subject.now index)) }
+    ensures { IfOk result (λ words. words ≡ exit_to subject.now task edge.now index) }
 {
+    let name = subject.task(task);
     let place = place_words(subject, index)?;
-    exit_words(subject.alloc(), edge, subject.task(task), place.as_str())
+    let why = why_not(subject.is_entry(index));
+    exit_words(subject.alloc(), edge, name, place.as_str(), why)
 }
 
 /// What is said of exits by both edges.
@@ -290,23 +298,33 @@ fn listed_too(alloc: Global, name: &str) -> Made<Words>
     words!(in alloc; ", and make it a target of task {name}")
 }
 
-/// What to do about an exit to a place where no task begins.
-fn begin_help(subject: &Subject, task: u32, index: u32) -> Made<Help>
-    ensures { IfOk result (λ help. help ≡ begin_help subject.now task index) }
+/// What would let a task begin at a place, as a target of another.
+fn target_to_begin(subject: &Subject, task: u32, index: u32) -> Made<Words>
+    ensures { IfOk result (λ words. words ≡ task_to_begin subject.now index (listed_too (task_name subject.now task))) }
 {
     let besides = listed_too(subject.alloc(), subject.task(task))?;
     let message = task_to_begin(subject, index, besides.as_str())?;
-    Ok(in_words(subject.alloc(), message))
+    Ok(message)
+}
+
+/// What to do about an exit to a place where no task begins.
+fn begin_help(subject: &Subject, finding: &Finding, to: u32) -> Made<Help>
+    ensures { IfOk result (λ help. help ≡ begin_help subject.now finding.now to) }
+{
+    let message = target_to_begin(subject, finding.task, to)?;
+    let stop = meant(subject, finding.task, finding.index, to);
+    let help = meant_help(subject, finding.index, stop, message)?;
+    Ok(help)
 }
 
 /// What to do about an exit to these places, which are no targets.
-fn unlisted_help(subject: &Subject, task: u32, places: &[u32]) -> Made<Help>
-    ensures { IfOk result (λ help. help ≡ unlisted_help subject.now task places.now) }
+fn unlisted_help(subject: &Subject, finding: &Finding, places: &[u32]) -> Made<Help>
+    ensures { IfOk result (λ help. help ≡ unlisted_help subject.now finding.now places.now) }
 {
     if let Some(index) = first_without(subject, places) {
-        return begin_help(subject, task, *index);
+        return begin_help(subject, finding, *index);
     }
-    listing_help(subject, task, places)
+    listing_help(subject, finding.task, places)
 }
 
 /// What to do about an exit to places that are no targets.
@@ -314,7 +332,7 @@ pub(crate) fn exit_help(subject: &Subject, finding: &Finding) -> Made<Help>
     ensures { IfOk result (λ help. help ≡ exit_help subject.now finding.now) }
 {
     let places = lacking(subject, finding)?;
-    let help = unlisted_help(subject, finding.task, &places)?;
+    let help = unlisted_help(subject, finding, &places)?;
     Ok(help)
 }
 
@@ -354,19 +372,9 @@ pub(crate) fn beyond_help(subject: &Subject, index: u32) -> Made<Help>
     Ok(in_words(alloc, message))
 }
 
-/// Whether an edge ends at a place.
-fn is_end(end: Option<u32>, to: u32) -> bool
-    ensures { result ≡ is_end end to }
-{
-    match end {
-        Some(index) => index == to,
-        None => false,
-    }
-}
-
 /// Whether an exit of an instruction leads to a place.
 fn exits_to(subject: &Subject, index: u32, to: u32) -> bool
-    ensures { result ≡ (is_end (exit_end subject.now index false) to || is_end (exit_end subject.now index true) to) }
+    ensures { result ≡ (is_end_of (exit_end subject.now index false) to || is_end_of (exit_end subject.now index true) to) }
 {
     is_end(subject.exit(index, false), to) || is_end(subject.exit(index, true), to)
 }

@@ -1,7 +1,7 @@
 //! Where the marks of an instruction stand.
 
 ghost use Rattle.std.specs.Prelude.{◌≡◌, ◌-◌, [], map as each, take, drop, slice_index_or};
-ghost use Rattle.mark_diagnostics.specs.MarkPlaces.{bytes_at, begins_mark, mark_from, forward_at, forward_span, first_mark, operands_span};
+ghost use Rattle.mark_diagnostics.specs.MarkPlaces.{bytes_at, begins_mark, mark_from, mark_at, mark_span, first_mark, operands_span};
 
 use crate::parts::{first_of, rest_after};
 use crate::subject::column_after;
@@ -51,9 +51,9 @@ fn mark_in(letter: u8, bytes: &[u8]) -> Option<usize>
     None
 }
 
-/// A mark and the blank before it, if there is one.
-fn forward_at(bytes: &[u8], span: Span, before: usize) -> Span
-    ensures { result ≡ forward_at bytes.now span before }
+/// A mark of one letter and the blank before it, if there is one.
+fn mark_at(bytes: &[u8], span: Span, before: usize) -> Span
+    ensures { result ≡ mark_at bytes.now span before }
 {
     match bytes.get(before.saturating_sub(1)) {
         Some(b' ' | b'\t') => Span {
@@ -69,13 +69,13 @@ fn forward_at(bytes: &[u8], span: Span, before: usize) -> Span
     }
 }
 
-/// The mark `!f` of an instruction, and the blank before it, if there is one.
-pub(crate) fn forward_span(rows: &[&[u8]], span: Span) -> Option<Span>
-    ensures { result ≡ forward_span (each (λ line. line.now) rows.now) span }
+/// The first mark of an instruction with this letter, and the blank before it, if there is one.
+pub(crate) fn mark_span(letter: u8, rows: &[&[u8]], span: Span) -> Option<Span>
+    ensures { result ≡ mark_span letter (each (λ line. line.now) rows.now) span }
 {
     let bytes = bytes_at(rows, span);
-    match mark_in(b'f', bytes) {
-        Some(before) => Some(forward_at(bytes, span, before)),
+    match mark_in(letter, bytes) {
+        Some(before) => Some(mark_at(bytes, span, before)),
         None => None,
     }
 }

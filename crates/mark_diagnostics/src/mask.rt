@@ -7,7 +7,7 @@ ghost use Rattle.mips_instructions.specs.Words.{has};
 ghost use Rattle.mark_diagnostics.specs.Masks.{missing, how, register_note, further_text, further_note, mask_notes, widened, create_help, mask_help};
 
 use crate::parts::{last_or, path_note, registers_where, registers_words, rest_after, written};
-use crate::step::{add_stop_note, first_entered, path_in};
+use crate::step::path_in;
 use crate::subject::{Made, Subject, has_number};
 use crate::told::register_in;
 use diagnostics::diagnostic::{Help, Note};
@@ -84,17 +84,15 @@ fn add_further_note(subject: &Subject, notes: &mut Vec<Note>, registers: &[u8]) 
     Ok(())
 }
 
-/// The notes: a stop that may be forgotten, and how the registers are known to be missing.
+/// How the registers are known to be missing.
 pub(crate) fn mask_notes(
     subject: &Subject,
-    task: u32,
     about: &[Finding],
     shown: &[ShownFinding],
 ) -> Made<Vec<Note>>
-    ensures { IfOk result (λ notes. notes.items ≡ mask_notes subject.now task about.now shown.now) }
+    ensures { IfOk result (λ notes. notes.items ≡ mask_notes subject.now about.now shown.now) }
 {
     let mut notes = Vec::new(subject.alloc());
-    add_stop_note(subject, &mut notes, task, first_entered(subject, shown))?;
     add_register_notes(subject, &mut notes, shown)?;
     let further = missing(subject.alloc(), rest_after(about, 5))?;
     add_further_note(subject, &mut notes, &further)?;

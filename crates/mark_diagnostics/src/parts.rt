@@ -1,11 +1,11 @@
 //! The parts that diagnostics are made of, and lists of registers and places in words.
 
 ghost use Rattle.std.specs.Prelude.{◌≡◌, ◌∷◌, [], IfOk, ℕ, Bool, ◌<◌, ◌++◌, if◌then◌else◌, codes, take, drop, OnOk};
-ghost use Rattle.mark_diagnostics.specs.Parts.{in_words, by_text, written, note_at, path_note, first_or, last_or, way_notes};
+ghost use Rattle.mark_diagnostics.specs.Parts.{in_words, by_text, written, take_out, note_at, path_note, first_or, last_or, way_notes};
 ghost use Rattle.std.specs.List.{flat_map};
 ghost use Rattle.std.specs.Fmt.{decimal};
 ghost use Rattle.std.specs.String.{string_bytes};
-ghost use Rattle.mark_diagnostics.specs.Subjects.{register_text, registers_text, which, spot_text, place_text, places_text, targets_text};
+ghost use Rattle.mark_diagnostics.specs.Subjects.{register_text, registers_text, which, spot_text, unnamed_text, place_text, places_text, targets_text};
 ghost use Rattle.mark_diagnostics.specs.More.{more_message, more_note};
 
 use crate::subject::{Made, Subject};
@@ -45,6 +45,18 @@ pub(crate) fn written(alloc: Global, span: Span, text: Words) -> Made<Help>
 {
     let message = words!(in alloc; "write {text}")?;
     by_text(alloc, message, span, text)
+}
+
+/// That a part of the text is taken out, if there is one.
+pub(crate) fn take_out(alloc: Global, span: Option<Span>) -> Made<Vec<Replacement>>
+    ensures { IfOk result (λ list. list.items ≡ take_out span) }
+{
+    let mut list = Vec::new(alloc);
+    if let Some(span) = span {
+        let text = Words::new(String::new(alloc));
+        list.push(Replacement { span, text })?;
+    }
+    Ok(list)
 }
 
 /// What is said of an instruction.
@@ -164,16 +176,31 @@ pub(crate) fn spot_words(subject: &Subject, index: u32) -> Made<Words>
     }
 }
 
-/// A place: the name of the task that begins there, or the end of the program, else its label or its index.
+/// A place without a label: its line; what is no instruction by its index, or in words.
+fn unnamed_words(subject: &Subject, index: u32) -> Made<Words>
+    ensures { IfOk result (λ words. words ≡ unnamed_text subject.now index) }
+{
+    let end = subject.code().len();
+    if (index as usize) < end {
+        let line = subject.span(index).line;
+        return words!(in subject.alloc(); "line {line}");
+    }
+    if index as usize == end {
+        return Words::of(subject.alloc(), "the end of the program");
+    }
+    words!(in subject.alloc(); "@{index}")
+}
+
+/// A place: the name of the task that begins there, else its label, else its line.
 pub(crate) fn place_words(subject: &Subject, index: u32) -> Made<Words>
     ensures { IfOk result (λ words. words ≡ place_text subject.now index) }
 {
-    match subject.task_at(index) {
-        Some(task) => Words::of(subject.alloc(), subject.task(task)),
-        None if index as usize == subject.code().len() => {
-            Words::of(subject.alloc(), "the end of the program")
-        }
-        None => spot_words(subject, index),
+    if let Some(task) = subject.task_at(index) {
+        return Words::of(subject.alloc(), subject.task(task));
+    }
+    match subject.label(index) {
+        Some(label) => Words::of(subject.alloc(), label.as_str()),
+        None => unnamed_words(subject, index),
     }
 }
 

@@ -2,9 +2,11 @@
 
 use costly_marks::mark::CostlyMark;
 
-/// Where a stop may be forgotten (own choice).
+/// What may be forgotten: a way to a task, or a stop (own choice).
 #[derive(Clone, Copy, Debug, PartialEq, Eq)]
 pub enum StopRemark {
+    /// This task never runs: the program starts elsewhere, and no other task has it as a target.
+    NeverRuns(u32),
     /// This task has targets, and comes to no exit.
     NoExit(u32),
     /// This task has targets, some of which no exit takes.
@@ -17,7 +19,7 @@ pub enum StopRemark {
 /// What could be better about the marks of a program (own choice).
 #[derive(Clone, Copy, Debug, PartialEq, Eq)]
 pub enum Remark {
-    /// A stop may be forgotten.
+    /// A stop, or a way to a task, may be forgotten.
     Stop(StopRemark),
     /// A mark that costs speed, or code that no task reaches.
     Costly(CostlyMark),

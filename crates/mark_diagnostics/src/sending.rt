@@ -2,15 +2,14 @@
 
 ghost use Rattle.std.specs.Prelude.{◌≡◌, ◌<◌, ◌++◌, IfOk, OnOk};
 ghost use Rattle.mark_diagnostics.specs.Subjects.{which};
-ghost use Rattle.mark_diagnostics.specs.Sending.{written_from, must_wait, is_none_left, may_forward, is_left, left_from, left_by, first_left, left_or, later, put_bit, put_text, is_text, left_text, nowhere_text, advice, take_out, forward_help, release_text, release_written, kept, release_help, again_text, again_note, early_notes};
+ghost use Rattle.mark_diagnostics.specs.Sending.{written_from, must_wait, is_none_left, may_forward, is_left, left_from, left_by, first_left, left_or, later, put_bit, put_text, is_text, left_text, nowhere_text, advice, forward_help, release_text, release_written, kept, release_help, again_text, again_note, early_notes};
 
 use crate::later::Later;
-use crate::mark_place::{first_mark, forward_span, operands_span};
-use crate::parts::{last_or, path_note, registers_where, registers_words};
-use crate::step::{add_stop_note, entered};
+use crate::mark_place::{first_mark, mark_span, operands_span};
+use crate::parts::{last_or, path_note, registers_where, registers_words, take_out};
 use crate::subject::{Made, Subject, after, has_number};
 use crate::told::register_in;
-use diagnostics::diagnostic::{Help, Note, Replacement, Span};
+use diagnostics::diagnostic::{Help, Note, Replacement};
 use diagnostics::listed::Listed;
 use diagnostics::words;
 use diagnostics::words::Words;
@@ -44,7 +43,7 @@ fn must_wait(subject: &Subject, task: u32, marked: &Marked, index: u32, register
 }
 
 /// Whether there is no register.
-fn is_none_left(registers: &[u8]) -> bool
+pub(crate) fn is_none_left(registers: &[u8]) -> bool
     ensures { result ≡ is_none_left registers.now }
 {
     matches!(registers, [])
@@ -207,23 +206,11 @@ fn advice(subject: &Subject, first: &str, register: u8, later: Later) -> Made<Wo
     }
 }
 
-/// That a part of the text is taken out, if there is one.
-fn take_out(alloc: Global, span: Option<Span>) -> Made<Vec<Replacement>>
-    ensures { IfOk result (λ list. list.items ≡ take_out span) }
-{
-    let mut list = Vec::new(alloc);
-    if let Some(span) = span {
-        let text = Words::new(String::new(alloc));
-        list.push(Replacement { span, text })?;
-    }
-    Ok(list)
-}
-
 /// What to do about a forward bit.
 pub(crate) fn forward_help(subject: &Subject, finding: &Finding, later: Later) -> Made<Help>
     ensures { IfOk result (λ help. help ≡ forward_help subject.now finding.now later) }
 {
-    let mark = forward_span(subject.rows(), subject.span(finding.index));
+    let mark = mark_span(b'f', subject.rows(), subject.span(finding.index));
     let mut replacements = take_out(subject.alloc(), mark)?;
     add_bit(subject, &mut replacements, later)?;
     Ok(Help {
@@ -308,7 +295,6 @@ pub(crate) fn early_notes(subject: &Subject, finding: &Finding, path: &[u32]) ->
     ensures { IfOk result (λ notes. notes.items ≡ early_notes subject.now finding.now path.now) }
 {
     let mut notes = Vec::new(subject.alloc());
-    add_stop_note(subject, &mut notes, finding.task, entered(subject, path))?;
     notes.push(again_note(subject, finding, path)?)?;
     Ok(notes)
 }

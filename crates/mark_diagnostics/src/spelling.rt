@@ -127,14 +127,18 @@ fn spellings_of(alloc: Global, rows: &[&[u8]]) -> Made<Vec<Spelling>>
     Ok(list)
 }
 
-/// A register by its number.
+/// A register by its number; HI and LO by their names.
 fn numbered(alloc: Global, number: u8) -> Made<Words>
     ensures { IfOk result (λ words. words ≡ numbered number) }
 {
-    words!(in alloc; "${number}")
+    match number {
+        32 => Words::of(alloc, "$hi"),
+        33 => Words::of(alloc, "$lo"),
+        _ => words!(in alloc; "${number}"),
+    }
 }
 
-/// A register as it is written first; by its number where it is not written.
+/// A register as it is written first; by its number, or its name, where it is not written.
 fn first_spelling(alloc: Global, list: &[Spelling], number: u8) -> Made<Words>
     ensures { IfOk result (λ words. words ≡ first_spelling list.now number) }
 {

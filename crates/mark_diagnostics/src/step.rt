@@ -1,11 +1,15 @@
-//! A stop that may be forgotten on a path, and a note on it.
+//! A stop that may be forgotten on a path: a note on it, and what to do.
 
-ghost use Rattle.std.specs.Prelude.{◌≡◌, ◌++◌, slice_get, IfOk, OnOk};
-ghost use Rattle.mark_diagnostics.specs.Steps.{first_task, entered, path_in, first_entered, goes_on_text, stop_note};
+ghost use Rattle.std.specs.Prelude.{◌≡◌, slice_get, IfOk};
+ghost use Rattle.mark_diagnostics.specs.Subjects.{task_name, instruction_span};
+ghost use Rattle.mark_diagnostics.specs.Stops.{missing_stop as missing_stop_of};
+ghost use Rattle.mark_diagnostics.specs.Steps.{first_task, entered, path_in, first_entered, goes_on_text, stop_note, is_target, where_text, forgotten_text, stop_advice, stop_help, stop_or};
 
 use crate::parts::note_at;
-use crate::subject::{Made, Subject};
-use diagnostics::diagnostic::Note;
+use crate::put_stop::{missing_stop, stop_put};
+use crate::subject::{Made, Subject, is_end};
+use diagnostics::diagnostic::{Help, Note};
+use diagnostics::listed::Listed;
 use diagnostics::words;
 use diagnostics::words::Words;
 use finding_paths::shown::ShownFinding;
@@ -59,24 +63,100 @@ pub(crate) fn first_entered(subject: &Subject, list: &[ShownFinding]) -> Option<
 }
 
 /// What is said of a step into a task.
-fn goes_on_words(alloc: Global, name: &str, into: &str) -> Made<Words>
-    ensures { IfOk result (λ words. words ≡ goes_on_text name.now into.now) }
+fn goes_on_words(alloc: Global, name: &str, into: &str, word: &str) -> Made<Words>
+    ensures { IfOk result (λ words. words ≡ goes_on_text name.now into.now word.now) }
 {
-    words!(in alloc; "task {name} goes on into task {into} here, without a stop; was !s meant?")
+    words!(in alloc; "task {name} goes on into task {into} here, without a stop; was {word} meant?")
 }
 
-/// Adds a note on such a step, if there is one.
-pub(crate) fn add_stop_note(
-    subject: &Subject,
-    notes: &mut Vec<Note>,
-    task: u32,
-    step: Option<(u32, u32)>,
-) -> Made<()>
-    ensures { OnOk result (notes.new.items ≡ notes.old.items ++ stop_note subject.now task step) }
+/// The note on such a step, if there is one.
+pub(crate) fn stop_note(subject: &Subject, task: u32, step: Option<(u32, u32)>) -> Made<Vec<Note>>
+    ensures { IfOk result (λ notes. notes.items ≡ stop_note subject.now task step) }
 {
+    let mut notes = Vec::new(subject.alloc());
     if let Some((from, into)) = step {
-        let message = goes_on_words(subject.alloc(), subject.task(task), subject.task(into))?;
+        let name = subject.task(task);
+        let word = missing_stop(subject, from);
+        let message = goes_on_words(subject.alloc(), name, subject.task(into), word)?;
         notes.push(note_at(subject, from, message))?;
     }
-    Ok(())
+    Ok(notes)
+}
+
+/// Whether a task has another as a target.
+fn is_target(subject: &Subject, task: u32, into: u32) -> bool
+    ensures { result ≡ is_target subject.now task into }
+{
+    let targets = subject.targets(task);
+    targets
+        .iter()
+        .any(|target| is_end(subject.task_at(target.get()), into))
+}
+
+/// Where a task goes on into a target, and what to do if it is meant to.
+fn where_words(alloc: Global, name: &str, into: &str, rest: &str) -> Made<Words>
+    ensures { IfOk result (λ words. words ≡ where_text name.now into.now rest.now) }
+{
+    words!(in alloc; "where task {name} goes on into its target {into}; if it is meant to go on, {rest}")
+}
+
+/// What to do where a stop is forgotten before a target, or else.
+fn forgotten_words(alloc: Global, word: &str, line: u32, why: &str) -> Made<Words>
+    ensures { IfOk result (λ words. words ≡ forgotten_text word.now line why.now) }
+{
+    words!(in alloc; "put {word} on line {line}, {why}")
+}
+
+/// Where a task goes on into another, and what to do if it is meant to.
+fn why_words(subject: &Subject, task: u32, into: u32, rest: &str) -> Made<Words>
+    ensures { IfOk result (λ words. words ≡ where_text (task_name subject.now task) (task_name subject.now into) rest.now) }
+{
+    let name = subject.task(task);
+    where_words(subject.alloc(), name, subject.task(into), rest)
+}
+
+/// What to do where a stop is forgotten on an instruction.
+fn put_words(subject: &Subject, from: u32, why: &str) -> Made<Words>
+    ensures { IfOk result (λ words. words ≡ forgotten_text (missing_stop_of subject.now from) (instruction_span subject.now from).line why.now) }
+{
+    let word = missing_stop(subject, from);
+    forgotten_words(subject.alloc(), word, subject.span(from).line, why)
+}
+
+/// What to do where a stop is forgotten before a target, in words.
+fn stop_advice(subject: &Subject, task: u32, from: u32, into: u32, rest: &str) -> Made<Words>
+    ensures { IfOk result (λ words. words ≡ stop_advice subject.now task from into rest.now) }
+{
+    let why = why_words(subject, task, into, rest)?;
+    let words = put_words(subject, from, why.as_str())?;
+    Ok(words)
+}
+
+/// What to do where a stop is forgotten before a target.
+fn stop_help(subject: &Subject, task: u32, step: (u32, u32), help: &Help) -> Made<Help>
+    ensures { IfOk result (λ made. made ≡ stop_help subject.now task step help.now) }
+{
+    let rest = help.message.as_str();
+    let message = stop_advice(subject, task, step.0, step.1, rest)?;
+    let mut replacements = Vec::new(subject.alloc());
+    replacements.push(stop_put(subject, step.0, missing_stop(subject, step.0))?)?;
+    Ok(Help {
+        message,
+        replacements: Listed::new(replacements),
+    })
+}
+
+/// What to do: first about a stop that may be forgotten before a target.
+pub(crate) fn stop_or(
+    subject: &Subject,
+    task: u32,
+    step: Option<(u32, u32)>,
+    help: Help,
+) -> Made<Help>
+    ensures { IfOk result (λ made. made ≡ stop_or subject.now task step help) }
+{
+    match step {
+        Some(step) if is_target(subject, task, step.1) => stop_help(subject, task, step, &help),
+        _ => Ok(help),
+    }
 }

@@ -1,4 +1,4 @@
-//! Where a stop may be forgotten.
+//! Where a stop, or a way to a task, may be forgotten.
 
 ghost use Rattle.std.specs.Prelude.{◌≡◌, ◌++◌, filter, not, position, is_some, IfOk};
 ghost use Rattle.std.specs.List.{find, list_any};
@@ -7,20 +7,22 @@ ghost use Rattle.task_graph.specs.Edges.{is_indirect as is_indirect_of};
 ghost use Rattle.mark_checker.specs.Rules.{stops_always as stops_always_of};
 ghost use Rattle.mark_diagnostics.specs.Subjects.{targets_of, entries_of};
 ghost use Rattle.mark_diagnostics.specs.Exits.{is_taken as is_taken_of, entries_listed as entries_listed_of};
-ghost use Rattle.mark_diagnostics.specs.Remarks.{exits_anywhere, exits, untaken, first_untaken, not_taken_help, has_untaken, into, entered_task, first_step, stop_of, stop_word, stop_place, blank_before, into_help, may_lack_stop, is_asked};
+ghost use Rattle.mark_diagnostics.specs.Remarks.{exits_anywhere, exits, untaken, first_untaken, not_taken_help, has_untaken, entry_of, follows, never_runs, entered_task, first_step, into_help, may_lack_stop, is_asked};
 
 use crate::exit::{entries_listed, is_taken};
-use crate::mark_place::stop_mark;
+use crate::meant::is_among;
 use crate::parts::{by_text, targets_words};
-use crate::subject::{Made, Subject, after, column_after};
-use diagnostics::diagnostic::{Help, Span};
+use crate::put_stop::{into, missing_stop, stop_put};
+use crate::subject::{Made, Subject};
+use diagnostics::diagnostic::Help;
+use diagnostics::listed::Listed;
 use diagnostics::words;
 use diagnostics::words::Words;
 use mark_checker::check::check_task;
 use mark_checker::finding::{Finding, Rule};
 use mips_instructions::instruction::Op;
 use mips_instructions::number::RegSet;
-use task_descriptor::descriptor::Stop;
+use task_descriptor::descriptor::{Descriptor, Stop};
 
 /// Whether an instruction is a jump to an address in a register.
 fn is_indirect(op: &Op) -> bool
@@ -30,7 +32,7 @@ fn is_indirect(op: &Op) -> bool
 }
 
 /// Whether a stop ends the task whichever way the instruction goes.
-fn stops_always(stop: Stop) -> bool
+pub(crate) fn stops_always(stop: Stop) -> bool
     ensures { result ≡ stops_always_of stop }
 {
     matches!(stop, Stop::Always)
@@ -131,14 +133,36 @@ pub(crate) fn not_taken_help(subject: &Subject, task: u32) -> Made<Help>
     by_text(subject.alloc(), message, subject.targets_span(task), text)
 }
 
-/// The task into which an inner edge of an instruction leads, a branch being taken or not.
-fn into(subject: &Subject, index: u32, taken: bool) -> Option<u32>
-    ensures { result ≡ into subject.now index taken }
+/// The index of a task's first instruction; 0 where there is no such task.
+fn entry_of(subject: &Subject, task: u32) -> u32
+    ensures { result ≡ entry_of subject.now task }
 {
-    match subject.inner(index, taken) {
-        Some(end) => subject.task_at(end),
-        None => None,
+    match subject.tasks().get(task as usize) {
+        Some(descriptor) => descriptor.entry.get(),
+        None => 0,
     }
+}
+
+/// Whether the task at an index is a target of another one.
+fn follows(entry: u32, other: &Descriptor) -> bool
+    ensures { result ≡ follows entry other.now }
+{
+    other.entry.get() != entry && is_among(other.targets.as_slice(), entry)
+}
+
+/// Whether a task is a target of another one.
+fn is_followed(subject: &Subject, entry: u32) -> bool
+    ensures { result ≡ list_any (follows entry) subject.now.program.tasks }
+{
+    subject.tasks().iter().any(|other| follows(entry, other))
+}
+
+/// Whether a task never runs.
+pub(crate) fn never_runs(subject: &Subject, task: u32) -> bool
+    ensures { result ≡ never_runs subject.now task }
+{
+    let entry = entry_of(subject, task);
+    subject.program().start().get() != entry && !is_followed(subject, entry)
 }
 
 /// The task into which an instruction goes on.
@@ -173,65 +197,17 @@ pub(crate) fn first_step(subject: &Subject, task: u32) -> Option<u32>
     }
 }
 
-/// The stop of an instruction.
-fn stop_of(subject: &Subject, index: u32) -> Stop
-    ensures { result ≡ stop_of subject.now index }
-{
-    match subject.code().get(index as usize) {
-        Some(marked) => marked.stop,
-        None => Stop::None,
-    }
-}
-
-/// The stop that ends the task on the edges into tasks.
-fn stop_word(onward: Option<u32>, taken: Option<u32>, stop: Stop, branch: bool) -> &'static str
-    ensures { result.now ≡ stop_word onward taken stop branch }
-{
-    match (onward, taken, stop, branch) {
-        (Some(_), None, Stop::None, true) => "!sn",
-        (None, Some(_), Stop::None, true) => "!st",
-        _ => "!s",
-    }
-}
-
-/// Where to write a stop.
-fn stop_place(stop: Stop, span: Span, found: Option<usize>) -> Span
-    ensures { result ≡ stop_place stop span found }
-{
-    match (stop, found) {
-        (Stop::None, _) | (_, None) => after(span),
-        (_, Some(before)) => Span {
-            line: span.line,
-            column: column_after(span.column, before),
-            width: 3,
-        },
-    }
-}
-
-/// What stands before a stop that is written there.
-fn blank_before(stop: Stop) -> &'static str
-    ensures { result.now ≡ blank_before stop }
-{
-    match stop {
-        Stop::None => " ",
-        _ => "",
-    }
-}
-
 /// What to do about an instruction that goes on into a task.
 pub(crate) fn into_help(subject: &Subject, index: u32) -> Made<Help>
     ensures { IfOk result (λ help. help ≡ into_help subject.now index) }
 {
-    let alloc = subject.alloc();
-    let stop = stop_of(subject, index);
-    let onward = into(subject, index, false);
-    let taken = into(subject, index, true);
-    let word = stop_word(onward, taken, stop, subject.is_branch(index));
-    let message = words!(in alloc; "write {word} here, if the task is to end")?;
-    let span = subject.span(index);
-    let place = stop_place(stop, span, stop_mark(subject.rows(), span));
-    let blank = blank_before(stop);
-    by_text(alloc, message, place, words!(in alloc; "{blank}{word}")?)
+    let word = missing_stop(subject, index);
+    let mut replacements = Vec::new(subject.alloc());
+    replacements.push(stop_put(subject, index, word)?)?;
+    Ok(Help {
+        message: words!(in subject.alloc(); "write {word} here, if the task is to end")?,
+        replacements: Listed::new(replacements),
+    })
 }
 
 /// Whether a finding of this rule may come of a forgotten stop.

@@ -14,7 +14,7 @@ use source_map::position::{SourceMap, Stretch};
 use source_map::reading::source_map;
 use std::alloc::{AllocError, Global};
 use std::marker::Model;
-use task_descriptor::descriptor::{Descriptor, Marked};
+use task_descriptor::descriptor::{Descriptor, Marked, Stop};
 use task_descriptor::name::Name;
 use task_descriptor::program::Program;
 use task_graph::edges::{ends_task, leads_to};
@@ -59,7 +59,7 @@ ghost use Rattle.mask_certificate.specs.Lists.{mask_at};
 ghost use Rattle.task_graph.specs.Edges.{end_of};
 ghost use Rattle.task_descriptor.specs.Listing.{is_conditional as is_conditional_of};
 ghost use Rattle.mips_instructions.specs.Instruction.{released};
-ghost use Rattle.mark_diagnostics.specs.Subjects.{IsJudged, label_at, register_text, task_name, targets_of, entries_of, task_at, is_entry, forwards, releases, is_branch, exit_end, inner_end, first_byte, span_of, instruction_span, create_span, targets_span, target_in, target_span, column_after, after};
+ghost use Rattle.mark_diagnostics.specs.Subjects.{IsJudged, label_at, register_text, task_name, targets_of, entries_of, task_at, is_entry, forwards, releases, is_branch, stop_of, is_end, exit_end, inner_end, first_byte, span_of, instruction_span, task_span, create_span, targets_span, target_in, target_span, column_after, after};
 ghost use Rattle.program_tokens.specs.Lines.{lines};
 ghost use Rattle.source_map.specs.Sources.{sources_in, sources_of};
 
@@ -230,6 +230,16 @@ impl<'a> Subject<'a> {
         }
     }
 
+    /// The stop of an instruction.
+    pub(crate) fn stop(&self, index: u32) -> Stop
+        ensures { result ≡ stop_of self.now index }
+    {
+        match self.program.code().get(index as usize) {
+            Some(marked) => marked.stop,
+            None => Stop::None,
+        }
+    }
+
     /// Where a task goes on to when it ends at an instruction, a branch being taken or not.
     pub(crate) fn exit(&self, index: u32, taken: bool) -> Option<u32>
         ensures { result ≡ exit_end self.now index taken }
@@ -264,6 +274,20 @@ impl<'a> Subject<'a> {
                 width: *width,
             },
             _ => first_byte(),
+        }
+    }
+
+    /// `.task`, with which a task is declared.
+    pub(crate) fn task_span(&self, task: u32) -> Span
+        ensures { result ≡ task_span self.now task }
+    {
+        match self.places.tasks.get(task as usize) {
+            Some(at) => Span {
+                line: at.line,
+                column: at.column,
+                width: 5,
+            },
+            None => first_byte(),
         }
     }
 
@@ -332,6 +356,16 @@ fn end_of(marked: &Marked, index: u32, taken: bool, leaving: bool) -> Option<u32
         leads_to(&marked.op, index, taken)
     } else {
         None
+    }
+}
+
+/// Whether an index, if there is one, is this.
+pub(crate) fn is_end(end: Option<u32>, to: u32) -> bool
+    ensures { result ≡ is_end end to }
+{
+    match end {
+        Some(index) => index == to,
+        None => false,
     }
 }
 

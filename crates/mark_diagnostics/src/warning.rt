@@ -5,19 +5,22 @@ ghost use Rattle.std.specs.List.{list_any};
 ghost use Rattle.annotated_asm.specs.ProgramText.{parse};
 ghost use Rattle.annotator.specs.Least.{IsLeast};
 ghost use Rattle.mark_diagnostics.specs.Subjects.{targets_of, releases};
-ghost use Rattle.mark_diagnostics.specs.Remarks.{of_targets, of_step, of_task, stop_remarks};
-ghost use Rattle.mark_diagnostics.specs.Warnings.{code_of, span_of, costly_text, goes_into_text, stop_text, message_of, is_never, created_in, produced, is_before, still_released, before_help, help_of, warning, warnings, AreMarkWarnings};
+ghost use Rattle.mark_diagnostics.specs.Remarks.{of_targets, of_start, of_step, of_task, stop_remarks};
+ghost use Rattle.mark_diagnostics.specs.Warnings.{code_of, span_of, costly_text, goes_into_text, never_runs_text, start_text, not_taken_text, stop_text, message_of, is_never, created_in, produced, is_before, still_released, or_removed, before_help, called_text, unreached_text, help_of, warning, warnings, AreMarkWarnings};
 
+use crate::call::back;
 use crate::error::MOST_SHOWN;
+use crate::mark_place::first_mark;
 use crate::mask::create_help;
-use crate::parts::{add_more, by_text, first_of, in_words, places_words, registers_where};
+use crate::parts::{add_more, first_of, in_words, place_words, places_words, registers_where};
 use crate::remark::{Remark, StopRemark};
-use crate::sending::{release_words, release_written};
+use crate::sending::{is_none_left, release_words, release_written};
 use crate::stop::{
     entered_task, first_step, first_untaken, has_exit, has_indirect_exit, has_untaken, into_help,
-    is_asked, not_taken_help, untaken,
+    is_asked, never_runs, not_taken_help, untaken,
 };
-use crate::subject::{Made, Subject, after, has_number};
+use crate::subject::{Made, Subject, has_number, is_end};
+use crate::update::{update_help, update_words};
 use costly_marks::mark::CostlyMark;
 use costly_marks::search::costly_marks;
 use diagnostics::code::Code;
@@ -37,7 +40,9 @@ fn code_of(remark: &Remark) -> Code
         Remark::Costly(CostlyMark::NeverProduced { .. }) => Code::NeverProduced,
         Remark::Costly(CostlyMark::NotForwarded { .. }) => Code::NotForwarded,
         Remark::Costly(CostlyMark::SentBefore { .. }) => Code::SentBefore,
-        Remark::Costly(CostlyMark::Unreached { .. }) => Code::Unreached,
+        Remark::Costly(CostlyMark::Unreached { .. }) | Remark::Stop(StopRemark::NeverRuns(_)) => {
+            Code::Unreached
+        },
         Remark::Stop(StopRemark::NoExit(_)) => Code::NoExit,
         Remark::Stop(StopRemark::NotTaken(_)) => Code::TargetNotTaken,
         Remark::Stop(StopRemark::GoesInto { .. }) => Code::GoesIntoTask,
@@ -56,6 +61,7 @@ fn span_of(subject: &Subject, remark: &Remark) -> Span
             | CostlyMark::Unreached { index },
         )
         | Remark::Stop(StopRemark::GoesInto { index, .. }) => subject.span(*index),
+        Remark::Stop(StopRemark::NeverRuns(task)) => subject.task_span(*task),
         Remark::Stop(StopRemark::NoExit(task)) => subject.targets_span(*task),
         Remark::Stop(StopRemark::NotTaken(task)) => {
             subject.target_span(*task, first_untaken(subject, *task))
@@ -74,12 +80,7 @@ fn costly_words(subject: &Subject, mark: &CostlyMark) -> Made<Words>
             let register = subject.register(register.get());
             words!(in alloc; "the create mask of task {name} has {register}, which no instruction of the task writes or releases")
         }
-        CostlyMark::NotForwarded { .. } => {
-            Words::of(
-                alloc,
-                "this is a last update without !f: later tasks wait for what it writes",
-            )
-        }
+        CostlyMark::NotForwarded { index } => update_words(subject, *index),
         CostlyMark::SentBefore { register, .. } => {
             let register = subject.register(register.get());
             words!(in alloc; "{register} was sent before on each path to this release")
@@ -95,21 +96,39 @@ fn goes_into_words(alloc: Global, task: &str, into: &str) -> Made<Words>
     words!(in alloc; "task {task} goes on into task {into} without a stop; was !s meant here?")
 }
 
-/// Where a stop may be forgotten.
+/// What is said of a task that never runs.
+fn never_runs_words(alloc: Global, task: &str, start: &str) -> Made<Words>
+    ensures { IfOk result (λ words. words ≡ never_runs_text task.now start.now) }
+{
+    words!(in alloc; "task {task} never runs: no other task has it as a target, and the program starts at {start}")
+}
+
+/// What is said of targets that no exit takes.
+fn not_taken_words(alloc: Global, task: &str, places: &str) -> Made<Words>
+    ensures { IfOk result (λ words. words ≡ not_taken_text task.now places.now) }
+{
+    words!(in alloc; "no exit of task {task} leads to {places}: a unit that is given such a target after it is always squashed")
+}
+
+/// What may be forgotten.
 fn stop_words(subject: &Subject, remark: &StopRemark) -> Made<Words>
     ensures { IfOk result (λ words. words ≡ stop_text subject.now remark.now) }
 {
     let alloc = subject.alloc();
     match remark {
+        StopRemark::NeverRuns(task) => {
+            let start = place_words(subject, subject.program().start().get())?;
+            never_runs_words(alloc, subject.task(*task), start.as_str())
+        }
         StopRemark::NoExit(task) => {
             let name = subject.task(*task);
-            words!(in alloc; "task {name} has targets, but comes to no stop")
+            words!(in alloc; "task {name} has targets, but never reaches a stop")
         }
         StopRemark::NotTaken(task) => {
             let name = subject.task(*task);
             let untaken = untaken(subject, *task)?;
             let list = places_words(subject, &untaken)?;
-            words!(in alloc; "no exit of task {name} leads to {list}")
+            not_taken_words(alloc, name, list.as_str())
         }
         StopRemark::GoesInto { task, into, .. } => {
             goes_into_words(alloc, subject.task(*task), subject.task(*into))
@@ -214,16 +233,58 @@ fn still_released(subject: &Subject, list: &[CostlyMark], index: u32) -> Made<Ve
     )
 }
 
-/// What to do about registers that were sent before: this release in place of theirs.
-fn before_help(subject: &Subject, index: u32, text: &Words) -> Made<Help>
-    ensures { IfOk result (λ help. help ≡ before_help subject.now index text.now) }
+/// What else may be done with a release, if it has no registers and no mark.
+fn or_removed(none: bool, marked: bool) -> &'static str
+    ensures { result.now ≡ or_removed none marked }
 {
+    if none && !marked {
+        ", or remove it if no place is given as @n"
+    } else {
+        ""
+    }
+}
+
+/// What to do about registers that were sent before: a release of these in place of theirs.
+fn before_help(subject: &Subject, index: u32, registers: &[u8]) -> Made<Help>
+    ensures { IfOk result (λ help. help ≡ before_help subject.now index registers.now) }
+{
+    let text = release_words(subject, registers)?;
+    let marked = first_mark(subject.rows(), subject.span(index)).is_some();
+    let besides = or_removed(is_none_left(registers), marked);
     let mut replacements = Vec::new(subject.alloc());
     replacements.push(release_written(subject, index, text.as_str())?)?;
     Ok(Help {
-        message: words!(in subject.alloc(); "write {text}")?,
+        message: words!(in subject.alloc(); "write {text}{besides}")?,
         replacements: Listed::new(replacements),
     })
+}
+
+/// What to do about code to which a call may come back.
+fn called_words(alloc: Global, line: u32) -> Made<Words>
+    ensures { IfOk result (λ words. words ≡ called_text line) }
+{
+    words!(in alloc; "let a task begin here, as a target: the call on line {line} may come back to it")
+}
+
+/// What to do about code that no task reaches.
+fn unreached_words(subject: &Subject, index: u32) -> Made<Words>
+    ensures { IfOk result (λ words. words ≡ unreached_text subject.now index) }
+{
+    let before = index.saturating_sub(1);
+    if is_end(back(subject, before), index) {
+        return called_words(subject.alloc(), subject.span(before).line);
+    }
+    Words::of(
+        subject.alloc(),
+        "let a task go on to it; or remove it, up to the next instruction that a task reaches, if no label there is used",
+    )
+}
+
+/// What to do about a task that never runs.
+fn start_words(alloc: Global, task: &str) -> Made<Words>
+    ensures { IfOk result (λ words. words ≡ start_text task.now) }
+{
+    words!(in alloc; "write .start {task}, in place of another .start, or make it a target of another task")
 }
 
 /// What to do about a remark. Of registers of one create mask, and of one release, each help mends all of the list.
@@ -236,26 +297,16 @@ fn help_of(subject: &Subject, list: &[CostlyMark], remark: &Remark) -> Made<Help
             let registers = produced(subject, list, *task)?;
             create_help(subject, *task, &registers)
         }
-        Remark::Costly(CostlyMark::NotForwarded { index }) => {
-            let advice = Words::of(alloc, "add !f here")?;
-            by_text(
-                alloc,
-                advice,
-                after(subject.span(*index)),
-                Words::of(alloc, " !f")?,
-            )
-        }
+        Remark::Costly(CostlyMark::NotForwarded { index }) => update_help(subject, *index),
         Remark::Costly(CostlyMark::SentBefore { index, .. }) => {
             let registers = still_released(subject, list, *index)?;
-            let text = release_words(subject, &registers)?;
-            before_help(subject, *index, &text)
+            before_help(subject, *index, &registers)
         }
-        Remark::Costly(CostlyMark::Unreached { .. }) => {
-            let advice = Words::of(
-                alloc,
-                "let a task go on to it; or remove it up to the next instruction that a task reaches, where no name refers to it",
-            )?;
-            Ok(in_words(alloc, advice))
+        Remark::Costly(CostlyMark::Unreached { index }) => {
+            Ok(in_words(alloc, unreached_words(subject, *index)?))
+        }
+        Remark::Stop(StopRemark::NeverRuns(task)) => {
+            Ok(in_words(alloc, start_words(alloc, subject.task(*task))?))
         }
         Remark::Stop(StopRemark::NoExit(_)) => {
             let advice = Words::of(alloc, "put !s, !st or !sn where it is to end")?;
@@ -305,8 +356,8 @@ fn warnings(subject: &Subject, list: &[CostlyMark], remarks: &[Remark]) -> Made<
 }
 
 /// Adds what is remarked of the exits of a task.
-fn add_of_exits(subject: &Subject, list: &mut Vec<StopRemark>, task: u32, asked: bool) -> Made<()>
-    ensures { OnOk result (list.new.items ≡ list.old.items ++ of_targets (targets_of subject.now task) subject.now task asked) }
+fn add_of_exits(subject: &Subject, list: &mut Vec<StopRemark>, task: u32) -> Made<()>
+    ensures { OnOk result (list.new.items ≡ list.old.items ++ of_targets (targets_of subject.now task) subject.now task) }
 {
     let [_, ..] = subject.targets(task) else {
         return Ok(());
@@ -315,7 +366,7 @@ fn add_of_exits(subject: &Subject, list: &mut Vec<StopRemark>, task: u32, asked:
         list.push(StopRemark::NoExit(task))?;
         return Ok(());
     }
-    if has_indirect_exit(subject, task) || !(asked && has_untaken(subject, task)) {
+    if has_indirect_exit(subject, task) || !has_untaken(subject, task) {
         return Ok(());
     }
     list.push(StopRemark::NotTaken(task))?;
@@ -336,19 +387,30 @@ fn add_of_step(subject: &Subject, list: &mut Vec<StopRemark>, task: u32) -> Made
     Ok(())
 }
 
+/// Adds that a task never runs, if it does not.
+fn add_of_start(subject: &Subject, list: &mut Vec<StopRemark>, task: u32) -> Made<()>
+    ensures { OnOk result (list.new.items ≡ list.old.items ++ of_start subject.now task) }
+{
+    if never_runs(subject, task) {
+        list.push(StopRemark::NeverRuns(task))?;
+    }
+    Ok(())
+}
+
 /// Adds what is remarked of a task.
 fn add_of_task(subject: &Subject, list: &mut Vec<StopRemark>, all: bool, task: u32) -> Made<()>
     ensures { OnOk result (list.new.items ≡ list.old.items ++ of_task subject.now all task) }
 {
     let asked = is_asked(subject, all, task)?;
-    add_of_exits(subject, list, task, asked)?;
+    add_of_start(subject, list, task)?;
+    add_of_exits(subject, list, task)?;
     if !asked {
         return Ok(());
     }
     add_of_step(subject, list, task)
 }
 
-/// What is remarked of a program, one task after another; of each at most two things.
+/// What is remarked of a program, one task after another; of each at most three things.
 fn stop_remarks(subject: &Subject, all: bool) -> Made<Vec<StopRemark>>
     ensures { IfOk result (λ list. list.items ≡ stop_remarks subject.now all) }
 {
@@ -370,7 +432,7 @@ fn add_costly(remarks: &mut Vec<Remark>, list: &[CostlyMark]) -> Made<()>
     Ok(())
 }
 
-/// All remarks: where a stop may be forgotten, and then the marks that cost speed.
+/// All remarks: what may be forgotten, and then the marks that cost speed.
 fn all_remarks(alloc: Global, stops: &[StopRemark], list: &[CostlyMark]) -> Made<Vec<Remark>>
     ensures { IfOk result (λ remarks. remarks.items ≡ each (λ stop. Remark.Stop stop) stops.now ++ each (λ mark. Remark.Costly mark) list.now) }
 {
@@ -382,10 +444,10 @@ fn all_remarks(alloc: Global, stops: &[StopRemark], list: &[CostlyMark]) -> Made
     Ok(remarks)
 }
 
-/// What could be better about the marks of the program that a text spells: where a stop may be forgotten, and which
-/// marks cost speed; of the first `MOST_SHOWN`, and how many more there are. `least` is the program's least
-/// certificate. Without `all`, a target that no exit takes and a step into a task are told only of a task that has a
-/// finding of rule 5, 6 or 7.
+/// What could be better about the marks of the program that a text spells: where a stop or a way to a task may be
+/// forgotten, and which marks cost speed; of the first `MOST_SHOWN`, and how many more there are. `least` is the
+/// program's least certificate. Without `all`, a step into a task is told only of a task that has a finding of rule 5,
+/// 6 or 7.
 ///
 /// # Errors
 ///

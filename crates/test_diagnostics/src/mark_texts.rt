@@ -110,11 +110,11 @@ p.s:5:14: help: add !f here
 p.s:6:7: warning: $9 was sent before on each path to this release
     6 | skip: release $9
       |       ^~~~~~~~~~
-p.s:6:7: help: write nop
+p.s:6:7: help: write nop, or remove it if no place is given as @n
 p.s:8:1: warning: no task reaches the code from here on
     8 | nop
       | ^~~
-p.s:8:1: help: let a task go on to it; or remove it up to the next instruction that a task reaches, where no name refers to it
+p.s:8:1: help: let a task go on to it; or remove it, up to the next instruction that a task reaches, if no label there is used
 ";
 
 const TIGHT: &str = ".task A create=$8,$9 targets=B

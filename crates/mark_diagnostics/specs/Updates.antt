@@ -1,0 +1,43 @@
+-- A last update without a forward bit: later tasks wait for it, or for the release that comes next.
+use Rattle.std.specs.Prelude.{ℕ, Bool, false, not, ◌&&◌, List, ◌++◌, codes, slice_get, Option, Some, None, if◌then◌else◌}
+use Rattle.std.specs.Fmt.{decimal}
+use Rattle.mips_instructions.specs.Instruction.{dests}
+use Rattle.task_descriptor.specs.declared.descriptor.Marked.{Marked}
+use Rattle.diagnostics.specs.declared.diagnostic.Help.{Help}
+use Rattle.mark_diagnostics.specs.Subjects.{Judged, registers_text, which, releases, inner_end, instruction_span, after}
+use Rattle.mark_diagnostics.specs.Parts.{by_text}
+use Rattle.mark_diagnostics.specs.Sending.{is_none_left}
+
+abbrev pub written_in : Option Marked → (register : ℕ) → Bool
+written_in None r = false
+written_in (Some m) r = dests m.op r
+
+abbrev pub writes : Judged → (index register : ℕ) → Bool
+writes s i r = written_in (slice_get s.program.code i) r
+
+-- the instruction that comes next, if it releases all that this one writes
+abbrev pub released_by : Judged → (index : ℕ) → Option ℕ → Option ℕ
+released_by s i None = None
+released_by s i (Some k) = if is_none_left (which (λ r. writes s i r && not (releases s k r))) then Some k else None
+
+abbrev pub released_next : Judged → (index : ℕ) → Option ℕ
+released_next s i = released_by s i (inner_end s i false)
+
+abbrev pub only_text : (registers : List ℕ) → (line : ℕ) → List ℕ
+only_text registers line =
+    codes "this is a last update without !f: " ++ (registers ++ (codes " is sent only by the release on line " ++ decimal line))
+
+abbrev pub update_text : Judged → (index : ℕ) → Option ℕ → List ℕ
+update_text s i None = codes "this is a last update without !f: later tasks wait for what it writes"
+update_text s i (Some k) = only_text (registers_text s (which (writes s i))) (instruction_span s k).line
+
+abbrev pub and_out : (registers : List ℕ) → (line : ℕ) → List ℕ
+and_out registers line =
+    codes "add !f here, and take " ++ (registers ++ (codes " out of the release on line " ++ (decimal line ++ codes ", if no other way leads to it")))
+
+abbrev pub update_advice : Judged → (index : ℕ) → Option ℕ → List ℕ
+update_advice s i None = codes "add !f here"
+update_advice s i (Some k) = and_out (registers_text s (which (writes s i))) (instruction_span s k).line
+
+abbrev pub update_help : Judged → (index : ℕ) → Help
+update_help s i = by_text (update_advice s i (released_next s i)) (after (instruction_span s i)) (codes " !f")

@@ -1,0 +1,12 @@
+//! The stop that may be meant.
+
+/// Which stop may be meant where a task ends at a place where no task begins.
+#[derive(Clone, Copy, Debug, PartialEq, Eq)]
+pub enum MeantStop {
+    /// The one that is there.
+    This,
+    /// That of one edge of the branch, which alone leads to a target, at this index.
+    Edge { taken: bool, target: u32 },
+    /// One on the next instruction, at this index.
+    Next(u32),
+}
