@@ -1,6 +1,6 @@
 -- What is wrong with the marks of a program: what is said of each finding that is told, by its rule. (The rules 1 to 4
 -- find nothing with a least certificate.)
-use Rattle.std.specs.Prelude.{◌≡◌, ◌↔◌, ℕ, ◌-◌, List, [], ◌∷◌, ◌++◌, codes, map, take, length, slice_get, Option, Some, None}
+use Rattle.std.specs.Prelude.{◌≡◌, ◌↔◌, ℕ, ◌-◌, List, [], ◌++◌, codes, map, take, length, slice_get, Option, Some, None}
 use Rattle.std.specs.List.{All, AllZip}
 use Rattle.task_graph.specs.Soundness.{Sound}
 use Rattle.mark_checker.specs.declared.finding.Rule.{Rule}

@@ -12,7 +12,7 @@ use Rattle.mark_checker.specs.declared.finding.Rule.TheVariants as rule
 use Rattle.diagnostics.specs.declared.diagnostic.Help.{Help}
 use Rattle.mark_diagnostics.specs.declared.remark.StopRemark.{StopRemark}
 use Rattle.mark_diagnostics.specs.declared.remark.StopRemark.TheVariants.{NeverRuns, NoExit, NotTaken, GoesInto}
-use Rattle.mark_diagnostics.specs.Subjects.{Judged, targets_of, entries_of, task_at, targets_text, is_branch, exit_end, inner_end, instruction_span, targets_span, column_after, after}
+use Rattle.mark_diagnostics.specs.Subjects.{Judged, targets_of, entries_of, targets_text, exit_end, targets_span}
 use Rattle.mark_diagnostics.specs.Parts.{by_text}
 use Rattle.mark_diagnostics.specs.Stops.{stop_put, into, missing_stop}
 use Rattle.mark_diagnostics.specs.Exits.{is_taken, entries_listed}

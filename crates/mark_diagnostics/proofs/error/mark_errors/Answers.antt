@@ -1,5 +1,5 @@
 -- Where the marks are accepted nothing is said, and where they are refused something is.
-use Rattle.std.proofs.Common.{◌≡◌, ℕ, ◌-◌, List, [], ◌++◌, Bool, true, false, length, take, ap, sym, ◌∙◌, subst, refl}
+use Rattle.std.proofs.Common.{◌≡◌, ◌-◌, List, [], ◌++◌, Bool, true, false, length, take, ap, sym, ◌∙◌, subst, refl}
 use Rattle.std.specs.Prelude.{codes}
 use Rattle.std.specs.List.{AllZip, All}
 use Rattle.program_tokens.specs.Lines.{lines}

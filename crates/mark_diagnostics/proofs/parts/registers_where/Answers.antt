@@ -1,5 +1,5 @@
 -- The registers below 34 are all.
-use Rattle.std.proofs.Common.{◌≡◌, ℕ, ◌<◌, Bool, filter, ap, ◌∙◌, arith}
+use Rattle.std.proofs.Common.{◌≡◌, ℕ, filter, ap, ◌∙◌, arith}
 use Rattle.task_descriptor.specs.Listing.{numbers_below}
 use Rattle.mark_diagnostics.specs.Subjects.{which}
 use Rattle.mark_diagnostics.proofs.parts.registers_where.Goals as goal
