@@ -26,7 +26,7 @@ abbrev pub nothing_to_show : Report
 nothing_to_show = record { bytes = codes "the annotations are right: no run shows anything" ++ 10 ∷ []; status = 0 }
 
 -- none of the runs that were tried shows anything
-abbrev pub nothing_found_text : (units steps : ℕ) → List ℕ
+unfoldable pub nothing_found_text : (units steps : ℕ) → List ℕ
 nothing_found_text units steps =
     codes "no run found on up to " ++ (decimal units ++ (codes " units, of up to " ++ (decimal steps
     ++ (codes " events; explain says which annotations are wrong" ++ 10 ∷ []))))

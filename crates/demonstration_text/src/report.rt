@@ -122,6 +122,7 @@ fn told_nothing(
 }
 
 /// Adds that no run is found.
+#[tactic(auto, unfolding(crate::specs::DemonstrateText::nothing_found_text))]
 fn write_nothing_found(text: &mut String, units: u32, steps: u32) -> Result<(), AllocError>
     ensures { OnOk result (string_bytes text.new ≡ string_bytes text.old ++ nothing_found_text units steps) }
 {
