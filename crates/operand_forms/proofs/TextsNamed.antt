@@ -3,6 +3,8 @@ use Rattle.std.proofs.Common.{◌≡◌, Bool, true, false, not, refl}
 use Rattle.std.specs.Prelude.{◌||◌}
 use Rattle.std.specs.Fmt.{digits}
 use Rattle.program_tokens.specs.Grammar.{line_tokens, tokens_after, token_of, kind_of}
+use Rattle.program_tokens.specs.Numbers.{number_in, number_of, magnitude_of}
+use Rattle.program_tokens.specs.Registers.{register_of}
 use Rattle.mips_instructions.specs.declared.instruction.Form.{Form}
 use Rattle.mips_instructions.specs.declared.instruction.Form.TheVariants as form
 use Rattle.text_diagnostics.specs.declared.shape.Shape.{Shape}
@@ -12,12 +14,12 @@ use Rattle.text_diagnostics.specs.Forms.{form_of as parts_of}
 use Rattle.operand_forms.specs.ShapeTexts.{is_example, from_to, ends_in, takes_number}
 
 form_taken : (f : Form) → is_example (shape.Instruction f) (form_text (shape.Instruction f)) ≡ true
-unfolding line_tokens tokens_after token_of kind_of
+unfolding line_tokens tokens_after token_of kind_of register_of number_in number_of magnitude_of
 form_taken form.Three = refl
 form_taken _ = refl
 
 pub example_taken : (s : Shape) → is_example s (form_text s) ≡ true
-unfolding line_tokens tokens_after token_of kind_of
+unfolding line_tokens tokens_after token_of kind_of register_of number_in number_of magnitude_of
 example_taken (shape.Instruction f) = form_taken f
 example_taken _ = refl
 
