@@ -1,5 +1,5 @@
 #!/usr/bin/env bash
-# waveforms.sh PROGRAM FOLDER: the waveform of each example on four units, as a value change dump (.vcd), as GTKWave's own
+# waveforms.sh PROGRAM FOLDER: the waveform of each example on four units, of at most 2,000 events, as a value change dump (.vcd), as GTKWave's own
 # form (.fst), which shows that the dump can be read, and as a picture of GTKWave's window (.png).
 # PROGRAM is a built multiscalar. Needs Debian's packages gtkwave, xvfb and imagemagick.
 set -euo pipefail
@@ -31,7 +31,7 @@ for text in */program.s; do
         continue
     fi
     # A run may end by a trap or by its budget: it has a waveform all the same.
-    "$program" run --least --schedule steps --emit vcd "$text" >"$folder/$name.vcd" || true
+    "$program" run --least --schedule steps --budget 2000 --emit vcd "$text" >"$folder/$name.vcd" || true
     if ! vcd2fst "$folder/$name.vcd" "$folder/$name.fst" >"$folder/$name.log" 2>&1 || [ ! -s "$folder/$name.fst" ]; then
         printf '%s: vcd2fst refuses it\n' "$name"
         failed=1
