@@ -73,7 +73,7 @@ DONE:
 
 const RIGHT = { kind: 'right', text: 'The marks are right.' };
 const SAME = { kind: 'same', text: 'The instructions are as they were (marks, release and nop may differ).' };
-const prints = word => ({ kind: 'prints', words: [word], text: `The program prints ${word}.` });
+const prints = word => ({ kind: 'prints', words: [word], text: `The sequential program prints ${word}.` });
 const steps = (most, text) => ({ kind: 'steps', units: 4, most, text: text ?? `The run takes at most ${most} steps on 4 units.` });
 
 export const EXERCISES = [
@@ -104,7 +104,7 @@ export const EXERCISES = [
     goals: [RIGHT, steps(31), prints(20), SAME, { ...steps(18, 'Further: at most 18 steps on 4 units.'), isFurther: true }],
     hints: [
       'The table of waits stands below the lanes. All waits are for one register: which instruction writes it?',
-      'No later instruction of the round writes that register, so it can be sent at once: put !f at the end of its line. For the further goal, ask what the table says then.',
+      'No later instruction of the round writes that register, so it can be sent at once: put !f at the end of its line. The further goal needs more than one: ask what the table says then. What is left at the end is no wait: see which registers a stopped task still sends (↑ in the lanes).',
     ],
   },
   {
@@ -114,7 +114,7 @@ export const EXERCISES = [
     program: STALE,
     text: [
       'Each round adds its number, 1 to 4, to the sum in $9, and does so twice. But one !f sends $9 too early, before its last write. A machine without a checker would run this, and the second round would begin with a stale sum.',
-      'Work out which word the second round would get for $9, and which one is right. Registers are 0 at the start. Once you have both, a button beside the findings shows a run in which that happens. Then mend the mark.',
+      'Work out which word the second round would get for $9, and which one is right. Registers are 0 at the start. Once you have both, a button beside the findings shows a run in which that happens, as long as the marks are wrong. Then mend the mark.',
     ],
     fields: [
       { name: 'stale', label: 'Stale word of $9 in the second round', expected: 1 },
