@@ -3,3 +3,12 @@ mod Standing
 mod Showing
 mod Refuting
 mod Counting
+mod Trails
+pub mod Searches
+mod Nearest
+mod Reached
+mod LastUpdates
+mod Tabling
+mod Unsent
+mod Picking
+mod NotedTasks

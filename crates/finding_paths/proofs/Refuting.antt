@@ -13,8 +13,8 @@ use Rattle.mark_checker.specs.declared.finding.Rule.TheVariants.{ExceedsCreate, 
 use Rattle.mark_checker.specs.declared.finding.Finding.{Finding}
 use Rattle.mark_checker.specs.Rules.{stops_always}
 use Rattle.annotator.proofs.Decides.{some_edge}
-use Rattle.witnesses.specs.declared.sought.Sought.TheVariants.{Writes}
-use Rattle.witnesses.specs.Witnesses.{is_sought, is_sought_at, LeadsTo, LeadsOnward}
+use Rattle.finding_paths.specs.declared.sought.Sought.TheVariants.{Writes}
+use Rattle.finding_paths.specs.Witnesses.{is_sought, is_sought_at, LeadsTo, LeadsOnward}
 use Rattle.finding_paths.specs.declared.query.Query.{Query}
 use Rattle.finding_paths.specs.Queries.{query_by, IsFoundBy}
 use Rattle.finding_paths.specs.Shown.{is_wrong, Shows}

@@ -22,8 +22,8 @@ use Rattle.mark_checker.specs.Rules.{conditions, in_mask, next_has, all_rules}
 use Rattle.annotator.specs.Least.{LeastList, IsLeast}
 use Rattle.annotator.proofs.Decides.{next_writes, least_accepted}
 use Rattle.annotator.proofs.Spread.{path_before}
-use Rattle.witnesses.specs.declared.sought.Sought.TheVariants.{At, Writes}
-use Rattle.witnesses.specs.Witnesses.{is_sought, is_sought_at, Onward, LeadsTo, LeadsOnward, NoneShorter}
+use Rattle.finding_paths.specs.declared.sought.Sought.TheVariants.{At, Writes}
+use Rattle.finding_paths.specs.Witnesses.{is_sought, is_sought_at, Onward, LeadsTo, LeadsOnward, NoneShorter}
 use Rattle.finding_paths.specs.declared.query.Query.{Query}
 use Rattle.finding_paths.specs.declared.shown.ShownFinding.{ShownFinding}
 use Rattle.finding_paths.specs.Queries.{to_writer, to_index, query_by, query_of, leads, IsFoundBy, Comes, ComesOnward, comes, CanBeFound}

@@ -5,9 +5,9 @@ use Rattle.task_graph.specs.Edges.{Path}
 use Rattle.mark_checker.specs.declared.finding.Rule.{Rule}
 use Rattle.mark_checker.specs.declared.finding.Rule.TheVariants.{ExceedsCreate, ForwardedInNext, ReleasedInNext, SentNotCreated, ExitNotListed, FallsOff, IndirectGoesOn}
 use Rattle.mark_checker.specs.declared.finding.Finding.{Finding}
-use Rattle.witnesses.specs.declared.sought.Sought.{Sought}
-use Rattle.witnesses.specs.declared.sought.Sought.TheVariants.{At, Writes}
-use Rattle.witnesses.specs.Witnesses.{is_sought, Onward, LeadsTo, LeadsOnward}
+use Rattle.finding_paths.specs.declared.sought.Sought.{Sought}
+use Rattle.finding_paths.specs.declared.sought.Sought.TheVariants.{At, Writes}
+use Rattle.finding_paths.specs.Witnesses.{is_sought, Onward, LeadsTo, LeadsOnward}
 use Rattle.finding_paths.specs.declared.query.Query.{Query}
 
 -- from a start to an instruction that writes the register

@@ -16,7 +16,7 @@ use Rattle.mark_checker.specs.declared.finding.Rule.{Rule}
 use Rattle.mark_checker.specs.declared.finding.Rule.TheVariants.{ExceedsCreate, ForwardedInNext, ReleasedInNext, SentNotCreated, ExitNotListed, FallsOff, IndirectGoesOn}
 use Rattle.mark_checker.specs.declared.finding.Finding.{Finding}
 use Rattle.annotator.specs.Least.{IsLeast}
-use Rattle.witnesses.specs.Witnesses.{NoneShorter}
+use Rattle.finding_paths.specs.Witnesses.{NoneShorter}
 use Rattle.finding_paths.specs.declared.query.Query.{Query}
 use Rattle.finding_paths.specs.declared.shown.ShownFinding.{ShownFinding}
 use Rattle.finding_paths.specs.Queries.{query_of, IsFoundBy}

@@ -5,7 +5,7 @@ ghost use Rattle.finding_paths.specs.Queries.{to_writer, query_of};
 
 use mark_checker::finding::{Finding, Rule};
 use mips_instructions::number::Reg;
-use witnesses::sought::Sought;
+use crate::sought::Sought;
 
 /// A query for a path inside a task.
 #[derive(Clone, Copy, Debug, PartialEq, Eq)]

@@ -3,7 +3,7 @@
 ghost use Rattle.std.specs.Prelude.{◌≡◌, ◌<◌, ◌↔◌, true, [], List, length, IfOk, IfSome, IfNone};
 ghost use Rattle.task_graph.specs.Soundness.{Sound};
 ghost use Rattle.annotator.specs.Least.{IsLeast};
-ghost use Rattle.witnesses.specs.Witnesses.{NoneShorter};
+ghost use Rattle.finding_paths.specs.Witnesses.{NoneShorter};
 ghost use Rattle.finding_paths.specs.Queries.{IsFoundBy, CanBeFound};
 ghost use Rattle.finding_paths.specs.Shown.{IsFinding, IsShown, AreShown};
 
@@ -14,7 +14,7 @@ use mark_checker::finding::Finding;
 use mask_certificate::certificate::Cert;
 use std::alloc::{AllocError, Global};
 use task_descriptor::program::Program;
-use witnesses::paths::{path_onward, path_to};
+use crate::paths::{path_onward, path_to};
 
 /// A finding, and the path that shows it.
 #[derive(Debug, Drop)]

@@ -5,10 +5,10 @@ use Rattle.std.specs.Fmt.{decimal}
 use Rattle.mips_instructions.specs.Words.{has}
 use Rattle.task_descriptor.specs.Listing.{Listing}
 use Rattle.task_descriptor.specs.declared.descriptor.Descriptor.{Descriptor}
-use Rattle.costly_marks.specs.declared.mark.CostlyMark.{CostlyMark}
-use Rattle.costly_marks.specs.declared.mark.CostlyMark.TheVariants.{NeverProduced, NotForwarded, SentBefore, Unreached}
-use Rattle.costly_marks.specs.Costly.{IsCostly}
-use Rattle.costly_marks.specs.Candidates.{candidates, Picked}
+use Rattle.finding_paths.specs.declared.mark.CostlyMark.{CostlyMark}
+use Rattle.finding_paths.specs.declared.mark.CostlyMark.TheVariants.{NeverProduced, NotForwarded, SentBefore, Unreached}
+use Rattle.finding_paths.specs.Costly.{IsCostly}
+use Rattle.finding_paths.specs.Candidates.{candidates, Picked}
 use Rattle.diagnostics.specs.declared.code.Code.{Code}
 use Rattle.diagnostics.specs.declared.code.Code.TheVariants as code
 use Rattle.diagnostics.specs.declared.diagnostic.Span.{Span}

@@ -1,6 +1,6 @@
 //! What could be better about a program's marks.
 
-use costly_marks::mark::CostlyMark;
+use finding_paths::mark::CostlyMark;
 
 /// What may be forgotten: a way to a task, or a stop (own choice).
 #[derive(Clone, Copy, Debug, PartialEq, Eq)]

@@ -21,8 +21,8 @@ use crate::stop::{
 };
 use crate::subject::{Made, Subject, has_number, is_end};
 use crate::update::{update_help, update_words};
-use costly_marks::mark::CostlyMark;
-use costly_marks::search::costly_marks;
+use finding_paths::mark::CostlyMark;
+use finding_paths::search::costly_marks;
 use diagnostics::code::Code;
 use diagnostics::diagnostic::{Diagnostic, Help, Severity, Source, Span};
 use diagnostics::listed::Listed;

@@ -2,8 +2,8 @@
 
 use crate::given::assembled;
 use annotator::certify::certify;
-use costly_marks::mark::CostlyMark;
-use costly_marks::search::costly_marks;
+use finding_paths::mark::CostlyMark;
+use finding_paths::search::costly_marks;
 use mips_instructions::number::Reg;
 use std::process::Abort;
 

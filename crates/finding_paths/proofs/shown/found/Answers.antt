@@ -3,8 +3,8 @@ use Rattle.std.proofs.Common.{ℕ}
 use Rattle.std.specs.declared.alloc.Global.{Global}
 use Rattle.std.specs.declared.vec.Vec.{Vec}
 use Rattle.std.proofs.lemmas.Result.{IfOk-weaker}
-use Rattle.witnesses.specs.Witnesses.{LeadsTo, LeadsOnward, NoneShorter}
-use Rattle.witnesses.proofs.Searches.{if_some, if_none}
+use Rattle.finding_paths.specs.Witnesses.{LeadsTo, LeadsOnward, NoneShorter}
+use Rattle.finding_paths.proofs.Searches.{if_some, if_none}
 use Rattle.finding_paths.specs.Queries.{IsFoundBy}
 use Rattle.finding_paths.proofs.Showing.{found_onward, found_from, shortest_onward, shortest_from, none_onward, none_from}
 use Rattle.finding_paths.proofs.shown.found.Goals as goal

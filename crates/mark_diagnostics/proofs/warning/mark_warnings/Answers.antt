@@ -1,6 +1,6 @@
 -- What is said is of what is remarked, in the text's own lines.
 use Rattle.std.proofs.Common.{◌≡◌, List, ◌++◌, map, ap, ◌∙◌}
-use Rattle.costly_marks.specs.declared.mark.CostlyMark.{CostlyMark}
+use Rattle.finding_paths.specs.declared.mark.CostlyMark.{CostlyMark}
 use Rattle.mark_diagnostics.specs.declared.remark.Remark.{Remark}
 use Rattle.mark_diagnostics.specs.declared.remark.Remark.TheVariants.{Stop, Costly}
 use Rattle.mark_diagnostics.specs.declared.remark.StopRemark.{StopRemark}

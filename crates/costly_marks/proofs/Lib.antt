@@ -1,6 +1,0 @@
-mod Reached
-mod LastUpdates
-mod Tabling
-mod Unsent
-mod Picking
-mod NotedTasks

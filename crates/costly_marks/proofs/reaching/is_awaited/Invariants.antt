@@ -1,7 +1,0 @@
--- No task before this one is awaited.
-use Rattle.std.proofs.Common.{ℕ, ◌<◌}
-use Rattle.costly_marks.specs.Steps.{TaskIsAwaited}
-use Rattle.costly_marks.proofs.reaching.is_awaited.Given as goal
-
-abbrev pub invariant-loop-task : goal.invariant-loop-task
-invariant-loop-task l = (t : ℕ) → t < l.task → TaskIsAwaited l.program t l.index → ⊥

@@ -1,7 +1,0 @@
--- No task before this one lacks any.
-use Rattle.std.proofs.Common.{ℕ, ◌<◌}
-use Rattle.costly_marks.specs.Steps.{TaskLacks}
-use Rattle.costly_marks.proofs.reaching.some_task_lacks.Given as goal
-
-abbrev pub invariant-loop-task : goal.invariant-loop-task
-invariant-loop-task l = (t : ℕ) → t < l.task → TaskLacks l.program t l.index l.written → ⊥

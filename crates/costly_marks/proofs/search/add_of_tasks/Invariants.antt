@@ -1,7 +1,0 @@
--- What may be told so far is picked.
-use Rattle.costly_marks.specs.Candidates.{up_to, of_task}
-use Rattle.costly_marks.specs.Steps.{Adds}
-use Rattle.costly_marks.proofs.search.add_of_tasks.Given as goal
-
-abbrev pub invariant-loop-task : goal.invariant-loop-task
-invariant-loop-task l = Adds l.program (up_to of_task l.task) l.initial.list.items l.list.items

@@ -1,7 +1,0 @@
--- What may be told so far is picked.
-use Rattle.costly_marks.specs.Candidates.{up_to, of_place}
-use Rattle.costly_marks.specs.Steps.{Adds}
-use Rattle.costly_marks.proofs.search.add_unreached.Given as goal
-
-abbrev pub invariant-loop-i : goal.invariant-loop-i
-invariant-loop-i l = Adds l.program (up_to of_place l.i) l.initial.list.items l.list.items

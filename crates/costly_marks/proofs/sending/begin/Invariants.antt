@@ -1,6 +1,0 @@
--- The entries so far are marked.
-use Rattle.costly_marks.specs.Steps.{IsBegun}
-use Rattle.costly_marks.proofs.sending.begin.Given as goal
-
-abbrev pub invariant-loop-task : goal.invariant-loop-task
-invariant-loop-task l = IsBegun l.program l.task-index l.marks.items l.work.items

@@ -1,4 +1,0 @@
-pub mod Costly
-pub mod Candidates
-pub mod Steps
-pub mod Examples

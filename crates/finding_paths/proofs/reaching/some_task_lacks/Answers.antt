@@ -1,0 +1,22 @@
+-- One task more that lacks none.
+use Rattle.std.proofs.Common.{◌≡◌, ℕ, List, length, ap, subst, arith, inl, inr}
+use Rattle.std.proofs.lemmas.Bool.{cases_lt}
+use Rattle.task_descriptor.specs.declared.descriptor.Descriptor.{Descriptor}
+use Rattle.finding_paths.specs.Steps.{TaskLacks}
+use Rattle.finding_paths.proofs.Reached.{both, refused, none_lacks}
+use Rattle.finding_paths.proofs.reaching.some_task_lacks.Goals as goal
+
+pub loop-task-preserved : goal.loop-task-preserved
+loop-task-preserved c t less l = elim (cases_lt t c.loop-task.task) [
+  | inl earlier ↦ c.loop-task.invariant t earlier l
+  | inr last ↦
+      let same : t ≡ c.loop-task.task = omega arith in
+      both c.task_lacks.result (c.task_lacks.ensures.1 (subst (λ (k : ℕ). TaskLacks c.args.program.now k c.args.index c.args.written) same l)) c.if-task_lacks.false
+]
+
+pub returns : goal.returns
+returns c =
+    let p = c.args.program.now in
+    let count : length c.tasks-task-end.result.now ≡ length p.tasks = ap (λ (ts : List Descriptor). length ts) c.tasks-task-end.ensures.value in
+    let end : c.loop-task.task ≡ length p.tasks = omega arith in
+    refused (none_lacks p c.loop-task.task c.args.index c.args.written end c.loop-task.invariant)

@@ -1,3 +1,0 @@
-mod Trails
-pub mod Searches
-mod Nearest
