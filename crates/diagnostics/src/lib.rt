@@ -15,3 +15,4 @@ pub mod more;
 pub mod quotation;
 pub mod text;
 pub mod words;
+

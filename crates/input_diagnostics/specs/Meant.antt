@@ -2,7 +2,7 @@
 use Rattle.std.specs.Prelude.{ℕ, List, [], ◌∷◌, length, find, nat_lt, if◌then◌else◌, Option, Some, None, Result, Ok, Err}
 use Rattle.std.specs.Option.{option_or}
 use Rattle.std.specs.Str.{str_eq_ignore_ascii_case}
-use Rattle.near_words.specs.Near.{nearest}
+use Rattle.diagnostics.specs.Near.{nearest}
 use Rattle.program_tokens.specs.Grammar.{line_tokens}
 use Rattle.program_tokens.specs.declared.token.LineFault.{LineFault}
 use Rattle.program_tokens.specs.declared.token.Token.{Token}

@@ -3,12 +3,12 @@
 ghost use Rattle.std.specs.Prelude.{◌≡◌, ◌++◌, map as each, find, IfOk};
 ghost use Rattle.std.specs.Option.{option_map};
 ghost use Rattle.std.specs.Str.{str_eq_ignore_ascii_case};
-ghost use Rattle.near_words.specs.Near.{nearest};
+ghost use Rattle.diagnostics.specs.Near.{nearest};
 ghost use Rattle.event_script.specs.EventScript.{names_in};
 ghost use Rattle.input_diagnostics.specs.Meant.{same_letters, near_one, meant, register_by, only_register, register_meant};
 
 use mips_instructions::number::Reg;
-use near_words::is_near;
+use diagnostics::is_near;
 use program_tokens::line::line_tokens;
 use program_tokens::token::{Token, TokenFault};
 use std::alloc::{AllocError, Global};

@@ -3,7 +3,7 @@ use Rattle.std.specs.Prelude.{ℕ, List, [], ◌∷◌, ◌++◌, filter, map, d
 use Rattle.std.specs.Str.{byte, bytes_eq, str_to_ascii_lowercase}
 use Rattle.program_tokens.specs.Numbers.{begins_with_digit}
 use Rattle.mips_instructions.specs.InstructionTable.{word_of, every_mnemonic}
-use Rattle.near_words.specs.Near.{is_near}
+use Rattle.diagnostics.specs.Near.{is_near}
 use Rattle.text_diagnostics.specs.ForeignWords.{instead}
 use Rattle.text_diagnostics.specs.Shapes.{directives, shape_of}
 use Rattle.syntax_tree.specs.declared.item.LineFaultKind.{LineFaultKind}

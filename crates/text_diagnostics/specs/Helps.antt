@@ -13,7 +13,7 @@ use Rattle.program_statements.specs.declared.statement.Instruction.TheVariants a
 use Rattle.program_statements.specs.declared.statement.Statement.TheVariants as statement
 use Rattle.text_diagnostics.specs.Bytes.{bytes_at, byte_at, byte_help, token_help}
 use Rattle.text_diagnostics.specs.Meant.{span_at, number_index, mark_index, is_directive}
-use Rattle.near_words.specs.Near.{is_near}
+use Rattle.diagnostics.specs.Near.{is_near}
 use Rattle.text_diagnostics.specs.Shapes.{shape_of, form_text, range_text}
 use Rattle.text_diagnostics.specs.declared.shape.Shape.{Shape}
 use Rattle.syntax_tree.specs.declared.item.LineFaultKind.{LineFaultKind}

@@ -3,14 +3,14 @@
 ghost use Rattle.std.specs.Prelude.{◌≡◌, ◌++◌, ◌∷◌, [], map as each, filter, IfOk, OnOk};
 ghost use Rattle.program_tokens.specs.Numbers.{begins_with_digit};
 ghost use Rattle.mips_instructions.specs.InstructionTable.{word_of};
-ghost use Rattle.near_words.specs.Near.{is_near};
+ghost use Rattle.diagnostics.specs.Near.{is_near};
 ghost use Rattle.text_diagnostics.specs.Candidates.{is_known_word, near_statements, word_candidates, digits_of_register, register_candidates, operand_candidates, token_candidates, mark_candidates, candidates};
 
 use crate::foreign_words::instead;
 use crate::shape::{DIRECTIVES, Shape, shape_of};
 use crate::slices::after;
 use mips_instructions::instruction::{MNEMONICS, Mnemonic};
-use near_words::is_near;
+use diagnostics::is_near;
 use std::alloc::{AllocError, Global};
 use syntax_tree::item::LineFaultKind;
 

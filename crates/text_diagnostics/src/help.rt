@@ -25,7 +25,7 @@ use diagnostics::helps::{by_text, in_words};
 use diagnostics::quotation::as_shown;
 use diagnostics::words;
 use diagnostics::words::Words;
-use near_words::is_near;
+use diagnostics::is_near;
 use program_statements::statement::{Instruction, Section, Statement};
 use program_tokens::span::Span as Place;
 use program_tokens::token::{Mark, Token};

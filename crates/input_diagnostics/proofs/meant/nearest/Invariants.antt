@@ -1,6 +1,6 @@
 -- It is sought among the words that are left.
 use Rattle.std.proofs.Common.{◌≡◌, drop, map}
-use Rattle.near_words.specs.Near.{nearest}
+use Rattle.diagnostics.specs.Near.{nearest}
 use Rattle.input_diagnostics.proofs.meant.nearest.Given as goal
 
 abbrev pub invariant-loop-other : goal.invariant-loop-other

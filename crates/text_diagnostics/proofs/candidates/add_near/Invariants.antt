@@ -1,7 +1,7 @@
 -- The near words so far, with those that are left, are all.
 use Rattle.std.proofs.Common.{◌≡◌, ◌++◌, drop, map, filter}
 use Rattle.mips_instructions.specs.InstructionTable.{word_of}
-use Rattle.near_words.specs.Near.{is_near}
+use Rattle.diagnostics.specs.Near.{is_near}
 use Rattle.text_diagnostics.proofs.candidates.add_near.Given as goal
 
 abbrev pub invariant-loop-mnemonic : goal.invariant-loop-mnemonic

@@ -1,6 +1,6 @@
 -- The near words so far, with those that are left, are all.
 use Rattle.std.proofs.Common.{◌≡◌, ◌++◌, drop, map, filter}
-use Rattle.near_words.specs.Near.{is_near}
+use Rattle.diagnostics.specs.Near.{is_near}
 use Rattle.text_diagnostics.proofs.candidates.add_near_directives.Given as goal
 
 abbrev pub invariant-loop-name : goal.invariant-loop-name
