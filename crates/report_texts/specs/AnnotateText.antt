@@ -9,10 +9,10 @@ use Rattle.mask_certificate.specs.CertificateText.{cert_text}
 use Rattle.mask_certificate.specs.CertificateReading.{names_of}
 use Rattle.annotator.specs.Least.{IsLeast}
 use Rattle.annotator.specs.Proposed.{IsProposed}
-use Rattle.marks_in_text.specs.FaultText.{marks_fault_text}
-use Rattle.marks_in_text.specs.MarkedText.{IsAnswer}
-use Rattle.marks_in_text.specs.declared.fault.MarksFault.{MarksFault}
-use Rattle.marks_in_text.specs.declared.fault.MarksFault.TheVariants as marks_fault
+use Rattle.canonical_text.specs.FaultText.{marks_fault_text}
+use Rattle.canonical_text.specs.MarkedText.{IsAnswer}
+use Rattle.canonical_text.specs.declared.fault.MarksFault.{MarksFault}
+use Rattle.canonical_text.specs.declared.fault.MarksFault.TheVariants as marks_fault
 use Rattle.jobs.specs.declared.job.Emit.{Emit}
 use Rattle.jobs.specs.declared.job.Emit.TheVariants.{Text, Cert, Keep, Marks}
 use Rattle.report_texts.specs.OutputTexts.{Report, program_refused}

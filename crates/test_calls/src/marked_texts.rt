@@ -2,8 +2,8 @@
 
 use annotated_asm::assembler::assemble;
 use annotator::propose::propose;
-use marks_in_text::fault::MarksFault;
-use marks_in_text::marking::with_marks_of;
+use canonical_text::fault::MarksFault;
+use canonical_text::marking::with_marks_of;
 use std::alloc::Global;
 use std::process::Abort;
 use std::rt::HostRuntime;

@@ -1,7 +1,7 @@
 //! A program printed and assembled again.
 
 use crate::count::assembled;
-use canonical_round_trip::laws::{print_and_assemble, reads_back};
+use canonical_text::laws::{print_and_assemble, reads_back};
 use std::process::Abort;
 use task_descriptor::program::Program;
 

@@ -1,8 +1,0 @@
--- The instructions so far are in range.
-use Rattle.std.proofs.Common.{take}
-use Rattle.std.specs.List.{All}
-use Rattle.canonical_round_trip.specs.Ranges.{IsInRange}
-use Rattle.canonical_round_trip.proofs.ranges.code_in_range.Given as goal
-
-abbrev pub invariant-loop-marked : goal.invariant-loop-marked
-invariant-loop-marked l = All (λ m. IsInRange m.op) (take l.marked-index l.code)

@@ -1,8 +1,0 @@
--- The operands so far are in range.
-use Rattle.std.proofs.Common.{take}
-use Rattle.std.specs.List.{All}
-use Rattle.canonical_round_trip.specs.Ranges.{IsOperandInRange}
-use Rattle.canonical_round_trip.proofs.ranges.operands_in_range.Given as goal
-
-abbrev pub invariant-loop-operand : goal.invariant-loop-operand
-invariant-loop-operand l = All IsOperandInRange (take l.operand-index l.operands)

@@ -1,7 +1,0 @@
--- The places so far are in range.
-use Rattle.std.proofs.Common.{◌≤◌, take}
-use Rattle.std.specs.List.{All}
-use Rattle.canonical_round_trip.proofs.ranges.places_in_range.Given as goal
-
-abbrev pub invariant-loop-place : goal.invariant-loop-place
-invariant-loop-place l = All (λ place. place ≤ 4096) (take l.place-index l.places)

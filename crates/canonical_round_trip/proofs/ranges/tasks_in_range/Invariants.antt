@@ -1,8 +1,0 @@
--- The tasks so far are in range.
-use Rattle.std.proofs.Common.{take}
-use Rattle.std.specs.List.{All}
-use Rattle.canonical_round_trip.specs.Ranges.{IsTaskInRange}
-use Rattle.canonical_round_trip.proofs.ranges.tasks_in_range.Given as goal
-
-abbrev pub invariant-loop-task : goal.invariant-loop-task
-invariant-loop-task l = All IsTaskInRange (take l.task-index l.tasks)

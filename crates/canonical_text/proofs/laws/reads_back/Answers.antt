@@ -1,0 +1,16 @@
+-- By the stages of the assembler, from what the program's invariant and its values' types say.
+use Rattle.std.proofs.Common.{◌<◌, ℕ, List, subst}
+use Rattle.std.specs.List.{All}
+use Rattle.task_descriptor.specs.declared.descriptor.Descriptor.{Descriptor}
+use Rattle.task_descriptor.specs.declared.descriptor.Marked.{Marked}
+use Rattle.canonical_text.specs.Ranges.{IsInRange, IsTaskInRange}
+use Rattle.canonical_text.proofs.RoundTrip as lemmas
+use Rattle.canonical_text.proofs.laws.reads_back.Goals as goal
+
+pub returns : goal.returns
+returns c =
+    lemmas.reads_back c.args.program.now c.tasks.ensures.well_formed
+    (subst (λ (tasks : List Descriptor). All IsTaskInRange tasks) c.tasks.ensures.value c.tasks_in_range.ensures)
+    (subst (λ (code : List Marked). All (λ m. IsInRange m.op) code) c.code.ensures.value c.code_in_range.ensures)
+    (subst (λ (bytes : List ℕ). All (λ b. b < 256) bytes) c.bytes.ensures.value c.bytes_in_range.ensures)
+    (subst (λ (bytes : List ℕ). All (λ b. b < 256) bytes) c.fixed.ensures.value c.bytes_in_range-2.ensures)

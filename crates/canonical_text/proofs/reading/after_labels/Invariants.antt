@@ -1,0 +1,10 @@
+-- The tokens behind the labels are those of the rest, which becomes shorter.
+use Rattle.std.proofs.Common.{◌≡◌, length}
+use Rattle.annotated_asm.specs.Items.{after_labels}
+use Rattle.canonical_text.proofs.reading.after_labels.Given as goal
+
+abbrev pub invariant-labels : goal.invariant-labels
+invariant-labels l = after_labels l.rest ≡ after_labels l.tokens
+
+abbrev pub decreases-labels : goal.decreases-labels
+decreases-labels l = length l.rest

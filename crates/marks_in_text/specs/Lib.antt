@@ -1,3 +1,0 @@
-pub mod FaultText
-pub mod MarkedText
-pub mod Examples
