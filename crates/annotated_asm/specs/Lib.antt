@@ -9,3 +9,5 @@ pub mod Expansions
 pub mod ProgramText
 pub mod FaultText
 pub mod Examples
+pub mod Sources
+pub mod SourceMapExamples

@@ -11,3 +11,7 @@ pub mod line;
 mod name_key;
 mod resolve;
 mod table;
+pub mod laws;
+mod places;
+pub mod position;
+pub mod reading;

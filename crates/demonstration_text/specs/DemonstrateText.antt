@@ -8,7 +8,7 @@ use Rattle.annotated_asm.specs.ProgramText.{parse}
 use Rattle.task_graph.specs.Soundness.{Sound}
 use Rattle.machine_events.specs.declared.event.Event.{Event}
 use Rattle.event_script.specs.ScriptText.{script_text}
-use Rattle.source_map.specs.declared.position.Position.{Position}
+use Rattle.annotated_asm.specs.declared.position.Position.{Position}
 use Rattle.event_trace.specs.Entries.{places_of}
 use Rattle.jobs.specs.declared.job.DemonstrateEmit.{DemonstrateEmit}
 use Rattle.jobs.specs.declared.job.DemonstrateEmit.TheVariants.{Events, Picture}

@@ -8,7 +8,7 @@ use Rattle.mark_checker.specs.Numbers.{number_of}
 use Rattle.mark_checker.specs.declared.finding.Finding.{Finding}
 use Rattle.finding_paths.specs.declared.shown.ShownFinding.{ShownFinding}
 use Rattle.event_script.specs.ScriptText.{name_at}
-use Rattle.source_map.specs.declared.position.Position.{Position}
+use Rattle.annotated_asm.specs.declared.position.Position.{Position}
 use Rattle.event_trace.specs.TraceText.{place_text}
 
 -- a further place of a path

@@ -8,7 +8,7 @@ use Rattle.mips_plain.specs.declared.outcome.Read.{Read}
 use Rattle.task_descriptor.specs.Listing.{Listing, instruction_at}
 use Rattle.task_descriptor.specs.declared.descriptor.Marked.{Marked}
 use Rattle.event_script.specs.ScriptText.{name_at}
-use Rattle.source_map.specs.declared.position.Position.{Position}
+use Rattle.annotated_asm.specs.declared.position.Position.{Position}
 use Rattle.event_trace.specs.TraceText.{exit_text}
 use Rattle.demonstration.specs.declared.judge.Evidence.{Evidence}
 use Rattle.demonstration.specs.declared.judge.Harm.{Harm}

@@ -11,7 +11,7 @@ use event_trace::text::write_place;
 use finding_paths::shown::{ShownFinding, ShownFindings, shown_findings};
 use mark_checker::finding::Finding;
 use mips_instructions::number::Reg;
-use source_map::position::Position;
+use annotated_asm::position::Position;
 use std::alloc::{AllocError, Global};
 use task_descriptor::program::Program;
 

@@ -11,7 +11,7 @@ use event_trace::text::write_exit;
 use mips_instructions::instruction::Op;
 use mips_instructions::number::Reg;
 use mips_plain::outcome::Read;
-use source_map::position::Position;
+use annotated_asm::position::Position;
 use std::alloc::AllocError;
 use task_descriptor::descriptor::Marked;
 use task_descriptor::program::Program;

@@ -25,7 +25,7 @@ use jobs::ranges::{Budget, Units};
 use machine_events::event::Event;
 use mips_plain::outcome::OutOfMemory;
 use report_texts::report::{Report, refused_program};
-use source_map::position::Position;
+use annotated_asm::position::Position;
 use std::alloc::{AllocError, Global};
 use task_descriptor::program::Program;
 

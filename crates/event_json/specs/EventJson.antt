@@ -8,7 +8,7 @@ use Rattle.machine_events.specs.declared.event.Event.TheVariants.{Assign, Exec, 
 use Rattle.machine_events.specs.declared.event.Refused.{Refused}
 use Rattle.machine_events.specs.declared.event.Refused.TheVariants.{Waiting, Unfinished}
 use Rattle.machine_events.specs.RefusedText.{number_and_name}
-use Rattle.source_map.specs.declared.position.Position.{Position}
+use Rattle.annotated_asm.specs.declared.position.Position.{Position}
 use Rattle.event_trace.specs.declared.change.Change.{Change}
 use Rattle.event_trace.specs.Entries.{entry_of}
 use Rattle.event_trace.specs.Ring.{RingView}

@@ -11,7 +11,7 @@ use Rattle.task_descriptor.specs.Listing.{Listing, instruction_at}
 use Rattle.machine_events.specs.declared.event.Standing.{Standing}
 use Rattle.machine_events.specs.declared.event.Standing.TheVariants.{Running, Halted, Trapped, Unlisted}
 use Rattle.event_script.specs.ScriptText.{name_at}
-use Rattle.source_map.specs.declared.position.Position.{Position}
+use Rattle.annotated_asm.specs.declared.position.Position.{Position}
 use Rattle.event_trace.specs.Ring.{RingView, number_at}
 
 -- a member of an object: its name and its value

@@ -16,7 +16,7 @@ use event_trace::unit_change::UnitChange;
 use json_writer::writer::JsonWriter;
 use machine_events::event::Standing;
 use mips_instructions::number::Reg;
-use source_map::position::Position;
+use annotated_asm::position::Position;
 use std::alloc::AllocError;
 use task_descriptor::program::Program;
 

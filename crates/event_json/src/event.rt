@@ -13,7 +13,7 @@ use event_trace::ring::Ring;
 use json_writer::writer::JsonWriter;
 use machine_events::event::{Event, Refused};
 use mips_instructions::number::Reg;
-use source_map::position::Position;
+use annotated_asm::position::Position;
 use std::alloc::AllocError;
 use task_descriptor::program::Program;
 

@@ -10,7 +10,7 @@ use json_writer::writer::JsonWriter;
 use machine_events::event::Standing;
 use mips_instructions::number::Reg;
 use mips_plain::outcome::Trap;
-use source_map::position::Position;
+use annotated_asm::position::Position;
 use std::alloc::AllocError;
 use task_descriptor::program::Program;
 

@@ -23,7 +23,7 @@ use json_writer::writer::JsonWriter;
 use machine_events::event::{Event, Refused, Standing};
 use mark_checker::accept::Accepted;
 use sequencer::machine::Machine;
-use source_map::position::Position;
+use annotated_asm::position::Position;
 use std::alloc::{AllocError, Global};
 use task_descriptor::program::Program;
 

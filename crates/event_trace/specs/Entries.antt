@@ -6,8 +6,8 @@ use Rattle.machine_model.specs.Machine.{State}
 use Rattle.machine_model.specs.Answer.{after, answer}
 use Rattle.machine_events.specs.declared.event.Event.{Event}
 use Rattle.machine_events.specs.declared.event.Refused.{Refused}
-use Rattle.source_map.specs.declared.position.Position.{Position}
-use Rattle.source_map.specs.Sources.{Sources, sources_of}
+use Rattle.annotated_asm.specs.declared.position.Position.{Position}
+use Rattle.annotated_asm.specs.Sources.{Sources, sources_of}
 use Rattle.annotated_asm.specs.declared.fault.AsmFault.{AsmFault}
 use Rattle.event_trace.specs.declared.change.Change.{Change}
 use Rattle.event_trace.specs.declared.told.Told.{Told}

@@ -5,7 +5,7 @@ use Rattle.machine_model.specs.Answer.{play}
 use Rattle.machine_model.specs.Machine.{State, opening}
 use Rattle.machine_events.specs.declared.event.Event.{Event}
 use Rattle.machine_events.specs.declared.event.Refused.{Refused}
-use Rattle.source_map.specs.declared.position.Position.{Position}
+use Rattle.annotated_asm.specs.declared.position.Position.{Position}
 use Rattle.event_trace.specs.Entries.{entries_from, entry_of}
 use Rattle.event_trace.specs.Ending.{end_text}
 use Rattle.event_trace.specs.TraceText.{taken_text, refused_text}

@@ -10,7 +10,7 @@ use Rattle.machine_events.specs.declared.event.Standing.{Standing}
 use Rattle.machine_events.specs.declared.event.Standing.TheVariants.{Running, Halted, Trapped, Unlisted}
 use Rattle.machine_events.specs.RefusedText.{refusal_text}
 use Rattle.event_script.specs.ScriptText.{event_text, name_at}
-use Rattle.source_map.specs.declared.position.Position.{Position}
+use Rattle.annotated_asm.specs.declared.position.Position.{Position}
 use Rattle.event_trace.specs.declared.change.Change.{Change}
 use Rattle.event_trace.specs.declared.change.Change.TheVariants as change
 use Rattle.event_trace.specs.declared.unit_change.UnitChange.{UnitChange}

@@ -4,8 +4,8 @@ ghost use Rattle.std.specs.Prelude.{◌≡◌, IfOk};
 ghost use Rattle.event_trace.specs.Entries.{places_of};
 
 use annotated_asm::fault::AsmFault;
-use source_map::position::Position;
-use source_map::reading::source_map;
+use annotated_asm::position::Position;
+use annotated_asm::reading::source_map;
 use std::alloc::{AllocError, Global};
 
 /// Where a program text has its instructions, index 0 first; nowhere if it is no program text. An error says

@@ -10,7 +10,7 @@ use crate::unit_change::UnitChange;
 use event_script::writing::{task_name, write_event};
 use machine_events::event::{Event, Refused, Standing};
 use mips_instructions::number::Reg;
-use source_map::position::Position;
+use annotated_asm::position::Position;
 use std::alloc::AllocError;
 use task_descriptor::program::Program;
 

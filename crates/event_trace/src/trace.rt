@@ -14,7 +14,7 @@ use crate::telling::{Telling, entries};
 use crate::text::{write_refused, write_taken};
 use machine_events::event::{Event, Refused, Standing};
 use mark_checker::accept::Accepted;
-use source_map::position::Position;
+use annotated_asm::position::Position;
 use std::alloc::{AllocError, Global};
 use task_descriptor::program::Program;
 

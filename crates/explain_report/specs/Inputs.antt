@@ -2,8 +2,8 @@
 use Rattle.std.specs.Prelude.{◌≡◌, ℕ, List, [], map, Option, Some, None, Ok, unwrap_or}
 use Rattle.std.specs.List.{zip}
 use Rattle.program_tokens.specs.Lines.{lines}
-use Rattle.source_map.specs.declared.position.Position.{Position}
-use Rattle.source_map.specs.Sources.{Sources, sources_of}
+use Rattle.annotated_asm.specs.declared.position.Position.{Position}
+use Rattle.annotated_asm.specs.Sources.{Sources, sources_of}
 use Rattle.diagnostics.specs.declared.diagnostic.Span.{Span}
 
 -- where an instruction stands that begins at a place and has so many bytes

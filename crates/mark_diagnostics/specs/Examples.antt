@@ -13,7 +13,7 @@ use Rattle.program_tokens.specs.Numbers.{number_of, magnitude_of, number_in}
 use Rattle.program_tokens.specs.Registers.{register_of, register_named}
 use Rattle.program_tokens.specs.Grammar.{kind_of, token_of, tokens_after, line_tokens}
 use Rattle.program_tokens.specs.Spans.{spans_after}
-use Rattle.source_map.specs.Sources.{no_sources}
+use Rattle.annotated_asm.specs.Sources.{no_sources}
 use Rattle.mark_checker.specs.declared.finding.Finding.{Finding}
 use Rattle.mark_checker.specs.declared.finding.Rule.TheVariants.{ExceedsCreate, ForwardedInNext, SentNotCreated}
 use Rattle.mark_diagnostics.specs.declared.later.Later.TheVariants.{Nowhere, Left}

@@ -5,7 +5,7 @@ use Rattle.program_tokens.specs.Grammar.{line_tokens}
 use Rattle.program_tokens.specs.declared.token.Token.{Token}
 use Rattle.program_tokens.specs.declared.token.Token.TheVariants as token
 use Rattle.program_tokens.specs.declared.token.LineFault.{LineFault}
-use Rattle.source_map.specs.declared.position.Position.{Position}
+use Rattle.annotated_asm.specs.declared.position.Position.{Position}
 
 abbrev pub front_label : List Token → Option (List ℕ)
 front_label (token.Name name ∷ token.Colon ∷ rest) = Some name

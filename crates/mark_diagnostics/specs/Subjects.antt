@@ -9,10 +9,10 @@ use Rattle.task_descriptor.specs.declared.descriptor.Descriptor.{Descriptor}
 use Rattle.task_descriptor.specs.declared.descriptor.Stop.{Stop}
 use Rattle.task_descriptor.specs.declared.descriptor.Stop.TheVariants as stop
 use Rattle.task_graph.specs.Edges.{end_of}
-use Rattle.source_map.specs.declared.position.Position.{Position}
-use Rattle.source_map.specs.declared.position.Stretch.{Stretch}
-use Rattle.source_map.specs.declared.position.TaskLists.{TaskLists}
-use Rattle.source_map.specs.Sources.{Sources, sources_of}
+use Rattle.annotated_asm.specs.declared.position.Position.{Position}
+use Rattle.annotated_asm.specs.declared.position.Stretch.{Stretch}
+use Rattle.annotated_asm.specs.declared.position.TaskLists.{TaskLists}
+use Rattle.annotated_asm.specs.Sources.{Sources, sources_of}
 use Rattle.program_tokens.specs.Lines.{lines}
 use Rattle.annotated_asm.specs.ProgramText.{Spells}
 use Rattle.mask_certificate.specs.Lists.{list_of}

@@ -30,7 +30,7 @@ use finding_paths::shown::{ShownFinding, path_of};
 use mark_checker::accept::accepts;
 use mark_checker::finding::{Finding, Rule};
 use mask_certificate::certificate::Cert;
-use source_map::laws::map_fits;
+use annotated_asm::laws::map_fits;
 use std::alloc::{AllocError, Global};
 use task_descriptor::program::Program;
 

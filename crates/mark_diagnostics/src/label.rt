@@ -8,7 +8,7 @@ use crate::mark_place::line_in;
 use crate::subject::Made;
 use program_tokens::line;
 use program_tokens::token::{Token, TokenFault};
-use source_map::position::Position;
+use annotated_asm::position::Position;
 use std::alloc::{AllocError, Global};
 use task_descriptor::name::Name;
 

@@ -9,9 +9,9 @@ use mask_certificate::certificate::Cert;
 use mips_instructions::instruction::Op;
 use mips_instructions::number::{Place, Reg, RegSet};
 use program_tokens::line::first_line;
-use source_map::laws::map_fits;
-use source_map::position::{SourceMap, Stretch};
-use source_map::reading::source_map;
+use annotated_asm::laws::map_fits;
+use annotated_asm::position::{SourceMap, Stretch};
+use annotated_asm::reading::source_map;
 use std::alloc::{AllocError, Global};
 use std::marker::Model;
 use task_descriptor::descriptor::{Descriptor, Marked, Stop};
@@ -36,7 +36,7 @@ pub(crate) struct Subject<'a> {
 
 impl<'a> Model for Subject<'a> {
     ghost use Rattle.std.specs.Prelude.{map as each};
-    ghost use Rattle.source_map.specs.Sources.{sources_in};
+    ghost use Rattle.annotated_asm.specs.Sources.{sources_in};
     ghost use Rattle.mark_diagnostics.specs.Subjects.{Judged};
 
     ghost Value = { Judged };
@@ -61,7 +61,7 @@ ghost use Rattle.task_descriptor.specs.Listing.{is_conditional as is_conditional
 ghost use Rattle.mips_instructions.specs.Instruction.{released};
 ghost use Rattle.mark_diagnostics.specs.Subjects.{IsJudged, label_at, register_text, task_name, targets_of, entries_of, task_at, is_entry, forwards, releases, is_branch, stop_of, is_end, exit_end, inner_end, first_byte, span_of, instruction_span, task_span, create_span, targets_span, target_in, target_span, column_after, after};
 ghost use Rattle.program_tokens.specs.Lines.{lines};
-ghost use Rattle.source_map.specs.Sources.{sources_in, sources_of};
+ghost use Rattle.annotated_asm.specs.Sources.{sources_in, sources_of};
 
 impl<'a> Subject<'a> {
     /// A program with the text that spells it, and its least certificate.

@@ -8,7 +8,7 @@ use Rattle.machine_model.specs.Machine.{State}
 use Rattle.machine_events.specs.declared.event.Event.{Event}
 use Rattle.machine_events.specs.declared.event.Refused.{Refused}
 use Rattle.sequencer.specs.Machines.{MachineView, answer_to, state, units_of}
-use Rattle.source_map.specs.declared.position.Position.{Position}
+use Rattle.annotated_asm.specs.declared.position.Position.{Position}
 use Rattle.event_script.specs.EventScript.{event_in, names_in}
 use Rattle.event_script.specs.declared.fault.LineFault.{LineFault}
 use Rattle.event_trace.specs.declared.change.Change.{Change}

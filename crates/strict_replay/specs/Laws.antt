@@ -5,7 +5,7 @@ use Rattle.task_descriptor.specs.Listing.{Listing}
 use Rattle.machine_model.specs.Machine.{State, opening}
 use Rattle.machine_model.specs.Answer.{after, answer}
 use Rattle.machine_events.specs.declared.event.Event.{Event}
-use Rattle.source_map.specs.declared.position.Position.{Position}
+use Rattle.annotated_asm.specs.declared.position.Position.{Position}
 use Rattle.event_script.specs.EventScript.{lines, names_in}
 use Rattle.event_script.specs.declared.fault.LineFault.{LineFault}
 use Rattle.event_trace.specs.Changes.{changes_of}

@@ -7,7 +7,7 @@ use Rattle.task_descriptor.specs.Listing.{Listing}
 use Rattle.machine_model.specs.Machine.{Active, State, value}
 use Rattle.machine_events.specs.declared.event.Spot.{Spot}
 use Rattle.machine_events.specs.declared.event.Spot.TheVariants.{Inside, Stopped}
-use Rattle.source_map.specs.declared.position.Position.{Position}
+use Rattle.annotated_asm.specs.declared.position.Position.{Position}
 use Rattle.event_trace.specs.Changes.{register_count}
 use Rattle.event_trace.specs.TraceText.{exit_text, place_text, register_text, unit_name}
 use Rattle.strict_replay.specs.declared.held.Held.{Held}

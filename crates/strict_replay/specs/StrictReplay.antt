@@ -12,7 +12,7 @@ use Rattle.machine_events.specs.declared.event.Standing.{Standing}
 use Rattle.machine_events.specs.declared.event.Standing.TheVariants.{Running, Halted, Trapped, Unlisted}
 use Rattle.mips_plain.specs.declared.outcome.Trap.{Trap}
 use Rattle.mips_plain.specs.declared.outcome.Trap.TheVariants.{Unaligned, OutOfRange, BadPc, ReadOnly}
-use Rattle.source_map.specs.declared.position.Position.{Position}
+use Rattle.annotated_asm.specs.declared.position.Position.{Position}
 use Rattle.event_script.specs.EventScript.{event_in, lines, names_in}
 use Rattle.event_script.specs.declared.fault.LineFault.{LineFault}
 use Rattle.event_trace.specs.Changes.{changes_of}

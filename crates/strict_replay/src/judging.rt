@@ -22,7 +22,7 @@ use machine_events::event::{Event, Refused};
 use mark_checker::accept::Accepted;
 use report_texts::report::Report;
 use sequencer::machine::Machine;
-use source_map::position::Position;
+use annotated_asm::position::Position;
 use std::alloc::{AllocError, Global};
 use task_descriptor::program::Program;
 

@@ -14,7 +14,7 @@ use event_trace::text::{write_exit, write_place, write_register, write_unit};
 use machine_events::event::Spot;
 use mips_instructions::number::Reg;
 use sequencer::machine::Machine;
-use source_map::position::Position;
+use annotated_asm::position::Position;
 use std::alloc::{AllocError, Global};
 use task_descriptor::program::Program;
 use unit_core::unit::Unit;

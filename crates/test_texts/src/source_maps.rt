@@ -1,8 +1,8 @@
 //! The source map of a text with a pseudo-instruction, and of one with a label that is not known.
 
 use annotated_asm::fault::AsmFault;
-use source_map::position::Position;
-use source_map::reading::source_map;
+use annotated_asm::position::Position;
+use annotated_asm::reading::source_map;
 
 const TEXT: &[u8] = b".task A create=$8 targets=-
 A: li $8,70000 !f

@@ -7,7 +7,7 @@ use Rattle.machine_events.specs.declared.event.Event.{Event}
 use Rattle.machine_events.specs.declared.event.Spot.{Spot}
 use Rattle.machine_events.specs.declared.event.Spot.TheVariants.{Inside, Stopped}
 use Rattle.event_script.specs.ScriptText.{name_at}
-use Rattle.source_map.specs.declared.position.Position.{Position}
+use Rattle.annotated_asm.specs.declared.position.Position.{Position}
 use Rattle.event_trace.specs.TraceText.{place_text}
 use Rattle.run_summary.specs.SummaryText.{column}
 use Rattle.unit_waits.specs.declared.waiting.Owed.{Owed}

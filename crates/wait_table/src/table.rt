@@ -17,7 +17,7 @@ use crate::text::{write_number, write_waiting};
 use event_trace::places::places;
 use machine_events::event::Event;
 use mark_checker::accept::Accepted;
-use source_map::position::Position;
+use annotated_asm::position::Position;
 use std::alloc::{AllocError, Global};
 use task_descriptor::program::Program;
 use unit_waits::count::Count;

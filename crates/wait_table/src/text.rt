@@ -9,7 +9,7 @@ use event_script::writing::task_name;
 use event_trace::text::write_place;
 use machine_events::event::Spot;
 use mips_instructions::number::Reg;
-use source_map::position::Position;
+use annotated_asm::position::Position;
 use std::alloc::AllocError;
 use task_descriptor::program::Program;
 use unit_waits::waiting::{Owed, Reason, Waiting};

@@ -4,7 +4,7 @@ use Rattle.std.specs.Prelude.{Result}
 use Rattle.std.proofs.lemmas.Result.{IfOk-weaker}
 use Rattle.task_descriptor.specs.Listing.{Listing}
 use Rattle.annotated_asm.specs.declared.fault.AsmFault.{AsmFault}
-use Rattle.source_map.specs.declared.position.Position.{Position}
+use Rattle.annotated_asm.specs.declared.position.Position.{Position}
 use Rattle.event_trace.specs.Entries.{places_of}
 use Rattle.demonstration_text.specs.DemonstrateText.{IsDemonstrated, IsDemonstratedOf}
 use Rattle.demonstration_text.proofs.report.demonstrate.Goals as goal

@@ -4,7 +4,7 @@ use Rattle.std.specs.String.{string_bytes}
 use Rattle.task_descriptor.specs.Listing.{Listing}
 use Rattle.machine_model.specs.Answer.{play}
 use Rattle.machine_model.specs.Machine.{State, opening}
-use Rattle.source_map.specs.declared.position.Position.{Position}
+use Rattle.annotated_asm.specs.declared.position.Position.{Position}
 use Rattle.sequencer.specs.Machines.{state}
 use Rattle.event_trace.specs.Entries.{entries_from, entry_of, places_of}
 use Rattle.event_json.specs.Fields.{line_of}

@@ -3,16 +3,16 @@
 ghost use Rattle.std.specs.Prelude.{◌≡◌, ◌≤◌, ◌<◌, ◌+◌, ◌*◌, ◌^◌, ◌++◌, ◌∷◌, [], length, drop, replicate, All, IfOk, IfSome, IfNone, OnOk};
 ghost use Rattle.annotated_asm.specs.Steps.{Answers};
 ghost use Rattle.annotated_asm.specs.Items.{labels_of, after_labels};
-ghost use Rattle.source_map.specs.Sources.{token_position, label_sources, task_lists, targets_number, target_stretches, sources_in, with_statement, with_line, sources_of};
+ghost use Rattle.annotated_asm.specs.Sources.{token_position, label_sources, task_lists, targets_number, target_stretches, sources_in, with_statement, with_line, sources_of};
 
 use crate::places::{
     behind, read_places, target_stretches, targets_number, task_lists, token_position,
     width_between,
 };
 use crate::position::{DataSource, LabelSource, Position, SourceMap};
-use annotated_asm::assembler::MOST_TEXT;
-use annotated_asm::fault::AsmFault;
-use annotated_asm::line::{instruction_count, section_after, statement_at, tokens_of};
+use crate::assembler::MOST_TEXT;
+use crate::fault::AsmFault;
+use crate::line::{instruction_count, section_after, statement_at, tokens_of};
 use program_statements::statement::{Section, Statement};
 use program_tokens::line::first_line;
 use program_tokens::span::Span;
@@ -172,7 +172,7 @@ pub fn source_map(alloc: Global, text: &[u8]) -> Result<SourceMap, AsmFault>
 }
 
 ghost use Rattle.program_tokens.specs.Lines.{lines};
-ghost use Rattle.source_map.specs.Sources.{no_sources, with_lines};
+ghost use Rattle.annotated_asm.specs.Sources.{no_sources, with_lines};
 
 /// The source map of a text that is not too long.
 fn map_of(alloc: Global, text: &[u8]) -> Result<SourceMap, AsmFault>

@@ -1,8 +1,8 @@
 -- The labels added so far, with those in front of the rest, are all labels of the line; each took two tokens.
 use Rattle.std.proofs.Common.{◌≡◌, ◌+◌, ◌*◌, ◌++◌, length}
 use Rattle.annotated_asm.specs.Items.{labels_of, after_labels}
-use Rattle.source_map.specs.Sources.{label_sources}
-use Rattle.source_map.proofs.reading.add_labels.Given as goal
+use Rattle.annotated_asm.specs.Sources.{label_sources}
+use Rattle.annotated_asm.proofs.reading.add_labels.Given as goal
 
 abbrev pub invariant-loop-name : goal.invariant-loop-name
 invariant-loop-name l = record {

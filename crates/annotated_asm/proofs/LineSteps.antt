@@ -12,8 +12,8 @@ use Rattle.program_tokens.specs.declared.span.Span.{Span}
 use Rattle.program_statements.specs.Statements.{statement_of}
 use Rattle.program_statements.specs.declared.statement.Statement.{Statement}
 use Rattle.annotated_asm.specs.Items.{labels_of, after_labels, on_line, tokens_on_line, section_after}
-use Rattle.source_map.specs.declared.position.LabelSource.{LabelSource}
-use Rattle.source_map.specs.Sources.{Sources, label_sources, with_labels, with_statement, with_line, with_lines}
+use Rattle.annotated_asm.specs.declared.position.LabelSource.{LabelSource}
+use Rattle.annotated_asm.specs.Sources.{Sources, label_sources, with_labels, with_statement, with_line, with_lines}
 
 -- what a line adds, from its tokens and its statement
 abbrev pub added : Sources → ℕ → Section → List Span → List Token → Statement → Sources

@@ -8,10 +8,10 @@ use Rattle.program_tokens.specs.declared.span.Span.{Span}
 use Rattle.program_statements.specs.declared.statement.Section.{Section}
 use Rattle.annotated_asm.specs.Items.{tokens_on_line}
 use Rattle.annotated_asm.specs.declared.fault.AsmFault.{AsmFault}
-use Rattle.source_map.specs.declared.position.LabelSource.{LabelSource}
-use Rattle.source_map.specs.Sources.{Sources, sources_in, label_sources, with_labels, with_statement}
-use Rattle.source_map.proofs.LineSteps.{line_told}
-use Rattle.source_map.proofs.reading.add_line.Goals as goal
+use Rattle.annotated_asm.specs.declared.position.LabelSource.{LabelSource}
+use Rattle.annotated_asm.specs.Sources.{Sources, sources_in, label_sources, with_labels, with_statement}
+use Rattle.annotated_asm.proofs.LineSteps.{line_told}
+use Rattle.annotated_asm.proofs.reading.add_line.Goals as goal
 
 pub add_statement-requires : goal.add_statement-requires
 add_statement-requires c =

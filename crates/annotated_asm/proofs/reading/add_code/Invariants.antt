@@ -1,6 +1,6 @@
 -- As many places, and as many widths, as there were turns.
 use Rattle.std.proofs.Common.{◌≡◌, ◌++◌, replicate}
-use Rattle.source_map.proofs.reading.add_code.Given as goal
+use Rattle.annotated_asm.proofs.reading.add_code.Given as goal
 
 abbrev pub invariant-loop : goal.invariant-loop
 invariant-loop l = record {

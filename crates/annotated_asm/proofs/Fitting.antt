@@ -32,9 +32,9 @@ use Rattle.task_descriptor.specs.declared.program.BuildFault.TheVariants.{TooMan
 use Rattle.annotated_asm.proofs.Runs.{parts_append}
 use Rattle.program_tokens.specs.declared.span.Span.{Span}
 use Rattle.program_tokens.specs.declared.token.Token.{Token}
-use Rattle.source_map.specs.declared.position.LabelSource.{LabelSource}
-use Rattle.source_map.specs.Sources.{Sources, HasPlacesOf, no_sources, token_position, width_between, task_lists, targets_number, target_stretches, label_sources, with_labels, with_statement, with_line, with_lines, sources_of}
-use Rattle.source_map.proofs.LineSteps.{line_read, line_more}
+use Rattle.annotated_asm.specs.declared.position.LabelSource.{LabelSource}
+use Rattle.annotated_asm.specs.Sources.{Sources, HasPlacesOf, no_sources, token_position, width_between, task_lists, targets_number, target_stretches, label_sources, with_labels, with_statement, with_line, with_lines, sources_of}
+use Rattle.annotated_asm.proofs.LineSteps.{line_read, line_more}
 
 -- a stage that gives a value comes after one that does
 first_ok : {A B F : Type 0} (r : Result A F) (f : A → Result B F) (b : B) → (r >>= f) ≡ Ok b → (a : A) × (r ≡ Ok a) × (f a ≡ Ok b)

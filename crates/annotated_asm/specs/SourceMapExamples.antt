@@ -10,9 +10,9 @@ use Rattle.program_statements.specs.Statements.{registers_of, registers_at, numb
 use Rattle.program_statements.specs.declared.statement.Section.TheVariants.{Data}
 use Rattle.annotated_asm.specs.declared.fault.AsmFault.TheVariants as fault
 use Rattle.program_tokens.specs.Spans.{spans_after}
-use Rattle.source_map.specs.declared.position.Position.{Position}
-use Rattle.source_map.specs.declared.position.Stretch.{Stretch}
-use Rattle.source_map.specs.Sources.{Sources, with_line, with_lines, sources_of}
+use Rattle.annotated_asm.specs.declared.position.Position.{Position}
+use Rattle.annotated_asm.specs.declared.position.Stretch.{Stretch}
+use Rattle.annotated_asm.specs.Sources.{Sources, with_line, with_lines, sources_of}
 
 -- lines, each with its LF
 abbrev text : List (List ℕ) → List ℕ

@@ -3,9 +3,9 @@ use Rattle.std.proofs.Common.{◌≡◌, ◌<◌, ◌∷◌, [], length, ◌∙�
 use Rattle.std.proofs.lemmas.Result.{err_from_is_err_and}
 use Rattle.program_tokens.specs.Lines.{lines}
 use Rattle.program_statements.specs.declared.statement.Section.TheVariants.{Text}
-use Rattle.source_map.specs.Sources.{no_sources, sources_in, with_lines}
-use Rattle.source_map.proofs.LineSteps.{line_more, line_last, line_fault}
-use Rattle.source_map.proofs.reading.map_of.Goals as goal
+use Rattle.annotated_asm.specs.Sources.{no_sources, sources_in, with_lines}
+use Rattle.annotated_asm.proofs.LineSteps.{line_more, line_last, line_fault}
+use Rattle.annotated_asm.proofs.reading.map_of.Goals as goal
 
 pub returns-in_err-section : goal.returns-in_err-section
 returns-in_err-section c =

@@ -3,7 +3,7 @@
 ghost use Rattle.std.specs.Prelude.{◌≡◌, ◌<◌, ◌≤◌, ◌+◌, ◌-◌, ◌^◌, drop, length, take_while, slice_get, All, IfOk, OnOk};
 ghost use Rattle.std.specs.Option.{option_copied};
 ghost use Rattle.program_tokens.specs.Spans.{line_spans};
-ghost use Rattle.source_map.specs.Sources.{column_of, token_position, end_of, width_between, stretch_between, is_no_name, targets_number, task_lists, token_stretch, target_stretches};
+ghost use Rattle.annotated_asm.specs.Sources.{column_of, token_position, end_of, width_between, stretch_between, is_no_name, targets_number, task_lists, token_stretch, target_stretches};
 
 use crate::position::{Position, Stretch, TaskLists};
 use program_tokens::span::{Span, read_spans};

@@ -3,7 +3,7 @@
 ghost use Rattle.std.specs.Prelude.{◌≡◌, ℕ, List, Ok};
 ghost use Rattle.task_descriptor.specs.Listing.{Listing};
 ghost use Rattle.annotated_asm.specs.ProgramText.{parse};
-ghost use Rattle.source_map.specs.Sources.{Sources, HasPlacesOf, sources_of};
+ghost use Rattle.annotated_asm.specs.Sources.{Sources, HasPlacesOf, sources_of};
 
 /// A text that spells a program has a source map, which has a place and a width for each instruction and the
 /// places of each task of the program, and of no other.

@@ -2,8 +2,8 @@
 use Rattle.std.proofs.Common.{◌≡◌, ◌+◌, ◌≤◌, length}
 use Rattle.program_tokens.specs.Lines.{lines}
 use Rattle.program_statements.specs.declared.statement.Section.TheVariants.{Text}
-use Rattle.source_map.specs.Sources.{no_sources, sources_in, with_lines}
-use Rattle.source_map.proofs.reading.map_of.Given as goal
+use Rattle.annotated_asm.specs.Sources.{no_sources, sources_in, with_lines}
+use Rattle.annotated_asm.proofs.reading.map_of.Given as goal
 
 abbrev pub invariant-lines : goal.invariant-lines
 invariant-lines l = record {

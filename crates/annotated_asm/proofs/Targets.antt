@@ -1,8 +1,8 @@
 -- The targets of a task are taken from the front, each with the comma behind it.
 use Rattle.std.proofs.Common.{◌≡◌, ℕ, List, [], ◌∷◌, ◌++◌, drop, refl, sym, ◌∙◌, ap, append_assoc}
 use Rattle.program_tokens.specs.declared.span.Span.{Span}
-use Rattle.source_map.specs.declared.position.Stretch.{Stretch}
-use Rattle.source_map.specs.Sources.{token_stretch, target_stretches}
+use Rattle.annotated_asm.specs.declared.position.Stretch.{Stretch}
+use Rattle.annotated_asm.specs.Sources.{token_stretch, target_stretches}
 
 pub first_target : (n : ℕ) (first : Span) (others : List Span) → target_stretches n (first ∷ others) ≡ token_stretch n first ∷ target_stretches n (drop 1 others)
 first_target n first [] = refl

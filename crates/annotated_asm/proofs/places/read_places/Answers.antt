@@ -4,8 +4,8 @@ use Rattle.std.specs.List.{All}
 use Rattle.std.proofs.lemmas.Result.{on_ok_weaker}
 use Rattle.program_tokens.specs.Spans.{line_spans}
 use Rattle.program_tokens.specs.declared.span.Span.{Span}
-use Rattle.source_map.proofs.SpanEnds.{line_ends}
-use Rattle.source_map.proofs.places.read_places.Goals as goal
+use Rattle.annotated_asm.proofs.SpanEnds.{line_ends}
+use Rattle.annotated_asm.proofs.places.read_places.Goals as goal
 
 pub returns-clause-ends : goal.returns-clause-ends
 returns-clause-ends c =

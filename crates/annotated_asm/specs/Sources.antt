@@ -21,12 +21,12 @@ use Rattle.annotated_asm.specs.Items.{labels_of, after_labels, on_line, tokens_o
 use Rattle.annotated_asm.specs.Layout.{instruction_count}
 use Rattle.annotated_asm.specs.declared.fault.AsmFault.{AsmFault}
 use Rattle.annotated_asm.specs.declared.fault.AsmFault.TheVariants as fault
-use Rattle.source_map.specs.declared.position.Position.{Position}
-use Rattle.source_map.specs.declared.position.Stretch.{Stretch}
-use Rattle.source_map.specs.declared.position.TaskLists.{TaskLists}
-use Rattle.source_map.specs.declared.position.LabelSource.{LabelSource}
-use Rattle.source_map.specs.declared.position.DataSource.{DataSource}
-use Rattle.source_map.specs.declared.position.SourceMap.{SourceMap}
+use Rattle.annotated_asm.specs.declared.position.Position.{Position}
+use Rattle.annotated_asm.specs.declared.position.Stretch.{Stretch}
+use Rattle.annotated_asm.specs.declared.position.TaskLists.{TaskLists}
+use Rattle.annotated_asm.specs.declared.position.LabelSource.{LabelSource}
+use Rattle.annotated_asm.specs.declared.position.DataSource.{DataSource}
+use Rattle.annotated_asm.specs.declared.position.SourceMap.{SourceMap}
 
 -- a source map as lists
 pub record Sources : Type 0 where

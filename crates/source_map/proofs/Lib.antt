@@ -1,4 +1,0 @@
-mod LineSteps
-mod Fitting
-mod SpanEnds
-pub mod Targets
