@@ -2,7 +2,7 @@
 -- (own choice).
 use Rattle.std.specs.Prelude.{ℕ, ◌+◌, ◌-◌, ◌*◌, ◌/◌, ◌%◌, List, [], ◌∷◌, flat_map, max, nat_eq, if◌then◌else◌}
 use Rattle.std.specs.List.{range_with_len}
-use Rattle.run_summary.specs.declared.tally.Tally.{Tally}
+use Rattle.task_lives.specs.declared.tally.Tally.{Tally}
 use Rattle.run_picture.specs.declared.shape.Shape.{Shape}
 use Rattle.run_picture.specs.declared.shape.Style.TheVariants.{Heading, Quiet, Ground, UnitName, Grid, Axis, AxisNumber, Caption}
 use Rattle.run_picture.specs.declared.shape.Words.{Words}

@@ -6,7 +6,7 @@ use Rattle.task_descriptor.specs.declared.descriptor.Descriptor.{Descriptor}
 use Rattle.task_descriptor.specs.Listing.{Listing}
 use Rattle.task_lives.specs.declared.life.Life.{Life}
 use Rattle.task_lives.specs.Lives.{lives_of}
-use Rattle.run_summary.specs.Tallies.{tally_of}
+use Rattle.task_lives.specs.Tallies.{tally_of}
 use Rattle.run_picture.specs.declared.shape.Shape.{Shape}
 use Rattle.run_picture.specs.declared.shape.Words.TheVariants.{Ring, Stretch}
 use Rattle.run_picture.specs.Scales.{bottom_of}

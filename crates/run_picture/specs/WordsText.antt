@@ -2,7 +2,7 @@
 use Rattle.std.specs.Fmt.{decimal}
 use Rattle.std.specs.Prelude.{ℕ, List, [], ◌++◌, codes, length, take, flat_map, encode_utf8, nat_eq, nat_le, if◌then◌else◌}
 use Rattle.task_descriptor.specs.declared.descriptor.Descriptor.{Descriptor}
-use Rattle.run_summary.specs.declared.tally.Tally.{Tally}
+use Rattle.task_lives.specs.declared.tally.Tally.{Tally}
 use Rattle.run_picture.specs.declared.shape.Words.{Words}
 use Rattle.run_picture.specs.declared.shape.Words.TheVariants.{Title, Sums, OfUnit, EventNumber, Events, Task, Register, Ring, Stretch, Steps, OneEvent, StretchOfSteps}
 use Rattle.run_picture.specs.Bars.{name_of}

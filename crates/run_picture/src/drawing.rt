@@ -19,7 +19,7 @@ use crate::sheet::{marks_legend, stretches_legend, style_sheet};
 use crate::stretches::{push_stretches, stretch_length};
 use crate::words_text::write_title;
 use machine_events::event::{Event, EventRun};
-use run_summary::tally::add_up;
+use task_lives::tally::add_up;
 use std::alloc::{AllocError, Global};
 use task_descriptor::descriptor::Descriptor;
 use task_descriptor::program::Program;

@@ -5,7 +5,7 @@ ghost use Rattle.run_picture.specs.Frame.{axis_of, lane_of, lanes_of, note_of, n
 
 use crate::scale::{AXIS_LEFT, AXIS_WIDTH, LANE_HEIGHT, LANES_TOP, axis_step, bottom, middle};
 use crate::shape::{Form, Shape, Style, Words};
-use run_summary::tally::Tally;
+use task_lives::tally::Tally;
 use std::alloc::AllocError;
 
 /// Adds the two lines above the picture.

@@ -1,6 +1,6 @@
 //! The shapes of a picture. All lengths are in hundredths of a pixel, from the left and from above.
 
-use run_summary::tally::Tally;
+use task_lives::tally::Tally;
 use task_lives::life::{Ending, Life};
 
 /// How a shape looks: a class of the style sheet (own choice).

@@ -6,7 +6,7 @@ ghost use Rattle.run_picture.specs.WordsText.{lives_text, name_text, plural as p
 
 use crate::bars::name_of;
 use crate::shape::Words;
-use run_summary::tally::Tally;
+use task_lives::tally::Tally;
 use std::alloc::AllocError;
 use task_descriptor::descriptor::Descriptor;
 

@@ -1,6 +1,6 @@
 -- A row part by part.
 use Rattle.std.proofs.Common.{◌≡◌, ℕ, Option, List, [], ◌∷◌, ◌++◌, ap, ◌∙◌, append_assoc, codes}
-use Rattle.run_summary.specs.SummaryText.{column}
+use Rattle.task_lives.specs.SummaryText.{column}
 use Rattle.speed_curve.specs.declared.row.Row.{Row}
 use Rattle.speed_curve.specs.TableText.{end_text, rate_text, row_text, speed_text, speed_up, wasted_text}
 

@@ -5,7 +5,7 @@ use Rattle.std.specs.List.{All, range_with_len}
 use Rattle.task_descriptor.specs.Listing.{Listing}
 use Rattle.machine_model.specs.Claims.{count_c}
 use Rattle.task_lives.specs.Lives.{lives_of}
-use Rattle.run_summary.specs.Tallies.{tally_of}
+use Rattle.task_lives.specs.Tallies.{tally_of}
 use Rattle.synchronous_runner.specs.declared.predictor.Predictor.{Predictor}
 use Rattle.synchronous_runner.specs.Steps.{Course, beginning, after_steps, Takes}
 use Rattle.speed_curve.specs.declared.row.Row.{Row}

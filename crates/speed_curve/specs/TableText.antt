@@ -3,7 +3,7 @@ use Rattle.std.specs.Prelude.{ℕ, ◌+◌, ◌-◌, ◌*◌, ◌/◌, ◌%◌, 
 use Rattle.std.specs.Fmt.{decimal}
 use Rattle.machine_events.specs.declared.event.Standing.{Standing}
 use Rattle.machine_events.specs.declared.event.Standing.TheVariants.{Running, Halted, Trapped, Unlisted}
-use Rattle.run_summary.specs.SummaryText.{column}
+use Rattle.task_lives.specs.SummaryText.{column}
 use Rattle.speed_curve.specs.declared.row.Row.{Row}
 
 -- a part of a whole in hundredths, rounded to the nearest one, and up from the middle; 0 where the whole is 0

@@ -7,7 +7,7 @@ ghost use Rattle.speed_curve.specs.Curve.{IsRowOf};
 
 use machine_events::event::Standing;
 use mark_checker::accept::Accepted;
-use run_summary::tally::add_up;
+use task_lives::tally::add_up;
 use std::alloc::{AllocError, Global};
 use synchronous_runner::predictor::Predictor;
 use synchronous_runner::report::{StepsFault, StepsReport};

@@ -2,7 +2,7 @@
 
 ghost use Rattle.std.specs.Prelude.{◌≡◌, ◌<◌, ◌^◌, ◌++◌, IfOk, IfSome, OnOk, flat_map};
 ghost use Rattle.std.specs.String.{string_bytes};
-ghost use Rattle.run_summary.specs.SummaryText.{column};
+ghost use Rattle.task_lives.specs.SummaryText.{column};
 ghost use Rattle.speed_curve.specs.TableText.{decimals, end_text, has_ended as has_ended_by, heading, hundredths as hundredths_of, rate as rate_of, rate_text, row_text, rows_text, share as share_of, speed_text, speed_up as speed_up_of, table_text, wasted_text};
 
 use crate::row::Row;

@@ -8,8 +8,8 @@ use Rattle.task_descriptor.specs.declared.descriptor.Descriptor.{Descriptor}
 use Rattle.task_descriptor.specs.Listing.{Listing}
 use Rattle.task_lives.specs.declared.life.Life.{Life}
 use Rattle.task_lives.specs.Lives.{lives_of}
-use Rattle.run_summary.specs.declared.tally.Tally.{Tally}
-use Rattle.run_summary.specs.Tallies.{tally_of}
+use Rattle.task_lives.specs.declared.tally.Tally.{Tally}
+use Rattle.task_lives.specs.Tallies.{tally_of}
 use Rattle.unit_waits.specs.declared.waiting.Waiting.{Waiting}
 use Rattle.unit_waits.specs.Waits.{waits}
 use Rattle.run_picture.specs.declared.shape.Shape.{Shape}

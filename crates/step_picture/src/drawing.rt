@@ -26,7 +26,7 @@ use run_picture::lanes::push_note;
 use run_picture::shape::Words;
 use run_picture::shape_text::write_shapes;
 use run_picture::stretches::{push_stretches, stretch_length};
-use run_summary::tally::{Tally, add_up};
+use task_lives::tally::{Tally, add_up};
 use std::alloc::{AllocError, Global};
 use task_descriptor::descriptor::Descriptor;
 use task_lives::laws::histories_fit;

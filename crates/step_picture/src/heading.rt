@@ -8,7 +8,7 @@ use crate::sheet::{single_legend, style_sheet, summed_legend};
 use machine_events::event::Standing;
 use run_picture::drawing::{MOST_SINGLE, height, write_root};
 use run_picture::words_text::plural;
-use run_summary::tally::Tally;
+use task_lives::tally::Tally;
 use std::alloc::AllocError;
 
 /// Writes the opening of the picture of a run of so many steps, which then stands so.

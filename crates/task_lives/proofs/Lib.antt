@@ -8,3 +8,5 @@ pub mod Closing
 pub mod Kept
 pub mod RunByRun
 pub mod EachEvent
+pub mod OneMore
+pub mod Rows

@@ -4,3 +4,7 @@ pub mod Laws
 pub mod AtWork
 pub mod Following
 pub mod Examples
+pub mod Tallies
+pub mod Counting
+pub mod SummaryText
+pub mod RunSummaryExamples

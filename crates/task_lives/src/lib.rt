@@ -6,3 +6,5 @@ mod following;
 pub mod laws;
 pub mod life;
 pub mod lives;
+pub mod summary;
+pub mod tally;

@@ -12,7 +12,7 @@ use Rattle.event_script.specs.declared.fault.ScriptFault.{ScriptFault}
 use Rattle.event_script.specs.FaultText.{script_fault_text}
 use Rattle.event_script.specs.EventScript.{script_of}
 use Rattle.task_lives.specs.Lives.{lives_of}
-use Rattle.run_summary.specs.SummaryText.{summary_text}
+use Rattle.task_lives.specs.SummaryText.{summary_text}
 use Rattle.run_picture.specs.Picture.{picture_text}
 use Rattle.run_timeline.specs.Timeline.{timeline_text}
 use Rattle.run_timeline.specs.declared.clock.Clock.TheVariants as clock

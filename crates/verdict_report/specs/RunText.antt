@@ -11,7 +11,7 @@ use Rattle.machine_events.specs.declared.event.Standing.TheVariants.{Running}
 use Rattle.event_script.specs.EventScript.{script_of}
 use Rattle.event_script.specs.ScriptText.{script_text}
 use Rattle.task_lives.specs.Lives.{lives_of}
-use Rattle.run_summary.specs.SummaryText.{summary_text}
+use Rattle.task_lives.specs.SummaryText.{summary_text}
 use Rattle.run_picture.specs.Picture.{picture_text}
 use Rattle.step_picture.specs.StepPicture.{step_picture_text}
 use Rattle.run_timeline.specs.Timeline.{timeline_text}

@@ -3,7 +3,7 @@ ghost use Rattle.std.specs.Prelude.{◌≡◌, ◌++◌, IfOk, OnOk};
 ghost use Rattle.std.specs.String.{string_bytes};
 ghost use Rattle.sequencer.specs.Machines.{state, units_of};
 ghost use Rattle.task_lives.specs.Lives.{lives_of};
-ghost use Rattle.run_summary.specs.SummaryText.{summary_text};
+ghost use Rattle.task_lives.specs.SummaryText.{summary_text};
 ghost use Rattle.run_picture.specs.Picture.{picture_text};
 ghost use Rattle.run_timeline.specs.Timeline.{timeline_text};
 ghost use Rattle.event_trace.specs.Entries.{places_of};
@@ -72,7 +72,7 @@ pub fn summary_of(
 {
     histories_fit();
     let lives = lives_of_runs(alloc, machine.history(), units.get())?;
-    run_summary::summary::write(alloc, program, &lives)
+    task_lives::summary::write(alloc, program, &lives)
 }
 
 /// The history of a machine of so many units, which runs this program, as a picture.

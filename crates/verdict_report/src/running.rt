@@ -6,7 +6,7 @@ ghost use Rattle.verdict_report.specs.RunText.{IsRunReport, IsRunText, IsWritten
 ghost use Rattle.report_texts.specs.CertificateTexts.{OfCertificate};
 ghost use Rattle.verdict_report.specs.Runs.{run_of};
 ghost use Rattle.task_lives.specs.Lives.{lives_of};
-ghost use Rattle.run_summary.specs.SummaryText.{summary_text};
+ghost use Rattle.task_lives.specs.SummaryText.{summary_text};
 ghost use Rattle.event_script.specs.EventScript.{script_of};
 ghost use Rattle.event_trace.specs.Entries.{places_of};
 ghost use Rattle.wait_table.specs.TableText.{waits_text};

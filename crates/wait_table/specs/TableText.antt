@@ -9,7 +9,7 @@ use Rattle.machine_events.specs.declared.event.Spot.TheVariants.{Inside, Stopped
 use Rattle.event_script.specs.ScriptText.{name_at}
 use Rattle.annotated_asm.specs.declared.position.Position.{Position}
 use Rattle.event_trace.specs.TraceText.{place_text}
-use Rattle.run_summary.specs.SummaryText.{column}
+use Rattle.task_lives.specs.SummaryText.{column}
 use Rattle.unit_waits.specs.declared.waiting.Owed.{Owed}
 use Rattle.unit_waits.specs.declared.waiting.Reason.{Reason}
 use Rattle.unit_waits.specs.declared.waiting.Reason.TheVariants.{NeedsRegister, NeedsHead, HasToPass, HasFinished, CouldGoOn}

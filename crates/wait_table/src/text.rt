@@ -2,7 +2,7 @@
 
 ghost use Rattle.std.specs.Prelude.{◌≡◌, ◌++◌, OnOk};
 ghost use Rattle.std.specs.String.{string_bytes};
-ghost use Rattle.run_summary.specs.SummaryText.{column};
+ghost use Rattle.task_lives.specs.SummaryText.{column};
 ghost use Rattle.wait_table.specs.TableText.{debt_text, owed_text, reason_text, spot_text, waiting_text};
 
 use event_script::writing::task_name;

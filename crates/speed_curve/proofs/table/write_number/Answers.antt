@@ -2,7 +2,7 @@
 use Rattle.std.proofs.Common.{◌∙◌, ℕ, List, Option, Some, OnOk, ap, subst}
 use Rattle.std.specs.Fmt.{AppendsText, styled_decimal}
 use Rattle.std.specs.String.{string_bytes}
-use Rattle.run_summary.proofs.Rows.{right_aligned}
+use Rattle.task_lives.proofs.Rows.{right_aligned}
 use Rattle.speed_curve.proofs.table.write_number.Goals as goal
 
 pub returns : goal.returns

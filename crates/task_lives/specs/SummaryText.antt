@@ -5,8 +5,8 @@ use Rattle.std.specs.Fmt.{decimal}
 use Rattle.task_descriptor.specs.Listing.{Listing}
 use Rattle.task_descriptor.specs.declared.descriptor.Descriptor.{Descriptor}
 use Rattle.task_lives.specs.declared.life.Life.{Life}
-use Rattle.run_summary.specs.declared.tally.Tally.{Tally}
-use Rattle.run_summary.specs.Tallies.{tally_of, of_task}
+use Rattle.task_lives.specs.declared.tally.Tally.{Tally}
+use Rattle.task_lives.specs.Tallies.{tally_of, of_task}
 
 -- a number at the right of a column of this width; one that is wider stands there whole
 abbrev pub column : (width : ℕ) → ℕ → List ℕ

@@ -5,7 +5,7 @@ use Rattle.task_lives.specs.declared.life.Ending.{Ending}
 use Rattle.task_lives.specs.declared.life.Ending.TheVariants.{Squashed, Dropped}
 use Rattle.task_lives.specs.declared.life.Life.{Life}
 use Rattle.task_lives.specs.Sums.{is_retired, is_squashed, is_dropped, is_unfinished, number_ended, instructions}
-use Rattle.run_summary.specs.declared.tally.Tally.{Tally}
+use Rattle.task_lives.specs.declared.tally.Tally.{Tally}
 
 -- the life was squashed or dropped, so that its work was for nothing
 abbrev pub is_given_up : Ending → Bool

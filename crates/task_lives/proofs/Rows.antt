@@ -8,10 +8,10 @@ use Rattle.std.proofs.lemmas.List.FromFn.{length-map-range_with_len, get_or-map-
 use Rattle.task_descriptor.specs.Listing.{Listing}
 use Rattle.task_descriptor.specs.declared.descriptor.Descriptor.{Descriptor}
 use Rattle.task_lives.specs.declared.life.Life.{Life}
-use Rattle.run_summary.specs.declared.tally.Tally.{Tally}
-use Rattle.run_summary.specs.Tallies.{tally_of, of_task, tallies_of}
-use Rattle.run_summary.specs.Counting.{rows_from}
-use Rattle.run_summary.specs.SummaryText.{column, row_text, heading, summary_text, task_rows}
+use Rattle.task_lives.specs.declared.tally.Tally.{Tally}
+use Rattle.task_lives.specs.Tallies.{tally_of, of_task, tallies_of}
+use Rattle.task_lives.specs.Counting.{rows_from}
+use Rattle.task_lives.specs.SummaryText.{column, row_text, heading, summary_text, task_rows}
 
 abbrev space : List ℕ
 space = 32 ∷ []

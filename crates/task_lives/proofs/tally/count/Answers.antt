@@ -1,9 +1,9 @@
 -- The tally of the life's task, if there is one.
 use Rattle.std.proofs.Common.{◌≡◌, ◌+◌, ◌<◌, ◌≤◌, ◌∙◌, length, ap, arith}
 use Rattle.std.specs.Prelude.{slice_set}
-use Rattle.run_summary.specs.declared.tally.Tally.{Tally}
-use Rattle.run_summary.proofs.OneMore.{room_at, none_behind, counted_at}
-use Rattle.run_summary.proofs.tally.count.Goals as goal
+use Rattle.task_lives.specs.declared.tally.Tally.{Tally}
+use Rattle.task_lives.proofs.OneMore.{room_at, none_behind, counted_at}
+use Rattle.task_lives.proofs.tally.count.Goals as goal
 
 pub with-requires : goal.with-requires
 with-requires c =

@@ -10,9 +10,9 @@ use Rattle.task_lives.specs.declared.life.Ending.{Ending}
 use Rattle.task_lives.specs.declared.life.Ending.TheVariants.{Retired, Squashed, Dropped, Unfinished}
 use Rattle.task_lives.specs.declared.life.Life.{Life}
 use Rattle.task_lives.specs.Sums.{AreFew, is_retired, is_squashed, is_dropped, is_unfinished, ended, number_ended, instructions}
-use Rattle.run_summary.specs.declared.tally.Tally.{Tally}
-use Rattle.run_summary.specs.Tallies.{is_given_up, tally_of, of_task, tallies_of}
-use Rattle.run_summary.specs.Counting.{with_one, with_life, with_task_life, HasRoom, HaveRoom}
+use Rattle.task_lives.specs.declared.tally.Tally.{Tally}
+use Rattle.task_lives.specs.Tallies.{is_given_up, tally_of, of_task, tallies_of}
+use Rattle.task_lives.specs.Counting.{with_one, with_life, with_task_life, HasRoom, HaveRoom}
 
 abbrev executed_by : List Life → ℕ
 executed_by lives = sum_by (λ life. life.executed) lives

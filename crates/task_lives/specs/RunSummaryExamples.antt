@@ -6,9 +6,9 @@ use Rattle.task_descriptor.specs.Names.{is_name}
 use Rattle.task_lives.specs.declared.life.Ending.{Ending}
 use Rattle.task_lives.specs.declared.life.Ending.TheVariants.{Retired, Squashed, Dropped, Unfinished}
 use Rattle.task_lives.specs.declared.life.Life.{Life}
-use Rattle.run_summary.specs.declared.tally.Tally.{Tally}
-use Rattle.run_summary.specs.Tallies.{tally_of, tallies_of}
-use Rattle.run_summary.specs.SummaryText.{column, row_text}
+use Rattle.task_lives.specs.declared.tally.Tally.{Tally}
+use Rattle.task_lives.specs.Tallies.{tally_of, tallies_of}
+use Rattle.task_lives.specs.SummaryText.{column, row_text}
 
 abbrev life : (task unit first last executed : ℕ) → Ending → Life
 life task unit first last executed ending = record {

@@ -1,10 +1,10 @@
 -- One life more.
 use Rattle.std.proofs.Common.{ap, sym, ◌∙◌, subst, get_or}
 use Rattle.std.proofs.lemmas.List.{take_all}
-use Rattle.run_summary.specs.Tallies.{tally_of}
-use Rattle.run_summary.specs.Counting.{with_life, HasRoom}
-use Rattle.run_summary.proofs.OneMore.{no_life, tally_to, room_to}
-use Rattle.run_summary.proofs.tally.add_up.Goals as goal
+use Rattle.task_lives.specs.Tallies.{tally_of}
+use Rattle.task_lives.specs.Counting.{with_life, HasRoom}
+use Rattle.task_lives.proofs.OneMore.{no_life, tally_to, room_to}
+use Rattle.task_lives.proofs.tally.add_up.Goals as goal
 
 pub with-tally-requires : goal.with-tally-requires
 with-tally-requires c =

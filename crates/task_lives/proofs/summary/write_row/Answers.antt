@@ -1,8 +1,8 @@
 -- One number behind the other.
 use Rattle.std.proofs.Common.{◌≡◌, ℕ, List, OnOk, subst}
 use Rattle.std.specs.String.{string_bytes}
-use Rattle.run_summary.proofs.Rows.{row_written}
-use Rattle.run_summary.proofs.summary.write_row.Goals as goal
+use Rattle.task_lives.proofs.Rows.{row_written}
+use Rattle.task_lives.proofs.summary.write_row.Goals as goal
 
 pub returns : goal.returns
 returns c =

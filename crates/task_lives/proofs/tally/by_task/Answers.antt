@@ -1,10 +1,10 @@
 -- One life more in the tally of its task.
 use Rattle.std.proofs.Common.{ap, sym, ◌∙◌, subst, get_or}
 use Rattle.std.proofs.lemmas.List.{take_all}
-use Rattle.run_summary.specs.Tallies.{tallies_of}
-use Rattle.run_summary.specs.Counting.{with_task_life, HaveRoom}
-use Rattle.run_summary.proofs.OneMore.{no_life, none_counted, tallies_to, rooms_to}
-use Rattle.run_summary.proofs.tally.by_task.Goals as goal
+use Rattle.task_lives.specs.Tallies.{tallies_of}
+use Rattle.task_lives.specs.Counting.{with_task_life, HaveRoom}
+use Rattle.task_lives.proofs.OneMore.{no_life, none_counted, tallies_to, rooms_to}
+use Rattle.task_lives.proofs.tally.by_task.Goals as goal
 
 pub loop-life-init : goal.loop-life-init
 loop-life-init c = none_counted c.args.tasks c.in_ok-tallies.tallies.items (c.in_ok-tallies.ensures.items_if_clones_equal (λ y same. same))

@@ -1,8 +1,8 @@
 -- One part of the text behind another, the first behind nothing.
 use Rattle.std.proofs.Common.{ℕ, ap, ◌∙◌, length}
 use Rattle.std.specs.Global.{Vec}
-use Rattle.run_summary.proofs.Rows.{long_enough, summary_written}
-use Rattle.run_summary.proofs.summary.write.Goals as goal
+use Rattle.task_lives.proofs.Rows.{long_enough, summary_written}
+use Rattle.task_lives.proofs.summary.write.Goals as goal
 
 pub write_rows-requires : goal.write_rows-requires
 write_rows-requires c =

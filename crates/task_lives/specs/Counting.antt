@@ -4,9 +4,9 @@ use Rattle.task_lives.specs.declared.life.Ending.{Ending}
 use Rattle.task_lives.specs.declared.life.Ending.TheVariants.{Retired, Squashed, Dropped, Unfinished}
 use Rattle.task_lives.specs.declared.life.Life.{Life}
 use Rattle.task_descriptor.specs.declared.descriptor.Descriptor.{Descriptor}
-use Rattle.run_summary.specs.declared.tally.Tally.{Tally}
-use Rattle.run_summary.specs.Tallies.{tally_of}
-use Rattle.run_summary.specs.SummaryText.{row_text}
+use Rattle.task_lives.specs.declared.tally.Tally.{Tally}
+use Rattle.task_lives.specs.Tallies.{tally_of}
+use Rattle.task_lives.specs.SummaryText.{row_text}
 
 -- one more that ended so, and executed so many instructions
 abbrev pub with_one : Ending → (executed : ℕ) → Tally → Tally

@@ -1,8 +1,8 @@
 -- What is written and what is left give what there was to write.
 use Rattle.std.proofs.Common.{◌≡◌, ◌++◌, drop}
 use Rattle.std.specs.String.{string_bytes}
-use Rattle.run_summary.specs.Counting.{rows_from}
-use Rattle.run_summary.proofs.summary.write_rows.Given as goal
+use Rattle.task_lives.specs.Counting.{rows_from}
+use Rattle.task_lives.proofs.summary.write_rows.Given as goal
 
 abbrev pub invariant-loop-task : goal.invariant-loop-task
 invariant-loop-task l =

@@ -1,4 +1,0 @@
-pub mod Tallies
-pub mod Counting
-pub mod SummaryText
-pub mod Examples
