@@ -1,3 +1,4 @@
 mod Parts
 mod Determined
 pub mod Growing
+mod CurvePictureParts

@@ -5,3 +5,8 @@
 pub mod laws;
 pub mod row;
 pub mod table;
+mod columns;
+pub mod drawing;
+mod hundredths;
+mod scale;
+mod sheet;

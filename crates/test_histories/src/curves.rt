@@ -1,6 +1,6 @@
 //! Pictures of what runs in steps came to.
 
-use curve_picture::drawing::draw;
+use speed_curve::drawing::draw;
 use machine_events::event::Standing;
 use speed_curve::row::Row;
 use std::alloc::Global;

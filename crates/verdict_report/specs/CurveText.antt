@@ -6,7 +6,7 @@ use Rattle.machine_events.specs.declared.event.Standing.TheVariants.{Running, Ha
 use Rattle.speed_curve.specs.Curve.{AreRows}
 use Rattle.speed_curve.specs.TableText.{table_text}
 use Rattle.speed_curve.specs.declared.row.Row.{Row}
-use Rattle.curve_picture.specs.CurvePicture.{curve_text}
+use Rattle.speed_curve.specs.CurvePicture.{curve_text}
 use Rattle.jobs.specs.declared.job.Prediction.{Prediction}
 use Rattle.jobs.specs.declared.job.CurveEmit.{CurveEmit}
 use Rattle.jobs.specs.declared.job.CurveEmit.TheVariants.{Table, Picture}

@@ -11,7 +11,7 @@ ghost use Rattle.report_texts.specs.JudgedTexts.{judgement};
 
 use crate::scheduled::predictor_of;
 use crate::telling::tell;
-use curve_picture::drawing::draw;
+use speed_curve::drawing::draw;
 use jobs::job::{CertificateSource, CurveEmit, Prediction, Texts};
 use jobs::ranges::{Budget, Units};
 use machine_events::event::Standing;

@@ -1,4 +1,0 @@
-pub mod Scales
-pub mod FixedText
-pub mod CurvePicture
-pub mod Examples

@@ -1,0 +1,10 @@
+-- The points of the rows so far.
+use Rattle.std.proofs.Common.{◌≡◌, ◌++◌, take}
+use Rattle.std.specs.Prelude.{flat_map}
+use Rattle.std.specs.String.{string_bytes}
+use Rattle.speed_curve.specs.CurvePicture.{speed_point}
+use Rattle.speed_curve.proofs.drawing.write_speed_points.Given as goal
+
+abbrev pub invariant-loop-row : goal.invariant-loop-row
+invariant-loop-row l =
+    string_bytes l.text ≡ string_bytes l.initial.text ++ flat_map (speed_point l.columns l.top l.one) (take l.row-index l.rows)

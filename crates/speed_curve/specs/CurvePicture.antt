@@ -1,0 +1,127 @@
+-- The picture of a curve, as the text of an SVG file (own choice).
+use Rattle.std.specs.Fmt.{decimal}
+use Rattle.std.specs.Prelude.{ℕ, ◌+◌, ◌-◌, ◌*◌, ◌/◌, Option, Some, None, List, [], ◌∷◌, ◌++◌, codes, flat_map, length}
+use Rattle.machine_events.specs.declared.event.Standing.{Standing}
+use Rattle.machine_events.specs.declared.event.Standing.TheVariants.{Halted}
+use Rattle.speed_curve.specs.declared.row.Row.{Row}
+use Rattle.speed_curve.specs.TableText.{end_text, rate, share, speed_up}
+use Rattle.speed_curve.specs.Scales.{bar_of, column_of, foot_over, foot_under, height_of, number_text, top_of}
+use Rattle.speed_curve.specs.FixedText.{fixed_text}
+
+-- a number of the upper scale
+abbrev pub scale_label : (y hundredths : ℕ) → List ℕ
+scale_label y hundredths =
+    codes "<text class='scale' x='78' y='" ++ (decimal y ++ (codes "'>" ++ (number_text hundredths ++ (codes "</text>" ++ 10 ∷ []))))
+
+-- the numbers of the upper scale: nothing, a quarter, a half, three quarters, and the top
+abbrev pub scale_text : (top : ℕ) → List ℕ
+scale_text top =
+    scale_label 492 0 ++ (scale_label 404 (top / 4) ++ (scale_label 316 (top / 2) ++ (scale_label 228 (3 * top / 4) ++ scale_label 140 top)))
+
+-- where a number of the run on so many units is
+abbrev pub point_text : (columns top units hundredths : ℕ) → List ℕ
+point_text columns top units hundredths =
+    decimal (column_of columns units) ++ (codes "," ++ (decimal (height_of top hundredths) ++ codes " "))
+
+-- where there is one
+abbrev pub point_if : (columns top units : ℕ) → Option ℕ → List ℕ
+point_if columns top units None = []
+point_if columns top units (Some hundredths) = point_text columns top units hundredths
+
+-- the points of a run: its rate, and its speed-up
+abbrev pub rate_point : (columns top : ℕ) → Row → List ℕ
+rate_point columns top row = point_text columns top row.units (rate row)
+
+abbrev pub speed_point : (columns top : ℕ) → (one row : Row) → List ℕ
+speed_point columns top one row = point_if columns top row.units (speed_up one row)
+
+-- the line through the rates
+abbrev pub rate_line : (columns top : ℕ) → List Row → List ℕ
+rate_line columns top rows =
+    codes "<polyline class='curve' points='" ++ (flat_map (rate_point columns top) rows ++ (codes "'/>" ++ 10 ∷ []))
+
+-- the line through the speed-ups
+abbrev pub speed_line : (columns top : ℕ) → (one : Row) → List Row → List ℕ
+speed_line columns top one rows =
+    codes "<polyline class='speed' points='" ++ (flat_map (speed_point columns top one) rows ++ (codes "'/>" ++ 10 ∷ []))
+
+-- the beginning of a column, and what is said of it
+abbrev pub place_text : (left units steps : ℕ) → List ℕ
+place_text left units steps =
+    codes "<g transform='translate(" ++ (decimal left ++ (codes " 0)'><title>units: " ++ (decimal units ++ (codes ", steps: " ++ decimal steps))))
+
+abbrev pub said_speed : Option ℕ → List ℕ
+said_speed None = codes ", speed-up: -"
+said_speed (Some speed) = codes ", speed-up: " ++ number_text speed
+
+abbrev pub work_text : (retired wasted : ℕ) (end : List ℕ) → List ℕ
+work_text retired wasted end =
+    codes ", instructions retired: " ++ (decimal retired ++ (codes ", thrown away: " ++ (decimal wasted ++ (codes ", " ++ (end ++ (codes "</title>" ++ 10 ∷ []))))))
+
+abbrev pub opening_text : (left : ℕ) → (speed : Option ℕ) → Row → (end : List ℕ) → List ℕ
+opening_text left speed row end = place_text left row.units row.steps ++ (said_speed speed ++ work_text row.retired row.wasted end)
+
+-- a line from below the rate down to the foot, and the bar there
+abbrev pub bar_text : (from top high : ℕ) → List ℕ
+bar_text from top high =
+    codes "<path class='grid' d='M0 " ++ (decimal from ++ (codes "V630'/><rect class='wasted' x='-12' y='" ++ (decimal top
+    ++ (codes "' width='24' height='" ++ (decimal high ++ (codes "'/>" ++ 10 ∷ []))))))
+
+-- the point of the rate: a disc where the run halted, else a diamond
+abbrev pub mark_text : (point : ℕ) → Standing → List ℕ
+mark_text point Halted = codes "<circle class='halted' cx='0' cy='" ++ (decimal point ++ (codes "' r='7'/>" ++ 10 ∷ []))
+mark_text point _ = codes "<path class='other' d='M-9 " ++ (decimal point ++ (codes "l9-9 9 9-9 9z'/>" ++ 10 ∷ []))
+
+-- the numbers of a column
+abbrev pub number_label : (y hundredths : ℕ) → List ℕ
+number_label y hundredths =
+    codes "<text class='value' x='0' y='" ++ (decimal y ++ (codes "'>" ++ (number_text hundredths ++ (codes "</text>" ++ 10 ∷ []))))
+
+abbrev pub share_label : (hundredths : ℕ) → List ℕ
+share_label hundredths = codes "<text class='value' x='0' y='648'>" ++ (number_text hundredths ++ (codes "%</text>" ++ 10 ∷ []))
+
+abbrev pub units_label : (units : ℕ) → List ℕ
+units_label units = codes "<text class='number' x='0' y='672'>" ++ (decimal units ++ (codes "</text></g>" ++ 10 ∷ []))
+
+-- the point of a speed-up, a square, and the number over it
+abbrev pub square_text : (point : ℕ) → List ℕ
+square_text point = codes "<path class='faster' d='M-4 " ++ (decimal point ++ (codes "v-4h8v8h-8z'/>" ++ 10 ∷ []))
+
+abbrev pub speed_text : (top : ℕ) → Option ℕ → List ℕ
+speed_text top None = []
+speed_text top (Some speed) = square_text (height_of top speed) ++ number_label (foot_over (height_of top speed)) speed
+
+-- the rate under its point, and the share and the units below the bar
+abbrev pub value_text : (under : ℕ) → Row → List ℕ
+value_text under row = number_label under (rate row) ++ (share_label (share row) ++ units_label row.units)
+
+-- the column of a run whose rate has this point, and whose bar is so high
+abbrev pub column_with : (top left point high : ℕ) → (speed : Option ℕ) → Row → List ℕ
+column_with top left point high speed row =
+    opening_text left speed row (end_text row.standing)
+    ++ (bar_text (foot_under point + 6) (630 - high) high
+    ++ (mark_text point row.standing ++ (speed_text top speed ++ value_text (foot_under point) row)))
+
+-- the column of a run
+unfoldable pub column_text : (columns top : ℕ) → (one row : Row) → List ℕ
+column_text columns top one row = column_with top (column_of columns row.units) (height_of top (rate row)) (bar_of row) (speed_up one row) row
+
+abbrev pub columns_text : (columns top : ℕ) → (one : Row) → List Row → List ℕ
+columns_text columns top one rows = flat_map (column_text columns top one) rows
+
+-- runs beside the one on one unit, with as many columns as there are runs
+abbrev pub beside_with : (columns top : ℕ) → (one : Row) → List Row → List ℕ
+beside_with columns top one rows =
+    scale_text top ++ (rate_line columns top rows ++ (speed_line columns top one rows ++ columns_text columns top one rows))
+
+unfoldable pub beside_text : (one : Row) → List Row → List ℕ
+beside_text one rows = beside_with (length rows) (top_of one rows) one rows
+
+-- the runs, of which the first is the one on one unit
+abbrev pub runs_text : List Row → List ℕ
+runs_text [] = []
+runs_text (one ∷ more) = beside_text one (one ∷ more)
+
+-- the whole text
+unfoldable pub curve_text : List Row → List ℕ
+curve_text rows = fixed_text ++ (runs_text rows ++ (codes "</svg>" ++ 10 ∷ []))

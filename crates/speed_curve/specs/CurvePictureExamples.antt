@@ -1,0 +1,92 @@
+-- Worked examples, computed by the checker: where numbers and bars stand, both lines of the loop `count`, and
+-- columns with a speed-up and without.
+use Rattle.std.specs.Prelude.{◌≡◌, ℕ, [], ◌∷◌, ◌++◌, codes}
+use Rattle.std.specs.Fmt.{digits}
+use Rattle.std.proofs.Common.{refl}
+use Rattle.machine_events.specs.declared.event.Standing.{Standing}
+use Rattle.machine_events.specs.declared.event.Standing.TheVariants.{Running, Halted, Unlisted}
+use Rattle.speed_curve.specs.declared.row.Row.{Row}
+use Rattle.speed_curve.specs.Scales.{bar_of, foot_over, foot_under, number_text, top_of}
+use Rattle.speed_curve.specs.CurvePicture.{column_text, rate_line, speed_line}
+
+abbrev row : (units steps retired wasted : ℕ) → Standing → Row
+row units steps retired wasted standing = record {
+  units = units;
+  steps = steps;
+  retired = retired;
+  wasted = wasted;
+  standing = standing;
+}
+
+-- a line is at 224: over a point at 246 the number would stand 10 below it, and goes up to 4 above
+pub over_a_line : foot_over 246 ≡ 220
+over_a_line = refl
+
+pub over_no_line : foot_over 293 ≡ 281
+over_no_line = refl
+
+-- a line is at 312: under a point at 287 the number would stand 3 above it, and goes down to 13 below
+pub under_a_line : foot_under 287 ≡ 325
+under_a_line = refl
+
+pub under_no_line : foot_under 279 ≡ 301
+under_no_line = refl
+
+-- no bar where nothing was thrown away, one pixel for a thousandth, and 40 for a half
+pub no_bar : bar_of (row 1 40 30 0 Halted) ≡ 0
+no_bar = refl
+
+pub least_bar : bar_of (row 2 1200 999 1 Halted) ≡ 1
+least_bar = refl
+
+pub half_a_bar : bar_of (row 2 40 30 30 Halted) ≡ 40
+half_a_bar = refl
+
+-- the runs of `count` on 1 and 2 units: 0.52 and 0.73 in a step, and a speed-up of 1.41
+abbrev one : Row
+one = row 1 31 16 0 Halted
+
+abbrev two : Row
+two = row 2 22 16 1 Halted
+
+pub top_for_both_lines : top_of one (one ∷ two ∷ []) ≡ 160
+top_for_both_lines = refl
+
+pub rates : rate_line 2 160 (one ∷ two ∷ []) ≡ codes "<polyline class='curve' points='378,374 958,328 '/>" ++ 10 ∷ []
+unfolding digits
+rates = refl
+
+pub speed_ups : speed_line 2 160 one (one ∷ two ∷ []) ≡ codes "<polyline class='speed' points='378,268 958,178 '/>" ++ 10 ∷ []
+unfolding digits
+speed_ups = refl
+
+pub column_of_two : column_text 2 160 one two ≡
+    codes "<g transform='translate(958 0)'><title>units: 2, steps: 22, speed-up: 1.41, instructions retired: 16, thrown away: 1, halted</title>" ++ (10 ∷
+    codes "<path class='grid' d='M0 356V630'/><rect class='wasted' x='-12' y='626' width='24' height='4'/>" ++ (10 ∷
+    codes "<circle class='halted' cx='0' cy='328' r='7'/>" ++ (10 ∷
+    codes "<path class='faster' d='M-4 178v-4h8v8h-8z'/>" ++ (10 ∷
+    codes "<text class='value' x='0' y='166'>1.41</text>" ++ (10 ∷
+    codes "<text class='value' x='0' y='350'>0.73</text>" ++ (10 ∷
+    codes "<text class='value' x='0' y='648'>5.88%</text>" ++ (10 ∷
+    codes "<text class='number' x='0' y='672'>2</text></g>" ++ 10 ∷ [])))))))
+unfolding digits number_text column_text
+column_of_two = refl
+
+-- a run that was out of budget has no point on the line of speed-ups, and neither have runs in which nothing
+-- retired
+pub no_point : speed_line 2 160 one (one ∷ row 2 19 12 1 Running ∷ []) ≡ codes "<polyline class='speed' points='378,268 '/>" ++ 10 ∷ []
+unfolding digits
+no_point = refl
+
+abbrev nothing : Row
+nothing = row 1 5 0 0 (Unlisted 0x400014)
+
+pub no_speed_up : column_text 1 20 nothing nothing ≡
+    codes "<g transform='translate(668 0)'><title>units: 1, steps: 5, speed-up: -, instructions retired: 0, thrown away: 0, unlisted</title>" ++ (10 ∷
+    codes "<path class='grid' d='M0 516V630'/><rect class='wasted' x='-12' y='630' width='24' height='0'/>" ++ (10 ∷
+    codes "<path class='other' d='M-9 488l9-9 9 9-9 9z'/>" ++ (10 ∷
+    codes "<text class='value' x='0' y='510'>0.00</text>" ++ (10 ∷
+    codes "<text class='value' x='0' y='648'>0.00%</text>" ++ (10 ∷
+    codes "<text class='number' x='0' y='672'>1</text></g>" ++ 10 ∷ [])))))
+unfolding digits number_text column_text
+no_speed_up = refl

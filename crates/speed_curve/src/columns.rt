@@ -1,0 +1,230 @@
+//! The column of a run: its points, its bar, and what is said of it.
+
+ghost use Rattle.std.specs.Prelude.{◌≡◌, ◌<◌, ◌^◌, ◌++◌, IfSome, OnOk};
+ghost use Rattle.std.specs.String.{string_bytes};
+ghost use Rattle.speed_curve.specs.CurvePicture.{bar_text, column_text, mark_text, number_label, opening_text, place_text, point_if, point_text, rate_point, said_speed, share_label, speed_point, speed_text, square_text, units_label, value_text, work_text};
+
+use crate::hundredths::Hundredths;
+use crate::scale::{bar, column, foot_over, foot_under, height};
+use machine_events::event::Standing;
+use crate::row::Row;
+use crate::table::{end_of, rate, share, speed_up};
+use std::alloc::AllocError;
+
+/// Writes where the rate of a run is.
+pub(crate) fn write_rate_point(
+    text: &mut String,
+    columns: u64,
+    top: u64,
+    row: &Row,
+) -> Result<(), AllocError>
+    requires columns { 0 < columns }
+    requires top { 0 < top }
+    ensures { OnOk result (string_bytes text.new ≡ string_bytes text.old ++ rate_point columns top row.now) }
+{
+    write_point(text, columns, top, row.units, rate(row))
+}
+
+/// Writes where the speed-up of a run is, if it has one.
+pub(crate) fn write_speed_point(
+    text: &mut String,
+    columns: u64,
+    top: u64,
+    one: &Row,
+    row: &Row,
+) -> Result<(), AllocError>
+    requires columns { 0 < columns }
+    requires top { 0 < top }
+    ensures { OnOk result (string_bytes text.new ≡ string_bytes text.old ++ speed_point columns top one.now row.now) }
+{
+    write_point_if(text, columns, top, row.units, speed_up(one, row))
+}
+
+/// Writes where a number of the run on so many units is, if there is one.
+fn write_point_if(
+    text: &mut String,
+    columns: u64,
+    top: u64,
+    units: u32,
+    hundredths: Option<u64>,
+) -> Result<(), AllocError>
+    requires columns { 0 < columns }
+    requires top { 0 < top }
+    requires few { IfSome hundredths (λ number. number < 2 ^ 48) }
+    ensures { OnOk result (string_bytes text.new ≡ string_bytes text.old ++ point_if columns top units hundredths) }
+{
+    match hundredths {
+        Some(number) => write_point(text, columns, top, units, number),
+        None => Ok(()),
+    }
+}
+
+/// Writes where a number of the run on so many units is.
+fn write_point(
+    text: &mut String,
+    columns: u64,
+    top: u64,
+    units: u32,
+    hundredths: u64,
+) -> Result<(), AllocError>
+    requires columns { 0 < columns }
+    requires top { 0 < top }
+    requires few { hundredths < 2 ^ 48 }
+    ensures { OnOk result (string_bytes text.new ≡ string_bytes text.old ++ point_text columns top units hundredths) }
+{
+    let x = column(columns, units);
+    let y = height(top, hundredths);
+    write!(text, "{x},{y} ")
+}
+
+/// Writes the column of a run.
+pub(crate) fn write_column(
+    text: &mut String,
+    columns: u64,
+    top: u64,
+    one: &Row,
+    row: &Row,
+) -> Result<(), AllocError>
+    requires columns { 0 < columns }
+    requires top { 0 < top }
+    ensures { OnOk result (string_bytes text.new ≡ string_bytes text.old ++ column_text columns top one.now row.now) }
+{
+    let left = column(columns, row.units);
+    let point = height(top, rate(row));
+    let under = foot_under(point);
+    let high = bar(row);
+    let speed = speed_up(one, row);
+    write_opening(text, left, speed, row, end_of(row.standing))?;
+    write_bar(text, under + 6, 630_u64.saturating_sub(high), high)?;
+    write_mark(text, point, row.standing)?;
+    write_speed(text, top, speed)?;
+    write_values(text, under, row)
+}
+
+/// Writes the beginning of a column, and what is said of it where a pointer rests on it.
+fn write_opening(
+    text: &mut String,
+    left: u64,
+    speed: Option<u64>,
+    row: &Row,
+    end: &str,
+) -> Result<(), AllocError>
+    ensures { OnOk result (string_bytes text.new ≡ string_bytes text.old ++ opening_text left speed row.now end.now) }
+{
+    write_place(text, left, row.units, row.steps)?;
+    say_speed(text, speed)?;
+    write_work(text, row.retired, row.wasted, end)
+}
+
+/// Writes where a column is, and how many steps its run took.
+fn write_place(text: &mut String, left: u64, units: u32, steps: u32) -> Result<(), AllocError>
+    ensures { OnOk result (string_bytes text.new ≡ string_bytes text.old ++ place_text left units steps) }
+{
+    write!(
+        text,
+        "<g transform='translate({left} 0)'><title>units: {units}, steps: {steps}"
+    )
+}
+
+/// Writes its speed-up in words.
+fn say_speed(text: &mut String, speed: Option<u64>) -> Result<(), AllocError>
+    ensures { OnOk result (string_bytes text.new ≡ string_bytes text.old ++ said_speed speed) }
+{
+    match speed {
+        Some(speed) => {
+            let number = Hundredths(speed);
+            write!(text, ", speed-up: {number}")
+        }
+        None => text.push_str(", speed-up: -"),
+    }
+}
+
+/// Writes how many instructions its tasks executed, and how it ended.
+fn write_work(text: &mut String, retired: u32, wasted: u32, end: &str) -> Result<(), AllocError>
+    ensures { OnOk result (string_bytes text.new ≡ string_bytes text.old ++ work_text retired wasted end.now) }
+{
+    writeln!(
+        text,
+        ", instructions retired: {retired}, thrown away: {wasted}, {end}</title>"
+    )
+}
+
+/// Writes a line from below the rate down to the foot, and the bar there.
+fn write_bar(text: &mut String, from: u64, top: u64, high: u64) -> Result<(), AllocError>
+    ensures { OnOk result (string_bytes text.new ≡ string_bytes text.old ++ bar_text from top high) }
+{
+    writeln!(
+        text,
+        "<path class='grid' d='M0 {from}V630'/><rect class='wasted' x='-12' y='{top}' width='24' height='{high}'/>"
+    )
+}
+
+/// Writes the rate's point of a run that stands so: a disc if it halted, else a diamond.
+fn write_mark(text: &mut String, point: u64, standing: Standing) -> Result<(), AllocError>
+    ensures { OnOk result (string_bytes text.new ≡ string_bytes text.old ++ mark_text point standing) }
+{
+    match standing {
+        Standing::Halted => writeln!(text, "<circle class='halted' cx='0' cy='{point}' r='7'/>"),
+        Standing::Running | Standing::Trapped(_) | Standing::Unlisted(_) => {
+            writeln!(text, "<path class='other' d='M-9 {point}l9-9 9 9-9 9z'/>")
+        }
+    }
+}
+
+/// Writes the point of a speed-up, and the number over it.
+fn write_speed(text: &mut String, top: u64, speed: Option<u64>) -> Result<(), AllocError>
+    requires top { 0 < top }
+    requires few { IfSome speed (λ number. number < 2 ^ 48) }
+    ensures { OnOk result (string_bytes text.new ≡ string_bytes text.old ++ speed_text top speed) }
+{
+    match speed {
+        Some(speed) => {
+            let point = height(top, speed);
+            write_square(text, point)?;
+            write_number(text, foot_over(point), speed)
+        }
+        None => Ok(()),
+    }
+}
+
+/// Writes a square.
+fn write_square(text: &mut String, point: u64) -> Result<(), AllocError>
+    ensures { OnOk result (string_bytes text.new ≡ string_bytes text.old ++ square_text point) }
+{
+    writeln!(text, "<path class='faster' d='M-4 {point}v-4h8v8h-8z'/>")
+}
+
+/// Writes the numbers of a run: its rate at this foot, and its share and its units below the bar.
+fn write_values(text: &mut String, under: u64, row: &Row) -> Result<(), AllocError>
+    ensures { OnOk result (string_bytes text.new ≡ string_bytes text.old ++ value_text under row.now) }
+{
+    write_number(text, under, rate(row))?;
+    write_share(text, share(row))?;
+    write_units(text, row.units)
+}
+
+/// Writes a number at this foot.
+fn write_number(text: &mut String, y: u64, hundredths: u64) -> Result<(), AllocError>
+    ensures { OnOk result (string_bytes text.new ≡ string_bytes text.old ++ number_label y hundredths) }
+{
+    let number = Hundredths(hundredths);
+    writeln!(text, "<text class='value' x='0' y='{y}'>{number}</text>")
+}
+
+/// Writes which share was thrown away.
+fn write_share(text: &mut String, hundredths: u64) -> Result<(), AllocError>
+    ensures { OnOk result (string_bytes text.new ≡ string_bytes text.old ++ share_label hundredths) }
+{
+    let number = Hundredths(hundredths);
+    writeln!(text, "<text class='value' x='0' y='648'>{number}%</text>")
+}
+
+/// Writes the number of units, and the end of the column.
+fn write_units(text: &mut String, units: u32) -> Result<(), AllocError>
+    ensures { OnOk result (string_bytes text.new ≡ string_bytes text.old ++ units_label units) }
+{
+    writeln!(
+        text,
+        "<text class='number' x='0' y='672'>{units}</text></g>"
+    )
+}

@@ -1,0 +1,156 @@
+//! The curve as one SVG file.
+
+ghost use Rattle.std.specs.Prelude.{◌≡◌, ◌<◌, ◌^◌, ◌++◌, IfOk, OnOk, flat_map, length};
+ghost use Rattle.std.specs.String.{string_bytes};
+ghost use Rattle.speed_curve.specs.CurvePicture.{beside_text, column_text, columns_text, curve_text, rate_line, rate_point, runs_text, scale_label, scale_text, speed_line, speed_point};
+
+use crate::columns::{write_column, write_rate_point, write_speed_point};
+use crate::hundredths::Hundredths;
+use crate::scale::top;
+use crate::sheet::fixed_text;
+use crate::row::Row;
+use std::alloc::{AllocError, Global};
+
+/// Draws what runs of a program in steps came to, a column for each row: one SVG file, with no script and no
+/// font of its own. Above, one line joins how many instructions retired in a step, and a dashed one how many
+/// times as many steps the run on one unit took, which is the first row; below, a bar says which share was
+/// thrown away. All are rounded as in the table (`crate::table`), and a run has a speed-up where it has
+/// one there. The row of so many units stands in the column of that number, and there are as many columns as
+/// rows. The error says that memory was refused. (own choice)
+pub fn draw(alloc: Global, rows: &[Row]) -> Result<String, AllocError>
+    ensures { IfOk result (λ text. string_bytes text ≡ curve_text rows.now) }
+{
+    let mut text = String::from_str(alloc, fixed_text())?;
+    write_runs(&mut text, rows)?;
+    text.push_str("</svg>\n")?;
+    Ok(text)
+}
+
+/// Writes the runs, of which the first is the one on one unit.
+fn write_runs(text: &mut String, rows: &[Row]) -> Result<(), AllocError>
+    ensures { OnOk result (string_bytes text.new ≡ string_bytes text.old ++ runs_text rows.now) }
+{
+    match rows.first() {
+        Some(one) => write_beside(text, one, rows),
+        None => Ok(()),
+    }
+}
+
+/// Writes runs, each beside the one on one unit.
+fn write_beside(text: &mut String, one: &Row, rows: &[Row]) -> Result<(), AllocError>
+    requires { 0 < length rows.now }
+    ensures { OnOk result (string_bytes text.new ≡ string_bytes text.old ++ beside_text one.now rows.now) }
+{
+    let columns = rows.len() as u64;
+    let top = top(one, rows);
+    write_scale(text, top)?;
+    write_rate_line(text, columns, top, rows)?;
+    write_speed_line(text, columns, top, one, rows)?;
+    write_columns(text, columns, top, one, rows)
+}
+
+/// Writes the numbers of the upper scale.
+fn write_scale(text: &mut String, top: u64) -> Result<(), AllocError>
+    requires { top < 2 ^ 49 }
+    ensures { OnOk result (string_bytes text.new ≡ string_bytes text.old ++ scale_text top) }
+{
+    write_label(text, 492, 0)?;
+    write_label(text, 404, top / 4)?;
+    write_label(text, 316, top / 2)?;
+    write_label(text, 228, 3 * top / 4)?;
+    write_label(text, 140, top)
+}
+
+/// Writes a number of the upper scale.
+fn write_label(text: &mut String, y: u64, hundredths: u64) -> Result<(), AllocError>
+    ensures { OnOk result (string_bytes text.new ≡ string_bytes text.old ++ scale_label y hundredths) }
+{
+    let number = Hundredths(hundredths);
+    writeln!(text, "<text class='scale' x='78' y='{y}'>{number}</text>")
+}
+
+/// Writes the line through the rates.
+fn write_rate_line(
+    text: &mut String,
+    columns: u64,
+    top: u64,
+    rows: &[Row],
+) -> Result<(), AllocError>
+    requires columns { 0 < columns }
+    requires top { 0 < top }
+    ensures { OnOk result (string_bytes text.new ≡ string_bytes text.old ++ rate_line columns top rows.now) }
+{
+    text.push_str("<polyline class='curve' points='")?;
+    write_rate_points(text, columns, top, rows)?;
+    writeln!(text, "'/>")
+}
+
+/// Writes where the rates are.
+fn write_rate_points(
+    text: &mut String,
+    columns: u64,
+    top: u64,
+    rows: &[Row],
+) -> Result<(), AllocError>
+    requires columns { 0 < columns }
+    requires top { 0 < top }
+    ensures { OnOk result (string_bytes text.new ≡ string_bytes text.old ++ flat_map (rate_point columns top) rows.now) }
+{
+    for row in rows {
+        write_rate_point(text, columns, top, row)?;
+    }
+    Ok(())
+}
+
+/// Writes the line through the speed-ups.
+fn write_speed_line(
+    text: &mut String,
+    columns: u64,
+    top: u64,
+    one: &Row,
+    rows: &[Row],
+) -> Result<(), AllocError>
+    requires columns { 0 < columns }
+    requires top { 0 < top }
+    ensures { OnOk result (string_bytes text.new ≡ string_bytes text.old ++ speed_line columns top one.now rows.now) }
+{
+    text.push_str("<polyline class='speed' points='")?;
+    write_speed_points(text, columns, top, one, rows)?;
+    writeln!(text, "'/>")
+}
+
+/// Writes where the speed-ups are.
+fn write_speed_points(
+    text: &mut String,
+    columns: u64,
+    top: u64,
+    one: &Row,
+    rows: &[Row],
+) -> Result<(), AllocError>
+    requires columns { 0 < columns }
+    requires top { 0 < top }
+    ensures { OnOk result (string_bytes text.new ≡ string_bytes text.old ++ flat_map (speed_point columns top one.now) rows.now) }
+{
+    for row in rows {
+        write_speed_point(text, columns, top, one, row)?;
+    }
+    Ok(())
+}
+
+/// Writes the columns.
+fn write_columns(
+    text: &mut String,
+    columns: u64,
+    top: u64,
+    one: &Row,
+    rows: &[Row],
+) -> Result<(), AllocError>
+    requires columns { 0 < columns }
+    requires top { 0 < top }
+    ensures { OnOk result (string_bytes text.new ≡ string_bytes text.old ++ columns_text columns top one.now rows.now) }
+{
+    for row in rows {
+        write_column(text, columns, top, one, row)?;
+    }
+    Ok(())
+}
