@@ -4,3 +4,10 @@ pub mod ChangeJson
 pub mod EventJson
 pub mod EndJson
 pub mod Json
+pub mod Entries
+pub mod Times
+pub mod Lanes
+pub mod Slices
+pub mod Marks
+pub mod Timeline
+pub mod Examples

@@ -13,7 +13,7 @@ use crate::fields::{
 use event_trace::change::Change;
 use event_trace::ring::Ring;
 use event_trace::unit_change::UnitChange;
-use json_writer::writer::JsonWriter;
+use crate::writer::JsonWriter;
 use machine_events::event::Standing;
 use mips_instructions::number::Reg;
 use annotated_asm::position::Position;

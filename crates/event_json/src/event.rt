@@ -10,7 +10,7 @@ use crate::change::write_changes;
 use crate::fields::{write_named, write_register, write_task, write_unit};
 use event_trace::change::Change;
 use event_trace::ring::Ring;
-use json_writer::writer::JsonWriter;
+use crate::writer::JsonWriter;
 use machine_events::event::{Event, Refused};
 use mips_instructions::number::Reg;
 use annotated_asm::position::Position;

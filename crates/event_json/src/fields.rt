@@ -6,7 +6,7 @@ ghost use Rattle.event_json.specs.Fields.{address_field, exit_fields, fields_tok
 
 use event_script::writing::task_name;
 use event_trace::ring::Ring;
-use json_writer::writer::JsonWriter;
+use crate::writer::JsonWriter;
 use machine_events::event::Standing;
 use mips_instructions::number::Reg;
 use mips_plain::outcome::Trap;

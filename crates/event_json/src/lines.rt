@@ -19,7 +19,7 @@ use event_trace::change::Change;
 use event_trace::places::places;
 use event_trace::ring::Ring;
 use event_trace::telling::{Telling, add_entries};
-use json_writer::writer::JsonWriter;
+use crate::writer::JsonWriter;
 use machine_events::event::{Event, Refused, Standing};
 use mark_checker::accept::Accepted;
 use sequencer::machine::Machine;

@@ -5,7 +5,7 @@ ghost use Rattle.json.specs.Tree.{json_tokens};
 ghost use Rattle.event_json.specs.Fields.{fields_tokens};
 ghost use Rattle.event_json.specs.StartJson.{form_fields, size_fields, start_json};
 
-use json_writer::writer::JsonWriter;
+use crate::writer::JsonWriter;
 use std::alloc::AllocError;
 use task_descriptor::program::Program;
 

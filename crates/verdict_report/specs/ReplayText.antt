@@ -14,8 +14,8 @@ use Rattle.event_script.specs.EventScript.{script_of}
 use Rattle.task_lives.specs.Lives.{lives_of}
 use Rattle.task_lives.specs.SummaryText.{summary_text}
 use Rattle.run_picture.specs.Picture.{picture_text}
-use Rattle.run_timeline.specs.Timeline.{timeline_text}
-use Rattle.run_timeline.specs.declared.clock.Clock.TheVariants as clock
+use Rattle.event_json.specs.Timeline.{timeline_text}
+use Rattle.event_json.specs.declared.clock.Clock.TheVariants as clock
 use Rattle.event_trace.specs.Entries.{places_of}
 use Rattle.event_trace.specs.Trace.{trace_text}
 use Rattle.event_json.specs.Json.{json_text}

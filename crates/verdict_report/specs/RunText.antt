@@ -14,9 +14,9 @@ use Rattle.task_lives.specs.Lives.{lives_of}
 use Rattle.task_lives.specs.SummaryText.{summary_text}
 use Rattle.run_picture.specs.Picture.{picture_text}
 use Rattle.step_picture.specs.StepPicture.{step_picture_text}
-use Rattle.run_timeline.specs.Timeline.{timeline_text}
-use Rattle.run_timeline.specs.declared.clock.Clock.{Clock}
-use Rattle.run_timeline.specs.declared.clock.Clock.TheVariants as clock
+use Rattle.event_json.specs.Timeline.{timeline_text}
+use Rattle.event_json.specs.declared.clock.Clock.{Clock}
+use Rattle.event_json.specs.declared.clock.Clock.TheVariants as clock
 use Rattle.event_trace.specs.Entries.{places_of}
 use Rattle.event_trace.specs.Trace.{trace_text}
 use Rattle.wait_table.specs.TableText.{waits_text}

@@ -28,7 +28,7 @@ use machine_model::laws::next_is_after;
 use mark_checker::accept::Accepted;
 use report_texts::judging::{Judged, judge};
 use report_texts::report::Report;
-use run_timeline::clock::Clock;
+use event_json::clock::Clock;
 use sequencer::machine::{Machine, MachineFault};
 use std::alloc::{AllocError, Global};
 use strict_replay::stand::stand;

@@ -12,7 +12,7 @@ ghost use Rattle.event_trace.specs.Entries.{places_of};
 ghost use Rattle.wait_table.specs.TableText.{waits_text};
 ghost use Rattle.run_waveform.specs.Waveform.{waveform_text};
 ghost use Rattle.step_picture.specs.StepPicture.{step_picture_text};
-ghost use Rattle.run_timeline.specs.Timeline.{timeline_text};
+ghost use Rattle.event_json.specs.Timeline.{timeline_text};
 ghost use Rattle.event_script.specs.ScriptText.{script_text};
 
 use crate::fault::ServeFault;
@@ -30,7 +30,7 @@ use report_texts::judging::{Judged, judge};
 use report_texts::plain_text::write_words;
 use report_texts::report::Report;
 use run_picture::events::single_events;
-use run_timeline::clock::Clock;
+use event_json::clock::Clock;
 use run_waveform::waveform::waveform;
 use std::alloc::{AllocError, Global};
 use std::sync::Wait;

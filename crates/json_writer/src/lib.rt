@@ -1,4 +1,0 @@
-//! Texts of JSON, written token by token.
-#![tactic(auto)]
-
-pub mod writer;
