@@ -4,3 +4,7 @@ pub mod Applying
 pub mod Stepping
 pub mod Going
 pub mod Counting
+pub mod Ranges
+pub mod Masks
+pub mod Stepwise
+pub mod Underway

@@ -3,3 +3,7 @@ pub mod Waits
 pub mod Steps
 pub mod Counts
 pub mod Examples
+pub mod Signals
+pub mod Moments
+pub mod Waveform
+pub mod RunWaveformExamples

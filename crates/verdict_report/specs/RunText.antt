@@ -20,7 +20,7 @@ use Rattle.event_json.specs.declared.clock.Clock.TheVariants as clock
 use Rattle.event_trace.specs.Entries.{places_of}
 use Rattle.event_trace.specs.Trace.{trace_text}
 use Rattle.wait_table.specs.TableText.{waits_text}
-use Rattle.run_waveform.specs.Waveform.{waveform_text}
+use Rattle.unit_waits.specs.Waveform.{waveform_text}
 use Rattle.event_json.specs.Json.{json_text}
 use Rattle.event_json.specs.declared.last_line.LastLine.{LastLine}
 use Rattle.event_json.specs.declared.last_line.LastLine.TheVariants as last_line

@@ -1,4 +1,0 @@
-pub mod Ranges
-pub mod Masks
-pub mod Stepwise
-pub mod Underway

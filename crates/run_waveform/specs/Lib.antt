@@ -1,4 +1,0 @@
-pub mod Signals
-pub mod Moments
-pub mod Waveform
-pub mod Examples
