@@ -1,1 +1,3 @@
 mod Silence
+mod Explaining
+mod Counting

@@ -4,3 +4,5 @@ pub mod Order
 pub mod Explained
 pub mod ExplainText
 pub mod LogText
+pub mod LeftOvers
+pub mod Examples

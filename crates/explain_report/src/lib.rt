@@ -10,3 +10,7 @@ mod inputs;
 pub mod laws;
 pub mod logging;
 pub mod order;
+pub mod left_over_laws;
+pub mod left;
+pub mod proposal;
+mod tests;

@@ -2,8 +2,8 @@
 use Rattle.std.specs.Prelude.{◌≡◌, ◌==◌, ◌||◌, ◌++◌, ℕ, Bool, true, false, List, [], Option, Some, None, if◌then◌else◌}
 use Rattle.jobs.specs.declared.job.Job.{Job}
 use Rattle.report_texts.specs.OutputTexts.{Report}
-use Rattle.left_over.specs.LeftOvers.{IsLeftOver}
-use Rattle.left_over.specs.declared.left.LeftOver.{LeftOver}
+use Rattle.explain_report.specs.LeftOvers.{IsLeftOver}
+use Rattle.explain_report.specs.declared.left.LeftOver.{LeftOver}
 use Rattle.program_edge.specs.Hints.{hint_for}
 
 -- who reads standard error: whether it is a terminal, whether what is left is asked for, and the name of the

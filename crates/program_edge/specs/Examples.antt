@@ -17,7 +17,7 @@ use Rattle.report_texts.specs.OutputTexts.{Report}
 use Rattle.std.specs.declared.string.String.{String}
 use Rattle.std.specs.declared.alloc.Global.{Global}
 use Rattle.whole_file.specs.declared.unwritten.Unwritten.TheVariants.{NoSuchFolder}
-use Rattle.left_over.specs.declared.left.LeftOver.{LeftOver}
+use Rattle.explain_report.specs.declared.left.LeftOver.{LeftOver}
 use Rattle.program_edge.specs.Asking.{input_of}
 use Rattle.program_edge.specs.Beside.{rest_said}
 use Rattle.program_edge.specs.Colouring.{colors_for}

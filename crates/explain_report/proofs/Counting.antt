@@ -3,7 +3,7 @@ use Rattle.std.proofs.Common.{◌≡◌, ◌+◌, ℕ, List, [], ◌∷◌, leng
 use Rattle.task_descriptor.specs.Listing.{Listing}
 use Rattle.finding_paths.specs.declared.shown.ShownFinding.{ShownFinding}
 use Rattle.finding_paths.specs.Shown.{AreShown}
-use Rattle.left_over.specs.LeftOvers.{IsFindingCount}
+use Rattle.explain_report.specs.LeftOvers.{IsFindingCount}
 
 -- what is mapped to nothing is nothing
 length_of_none : (list : List ShownFinding) → map (λ s. s.finding) list ≡ [] → length list ≡ 0

@@ -9,8 +9,8 @@ use Rattle.explain_report.specs.Beside.{is_silent}
 use Rattle.explain_report.specs.Explained.{IsExplained, IsProgramExplained, said_status}
 use Rattle.explain_report.specs.Order.{in_order}
 use Rattle.explain_report.specs.ExplainText.{explained_text}
-use Rattle.left_over.specs.LeftOvers.{IsLeftIn, closing_line}
-use Rattle.left_over.specs.declared.left.LeftOver.{LeftOver}
+use Rattle.explain_report.specs.LeftOvers.{IsLeftIn, closing_line}
+use Rattle.explain_report.specs.declared.left.LeftOver.{LeftOver}
 
 -- what `explain` says where there are these errors
 abbrev said_of : List Diagnostic → Explanation

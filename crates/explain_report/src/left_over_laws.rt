@@ -6,8 +6,8 @@ ghost use Rattle.diagnostics.specs.declared.colour.Colour.TheVariants.{Never};
 ghost use Rattle.explain_report.specs.declared.explanation.Explanation.{Explanation};
 ghost use Rattle.explain_report.specs.Explained.{IsExplained};
 ghost use Rattle.explain_report.specs.ExplainText.{explained_text};
-ghost use Rattle.left_over.specs.LeftOvers.{IsLeftIn, closing_line};
-ghost use Rattle.left_over.specs.declared.left.LeftOver.{LeftOver};
+ghost use Rattle.explain_report.specs.LeftOvers.{IsLeftIn, closing_line};
+ghost use Rattle.explain_report.specs.declared.left.LeftOver.{LeftOver};
 
 /// What is said of a text in which something may be left is what `explain` says of it, without colours, without warnings,
 /// and without a certificate and a script, and a line that says how much is left in place of its own last line.

@@ -1,7 +1,7 @@
 -- Worked examples.
 use Rattle.std.specs.Prelude.{◌≡◌, ◌∷◌, [], ◌++◌, codes, refl}
 use Rattle.std.specs.Fmt.{digits}
-use Rattle.left_over.specs.LeftOvers.{closing_line}
+use Rattle.explain_report.specs.LeftOvers.{closing_line}
 
 pub nothing_left : closing_line (codes "sum.s") 0 ≡ codes "multiscalar: sum.s: all marks are right" ++ 10 ∷ []
 nothing_left = refl

@@ -3,15 +3,15 @@ ghost use Rattle.std.specs.Prelude.{◌≡◌, ◌≢◌, ◌++◌, Ok, Some, No
 ghost use Rattle.std.specs.String.{string_bytes};
 ghost use Rattle.annotated_asm.specs.ProgramText.{parse};
 ghost use Rattle.annotator.specs.Least.{IsLeast};
-ghost use Rattle.left_over.specs.LeftOvers.{IsFindingCount, IsLeftEmitted, IsLeftIn, IsLeftOf, IsLeftOver, closing_line};
+ghost use Rattle.explain_report.specs.LeftOvers.{IsFindingCount, IsLeftEmitted, IsLeftIn, IsLeftOf, IsLeftOver, closing_line};
 
 use crate::left::LeftOver;
 use annotated_asm::assembler::assemble;
 use annotated_asm::fault::AsmFault;
 use annotator::certify::certify;
 use diagnostics::colour::Colour;
-use explain_report::explaining::explained_text;
-use explain_report::order::in_order;
+use crate::explaining::explained_text;
+use crate::order::in_order;
 use finding_paths::shown::shown_findings;
 use jobs::job::{Emit, Job};
 use mark_diagnostics::error::mark_errors;

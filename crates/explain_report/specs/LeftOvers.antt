@@ -17,7 +17,7 @@ use Rattle.report_texts.specs.AnnotateText.{IsAnnotateReport}
 use Rattle.diagnostics.specs.declared.colour.Colour.TheVariants.{Never}
 use Rattle.explain_report.specs.ExplainText.{explained_text}
 use Rattle.explain_report.specs.Order.{in_order}
-use Rattle.left_over.specs.declared.left.LeftOver.{LeftOver}
+use Rattle.explain_report.specs.declared.left.LeftOver.{LeftOver}
 
 -- the last line: how much is left
 abbrev pub closing_line : (name : List ℕ) → (count : ℕ) → List ℕ

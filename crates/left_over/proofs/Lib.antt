@@ -1,2 +1,0 @@
-mod Explaining
-mod Counting

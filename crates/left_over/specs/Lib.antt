@@ -1,2 +1,0 @@
-pub mod LeftOvers
-pub mod Examples
