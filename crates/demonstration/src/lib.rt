@@ -6,3 +6,7 @@
 pub mod judge;
 pub mod laws;
 pub mod search;
+mod first_finding;
+mod harm_text;
+mod picture;
+pub mod report;

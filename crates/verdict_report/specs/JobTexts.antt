@@ -13,7 +13,7 @@ use Rattle.verdict_report.specs.CurveText.{IsCurveText}
 use Rattle.verdict_report.specs.Writing.{Begins}
 use Rattle.report_texts.specs.AnnotateText.{IsAnnotateReport}
 use Rattle.report_texts.specs.CertificateTexts.{OfCertificate}
-use Rattle.demonstration_text.specs.DemonstrateText.{IsDemonstrateReport}
+use Rattle.demonstration.specs.DemonstrateText.{IsDemonstrateReport}
 use Rattle.explain_report.specs.ExplainText.{IsExplainReport}
 use Rattle.strict_replay.specs.StrictReplay.{strict_text}
 use Rattle.explain_report.specs.LogText.{IsJsonReport, IsLogReport}

@@ -13,7 +13,7 @@ use crate::ran::Extent;
 use crate::replaying::replay;
 use crate::running::run;
 use crate::writing::write_bytes;
-use demonstration_text::report::demonstrate;
+use demonstration::report::demonstrate;
 use explain_report::explaining::explain;
 use explain_report::logging::{explain_json, explain_log};
 use jobs::job::{Colors, Format, Job, Texts};

@@ -6,8 +6,8 @@ use Rattle.task_descriptor.specs.Listing.{Listing}
 use Rattle.annotated_asm.specs.declared.fault.AsmFault.{AsmFault}
 use Rattle.annotated_asm.specs.declared.position.Position.{Position}
 use Rattle.event_trace.specs.Entries.{places_of}
-use Rattle.demonstration_text.specs.DemonstrateText.{IsDemonstrated, IsDemonstratedOf}
-use Rattle.demonstration_text.proofs.report.demonstrate.Goals as goal
+use Rattle.demonstration.specs.DemonstrateText.{IsDemonstrated, IsDemonstratedOf}
+use Rattle.demonstration.proofs.report.demonstrate.Goals as goal
 
 pub returns-in_ok-places-in-Ok : goal.returns-in_ok-places-in-Ok
 returns-in_ok-places-in-Ok c =

@@ -2,8 +2,8 @@
 use Rattle.std.specs.Prelude.{◌≡◌, [], ◌∷◌, codes}
 use Rattle.std.specs.Fmt.{digits}
 use Rattle.std.proofs.Common.{refl}
-use Rattle.demonstration_text.specs.HarmText.{words_text}
-use Rattle.demonstration_text.specs.FindingText.{left_out_text, path_text}
+use Rattle.demonstration.specs.HarmText.{words_text}
+use Rattle.demonstration.specs.FindingText.{left_out_text, path_text}
 
 pub stale_word : words_text (codes " reads ") 9 1 6 ≡ codes " reads 1 in $9; the sequential program has 6"
 unfolding digits

@@ -18,8 +18,8 @@ use Rattle.demonstration.specs.Shown.{IsShown}
 use Rattle.demonstration.specs.declared.judge.Evidence.{Evidence}
 use Rattle.finding_paths.specs.declared.shown.ShownFinding.{ShownFinding}
 use Rattle.finding_paths.specs.Shown.{AreShown}
-use Rattle.demonstration_text.specs.HarmText.{harm_text}
-use Rattle.demonstration_text.specs.FindingText.{finding_text}
+use Rattle.demonstration.specs.HarmText.{harm_text}
+use Rattle.demonstration.specs.FindingText.{finding_text}
 
 -- the annotations are sound
 abbrev pub nothing_to_show : Report

@@ -6,7 +6,7 @@ ghost use Rattle.machine_events.specs.Runs.{events_of};
 ghost use Rattle.run_picture.specs.Picture.{picture_text};
 ghost use Rattle.demonstration.specs.Found.{IsDemonstration};
 
-use demonstration::search::Demonstration;
+use crate::search::Demonstration;
 use machine_events::event::{Event, EventRun};
 use run_picture::drawing::draw;
 use std::alloc::{AllocError, Global};

@@ -3,7 +3,7 @@
 ghost use Rattle.std.specs.Prelude.{◌≡◌, ◌++◌, ◌∷◌, IfOk, OnOk, flat_map, codes, option_map, map};
 ghost use Rattle.std.specs.String.{string_bytes};
 ghost use Rattle.finding_paths.specs.Shown.{AreShown};
-ghost use Rattle.demonstration_text.specs.FindingText.{finding_text, left_out_text, path_end, path_line, path_text, place_and_rule, places_text, register_text, rule_text, step_text, task_text, wrong_text};
+ghost use Rattle.demonstration.specs.FindingText.{finding_text, left_out_text, path_end, path_line, path_text, place_and_rule, places_text, register_text, rule_text, step_text, task_text, wrong_text};
 
 use annotator::certify::certify;
 use event_script::writing::task_name;

@@ -4,9 +4,9 @@ use Rattle.std.specs.declared.alloc.Global.{Global}
 use Rattle.std.specs.declared.vec.Vec.{Vec}
 use Rattle.finding_paths.specs.declared.shown.ShownFinding.{ShownFinding}
 use Rattle.report_texts.specs.OutputTexts.{Report}
-use Rattle.demonstration_text.specs.DemonstrateText.{nothing_found_text}
-use Rattle.demonstration_text.specs.FindingText.{finding_text}
-use Rattle.demonstration_text.proofs.report.nothing_found.Goals as goal
+use Rattle.demonstration.specs.DemonstrateText.{nothing_found_text}
+use Rattle.demonstration.specs.FindingText.{finding_text}
+use Rattle.demonstration.proofs.report.nothing_found.Goals as goal
 
 pub returns : goal.returns
 returns c =

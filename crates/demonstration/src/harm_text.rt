@@ -3,9 +3,9 @@
 ghost use Rattle.std.specs.Prelude.{◌≡◌, ◌++◌, OnOk, option_copied, unwrap_or};
 ghost use Rattle.std.specs.String.{string_bytes};
 ghost use Rattle.demonstration.specs.declared.judge.Harm.TheVariants.{CutOff as CutOffHarm};
-ghost use Rattle.demonstration_text.specs.HarmText.{elsewhere_text, harm_text, kind_of_harm, marked_at as marked_of, operands_text, other_text, place_of_harm, read_text, stale_text, words_text};
+ghost use Rattle.demonstration.specs.HarmText.{elsewhere_text, harm_text, kind_of_harm, marked_at as marked_of, operands_text, other_text, place_of_harm, read_text, stale_text, words_text};
 
-use demonstration::judge::{CutOff, Evidence, Harm};
+use crate::judge::{CutOff, Evidence, Harm};
 use event_script::writing::task_name;
 use event_trace::text::write_exit;
 use mips_instructions::instruction::Op;

@@ -1,4 +1,0 @@
-pub mod HarmText
-pub mod FindingText
-pub mod DemonstrateText
-pub mod Examples
