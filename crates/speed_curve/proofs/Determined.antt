@@ -4,8 +4,8 @@ use Rattle.std.proofs.Common.{◌≡◌, ◌∙◌, refl, sym, ap, ap₂, subst,
 use Rattle.std.specs.List.{All}
 use Rattle.std.proofs.lemmas.List.Elements.{All-head, All-tail}
 use Rattle.task_descriptor.specs.Listing.{Listing}
-use Rattle.synchronous_runner.specs.declared.predictor.Predictor.{Predictor}
-use Rattle.synchronous_runner.specs.Steps.{Course, beginning, after_steps, Takes}
+use Rattle.unit_turns.specs.declared.predictor.Predictor.{Predictor}
+use Rattle.unit_turns.specs.Steps.{Course, beginning, after_steps, Takes}
 use Rattle.speed_curve.specs.declared.row.Row.{Row}
 use Rattle.speed_curve.specs.Curve.{IsRowOf, row_after}
 use Rattle.speed_curve.specs.Laws.{AreDetermined}

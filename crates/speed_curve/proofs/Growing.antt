@@ -4,7 +4,7 @@ use Rattle.std.specs.List.{range_with_len}
 use Rattle.std.proofs.lemmas.List.{map_push}
 use Rattle.std.proofs.lemmas.List.Elements.{All-nil, All-push}
 use Rattle.task_descriptor.specs.Listing.{Listing}
-use Rattle.synchronous_runner.specs.declared.predictor.Predictor.{Predictor}
+use Rattle.unit_turns.specs.declared.predictor.Predictor.{Predictor}
 use Rattle.speed_curve.specs.declared.row.Row.{Row}
 use Rattle.speed_curve.specs.Curve.{AreRows, IsRowOf}
 

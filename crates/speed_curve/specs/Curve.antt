@@ -6,8 +6,8 @@ use Rattle.task_descriptor.specs.Listing.{Listing}
 use Rattle.machine_model.specs.Claims.{count_c}
 use Rattle.task_lives.specs.Lives.{lives_of}
 use Rattle.task_lives.specs.Tallies.{tally_of}
-use Rattle.synchronous_runner.specs.declared.predictor.Predictor.{Predictor}
-use Rattle.synchronous_runner.specs.Steps.{Course, beginning, after_steps, Takes}
+use Rattle.unit_turns.specs.declared.predictor.Predictor.{Predictor}
+use Rattle.unit_turns.specs.Steps.{Course, beginning, after_steps, Takes}
 use Rattle.speed_curve.specs.declared.row.Row.{Row}
 
 -- what a run on so many units came to, after so many steps: the instructions of the tasks that retired, those

@@ -10,8 +10,8 @@ use Rattle.machine_model.specs.Examples.{count}
 use Rattle.machine_events.specs.declared.event.Standing.{Standing}
 use Rattle.machine_events.specs.declared.event.Standing.TheVariants.{Running, Halted, Unlisted}
 use Rattle.unit_turns.specs.FirstAllowed.{registers, first_allowed}
-use Rattle.synchronous_runner.specs.declared.predictor.Predictor.TheVariants as predictor
-use Rattle.synchronous_runner.specs.Steps.{beginning, after_steps}
+use Rattle.unit_turns.specs.declared.predictor.Predictor.TheVariants as predictor
+use Rattle.unit_turns.specs.Steps.{beginning, after_steps}
 use Rattle.speed_curve.specs.declared.row.Row.{Row}
 use Rattle.speed_curve.specs.Curve.{row_after}
 use Rattle.speed_curve.specs.TableText.{hundredths, decimals, rows_text}

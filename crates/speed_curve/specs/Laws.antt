@@ -1,7 +1,7 @@
 -- The theorem about the rows, as a statement over every program.
 use Rattle.std.specs.Prelude.{◌≡◌, ℕ, List}
 use Rattle.task_descriptor.specs.Listing.{Listing}
-use Rattle.synchronous_runner.specs.declared.predictor.Predictor.{Predictor}
+use Rattle.unit_turns.specs.declared.predictor.Predictor.{Predictor}
 use Rattle.speed_curve.specs.declared.row.Row.{Row}
 use Rattle.speed_curve.specs.Curve.{AreRows}
 

@@ -2,16 +2,16 @@
 
 ghost use Rattle.std.specs.Prelude.{◌≡◌, ◌≤◌, IfOk};
 ghost use Rattle.sequencer.specs.Machines.{state, units_of};
-ghost use Rattle.synchronous_runner.specs.Steps.{beginning, after_steps, Takes};
+ghost use Rattle.unit_turns.specs.Steps.{beginning, after_steps, Takes};
 ghost use Rattle.speed_curve.specs.Curve.{IsRowOf};
 
 use machine_events::event::Standing;
 use mark_checker::accept::Accepted;
 use task_lives::tally::add_up;
 use std::alloc::{AllocError, Global};
-use synchronous_runner::predictor::Predictor;
-use synchronous_runner::report::{StepsFault, StepsReport};
-use synchronous_runner::runner::run_steps;
+use unit_turns::predictor::Predictor;
+use unit_turns::report::{StepsFault, StepsReport};
+use unit_turns::runner::run_steps;
 use task_lives::laws::{histories_fit, lives_add_up};
 use task_lives::lives::lives_of_runs;
 

@@ -7,9 +7,9 @@ use mark_checker::accept::Accepted;
 use sequencer::predict::Script;
 use std::alloc::Global;
 use std::process::Abort;
-use synchronous_runner::predictor::Predictor;
-use synchronous_runner::report::{How, StepsFault, StepsReport};
-use synchronous_runner::runner::run_steps;
+use unit_turns::predictor::Predictor;
+use unit_turns::report::{How, StepsFault, StepsReport};
+use unit_turns::runner::run_steps;
 use test_programs::certificates::{
     COUNT_CERTIFICATE, DIAMOND_CERTIFICATE, PAIR_CERTIFICATE, SPIN_CERTIFICATE,
 };

@@ -14,7 +14,7 @@ use std::alloc::{AllocError, Global};
 use std::marker::{Model, PhantomData};
 use unit_core::burst::Burst;
 use unit_turns::laws::law_head_unit;
-use worker_bells::called::Called;
+use unit_turns::called::Called;
 
 /// What the lock holds: the machine of the run, and what else its workers share.
 #[derive(Drop)]

@@ -13,8 +13,8 @@ use crate::share::Share;
 use sequencer::predict::Predict;
 use std::sync::{Mutex, MutexGuard, Wait};
 use std::{hint, thread};
-use worker_bells::bell::Bell;
-use worker_bells::called::Called;
+use unit_turns::bell::Bell;
+use unit_turns::called::Called;
 
 /// How often a worker tries for the lock before it leaves its core to another thread for a moment.
 const TRIES: u32 = 5;

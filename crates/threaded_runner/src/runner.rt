@@ -23,7 +23,7 @@ use std::marker::Brand;
 use std::sync::{Mutex, Wait};
 use std::thread;
 use std::thread::Threads;
-use worker_bells::bell::Bell;
+use unit_turns::bell::Bell;
 
 /// Runs the accepted program on a machine of so many units, 1 to 16, with one thread for each unit, until
 /// the run has ended or the history has `budget` events, 1 to 1,000,000; a burst that is handed in late may

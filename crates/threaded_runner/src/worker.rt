@@ -16,7 +16,7 @@ use sequencer::machine::Machine;
 use sequencer::predict::Predict;
 use std::sync::{Mutex, Wait};
 use unit_core::burst::Burst;
-use worker_bells::bell::Bell;
+use unit_turns::bell::Bell;
 
 /// Serves a worker's units until the run is over, by the worker's own bell. Whenever it lets go of the lock it rings
 /// for the workers that wait and now have something to do.

@@ -6,3 +6,7 @@ pub mod TurnKinds
 pub mod GoingOn
 pub mod Waiting
 pub mod Choosing
+pub mod Tries
+pub mod Going
+pub mod Looping
+pub mod Together

@@ -4,3 +4,11 @@
 pub mod deciding;
 pub mod laws;
 pub mod turn;
+mod predicting;
+pub mod predictor;
+pub mod report;
+pub mod runner;
+mod turns;
+pub mod bell;
+pub mod called;
+mod tests;

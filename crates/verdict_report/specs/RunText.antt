@@ -26,9 +26,9 @@ use Rattle.event_json.specs.declared.last_line.LastLine.{LastLine}
 use Rattle.event_json.specs.declared.last_line.LastLine.TheVariants as last_line
 use Rattle.threaded_runner.specs.declared.report.How.{How}
 use Rattle.threaded_runner.specs.declared.report.How.TheVariants.{Ended, OutOfBudget}
-use Rattle.synchronous_runner.specs.Steps.{beginning, after_steps, Takes}
-use Rattle.synchronous_runner.specs.declared.predictor.Predictor.{Predictor}
-use Rattle.synchronous_runner.specs.declared.predictor.Predictor.TheVariants as predictor
+use Rattle.unit_turns.specs.Steps.{beginning, after_steps, Takes}
+use Rattle.unit_turns.specs.declared.predictor.Predictor.{Predictor}
+use Rattle.unit_turns.specs.declared.predictor.Predictor.TheVariants as predictor
 use Rattle.jobs.specs.declared.job.Schedule.{Schedule}
 use Rattle.jobs.specs.declared.job.Schedule.TheVariants.{Threads, Steps}
 use Rattle.jobs.specs.declared.job.Prediction.{Prediction}

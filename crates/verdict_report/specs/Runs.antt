@@ -2,8 +2,8 @@
 use Rattle.sequencer.specs.Machines.{state}
 use Rattle.threaded_runner.specs.declared.report.How.{How}
 use Rattle.threaded_runner.specs.declared.report.How.TheVariants.{Ended, OutOfBudget}
-use Rattle.synchronous_runner.specs.declared.report.How.{How as StepsHow}
-use Rattle.synchronous_runner.specs.declared.report.How.TheVariants as steps
+use Rattle.unit_turns.specs.declared.report.How.{How as StepsHow}
+use Rattle.unit_turns.specs.declared.report.How.TheVariants as steps
 use Rattle.std.specs.Prelude.{None}
 use Rattle.threaded_runner.specs.declared.report.Report.{Report}
 use Rattle.verdict_report.specs.declared.ran.Ran.{Ran}

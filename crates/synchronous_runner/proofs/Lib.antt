@@ -1,4 +1,0 @@
-pub mod Tries
-pub mod Going
-pub mod Looping
-pub mod Together

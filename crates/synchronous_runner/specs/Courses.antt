@@ -1,7 +1,0 @@
--- Which run on its way a machine with a predictor stands for.
-use Rattle.sequencer.specs.Machines.{MachineView, state}
-use Rattle.synchronous_runner.specs.declared.predictor.Predictor.{Predictor}
-use Rattle.synchronous_runner.specs.Steps.{Course}
-
-abbrev pub course : MachineView → Predictor → Course
-course m predictor = record { state = state m; events = m.history; predictor = predictor }

@@ -1,0 +1,138 @@
+//! The run of a program in steps, on one thread.
+
+ghost use Rattle.std.specs.Prelude.{◌≡◌, ◌<◌, ◌≤◌, ◌⊎◌, ◌↔◌, true, length, OnOk, IfOk, IfErr};
+ghost use Rattle.machine_model.specs.Answer.{most_events};
+ghost use Rattle.machine_model.specs.Replay.{Replays};
+ghost use Rattle.machine_events.specs.declared.event.Refused.TheVariants as refused;
+ghost use Rattle.machine_events.specs.declared.event.Standing.TheVariants as standing;
+ghost use Rattle.sequencer.specs.Machines.{state, units_of, SameRing};
+ghost use Rattle.unit_turns.specs.Steps.{beginning, goes_on as goes_on_by, step as step_of, after_steps, Takes};
+ghost use Rattle.unit_turns.specs.Lockstep.{AreSteps};
+ghost use Rattle.unit_turns.specs.Courses.{course};
+
+use crate::predictor::Predictor;
+use crate::report::{How, StepsFault, StepsReport};
+use crate::turns::{goes_on, turn_behind, turn_of_head};
+use machine_events::event::{Refused, Standing};
+use machine_model::laws::{next_is_after, replays_join};
+use mark_checker::accept::Accepted;
+use sequencer::machine::{MOST_BUDGET, MOST_UNITS, Machine, MachineFault};
+use std::alloc::Global;
+
+/// Runs the accepted program on a machine of so many units, 1 to 16, in steps, until the run has ended or
+/// the history has `budget` events, 1 to 1,000,000. In a step each unit does at most one event, which the
+/// machine allows already where the step begins (own choice). The same program, units, budget and predictor
+/// give the same events, output and number of steps.
+///
+/// # Errors
+///
+/// `Units`, `Budget` and `OutOfMemory`, in this order. After each the predictor and the machine are gone.
+pub fn run_steps<'a>(
+    alloc: Global,
+    accepted: &'a Accepted,
+    units: u32,
+    budget: u32,
+    mut predictor: Predictor,
+) -> Result<StepsReport<'a>, StepsFault>
+    ensures units { (result ≡ Err StepsFault.Units) ↔ ((units ≡ 0) ⊎ (16 < units)) }
+    ensures budget { (result ≡ Err StepsFault.Budget) ↔ ((0 < units) × (units ≤ 16) × ((budget ≡ 0) ⊎ (1000000 < budget))) }
+    ensures over { IfOk result (λ report. (report.machine.accepted ≡ accepted.now) × (units_of report.machine ≡ units)) }
+    ensures replay { IfOk result (λ report. Replays report.machine.accepted.program (units_of report.machine) report.machine.history (state report.machine)) }
+    ensures steps { IfOk result (λ report. Takes accepted.now.program units budget (beginning accepted.now.program predictor) report.steps) }
+    ensures state { IfOk result (λ report. state report.machine ≡ (after_steps accepted.now.program units budget report.steps (beginning accepted.now.program predictor)).state) }
+    ensures events { IfOk result (λ report. report.machine.history ≡ (after_steps accepted.now.program units budget report.steps (beginning accepted.now.program predictor)).events) }
+    ensures lockstep { IfOk result (λ report. AreSteps accepted.now.program units budget predictor report.steps) }
+    ensures ended { IfOk result (λ report. (report.how ≡ How.Ended) ↔ ((state report.machine).outcome ≡ standing.Running → ⊥)) }
+    ensures spent { IfOk result (λ report. report.how ≡ How.OutOfBudget → budget ≤ length report.machine.history) }
+    ensures within { IfOk result (λ report. length report.machine.history ≤ budget) }
+{
+    if units == 0 || units > MOST_UNITS {
+        return Err(StepsFault::Units);
+    }
+    if budget == 0 || budget > MOST_BUDGET {
+        return Err(StepsFault::Budget);
+    }
+    let mut machine = match Machine::new(alloc, accepted, units) {
+        Ok(machine) => machine,
+        Err(MachineFault::OutOfMemory) => return Err(StepsFault::OutOfMemory),
+        Err(MachineFault::Units) => unreachable!(),
+    };
+    let steps = match run(&mut machine, &mut predictor, units, budget) {
+        Ok(steps) => steps,
+        Err(Refused::OutOfMemory) => return Err(StepsFault::OutOfMemory),
+        Err(_) => unreachable!(),
+    };
+    // A machine is the replay of its history, which is known where that is read.
+    let _ = machine.history();
+    next_is_after();
+    replays_join();
+    let how = how_of(&machine);
+    Ok(StepsReport {
+        machine,
+        how,
+        steps,
+    })
+}
+
+/// How a run ended, by the machine that it left.
+fn how_of(machine: &Machine<'_>) -> How
+    ensures ended { (result ≡ How.Ended) ↔ ((state machine.now).outcome ≡ standing.Running → ⊥) }
+    ensures running { result ≡ How.OutOfBudget → (state machine.now).outcome ≡ standing.Running }
+{
+    if machine.outcome() == Standing::Running {
+        How::OutOfBudget
+    } else {
+        How::Ended
+    }
+}
+
+/// Steps until the run is over; answers how many.
+///
+/// # Errors
+///
+/// `OutOfMemory`, for want of memory alone.
+fn run(
+    machine: &mut Machine<'_>,
+    predictor: &mut Predictor,
+    units: u32,
+    budget: u32,
+) -> Result<u32, Refused>
+    requires units { (0 < units) × (units ≡ units_of machine.old) }
+    requires budget { budget ≤ most_events }
+    ensures steps { IfOk result (λ steps. Takes machine.old.accepted.program units budget (course machine.old predictor.old) steps) }
+    ensures course { IfOk result (λ steps. course machine.new predictor.new ≡ after_steps machine.old.accepted.program units budget steps (course machine.old predictor.old)) }
+    ensures fault { IfErr result (λ why. why ≡ refused.OutOfMemory) }
+    ensures kept { SameRing machine.old machine.new }
+{
+    let mut steps = 0;
+    while goes_on(machine, budget) {
+        step(machine, predictor, units, budget)?;
+        steps += 1;
+    }
+    Ok(steps)
+}
+
+/// One step: each unit has its turn, the head last.
+///
+/// # Errors
+///
+/// `OutOfMemory`, for want of memory alone.
+fn step(
+    machine: &mut Machine<'_>,
+    predictor: &mut Predictor,
+    units: u32,
+    budget: u32,
+) -> Result<(), Refused>
+    requires units { (0 < units) × (units ≡ units_of machine.old) }
+    requires budget { budget ≤ most_events }
+    requires goes_on { goes_on_by budget (state machine.old) (length machine.old.history) ≡ true }
+    ensures done { OnOk result (course machine.new predictor.new ≡ step_of machine.old.accepted.program units budget (course machine.old predictor.old)) }
+    ensures grows { OnOk result (length machine.old.history < length machine.new.history) }
+    ensures fault { IfErr result (λ why. why ≡ refused.OutOfMemory) }
+    ensures kept { SameRing machine.old machine.new }
+{
+    for position in (1..units).rev() {
+        turn_behind(machine, predictor, budget, position)?;
+    }
+    turn_of_head(machine, budget)
+}
