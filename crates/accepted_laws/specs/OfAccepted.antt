@@ -17,9 +17,9 @@ use Rattle.machine_model.specs.Claims.{Claims, EndsLike}
 use Rattle.machine_model.specs.HeadEvent.{head_event}
 use Rattle.machine_model.specs.Burst.{MasksFit, SentIsLast}
 use Rattle.machine_model.specs.Places.{PlaceValid}
-use Rattle.machine_events.specs.declared.event.Event.{Event}
-use Rattle.machine_events.specs.declared.event.Spot.TheVariants.{Inside}
-use Rattle.machine_events.specs.declared.event.Standing.TheVariants.{Running}
+use Rattle.machine_model.specs.declared.event.Event.{Event}
+use Rattle.machine_model.specs.declared.event.Spot.TheVariants.{Inside}
+use Rattle.machine_model.specs.declared.event.Standing.TheVariants.{Running}
 
 abbrev pub Headline : Listing → Type 0
 Headline p = (units : ℕ) (events : List Event) (s : State) → Replays p units events s → Claims p s

@@ -19,9 +19,9 @@ use Rattle.machine_model.specs.Answer.{answer}
 use Rattle.machine_model.specs.Replay.{Replays}
 use Rattle.machine_model.specs.Claims.{reads_of}
 use Rattle.machine_model.specs.Laws.{AnswerIsNext, NextIsAfter, ReplayCut}
-use Rattle.machine_events.specs.declared.event.Event.{Event}
-use Rattle.machine_events.specs.declared.event.Refused.{Refused}
-use Rattle.machine_events.specs.declared.event.Refused.TheVariants as refused
+use Rattle.machine_model.specs.declared.event.Event.{Event}
+use Rattle.machine_model.specs.declared.event.Refused.{Refused}
+use Rattle.machine_model.specs.declared.event.Refused.TheVariants as refused
 use Rattle.open_machine.specs.Machines.{OpenView, state, units_of, answer_to, IsAnswered}
 use Rattle.demonstration.specs.declared.judge.Evidence.{Evidence}
 use Rattle.demonstration.specs.declared.judge.Harm.{Harm}

@@ -21,11 +21,11 @@ use Rattle.machine_model.specs.Unit.{IsNext, after_exec}
 use Rattle.machine_model.specs.Step.{Next, Faults, is_listed, stands, exec_leaves}
 use Rattle.machine_model.specs.Replay.{ReplaysFrom, Replays}
 use Rattle.machine_model.specs.Claims.{plain_of, reads_of, by_head, count_c, count_h}
-use Rattle.machine_events.specs.declared.event.Event.{Event}
-use Rattle.machine_events.specs.declared.event.Event.TheVariants.{Assign, Exec, Transfer, Drain, Squash, Retire, Fault, Drop}
-use Rattle.machine_events.specs.declared.event.Spot.TheVariants.{Stopped}
-use Rattle.machine_events.specs.declared.event.Standing.{Standing}
-use Rattle.machine_events.specs.declared.event.Standing.TheVariants as standing
+use Rattle.machine_model.specs.declared.event.Event.{Event}
+use Rattle.machine_model.specs.declared.event.Event.TheVariants.{Assign, Exec, Transfer, Drain, Squash, Retire, Fault, Drop}
+use Rattle.machine_model.specs.declared.event.Spot.TheVariants.{Stopped}
+use Rattle.machine_model.specs.declared.event.Standing.{Standing}
+use Rattle.machine_model.specs.declared.event.Standing.TheVariants as standing
 use Rattle.machine_model.proofs.Instructions.{ahead_runs, address_back, fetch_marked, leads_on, Leads}
 use Rattle.machine_model.proofs.PlainRuns.{Leaves, Steps, Ends, exits, goes, step_leaves, sound_at, leads_inside}
 use Rattle.machine_model.proofs.Invariant.{UnitRight, PlaceRight}

@@ -6,7 +6,7 @@ use Rattle.machine_model.specs.Machine.{State}
 use Rattle.machine_model.specs.Step.{Next}
 use Rattle.machine_model.specs.Answer.{most_events}
 use Rattle.machine_model.specs.Replay.{Replays}
-use Rattle.machine_events.specs.declared.event.Event.{Event}
+use Rattle.machine_model.specs.declared.event.Event.{Event}
 
 -- the events before this one are allowed, and this one is not, or a million came before it
 pub record IsRefusedAt (p : Listing) (units : ℕ) (events : List Event) (index : ℕ) : Type 0 where

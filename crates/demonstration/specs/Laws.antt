@@ -2,7 +2,7 @@
 use Rattle.std.specs.Prelude.{ℕ, List}
 use Rattle.task_descriptor.specs.Listing.{Listing, IsWellFormed}
 use Rattle.task_graph.specs.Soundness.{Sound}
-use Rattle.machine_events.specs.declared.event.Event.{Event}
+use Rattle.machine_model.specs.declared.event.Event.{Event}
 use Rattle.demonstration.specs.Shown.{IsShown}
 use Rattle.demonstration.specs.declared.judge.Evidence.{Evidence}
 

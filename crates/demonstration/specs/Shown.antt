@@ -10,10 +10,10 @@ use Rattle.task_graph.specs.Edges.{is_indirect}
 use Rattle.machine_model.specs.Machine.{Active, State, value}
 use Rattle.machine_model.specs.Replay.{Replays}
 use Rattle.machine_model.specs.Claims.{plain_of, reads_of}
-use Rattle.machine_events.specs.declared.event.Commit.{Commit}
-use Rattle.machine_events.specs.declared.event.Event.{Event}
-use Rattle.machine_events.specs.declared.event.Standing.{Standing}
-use Rattle.machine_events.specs.declared.event.Standing.TheVariants as standing
+use Rattle.machine_model.specs.declared.event.Commit.{Commit}
+use Rattle.machine_model.specs.declared.event.Event.{Event}
+use Rattle.machine_model.specs.declared.event.Standing.{Standing}
+use Rattle.machine_model.specs.declared.event.Standing.TheVariants as standing
 use Rattle.demonstration.specs.declared.judge.Evidence.{Evidence}
 use Rattle.demonstration.specs.declared.judge.Harm.{Harm}
 use Rattle.demonstration.specs.declared.judge.Harm.TheVariants as harm

@@ -12,13 +12,13 @@ ghost use Rattle.open_machine.specs.Machines.{state};
 ghost use Rattle.mips_plain.specs.PlainView.{IsAfter};
 ghost use Rattle.task_graph.specs.Edges.{is_indirect as is_indirect_of};
 ghost use Rattle.demonstration.specs.Shown.{AreRight, IsFirstStale, IsCutAt, HoldsWrong, NamesItsPlace, DoesHarm, IsShown, harmed_task, head_task, reading_task, seen as seen_in};
-ghost use Rattle.machine_events.specs.declared.event.Refused.TheVariants as refused;
+ghost use Rattle.machine_model.specs.declared.event.Refused.TheVariants as refused;
 ghost use Rattle.mips_plain.specs.declared.outcome.Outcome.TheVariants as outcome;
 ghost use Rattle.demonstration.specs.Judging.{IsRefusedAt, reads_agree};
 ghost use Rattle.demonstration.specs.declared.judge.Evidence.{Evidence};
 ghost use Rattle.demonstration.specs.declared.judge.Judgement.TheVariants as judged;
 
-use machine_events::event::{Commit, Event, Refused, Standing};
+use machine_model::event::{Commit, Event, Refused, Standing};
 use machine_model::laws::{answer_is_next, next_is_after, replays_join};
 use mips_instructions::instruction::Op;
 use mips_instructions::number::Reg;

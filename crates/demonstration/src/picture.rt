@@ -2,12 +2,12 @@
 
 ghost use Rattle.std.specs.Prelude.{◌≡◌, IfOk};
 ghost use Rattle.std.specs.String.{string_bytes};
-ghost use Rattle.machine_events.specs.Runs.{events_of};
+ghost use Rattle.machine_model.specs.Runs.{events_of};
 ghost use Rattle.run_picture.specs.Picture.{picture_text};
 ghost use Rattle.demonstration.specs.Found.{IsDemonstration};
 
 use crate::search::Demonstration;
-use machine_events::event::{Event, EventRun};
+use machine_model::event::{Event, EventRun};
 use run_picture::drawing::draw;
 use std::alloc::{AllocError, Global};
 use task_descriptor::program::Program;

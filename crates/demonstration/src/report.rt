@@ -22,7 +22,7 @@ use event_trace::places::places;
 use finding_paths::shown::ShownFinding;
 use jobs::job::DemonstrateEmit;
 use jobs::ranges::{Budget, Units};
-use machine_events::event::Event;
+use machine_model::event::Event;
 use mips_plain::outcome::OutOfMemory;
 use report_texts::report::{Report, refused_program};
 use annotated_asm::position::Position;

@@ -5,7 +5,7 @@ ghost use Rattle.std.specs.Prelude.{◌≡◌, ◌<◌, ◌≤◌, IfSome, IfOk}
 ghost use Rattle.demonstration.specs.Found.{IsDemonstration};
 
 use crate::judge::{Evidence, Harm, Judgement, judge};
-use machine_events::event::{Event, Refused, Spot};
+use machine_model::event::{Event, Refused, Spot};
 use mips_instructions::number::Reg;
 use mips_plain::outcome::OutOfMemory;
 use mips_plain::plain::Plain;

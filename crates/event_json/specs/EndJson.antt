@@ -6,7 +6,7 @@ use Rattle.json.specs.Json.{Json}
 use Rattle.mips_plain.specs.MemoryMap.{byte_of, number_at}
 use Rattle.task_descriptor.specs.Listing.{Listing}
 use Rattle.machine_model.specs.Machine.{State}
-use Rattle.machine_events.specs.declared.event.Standing.{Standing}
+use Rattle.machine_model.specs.declared.event.Standing.{Standing}
 use Rattle.event_trace.specs.Changes.{register_count}
 use Rattle.event_trace.specs.Ending.{data_words, head_value}
 use Rattle.event_json.specs.Fields.{Field, address_field, list_of, object_of, register_field, standing_fields, text_field, word_field}

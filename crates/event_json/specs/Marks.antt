@@ -2,8 +2,8 @@
 use Rattle.std.specs.Prelude.{ℕ, ◌+◌, List, [], ◌∷◌, ◌++◌, codes}
 use Rattle.std.specs.Fmt.{decimal}
 use Rattle.json.specs.Json.{Json}
-use Rattle.machine_events.specs.declared.event.Event.{Event}
-use Rattle.machine_events.specs.declared.event.Event.TheVariants.{Transfer, Squash}
+use Rattle.machine_model.specs.declared.event.Event.{Event}
+use Rattle.machine_model.specs.declared.event.Event.TheVariants.{Transfer, Squash}
 use Rattle.machine_model.specs.HeadEvent.{unit_of, retired_after}
 use Rattle.run_picture.specs.Marks.{unit_before}
 use Rattle.event_json.specs.Fields.{number_field, text_field}

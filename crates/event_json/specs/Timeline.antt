@@ -1,7 +1,7 @@
 -- A run as a timeline in the Trace Event Format: the run is a process, and each unit a thread of it.
 use Rattle.std.specs.Prelude.{ℕ, List, [], ◌∷◌, ◌++◌, codes}
 use Rattle.json.specs.Json.{Json}
-use Rattle.machine_events.specs.declared.event.Event.{Event}
+use Rattle.machine_model.specs.declared.event.Event.{Event}
 use Rattle.task_descriptor.specs.Listing.{Listing}
 use Rattle.task_lives.specs.declared.life.Life.{Life}
 use Rattle.task_lives.specs.Lives.{lives_of}

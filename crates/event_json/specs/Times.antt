@@ -1,6 +1,6 @@
 -- The time of an event, in microseconds from the beginning of the run (own choice).
 use Rattle.std.specs.Prelude.{ℕ, ◌+◌, List, [], ◌∷◌, Bool, true, nat_eq, if◌then◌else◌, slice_get, Option, Some, None}
-use Rattle.machine_events.specs.declared.event.Event.{Event}
+use Rattle.machine_model.specs.declared.event.Event.{Event}
 use Rattle.machine_model.specs.HeadEvent.{active_after, position_of}
 use Rattle.event_json.specs.declared.clock.Clock.{Clock}
 use Rattle.event_json.specs.declared.clock.Clock.TheVariants.{Events, Steps}

@@ -14,7 +14,7 @@ use event_trace::change::Change;
 use event_trace::ring::Ring;
 use event_trace::unit_change::UnitChange;
 use crate::writer::JsonWriter;
-use machine_events::event::Standing;
+use machine_model::event::Standing;
 use mips_instructions::number::Reg;
 use annotated_asm::position::Position;
 use std::alloc::AllocError;

@@ -12,7 +12,7 @@ use crate::fields::{write_address_word, write_register_word, write_standing};
 use crate::last_line::LastLine;
 use event_trace::ending::word_at;
 use crate::writer::JsonWriter;
-use machine_events::event::Standing;
+use machine_model::event::Standing;
 use mips_instructions::number::Reg;
 use mips_plain::memory::DATA_START;
 use sequencer::machine::Machine;

@@ -11,7 +11,7 @@ use crate::fields::{write_named, write_register, write_task, write_unit};
 use event_trace::change::Change;
 use event_trace::ring::Ring;
 use crate::writer::JsonWriter;
-use machine_events::event::{Event, Refused};
+use machine_model::event::{Event, Refused};
 use mips_instructions::number::Reg;
 use annotated_asm::position::Position;
 use std::alloc::AllocError;

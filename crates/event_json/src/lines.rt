@@ -20,7 +20,7 @@ use event_trace::places::places;
 use event_trace::ring::Ring;
 use event_trace::telling::{Telling, add_entries};
 use crate::writer::JsonWriter;
-use machine_events::event::{Event, Refused, Standing};
+use machine_model::event::{Event, Refused, Standing};
 use mark_checker::accept::Accepted;
 use sequencer::machine::Machine;
 use annotated_asm::position::Position;

@@ -10,7 +10,7 @@ ghost use Rattle.event_json.specs.Marks.{arrow, arrow_begin, arrow_end, marks_at
 use crate::entries::begin_timed_entry;
 use crate::times::time_at;
 use crate::writer::JsonWriter;
-use machine_events::event::Event;
+use machine_model::event::Event;
 use std::alloc::{AllocError, Global};
 
 /// Adds the marks of the events of a history of so many units, at least one.

@@ -3,7 +3,7 @@
 ghost use Rattle.std.specs.Prelude.{◌≡◌, ◌++◌, ◌<◌, ◌≤◌, IfOk, OnOk, flat_map, length};
 ghost use Rattle.std.specs.String.{string_bytes};
 ghost use Rattle.json.specs.Tree.{json_tokens};
-ghost use Rattle.machine_events.specs.Runs.{events_of};
+ghost use Rattle.machine_model.specs.Runs.{events_of};
 ghost use Rattle.machine_model.specs.Answer.{most_events};
 ghost use Rattle.task_lives.specs.Lives.{AllFit};
 ghost use Rattle.event_json.specs.Fields.{line_of};
@@ -15,7 +15,7 @@ use crate::marks::write_marks;
 use crate::slices::write_slices;
 use crate::times::times;
 use crate::writer::JsonWriter;
-use machine_events::event::{Event, EventRun};
+use machine_model::event::{Event, EventRun};
 use run_picture::events::single_events;
 use std::alloc::{AllocError, Global};
 use task_descriptor::program::Program;

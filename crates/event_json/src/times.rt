@@ -5,7 +5,7 @@ ghost use Rattle.machine_model.specs.HeadEvent.{active_after, position_of as pos
 ghost use Rattle.event_json.specs.Times.{ticks as clock_ticks, time_after, time_at as time_of, times_of};
 
 use crate::clock::Clock;
-use machine_events::event::Event;
+use machine_model::event::Event;
 use std::alloc::{AllocError, Global};
 
 /// The times of the events of a history by a clock, in order.

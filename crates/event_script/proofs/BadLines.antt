@@ -2,7 +2,7 @@
 -- of those that are left.
 use Rattle.std.proofs.Common.{◌≡◌, ℕ, zero, suc, ◌+◌, List, [], ◌∷◌, ◌++◌, take, Result, Ok, Err, refl, ◌∙◌, ap}
 use Rattle.std.specs.Result.{result_err}
-use Rattle.machine_events.specs.declared.event.Event.{Event}
+use Rattle.machine_model.specs.declared.event.Event.{Event}
 use Rattle.event_script.specs.declared.bad_line.BadLine.{BadLine}
 use Rattle.event_script.specs.declared.fault.LineFault.{LineFault}
 use Rattle.event_script.specs.declared.fault.ScriptFault.{ScriptFault}

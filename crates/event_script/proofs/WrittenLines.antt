@@ -17,8 +17,8 @@ use Rattle.task_descriptor.specs.Names.{is_name, begins, continues_name}
 use Rattle.task_descriptor.specs.Listing.{Listing, IsWellFormed, collide, has_duplicate, is_too_many, has_no_task, has_bad_entry}
 use Rattle.task_descriptor.specs.declared.descriptor.Descriptor.{Descriptor}
 use Rattle.task_descriptor.specs.declared.program.BuildFault.{BuildFault}
-use Rattle.machine_events.specs.declared.event.Event.{Event}
-use Rattle.machine_events.specs.declared.event.Event.TheVariants.{Assign, Exec, Transfer, Drain, Squash, Retire, Fault, Drop}
+use Rattle.machine_model.specs.declared.event.Event.{Event}
+use Rattle.machine_model.specs.declared.event.Event.TheVariants.{Assign, Exec, Transfer, Drain, Squash, Retire, Fault, Drop}
 use Rattle.event_script.specs.declared.fault.LineFault.{LineFault}
 use Rattle.event_script.specs.declared.fault.LineFault.TheVariants.{NoName}
 use Rattle.event_script.specs.declared.fault.ScriptFault.{ScriptFault}

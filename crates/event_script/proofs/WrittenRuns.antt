@@ -6,9 +6,9 @@ use Rattle.std.proofs.lemmas.List.{take_more}
 use Rattle.std.proofs.lemmas.List.Concat.{concat_is, flat_map-append}
 use Rattle.std.proofs.lemmas.List.Elements.{All-append, All-from_recursion}
 use Rattle.task_descriptor.specs.Listing.{Listing}
-use Rattle.machine_events.specs.declared.event.Event.{Event}
-use Rattle.machine_events.specs.declared.event.EventRun.{EventRun}
-use Rattle.machine_events.specs.Runs.{events_of}
+use Rattle.machine_model.specs.declared.event.Event.{Event}
+use Rattle.machine_model.specs.declared.event.EventRun.{EventRun}
+use Rattle.machine_model.specs.Runs.{events_of}
 use Rattle.event_script.specs.ScriptText.{line_text, script_text, NamesRegister}
 
 -- the last of some equal parts stands where the first does

@@ -4,7 +4,7 @@ ghost use Rattle.std.specs.Prelude.{◌≡◌, ℕ, List, Ok};
 ghost use Rattle.std.specs.List.{All};
 ghost use Rattle.std.specs.Result.{result_err};
 ghost use Rattle.task_descriptor.specs.Listing.{Listing};
-ghost use Rattle.machine_events.specs.declared.event.Event.{Event};
+ghost use Rattle.machine_model.specs.declared.event.Event.{Event};
 ghost use Rattle.event_script.specs.EventScript.{script_of, bad_lines, first_bad};
 ghost use Rattle.event_script.specs.ScriptText.{IsTold, NamesRegister, script_text};
 

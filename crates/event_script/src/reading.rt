@@ -6,7 +6,7 @@ ghost use Rattle.event_script.specs.EventScript.{lines as lines_of, number_in, r
 
 use crate::fault::{LineFault, ScriptFault};
 use crate::task_names::TaskNames;
-use machine_events::event::Event;
+use machine_model::event::Event;
 use mips_instructions::number::Reg;
 use std::alloc::Global;
 use task_descriptor::name::Name;

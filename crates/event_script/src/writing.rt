@@ -3,12 +3,12 @@
 ghost use Rattle.std.specs.Prelude.{◌≡◌, ◌++◌, ◌<◌, replicate, slice_get, Ok, IfOk, OnOk};
 ghost use Rattle.std.specs.List.{All, concat};
 ghost use Rattle.std.specs.String.{string_bytes};
-ghost use Rattle.machine_events.specs.Runs.{events_of};
+ghost use Rattle.machine_model.specs.Runs.{events_of};
 ghost use Rattle.event_script.specs.EventScript.{script_of};
 ghost use Rattle.event_script.specs.ScriptText.{IsTold, NamesRegister, event_text, line_text, name_at, script_text};
 
 use crate::laws::written_is_read;
-use machine_events::event::{Event, EventRun};
+use machine_model::event::{Event, EventRun};
 use std::alloc::{AllocError, Global};
 use task_descriptor::program::Program;
 

@@ -4,8 +4,8 @@ use Rattle.std.specs.Prelude.{◌≡◌, ℕ, suc, List, [], ◌++◌, ◌∷◌
 use Rattle.task_descriptor.specs.Listing.{Listing}
 use Rattle.machine_model.specs.Machine.{State}
 use Rattle.machine_model.specs.Answer.{after, answer}
-use Rattle.machine_events.specs.declared.event.Event.{Event}
-use Rattle.machine_events.specs.declared.event.Refused.{Refused}
+use Rattle.machine_model.specs.declared.event.Event.{Event}
+use Rattle.machine_model.specs.declared.event.Refused.{Refused}
 use Rattle.annotated_asm.specs.declared.position.Position.{Position}
 use Rattle.annotated_asm.specs.Sources.{Sources, sources_of}
 use Rattle.annotated_asm.specs.declared.fault.AsmFault.{AsmFault}

@@ -3,7 +3,7 @@ use Rattle.std.specs.Prelude.{◌≡◌, ℕ, List, [], ◌∷◌, length}
 use Rattle.task_descriptor.specs.Listing.{Listing}
 use Rattle.machine_model.specs.Answer.{answer}
 use Rattle.machine_model.specs.Machine.{State}
-use Rattle.machine_events.specs.declared.event.Event.{Event}
+use Rattle.machine_model.specs.declared.event.Event.{Event}
 use Rattle.sequencer.specs.Machines.{MachineView, SameRing, answer_to, state}
 use Rattle.event_trace.specs.Entries.{count_behind, state_behind}
 

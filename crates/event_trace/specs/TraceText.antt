@@ -4,11 +4,11 @@ use Rattle.std.specs.Prelude.{ℕ, List, [], ◌∷◌, ◌++◌, false, flat_ma
 use Rattle.std.specs.Fmt.{decimal, digits}
 use Rattle.mips_plain.specs.TrapText.{trap_text}
 use Rattle.task_descriptor.specs.Listing.{Listing, instruction_at}
-use Rattle.machine_events.specs.declared.event.Event.{Event}
-use Rattle.machine_events.specs.declared.event.Refused.{Refused}
-use Rattle.machine_events.specs.declared.event.Standing.{Standing}
-use Rattle.machine_events.specs.declared.event.Standing.TheVariants.{Running, Halted, Trapped, Unlisted}
-use Rattle.machine_events.specs.RefusedText.{refusal_text}
+use Rattle.machine_model.specs.declared.event.Event.{Event}
+use Rattle.machine_model.specs.declared.event.Refused.{Refused}
+use Rattle.machine_model.specs.declared.event.Standing.{Standing}
+use Rattle.machine_model.specs.declared.event.Standing.TheVariants.{Running, Halted, Trapped, Unlisted}
+use Rattle.machine_model.specs.RefusedText.{refusal_text}
 use Rattle.event_script.specs.ScriptText.{event_text, name_at}
 use Rattle.annotated_asm.specs.declared.position.Position.{Position}
 use Rattle.event_trace.specs.declared.change.Change.{Change}

@@ -4,7 +4,7 @@ ghost use Rattle.std.specs.Prelude.{◌≡◌, ◌++◌, ◌∷◌, [], IfOk, On
 ghost use Rattle.event_trace.specs.declared.change.Change.TheVariants.{AtUnit};
 
 use crate::unit_change::UnitChange;
-use machine_events::event::Standing;
+use machine_model::event::Standing;
 use mips_instructions::number::Reg;
 use std::alloc::{AllocError, Global};
 

@@ -8,7 +8,7 @@ ghost use Rattle.event_trace.specs.Ending.{end_text, head_value, memory_text, re
 ghost use Rattle.event_trace.specs.TraceText.{ending_text};
 
 use crate::text::{write_address, write_ending, write_register};
-use machine_events::event::Standing;
+use machine_model::event::Standing;
 use mips_instructions::number::Reg;
 use mips_plain::memory::DATA_START;
 use sequencer::machine::Machine;

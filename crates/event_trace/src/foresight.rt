@@ -3,7 +3,7 @@
 ghost use Rattle.std.specs.Prelude.{◌≡◌, ◌++◌, ◌+◌, drop, slice_get, unwrap_or, IfOk, OnOk};
 ghost use Rattle.machine_model.specs.Answer.{after, exit_of};
 ghost use Rattle.machine_model.specs.Machine.{State};
-ghost use Rattle.machine_events.specs.declared.event.Event.TheVariants.{Exec};
+ghost use Rattle.machine_model.specs.declared.event.Event.TheVariants.{Exec};
 ghost use Rattle.sequencer.specs.Machines.{state};
 ghost use Rattle.event_trace.specs.Changes.{changes_of, lost, retired};
 ghost use Rattle.event_trace.specs.Foresight.{realized};
@@ -12,7 +12,7 @@ use crate::change::{Change, add, at_unit};
 use crate::foreseen::Foreseen;
 use crate::instruction::{execution, instruction_at};
 use crate::unit_change::UnitChange;
-use machine_events::event::{Event, Spot};
+use machine_model::event::{Event, Spot};
 use sequencer::machine::Machine;
 use std::alloc::{AllocError, Global};
 use task_descriptor::program::Program;

@@ -13,7 +13,7 @@ use crate::change::{Change, add, at_unit};
 use crate::foreseen::Execution;
 use crate::registers::{add_sendings, add_writes};
 use crate::unit_change::UnitChange;
-use machine_events::event::{Spot, Standing};
+use machine_model::event::{Spot, Standing};
 use mips_instructions::instruction::{Op, StoreKind};
 use mips_instructions::number::Reg;
 use mips_plain::memory::Memory;

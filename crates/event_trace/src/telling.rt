@@ -4,7 +4,7 @@ use crate::change::Change;
 use crate::ring::Ring;
 use crate::told::Told;
 use crate::walk::Walk;
-use machine_events::event::{Event, Refused};
+use machine_model::event::{Event, Refused};
 use mark_checker::accept::Accepted;
 use sequencer::machine::Machine;
 use std::alloc::{AllocError, Global};
@@ -13,8 +13,8 @@ use std::alloc::{AllocError, Global};
 pub trait Telling {
     ghost use Rattle.std.specs.Prelude.{ℕ, List, ◌≡◌, ◌++◌, OnOk};
     ghost use Rattle.std.specs.String.{string_bytes};
-    ghost use Rattle.machine_events.specs.declared.event.Event.{Event};
-    ghost use Rattle.machine_events.specs.declared.event.Refused.{Refused};
+    ghost use Rattle.machine_model.specs.declared.event.Event.{Event};
+    ghost use Rattle.machine_model.specs.declared.event.Refused.{Refused};
     ghost use Rattle.event_trace.specs.declared.change.Change.{Change};
     ghost use Rattle.event_trace.specs.Ring.{RingView};
 

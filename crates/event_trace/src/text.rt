@@ -8,7 +8,7 @@ ghost use Rattle.event_trace.specs.TraceText.{address_text, place_text, exit_tex
 use crate::change::Change;
 use crate::unit_change::UnitChange;
 use event_script::writing::{task_name, write_event};
-use machine_events::event::{Event, Refused, Standing};
+use machine_model::event::{Event, Refused, Standing};
 use mips_instructions::number::Reg;
 use annotated_asm::position::Position;
 use std::alloc::AllocError;

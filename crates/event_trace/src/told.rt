@@ -1,7 +1,7 @@
 //! What is told of an event.
 
 use crate::change::Change;
-use machine_events::event::Refused;
+use machine_model::event::Refused;
 
 /// What a walk tells of an event.
 #[derive(Debug, Drop)]

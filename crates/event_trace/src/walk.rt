@@ -4,7 +4,7 @@ use crate::changes::changes;
 use crate::foresight::foresee;
 use crate::ring::Ring;
 use crate::told::Told;
-use machine_events::event::{Event, Refused};
+use machine_model::event::{Event, Refused};
 use machine_model::laws::next_is_after;
 use mark_checker::accept::Accepted;
 use sequencer::machine::{Machine, MachineFault};

@@ -19,9 +19,9 @@ use Rattle.machine_model.specs.Step.{Next, stands}
 use Rattle.machine_model.specs.Replay.{ReplaysFrom}
 use Rattle.machine_model.specs.Answer.{with_queue}
 use Rattle.machine_model.specs.Burst.{no_memory, StepsAlone, Burst, AllIn, with_arrived}
-use Rattle.machine_events.specs.declared.event.Event.{Event}
-use Rattle.machine_events.specs.declared.event.Event.TheVariants.{Exec}
-use Rattle.machine_events.specs.declared.event.Standing.TheVariants as standing
+use Rattle.machine_model.specs.declared.event.Event.{Event}
+use Rattle.machine_model.specs.declared.event.Event.TheVariants.{Exec}
+use Rattle.machine_model.specs.declared.event.Standing.TheVariants as standing
 use Rattle.machine_model.proofs.Instructions.{ahead_written, ahead_runs, ahead_memory, ahead_output, dest_written}
 use Rattle.machine_model.proofs.Replays.{joined}
 

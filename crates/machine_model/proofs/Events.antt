@@ -15,7 +15,7 @@ use Rattle.machine_model.specs.Machine.{Words, Active, task_at, creates, begins,
 use Rattle.machine_model.specs.Unit.{IsNext, put, moved}
 use Rattle.machine_model.specs.Step.{is_reserved, follows, next_begins, filled, handed_over}
 use Rattle.machine_model.specs.Claims.{plain_of, by_head}
-use Rattle.machine_events.specs.declared.event.Spot.TheVariants.{Inside, Stopped}
+use Rattle.machine_model.specs.declared.event.Spot.TheVariants.{Inside, Stopped}
 use Rattle.std.specs.List.{last_or}
 use Rattle.machine_model.proofs.PlainRuns.{Leaves, step_leaves, Ends, end_runs, not_created}
 use Rattle.machine_model.proofs.Invariant.{UnitRight, RightFrom, Quiet, PlaceRight, value_right, update, front, transferred, assigned, filled_right, pass_right}

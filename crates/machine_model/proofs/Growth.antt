@@ -10,8 +10,8 @@ use Rattle.machine_model.specs.Unit.{after_exec, put}
 use Rattle.machine_model.specs.Step.{Next, started, filled, handed_over, retire_leaves}
 use Rattle.machine_model.specs.Claims.{by_head, count_c, count_h}
 use Rattle.machine_model.specs.HeadEvent.{growth, retired_after, active_after}
-use Rattle.machine_events.specs.declared.event.Event.{Event}
-use Rattle.machine_events.specs.declared.event.Event.TheVariants.{Assign, Exec, Transfer, Drain, Squash, Retire, Fault, Drop}
+use Rattle.machine_model.specs.declared.event.Event.{Event}
+use Rattle.machine_model.specs.declared.event.Event.TheVariants.{Assign, Exec, Transfer, Drain, Squash, Retire, Fault, Drop}
 use Rattle.machine_model.proofs.Headline.{counted_push}
 
 -- the head's log, where the queue changes

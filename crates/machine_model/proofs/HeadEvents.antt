@@ -22,12 +22,12 @@ use Rattle.machine_model.specs.Refusals.{least}
 use Rattle.machine_model.specs.Answer.{is_running, after}
 use Rattle.machine_model.specs.Claims.{plain_of, count_c}
 use Rattle.machine_model.specs.HeadEvent.{task_beginning, drain_or_retire, event_of_head, event_of_queue, head_event}
-use Rattle.machine_events.specs.declared.event.Event.{Event}
-use Rattle.machine_events.specs.declared.event.Event.TheVariants.{Assign, Exec, Transfer, Drain, Squash, Retire, Fault, Drop}
-use Rattle.machine_events.specs.declared.event.Spot.{Spot}
-use Rattle.machine_events.specs.declared.event.Spot.TheVariants.{Inside, Stopped}
-use Rattle.machine_events.specs.declared.event.Standing.{Standing}
-use Rattle.machine_events.specs.declared.event.Standing.TheVariants.{Running, Halted, Trapped, Unlisted}
+use Rattle.machine_model.specs.declared.event.Event.{Event}
+use Rattle.machine_model.specs.declared.event.Event.TheVariants.{Assign, Exec, Transfer, Drain, Squash, Retire, Fault, Drop}
+use Rattle.machine_model.specs.declared.event.Spot.{Spot}
+use Rattle.machine_model.specs.declared.event.Spot.TheVariants.{Inside, Stopped}
+use Rattle.machine_model.specs.declared.event.Standing.{Standing}
+use Rattle.machine_model.specs.declared.event.Standing.TheVariants.{Running, Halted, Trapped, Unlisted}
 use Rattle.machine_model.proofs.PlainRuns.{sound_at}
 use Rattle.machine_model.proofs.Invariant.{UnitRight, PlaceRight}
 use Rattle.machine_model.proofs.Events.{QueueRight, head_right, head_has}

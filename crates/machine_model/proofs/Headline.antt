@@ -18,11 +18,11 @@ use Rattle.machine_model.specs.Unit.{IsNext, put, executed, after_exec}
 use Rattle.machine_model.specs.Step.{Next, Assigns, Transfers, Drains, Squashes, Retires, Faults, Drops, is_listed, started, stands, exec_leaves, retire_leaves}
 use Rattle.machine_model.specs.Replay.{ReplaysFrom, Replays}
 use Rattle.machine_model.specs.Claims.{plain_of, reads_of, by_head, count_c, EndsLike, Claims}
-use Rattle.machine_events.specs.declared.event.Commit.{Commit}
-use Rattle.machine_events.specs.declared.event.Event.{Event}
-use Rattle.machine_events.specs.declared.event.Event.TheVariants.{Assign, Exec, Transfer, Drain, Squash, Retire, Fault, Drop}
-use Rattle.machine_events.specs.declared.event.Spot.TheVariants.{Stopped}
-use Rattle.machine_events.specs.declared.event.Standing.TheVariants as standing
+use Rattle.machine_model.specs.declared.event.Commit.{Commit}
+use Rattle.machine_model.specs.declared.event.Event.{Event}
+use Rattle.machine_model.specs.declared.event.Event.TheVariants.{Assign, Exec, Transfer, Drain, Squash, Retire, Fault, Drop}
+use Rattle.machine_model.specs.declared.event.Spot.TheVariants.{Stopped}
+use Rattle.machine_model.specs.declared.event.Standing.TheVariants as standing
 use Rattle.machine_model.proofs.Instructions.{ahead_memory, ahead_output, ahead_runs, ended_writes}
 use Rattle.machine_model.proofs.PlainRuns.{Leaves}
 use Rattle.machine_model.proofs.Invariant.{UnitRight, PlaceRight, drained}

@@ -13,8 +13,8 @@ use Rattle.machine_model.specs.Machine.{Words, Active, task_at, creates, begins,
 use Rattle.machine_model.specs.Unit.{put}
 use Rattle.machine_model.specs.Step.{is_reserved, filled}
 use Rattle.machine_model.specs.Claims.{plain_of, reads_of}
-use Rattle.machine_events.specs.declared.event.Spot.{Spot}
-use Rattle.machine_events.specs.declared.event.Spot.TheVariants.{Inside, Stopped}
+use Rattle.machine_model.specs.declared.event.Spot.{Spot}
+use Rattle.machine_model.specs.declared.event.Spot.TheVariants.{Inside, Stopped}
 use Rattle.machine_model.proofs.PlainRuns.{Follows, Ends, here, plain_zero, rest_of, same_end, end_runs, end_keeps, not_created}
 
 -- What it says. The unit's task begins where the plain machine stands after n steps, and the unit

@@ -3,7 +3,7 @@ use Rattle.std.proofs.Common.{ℕ, List, [], ◌∷◌, ◌++◌, refl, subst}
 use Rattle.task_descriptor.specs.Listing.{Listing}
 use Rattle.machine_model.specs.Machine.{State}
 use Rattle.machine_model.specs.Replay.{ReplaysFrom}
-use Rattle.machine_events.specs.declared.event.Event.{Event}
+use Rattle.machine_model.specs.declared.event.Event.{Event}
 
 pub cut_apart : (p : Listing) (units : ℕ) (s s' : State) (xs ys : List Event) → ReplaysFrom p units s (xs ++ ys) s' → (mid : State) × ReplaysFrom p units s xs mid × ReplaysFrom p units mid ys s'
 cut_apart p units s s' [] ys h = (s, refl, h)

@@ -15,7 +15,7 @@ use Rattle.task_graph.specs.Edges.{Edge, edge, leaves, sends}
 use Rattle.machine_model.specs.Machine.{Active, value}
 use Rattle.machine_model.specs.Unit.{with_written, executed, after_exec}
 use Rattle.machine_model.specs.Burst.{MasksFit, SentIsLast}
-use Rattle.machine_events.specs.declared.event.Spot.TheVariants.{Inside}
+use Rattle.machine_model.specs.declared.event.Spot.TheVariants.{Inside}
 use Rattle.machine_model.proofs.Instructions.{written_dest}
 use Rattle.machine_model.proofs.Places.{goes_to}
 use Rattle.machine_model.proofs.UnitExec.{sent_found}

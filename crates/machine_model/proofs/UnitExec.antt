@@ -18,8 +18,8 @@ use Rattle.task_graph.specs.Soundness.{Sound}
 use Rattle.machine_model.specs.Machine.{Active, value}
 use Rattle.machine_model.specs.Unit.{IsNext, with_written, place_after, moved, executed, after_exec}
 use Rattle.machine_model.specs.Claims.{plain_of, reads_of}
-use Rattle.machine_events.specs.declared.event.Spot.{Spot}
-use Rattle.machine_events.specs.declared.event.Spot.TheVariants.{Inside}
+use Rattle.machine_model.specs.declared.event.Spot.{Spot}
+use Rattle.machine_model.specs.declared.event.Spot.TheVariants.{Inside}
 use Rattle.machine_model.proofs.Instructions.{ahead_memory, ahead_output, ahead_runs, ahead_written, written_dest, Leads}
 use Rattle.machine_model.proofs.PlainRuns.{At, Leaves, step_leaves, Steps, follow_on, end_now, not_dest, may_write_first, sound_at, leads_inside, plain_zero}
 use Rattle.machine_model.proofs.Invariant.{PlaceRight, Last, Quiet, UnitRight, value_found, value_right}

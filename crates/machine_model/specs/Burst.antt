@@ -8,7 +8,7 @@ use Rattle.task_descriptor.specs.declared.descriptor.Marked.{Marked}
 use Rattle.task_graph.specs.Edges.{Edge, sends}
 use Rattle.machine_model.specs.Machine.{Words, Active}
 use Rattle.machine_model.specs.Unit.{IsNext, after_exec}
-use Rattle.machine_events.specs.declared.event.Spot.TheVariants.{Inside}
+use Rattle.machine_model.specs.declared.event.Spot.TheVariants.{Inside}
 
 -- data memory does not matter to such an instruction
 abbrev pub no_memory : ℕ → ℕ

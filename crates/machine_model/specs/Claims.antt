@@ -8,9 +8,9 @@ use Rattle.mips_plain.specs.declared.outcome.Read.{Read}
 use Rattle.task_descriptor.specs.Listing.{Listing, input}
 use Rattle.machine_model.specs.Machine.{Active, State, value}
 use Rattle.machine_model.specs.Step.{is_listed}
-use Rattle.machine_events.specs.declared.event.Commit.{Commit}
-use Rattle.machine_events.specs.declared.event.Standing.{Standing}
-use Rattle.machine_events.specs.declared.event.Standing.TheVariants.{Running, Halted, Trapped, Unlisted}
+use Rattle.machine_model.specs.declared.event.Commit.{Commit}
+use Rattle.machine_model.specs.declared.event.Standing.{Standing}
+use Rattle.machine_model.specs.declared.event.Standing.TheVariants.{Running, Halted, Trapped, Unlisted}
 
 -- the plain machine after n instructions of the program, and what they read
 abbrev pub plain_of : Listing → ℕ → PlainState

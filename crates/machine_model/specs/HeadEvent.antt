@@ -9,10 +9,10 @@ use Rattle.machine_model.specs.Step.{is_listed, next_begins}
 use Rattle.machine_model.specs.Refusals.{least}
 use Rattle.machine_model.specs.Answer.{is_running}
 use Rattle.machine_model.specs.Claims.{by_head}
-use Rattle.machine_events.specs.declared.event.Event.{Event}
-use Rattle.machine_events.specs.declared.event.Event.TheVariants.{Assign, Exec, Transfer, Drain, Squash, Retire, Fault, Drop}
-use Rattle.machine_events.specs.declared.event.Spot.{Spot}
-use Rattle.machine_events.specs.declared.event.Spot.TheVariants.{Inside, Stopped}
+use Rattle.machine_model.specs.declared.event.Event.{Event}
+use Rattle.machine_model.specs.declared.event.Event.TheVariants.{Assign, Exec, Transfer, Drain, Squash, Retire, Fault, Drop}
+use Rattle.machine_model.specs.declared.event.Spot.{Spot}
+use Rattle.machine_model.specs.declared.event.Spot.TheVariants.{Inside, Stopped}
 
 -- the task that begins at an address
 abbrev pub task_beginning : Listing → (at : ℕ) → Option ℕ

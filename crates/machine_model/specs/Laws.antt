@@ -11,11 +11,11 @@ use Rattle.machine_model.specs.Answer.{most_events, answer, after, with_queue, r
 use Rattle.machine_model.specs.Claims.{Claims, EndsLike, count_h}
 use Rattle.machine_model.specs.HeadEvent.{head_event, growth, retired_after, active_after}
 use Rattle.machine_model.specs.Places.{PlaceValid}
-use Rattle.machine_events.specs.declared.event.Standing.TheVariants.{Running}
+use Rattle.machine_model.specs.declared.event.Standing.TheVariants.{Running}
 use Rattle.machine_model.specs.Burst.{Burst, AllIn, with_arrived, MasksFit, SentIsLast}
-use Rattle.machine_events.specs.declared.event.Event.{Event}
-use Rattle.machine_events.specs.declared.event.Event.TheVariants.{Exec}
-use Rattle.machine_events.specs.declared.event.Spot.TheVariants.{Inside}
+use Rattle.machine_model.specs.declared.event.Event.{Event}
+use Rattle.machine_model.specs.declared.event.Event.TheVariants.{Exec}
+use Rattle.machine_model.specs.declared.event.Spot.TheVariants.{Inside}
 
 -- after every list of events that a sound program's machine allows, what retired is the plain run
 abbrev pub Headline : Type 0

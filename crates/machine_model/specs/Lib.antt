@@ -10,3 +10,5 @@ pub mod Burst
 pub mod Places
 pub mod Laws
 pub mod Examples
+pub mod Runs
+pub mod RefusedText

@@ -4,7 +4,7 @@ use Rattle.std.specs.Prelude.{◌≡◌, ℕ, ◌<◌, length}
 use Rattle.task_descriptor.specs.Listing.{Listing}
 use Rattle.task_graph.specs.Edges.{Path}
 use Rattle.machine_model.specs.Machine.{Active, task_at}
-use Rattle.machine_events.specs.declared.event.Spot.TheVariants.{Inside}
+use Rattle.machine_model.specs.declared.event.Spot.TheVariants.{Inside}
 
 -- the unit's task is one of the program's; where the unit has not stopped it stands at an instruction,
 -- to which a path along inner edges leads from the task's entry

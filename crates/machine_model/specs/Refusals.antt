@@ -1,7 +1,7 @@
 -- How a refusal is put together (own): tests in order, and the first that fails refuses.
 use Rattle.std.specs.Prelude.{ℕ, Bool, if◌then◌else◌, Option, Some, None}
 use Rattle.std.specs.List.{find, filter, range_with_len}
-use Rattle.machine_events.specs.declared.event.Refused.{Refused}
+use Rattle.machine_model.specs.declared.event.Refused.{Refused}
 
 -- a refusal where the test fails, or else what comes behind it
 abbrev pub unless : Bool → Refused → Option Refused → Option Refused

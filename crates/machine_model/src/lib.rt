@@ -4,3 +4,5 @@
 #![tactic(auto)]
 
 pub mod laws;
+pub mod event;
+mod refused_text;

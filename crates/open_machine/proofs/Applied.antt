@@ -6,9 +6,9 @@ use Rattle.task_descriptor.specs.Listing.{Listing}
 use Rattle.machine_model.specs.Machine.{State}
 use Rattle.machine_model.specs.Refusals.{unless}
 use Rattle.machine_model.specs.Answer.{after, later_refusal, most_events, refusal}
-use Rattle.machine_events.specs.declared.event.Event.{Event}
-use Rattle.machine_events.specs.declared.event.Refused.{Refused}
-use Rattle.machine_events.specs.declared.event.Refused.TheVariants as refused
+use Rattle.machine_model.specs.declared.event.Event.{Event}
+use Rattle.machine_model.specs.declared.event.Refused.{Refused}
+use Rattle.machine_model.specs.declared.event.Refused.TheVariants as refused
 use Rattle.processor_steps.specs.Processors.{ProcessorView, state_of}
 use Rattle.open_machine.specs.Machines.{OpenView, state, Grew, IsOpen, Tries}
 use Rattle.open_machine.proofs.Growing.{grew_after}

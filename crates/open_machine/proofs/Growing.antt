@@ -9,10 +9,10 @@ use Rattle.machine_model.specs.Unit.{instruction_at, exit_of, put, after_drain, 
 use Rattle.machine_model.specs.Step.{started, filled, handed_over, retire_leaves}
 use Rattle.machine_model.specs.Answer.{after, with_unit, with_queue, exec_after}
 use Rattle.mips_plain.specs.declared.outcome.Read.{Read}
-use Rattle.machine_events.specs.declared.event.Event.{Event}
-use Rattle.machine_events.specs.declared.event.Event.TheVariants.{Assign, Exec, Transfer, Drain, Squash, Retire, Fault, Drop}
+use Rattle.machine_model.specs.declared.event.Event.{Event}
+use Rattle.machine_model.specs.declared.event.Event.TheVariants.{Assign, Exec, Transfer, Drain, Squash, Retire, Fault, Drop}
 use Rattle.processor_steps.proofs.Queues.{holds_after}
-use Rattle.machine_events.specs.declared.event.Standing.TheVariants as standing
+use Rattle.machine_model.specs.declared.event.Standing.TheVariants as standing
 use Rattle.open_machine.specs.Machines.{LogsWithin, Grew}
 
 within_more : (n : ℕ) (us : List Active) → LogsWithin n us → LogsWithin (suc n) us

@@ -15,10 +15,10 @@ use Rattle.machine_model.specs.Unit.{after_exec, after_drain, drain_refusal, exe
 use Rattle.machine_model.specs.Refusals.{for_none, for_some, least, unless}
 use Rattle.machine_model.specs.Step.{is_reserved, started, stands}
 use Rattle.machine_model.specs.Answer.{after, with_queue, with_unit, exec_after, index_of_place, refusal}
-use Rattle.machine_events.specs.declared.event.Event.TheVariants.{Assign, Drain}
-use Rattle.machine_events.specs.declared.event.Refused.{Refused}
-use Rattle.machine_events.specs.declared.event.Refused.TheVariants as refused
-use Rattle.machine_events.specs.declared.event.Spot.TheVariants.{Inside}
+use Rattle.machine_model.specs.declared.event.Event.TheVariants.{Assign, Drain}
+use Rattle.machine_model.specs.declared.event.Refused.{Refused}
+use Rattle.machine_model.specs.declared.event.Refused.TheVariants as refused
+use Rattle.machine_model.specs.declared.event.Spot.TheVariants.{Inside}
 use Rattle.register_ring.specs.Held.{no_pairs, pairs, put_first}
 use Rattle.register_ring.specs.Ports.{arrived_of, sent_of, arrived_fresh}
 use Rattle.unit_core.specs.Units.{UnitView, active_of}

@@ -5,7 +5,7 @@ use Rattle.mips_instructions.specs.Instruction.{reg_a, reg_b}
 use Rattle.task_descriptor.specs.Listing.{Listing}
 use Rattle.machine_model.specs.Machine.{Active}
 use Rattle.machine_model.specs.Unit.{instruction_at, operand}
-use Rattle.machine_events.specs.declared.event.Spot.TheVariants.{Inside}
+use Rattle.machine_model.specs.declared.event.Spot.TheVariants.{Inside}
 use Rattle.open_machine.specs.declared.instruction.Next.{Next}
 
 pub record IsAt (p : Listing) (u : Active) (n : Next) : Type 0 where

@@ -6,14 +6,14 @@ ghost use Rattle.std.specs.Option.{option_and_then};
 ghost use Rattle.machine_model.specs.Machine.{Active, pass};
 ghost use Rattle.machine_model.specs.Unit.{exit_of, operand};
 ghost use Rattle.machine_model.specs.Answer.{refusal, after};
-ghost use Rattle.machine_events.specs.declared.event.Event.TheVariants as event;
-ghost use Rattle.machine_events.specs.declared.event.Standing.TheVariants as standing;
+ghost use Rattle.machine_model.specs.declared.event.Event.TheVariants as event;
+ghost use Rattle.machine_model.specs.declared.event.Standing.TheVariants as standing;
 ghost use Rattle.processor_steps.specs.Processors.{state_of};
 
 use crate::listing::created;
 use crate::processor::Processor;
 use crate::unit::OpenUnit;
-use machine_events::event::{Commit, Standing};
+use machine_model::event::{Commit, Standing};
 use mips_instructions::number::Reg;
 use mips_plain::outcome::OutOfMemory;
 use std::alloc::Global;

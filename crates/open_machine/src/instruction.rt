@@ -14,7 +14,7 @@ ghost use Rattle.register_ring.specs.Held.{pairs};
 ghost use Rattle.register_ring.specs.Ports.{arrived_of, sent_of};
 ghost use Rattle.unit_core.specs.ExecParts.{writes, replaced};
 
-use machine_events::event::Spot;
+use machine_model::event::Spot;
 use mips_instructions::instruction::Op;
 use mips_instructions::number::{Reg, RegSet};
 use mips_plain::memory::fixed_load;

@@ -6,7 +6,7 @@ ghost use Rattle.task_graph.specs.Soundness.{is_target as is_target_of};
 ghost use Rattle.machine_model.specs.Machine.{task_at, begins as begins_at};
 ghost use Rattle.machine_model.specs.Step.{is_listed as is_listed_at, follows_at};
 
-use machine_events::event::Spot;
+use machine_model::event::Spot;
 use mips_instructions::number::{Place, RegSet};
 use mips_instructions::places::CODE_START;
 use task_descriptor::program::Program;

@@ -2,7 +2,7 @@
 
 use crate::processor::Processor;
 use crate::unit::OpenUnit;
-use machine_events::event::{Commit, Event, Refused, Standing};
+use machine_model::event::{Commit, Event, Refused, Standing};
 use machine_model::laws::answer_is_next;
 use mips_plain::outcome::{OutOfMemory, Read};
 use std::alloc::Global;
@@ -36,7 +36,7 @@ impl<'a> OpenMachine<'a> {
     ghost use Rattle.std.specs.Option.{option_copied, option_map};
     ghost use Rattle.machine_model.specs.Machine.{opening};
     ghost use Rattle.unit_core.specs.Units.{active_of};
-    ghost use Rattle.machine_events.specs.declared.event.Standing.TheVariants as standing;
+    ghost use Rattle.machine_model.specs.declared.event.Standing.TheVariants as standing;
     ghost use Rattle.open_machine.specs.Machines.{state, units_of, IsAnswered, Applies};
 
     /// A machine at the start of the program, with so many units, at most 16, none of them at work.

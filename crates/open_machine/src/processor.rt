@@ -3,7 +3,7 @@
 use crate::queue::Queue;
 use crate::unit::OpenUnit;
 use crate::world::World;
-use machine_events::event::{Commit, Standing};
+use machine_model::event::{Commit, Standing};
 use mips_instructions::number::REGISTERS;
 use mips_plain::memory::{Memory, MemoryFault};
 use mips_plain::outcome::{OutOfMemory, Read};

@@ -4,7 +4,7 @@ use crate::listing::created;
 use crate::unit::OpenUnit;
 use crate::world::World;
 use circular_buffer::HeapCircularBuffer;
-use machine_events::event::Refused;
+use machine_model::event::Refused;
 use mips_instructions::number::{Reg, RegSet};
 use mips_plain::outcome::{OutOfMemory, Read};
 use register_ring::members::next_member;
@@ -41,8 +41,8 @@ impl Queue {
     ghost use Rattle.unit_core.specs.Units.{active_of};
     ghost use Rattle.processor_steps.specs.Processors.{actives};
     ghost use Rattle.open_machine.specs.Executions.{Executes};
-    ghost use Rattle.machine_events.specs.declared.event.Refused.TheVariants as refused;
-    ghost use Rattle.machine_events.specs.declared.event.Standing.TheVariants as standing;
+    ghost use Rattle.machine_model.specs.declared.event.Refused.TheVariants as refused;
+    ghost use Rattle.machine_model.specs.declared.event.Standing.TheVariants as standing;
 
     /// A queue without a unit, with room for so many units.
     pub(crate) fn new(alloc: Global, capacity: u32) -> Result<Queue, AllocError>

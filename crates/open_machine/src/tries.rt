@@ -2,14 +2,14 @@
 
 ghost use Rattle.std.specs.Prelude.{◌≡◌, ◌+◌, ◌^◌, ◌<◌, slice_get, Some};
 ghost use Rattle.machine_model.specs.Machine.{Active};
-ghost use Rattle.machine_events.specs.declared.event.Event.TheVariants as events;
-ghost use Rattle.machine_events.specs.declared.event.Standing.TheVariants as standing;
+ghost use Rattle.machine_model.specs.declared.event.Event.TheVariants as events;
+ghost use Rattle.machine_model.specs.declared.event.Standing.TheVariants as standing;
 ghost use Rattle.processor_steps.specs.Processors.{state_of};
 ghost use Rattle.open_machine.specs.Machines.{Tries, AreShort};
 
 use crate::allowed::room_behind;
 use crate::processor::Processor;
-use machine_events::event::{Event, Refused};
+use machine_model::event::{Event, Refused};
 use mips_instructions::number::Reg;
 use mips_plain::outcome::OutOfMemory;
 use std::alloc::Global;

@@ -1,6 +1,6 @@
 //! What an instruction changes beside its unit.
 
-use machine_events::event::Standing;
+use machine_model::event::Standing;
 use mips_instructions::instruction::Op;
 use mips_plain::memory::{Memory, fixed_load};
 use mips_plain::outcome::OutOfMemory;
@@ -31,7 +31,7 @@ impl World {
     ghost use Rattle.machine_model.specs.Step.{stands};
     ghost use Rattle.unit_core.specs.Worlds.{memory_of};
     ghost use Rattle.unit_core.specs.ExecParts.{loads, IsAddress};
-    ghost use Rattle.machine_events.specs.declared.event.Standing.TheVariants.{Running};
+    ghost use Rattle.machine_model.specs.declared.event.Standing.TheVariants.{Running};
 
     /// A world with this memory, in which nothing was put out and the run goes on. Takes no memory.
     pub(crate) fn new(alloc: Global, memory: Memory) -> World

@@ -13,8 +13,8 @@ use Rattle.machine_model.specs.Machine.{Active, State, Words, task_at}
 use Rattle.machine_model.specs.Step.{is_reserved, started, filled, handed_over, retire_leaves}
 use Rattle.machine_model.specs.Unit.{exit_of}
 use Rattle.machine_model.specs.Answer.{with_queue, with_unit, after}
-use Rattle.machine_events.specs.declared.event.Commit.{Commit}
-use Rattle.machine_events.specs.declared.event.Event.TheVariants.{Assign, Retire}
+use Rattle.machine_model.specs.declared.event.Commit.{Commit}
+use Rattle.machine_model.specs.declared.event.Event.TheVariants.{Assign, Retire}
 use Rattle.register_ring.specs.Held.{no_pairs}
 use Rattle.register_ring.specs.Ports.{Ports, arrived_of, sent_of, arrived_fresh}
 use Rattle.unit_core.specs.Units.{UnitView, active_of, begun}

@@ -16,10 +16,10 @@ use Rattle.machine_model.specs.Burst.{StepsAlone, with_arrived}
 use Rattle.machine_model.specs.Laws.{BurstsAreEvents}
 use Rattle.machine_model.specs.Refusals.{for_some, unless}
 use Rattle.machine_model.specs.Answer.{refusal, with_queue, most_events}
-use Rattle.machine_events.specs.declared.event.Event.TheVariants.{Exec}
-use Rattle.machine_events.specs.declared.event.Refused.{Refused}
-use Rattle.machine_events.specs.declared.event.Refused.TheVariants as refused
-use Rattle.machine_events.specs.declared.event.Standing.TheVariants.{Running}
+use Rattle.machine_model.specs.declared.event.Event.TheVariants.{Exec}
+use Rattle.machine_model.specs.declared.event.Refused.{Refused}
+use Rattle.machine_model.specs.declared.event.Refused.TheVariants as refused
+use Rattle.machine_model.specs.declared.event.Standing.TheVariants.{Running}
 use Rattle.unit_core.specs.Worlds.{WorldView, memory_of}
 use Rattle.processor_steps.specs.Processors.{ProcessorView, state_of, actives, Steps}
 use Rattle.processor_steps.specs.CallParts.{HeadStep, AheadStep, IsRefusedBy}

@@ -2,8 +2,8 @@
 use Rattle.std.proofs.Common.{◌≡◌, ℕ, ◌<◌, Bool, List, Option, Some, None, Result, Ok, Err, ◌⊎◌, inl, inr, sym, ap, ◌∙◌, subst}
 use Rattle.std.specs.Prelude.{MatchResult, IsSome, IsOk, IfOk, slice_get}
 use Rattle.machine_model.specs.Refusals.{for_some}
-use Rattle.machine_events.specs.declared.event.Refused.{Refused}
-use Rattle.machine_events.specs.declared.event.Refused.TheVariants as refused
+use Rattle.machine_model.specs.declared.event.Refused.{Refused}
+use Rattle.machine_model.specs.declared.event.Refused.TheVariants as refused
 use Rattle.unit_core.specs.declared.wait.Wait.{Wait}
 use Rattle.unit_core.specs.declared.wait.Wait.TheVariants as wait
 use Rattle.processor_steps.specs.CallParts.{IsRefusedBy}

@@ -6,9 +6,9 @@ use Rattle.machine_model.specs.Machine.{Active}
 use Rattle.machine_model.specs.Unit.{exec_refusal}
 use Rattle.machine_model.specs.Answer.{after, later_refusal}
 use Rattle.machine_model.specs.Burst.{StepsAlone}
-use Rattle.machine_events.specs.declared.event.Event.{Event}
-use Rattle.machine_events.specs.declared.event.Refused.{Refused}
-use Rattle.machine_events.specs.declared.event.Refused.TheVariants as refused
+use Rattle.machine_model.specs.declared.event.Event.{Event}
+use Rattle.machine_model.specs.declared.event.Refused.{Refused}
+use Rattle.machine_model.specs.declared.event.Refused.TheVariants as refused
 use Rattle.unit_core.specs.UnitStep.{StepsAtHead}
 use Rattle.unit_core.specs.Worlds.{WorldView}
 use Rattle.processor_steps.specs.Processors.{ProcessorView, state_of, Keeps}

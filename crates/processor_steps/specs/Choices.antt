@@ -7,8 +7,8 @@ use Rattle.task_descriptor.specs.Listing.{Listing}
 use Rattle.machine_model.specs.Machine.{Active, task_at}
 use Rattle.machine_model.specs.Step.{is_listed}
 use Rattle.machine_model.specs.HeadEvent.{task_beginning}
-use Rattle.machine_events.specs.declared.event.Spot.{Spot}
-use Rattle.machine_events.specs.declared.event.Spot.TheVariants.{Inside, Stopped}
+use Rattle.machine_model.specs.declared.event.Spot.{Spot}
+use Rattle.machine_model.specs.declared.event.Spot.TheVariants.{Inside, Stopped}
 
 -- the targets of a tail that has not stopped
 abbrev pub targets_at : Listing → (task : ℕ) → Spot → List ℕ

@@ -7,10 +7,10 @@ use Rattle.machine_model.specs.Machine.{Active}
 use Rattle.machine_model.specs.Refusals.{least}
 use Rattle.machine_model.specs.Answer.{refusal, later_refusal}
 use Rattle.machine_model.specs.Examples.{count, value_of}
-use Rattle.machine_events.specs.declared.event.Event.TheVariants.{Assign, Exec, Retire, Drop}
-use Rattle.machine_events.specs.declared.event.Refused.TheVariants as refused
-use Rattle.machine_events.specs.declared.event.Spot.TheVariants.{Inside, Stopped}
-use Rattle.machine_events.specs.declared.event.Standing.TheVariants as standing
+use Rattle.machine_model.specs.declared.event.Event.TheVariants.{Assign, Exec, Retire, Drop}
+use Rattle.machine_model.specs.declared.event.Refused.TheVariants as refused
+use Rattle.machine_model.specs.declared.event.Spot.TheVariants.{Inside, Stopped}
+use Rattle.machine_model.specs.declared.event.Standing.TheVariants as standing
 use Rattle.unit_core.specs.Units.{UnitView, active_of}
 use Rattle.processor_steps.specs.Processors.{ProcessorView, state_of, takes_memory, Steps, executed_by}
 use Rattle.processor_steps.specs.Choices.{targets_behind, task_behind}

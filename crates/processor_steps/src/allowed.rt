@@ -10,14 +10,14 @@ ghost use Rattle.machine_model.specs.Step.{follows, next_begins};
 ghost use Rattle.machine_model.specs.Refusals.{least, unless};
 ghost use Rattle.machine_model.specs.Unit.{exit_of};
 ghost use Rattle.machine_model.specs.Answer.{refusal, most_events};
-ghost use Rattle.machine_events.specs.declared.event.Event.TheVariants as event;
-ghost use Rattle.machine_events.specs.declared.event.Refused.TheVariants as refused;
+ghost use Rattle.machine_model.specs.declared.event.Event.TheVariants as event;
+ghost use Rattle.machine_model.specs.declared.event.Refused.TheVariants as refused;
 ghost use Rattle.processor_steps.specs.Processors.{state_of};
 ghost use Rattle.unit_core.specs.Units.{active_of};
 
 use crate::listing::{begins, created, is_listed, may_follow};
 use crate::processor::{MOST_EVENTS, Processor};
-use machine_events::event::{Refused, Spot};
+use machine_model::event::{Refused, Spot};
 use mips_instructions::number::Reg;
 use register_ring::members::next_member;
 use task_descriptor::program::Program;

@@ -6,14 +6,14 @@ ghost use Rattle.std.specs.Option.{option_and_then};
 ghost use Rattle.machine_model.specs.Machine.{Active, pass};
 ghost use Rattle.machine_model.specs.Unit.{exit_of};
 ghost use Rattle.machine_model.specs.Answer.{refusal, after, with_queue};
-ghost use Rattle.machine_events.specs.declared.event.Event.TheVariants as event;
+ghost use Rattle.machine_model.specs.declared.event.Event.TheVariants as event;
 ghost use Rattle.processor_steps.specs.Processors.{state_of, actives, Keeps, ArePlaced};
 ghost use Rattle.unit_core.specs.Units.{active_of};
 ghost use Rattle.unit_core.specs.Bursts.{carried_on};
 
 use crate::listing::created;
 use crate::processor::Processor;
-use machine_events::event::{Commit, Standing};
+use machine_model::event::{Commit, Standing};
 use mark_checker::accept::Accepted;
 use mips_instructions::number::Reg;
 use mips_plain::outcome::OutOfMemory;

@@ -7,12 +7,12 @@ ghost use Rattle.machine_model.specs.HeadEvent.{event_of_head as event_of_head_a
 ghost use Rattle.processor_steps.specs.Processors.{state_of};
 ghost use Rattle.processor_steps.specs.Choices.{targets_behind, task_behind, task_at_spot, task_chosen};
 ghost use Rattle.unit_core.specs.Units.{active_of};
-ghost use Rattle.machine_events.specs.declared.event.Spot.TheVariants as spot;
+ghost use Rattle.machine_model.specs.declared.event.Spot.TheVariants as spot;
 
 use crate::allowed::unsent;
 use crate::listing::{is_listed, targets, task_beginning};
 use crate::processor::Processor;
-use machine_events::event::{Event, Spot};
+use machine_model::event::{Event, Spot};
 use mips_instructions::number::Place;
 use task_descriptor::program::Program;
 use unit_core::unit::Unit;

@@ -4,8 +4,8 @@ ghost use Rattle.std.specs.Prelude.{◌≡◌, ℕ, None};
 ghost use Rattle.machine_model.specs.Machine.{State};
 ghost use Rattle.machine_model.specs.Step.{Next};
 ghost use Rattle.machine_model.specs.Answer.{refusal, after};
-ghost use Rattle.machine_events.specs.declared.event.Event.{Event};
-ghost use Rattle.machine_events.specs.declared.event.Standing.TheVariants as standing;
+ghost use Rattle.machine_model.specs.declared.event.Event.{Event};
+ghost use Rattle.machine_model.specs.declared.event.Standing.TheVariants as standing;
 
 use machine_model::laws::answer_is_next;
 use mark_checker::accept::Accepted;

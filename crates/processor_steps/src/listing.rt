@@ -7,7 +7,7 @@ ghost use Rattle.machine_model.specs.Machine.{task_at, begins as begins_at};
 ghost use Rattle.machine_model.specs.Step.{is_listed as is_listed_at, follows_at};
 ghost use Rattle.machine_model.specs.HeadEvent.{task_beginning as task_beginning_at};
 
-use machine_events::event::Spot;
+use machine_model::event::Spot;
 use mips_instructions::number::{Place, RegSet};
 use mips_instructions::places::CODE_START;
 use task_descriptor::descriptor::Descriptor;

@@ -2,7 +2,7 @@
 //! retired; and how it is read.
 
 use crate::queue::Queue;
-use machine_events::event::Commit;
+use machine_model::event::Commit;
 use mips_instructions::number::REGISTERS;
 use mips_plain::memory::{Memory, MemoryFault};
 use mips_plain::outcome::OutOfMemory;

@@ -3,7 +3,7 @@
 
 use crate::listing::created;
 use circular_buffer::HeapCircularBuffer;
-use machine_events::event::Refused;
+use machine_model::event::Refused;
 use mark_checker::accept::Accepted;
 use mips_instructions::number::{Reg, RegSet};
 use mips_plain::outcome::OutOfMemory;
@@ -47,8 +47,8 @@ impl Queue {
     ghost use Rattle.unit_core.specs.Bursts.{carried_on};
     ghost use Rattle.processor_steps.specs.Processors.{actives, ArePlaced, position_with as position_with_serial};
     ghost use Rattle.processor_steps.specs.CallParts.{HeadStep, AheadStep, IsRefusedBy};
-    ghost use Rattle.machine_events.specs.declared.event.Refused.TheVariants as refused;
-    ghost use Rattle.machine_events.specs.declared.event.Standing.TheVariants as standing;
+    ghost use Rattle.machine_model.specs.declared.event.Refused.TheVariants as refused;
+    ghost use Rattle.machine_model.specs.declared.event.Standing.TheVariants as standing;
 
     /// A queue without a unit, with room for so many units.
     pub(crate) fn new(alloc: Global, capacity: u32) -> Result<Queue, AllocError>

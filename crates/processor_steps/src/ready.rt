@@ -6,14 +6,14 @@ ghost use Rattle.mips_instructions.specs.Words.{has};
 ghost use Rattle.machine_model.specs.Machine.{Active, creates, pass, value};
 ghost use Rattle.machine_model.specs.Unit.{exec_refusal, exit_of};
 ghost use Rattle.machine_model.specs.Answer.{refusal};
-ghost use Rattle.machine_events.specs.declared.event.Event.TheVariants as event;
+ghost use Rattle.machine_model.specs.declared.event.Event.TheVariants as event;
 ghost use Rattle.unit_core.specs.Units.{active_of};
 ghost use Rattle.processor_steps.specs.LeastRegisters.{IsLeast};
 ghost use Rattle.processor_steps.specs.Processors.{state_of, ArePlaced};
 
 use crate::listing::created;
 use crate::processor::Processor;
-use machine_events::event::Spot;
+use machine_model::event::Spot;
 use mark_checker::accept::Accepted;
 use mips_instructions::number::{Reg, RegSet};
 use register_ring::members::next_member;

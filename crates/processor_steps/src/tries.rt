@@ -3,16 +3,16 @@
 ghost use Rattle.std.specs.Prelude.{◌≡◌, ℕ, ◌+◌, ◌^◌, ◌<◌, ◌↔◌, Some, None, IsTrue};
 ghost use Rattle.std.specs.Option.{option_or};
 ghost use Rattle.machine_model.specs.Answer.{refusal};
-ghost use Rattle.machine_events.specs.declared.event.Refused.TheVariants as refused;
-ghost use Rattle.machine_events.specs.declared.event.Event.TheVariants as events;
-ghost use Rattle.machine_events.specs.declared.event.Standing.TheVariants as standing;
+ghost use Rattle.machine_model.specs.declared.event.Refused.TheVariants as refused;
+ghost use Rattle.machine_model.specs.declared.event.Event.TheVariants as events;
+ghost use Rattle.machine_model.specs.declared.event.Standing.TheVariants as standing;
 ghost use Rattle.processor_steps.specs.Processors.{state_of, ArePlaced, Steps, executed_by};
 ghost use Rattle.processor_steps.specs.CallParts.{Does};
 
 use crate::allowed::room_behind;
 use crate::known::known;
 use crate::processor::{MOST_EVENTS, Processor};
-use machine_events::event::{Event, Refused};
+use machine_model::event::{Event, Refused};
 use machine_model::laws::bursts_are_events;
 use mark_checker::accept::Accepted;
 use mips_instructions::number::Reg;

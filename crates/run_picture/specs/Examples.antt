@@ -2,7 +2,7 @@
 use Rattle.std.specs.Prelude.{◌≡◌, ℕ, ◌+◌, ◌*◌, [], ◌∷◌, codes}
 use Rattle.std.specs.Fmt.{digits}
 use Rattle.std.proofs.Common.{refl}
-use Rattle.machine_events.specs.declared.event.Event.TheVariants.{Assign, Exec, Retire}
+use Rattle.machine_model.specs.declared.event.Event.TheVariants.{Assign, Exec, Retire}
 use Rattle.task_lives.specs.declared.life.Ending.{Ending}
 use Rattle.task_lives.specs.declared.life.Ending.TheVariants.{Squashed}
 use Rattle.task_lives.specs.declared.life.Life.{Life}

@@ -2,7 +2,7 @@
 
 ghost use Rattle.std.specs.Prelude.{◌≡◌, ◌++◌, ◌<◌, ◌≤◌, IfOk, OnOk, length};
 ghost use Rattle.std.specs.String.{string_bytes};
-ghost use Rattle.machine_events.specs.Runs.{events_of};
+ghost use Rattle.machine_model.specs.Runs.{events_of};
 ghost use Rattle.machine_model.specs.Answer.{most_events};
 ghost use Rattle.task_lives.specs.Lives.{AllFit};
 ghost use Rattle.task_lives.specs.Sums.{AreFew};
@@ -18,7 +18,7 @@ use crate::shape_text::write_shapes;
 use crate::sheet::{marks_legend, stretches_legend, style_sheet};
 use crate::stretches::{push_stretches, stretch_length};
 use crate::words_text::write_title;
-use machine_events::event::{Event, EventRun};
+use machine_model::event::{Event, EventRun};
 use task_lives::tally::add_up;
 use std::alloc::{AllocError, Global};
 use task_descriptor::descriptor::Descriptor;

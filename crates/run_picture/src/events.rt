@@ -1,9 +1,9 @@
 //! The events of a history, one by one.
 
 ghost use Rattle.std.specs.Prelude.{◌≡◌, ◌++◌, IfOk, OnOk, replicate};
-ghost use Rattle.machine_events.specs.Runs.{events_of};
+ghost use Rattle.machine_model.specs.Runs.{events_of};
 
-use machine_events::event::{Event, EventRun};
+use machine_model::event::{Event, EventRun};
 use std::alloc::{AllocError, Global};
 
 /// The events of some runs, in order. An error says that memory was refused.

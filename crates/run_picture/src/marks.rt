@@ -7,7 +7,7 @@ ghost use Rattle.run_picture.specs.Marks.{arrow_of, arrows_of, by_room as style_
 
 use crate::scale::{BAR_HEIGHT, middle, room, top};
 use crate::shape::{Form, Hover, Shape, Style, Words};
-use machine_events::event::Event;
+use machine_model::event::Event;
 use std::alloc::AllocError;
 
 /// An event with less room than this is drawn by a finer line.

@@ -6,11 +6,11 @@ use Rattle.std.proofs.lemmas.List.Concat.{flat_map-cons}
 use Rattle.std.proofs.lemmas.Bool.{and_parts}
 use Rattle.std.specs.Prelude.{nat_eq}
 use Rattle.std.proofs.lemmas.List.Elements.{All-head, All-tail}
-use Rattle.machine_events.specs.Runs.{events_of}
-use Rattle.machine_events.specs.declared.event.Event.{Event}
-use Rattle.machine_events.specs.declared.event.Event.TheVariants as event
-use Rattle.machine_events.specs.contracts.event.EventPartialEq.TheImpl as compared
-use Rattle.machine_events.specs.declared.event.EventRun.{EventRun}
+use Rattle.machine_model.specs.Runs.{events_of}
+use Rattle.machine_model.specs.declared.event.Event.{Event}
+use Rattle.machine_model.specs.declared.event.Event.TheVariants as event
+use Rattle.machine_model.specs.contracts.event.EventPartialEq.TheImpl as compared
+use Rattle.machine_model.specs.declared.event.EventRun.{EventRun}
 use Rattle.sequencer.specs.Histories.{AreCounted}
 
 abbrev events : EventRun → List Event

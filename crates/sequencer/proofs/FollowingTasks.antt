@@ -19,12 +19,12 @@ use Rattle.machine_model.specs.Machine.{Active, State, begins, task_at, no_task}
 use Rattle.machine_model.specs.Step.{is_listed, follows, follows_at}
 use Rattle.machine_model.specs.Answer.{is_running}
 use Rattle.machine_model.specs.HeadEvent.{task_beginning}
-use Rattle.machine_events.specs.declared.event.Event.{Event}
-use Rattle.machine_events.specs.declared.event.Event.TheVariants.{Assign}
-use Rattle.machine_events.specs.declared.event.Spot.{Spot}
-use Rattle.machine_events.specs.declared.event.Spot.TheVariants.{Inside, Stopped}
-use Rattle.machine_events.specs.declared.event.Standing.{Standing}
-use Rattle.machine_events.specs.declared.event.Standing.TheVariants.{Running}
+use Rattle.machine_model.specs.declared.event.Event.{Event}
+use Rattle.machine_model.specs.declared.event.Event.TheVariants.{Assign}
+use Rattle.machine_model.specs.declared.event.Spot.{Spot}
+use Rattle.machine_model.specs.declared.event.Spot.TheVariants.{Inside, Stopped}
+use Rattle.machine_model.specs.declared.event.Standing.{Standing}
+use Rattle.machine_model.specs.declared.event.Standing.TheVariants.{Running}
 use Rattle.processor_steps.specs.Choices.{targets_at, targets_behind, task_chosen, task_at_spot, task_behind}
 use Rattle.sequencer.specs.Choices.{choices_of, choice_of, MayFollow}
 

@@ -7,9 +7,9 @@ use Rattle.machine_model.specs.Step.{Next}
 use Rattle.machine_model.specs.Answer.{most_events}
 use Rattle.machine_model.specs.Claims.{count_h}
 use Rattle.machine_model.specs.HeadEvent.{head_event, growth}
-use Rattle.machine_events.specs.declared.event.Event.{Event}
-use Rattle.machine_events.specs.declared.event.Refused.{Refused}
-use Rattle.machine_events.specs.declared.event.Event.TheVariants.{Assign, Exec, Transfer, Drain, Squash, Retire, Fault, Drop}
+use Rattle.machine_model.specs.declared.event.Event.{Event}
+use Rattle.machine_model.specs.declared.event.Refused.{Refused}
+use Rattle.machine_model.specs.declared.event.Event.TheVariants.{Assign, Exec, Transfer, Drain, Squash, Retire, Fault, Drop}
 use Rattle.sequencer.specs.Finish.{RunsByHead, IsHeadRefused}
 use Rattle.sequencer.specs.Machines.{MachineView, Applies, SameRing, state, units_of}
 

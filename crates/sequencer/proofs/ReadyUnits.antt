@@ -11,11 +11,11 @@ use Rattle.machine_model.specs.Machine.{Active, State}
 use Rattle.machine_model.specs.Refusals.{unless, for_some, for_none}
 use Rattle.machine_model.specs.Unit.{instruction_at, operand, lacks, exec_refusal}
 use Rattle.machine_model.specs.Answer.{refusal, is_running, ok_unless}
-use Rattle.machine_events.specs.declared.event.Event.TheVariants.{Exec}
-use Rattle.machine_events.specs.declared.event.Refused.{Refused}
-use Rattle.machine_events.specs.declared.event.Refused.TheVariants as refused
-use Rattle.machine_events.specs.declared.event.Standing.{Standing}
-use Rattle.machine_events.specs.declared.event.Standing.TheVariants.{Running}
+use Rattle.machine_model.specs.declared.event.Event.TheVariants.{Exec}
+use Rattle.machine_model.specs.declared.event.Refused.{Refused}
+use Rattle.machine_model.specs.declared.event.Refused.TheVariants as refused
+use Rattle.machine_model.specs.declared.event.Standing.{Standing}
+use Rattle.machine_model.specs.declared.event.Standing.TheVariants.{Running}
 
 ready : (is_head may : Bool) → unless (false || may) refused.NotHead None ≡ None → unless (is_head || may) refused.NotHead None ≡ None
 ready true may e = refl

@@ -14,9 +14,9 @@ use Rattle.machine_model.specs.Replay.{ReplaysFrom, Replays}
 use Rattle.processor_steps.specs.Processors.{by_units, executed_by}
 use Rattle.machine_model.specs.Laws.{ReplayCut, EventsCount}
 use Rattle.machine_model.specs.HeadEvent.{active_after}
-use Rattle.machine_events.specs.declared.event.Commit.{Commit}
-use Rattle.machine_events.specs.declared.event.Event.{Event}
-use Rattle.machine_events.specs.declared.event.Event.TheVariants.{Assign, Exec, Transfer, Drain, Squash, Retire, Fault, Drop}
+use Rattle.machine_model.specs.declared.event.Commit.{Commit}
+use Rattle.machine_model.specs.declared.event.Event.{Event}
+use Rattle.machine_model.specs.declared.event.Event.TheVariants.{Assign, Exec, Transfer, Drain, Squash, Retire, Fault, Drop}
 use Rattle.sequencer.specs.Rings.{EventFits}
 
 -- more events behind a replay

@@ -11,8 +11,8 @@ use Rattle.machine_model.specs.Machine.{Active, State, opening}
 use Rattle.machine_model.specs.Unit.{executed, after_exec}
 use Rattle.machine_model.specs.Step.{Next, started, filled, handed_over}
 use Rattle.machine_model.specs.Replay.{ReplaysFrom, Replays}
-use Rattle.machine_events.specs.declared.event.Event.{Event}
-use Rattle.machine_events.specs.declared.event.Event.TheVariants.{Assign, Exec, Transfer, Drain, Squash, Retire, Fault, Drop}
+use Rattle.machine_model.specs.declared.event.Event.{Event}
+use Rattle.machine_model.specs.declared.event.Event.TheVariants.{Assign, Exec, Transfer, Drain, Squash, Retire, Fault, Drop}
 use Rattle.sequencer.specs.Rings.{AreDistinct}
 
 -- they rise, from `low` on, below `high`

@@ -8,9 +8,9 @@ use Rattle.machine_model.specs.Replay.{ReplaysFrom}
 use Rattle.machine_model.specs.Answer.{with_queue, most_events}
 use Rattle.machine_model.specs.Unit.{with_log}
 use Rattle.machine_model.specs.Laws.{BurstsAreEvents}
-use Rattle.machine_events.specs.declared.event.Event.{Event}
-use Rattle.machine_events.specs.declared.event.Event.TheVariants.{Exec}
-use Rattle.machine_events.specs.declared.event.Standing.TheVariants.{Running}
+use Rattle.machine_model.specs.declared.event.Event.{Event}
+use Rattle.machine_model.specs.declared.event.Event.TheVariants.{Exec}
+use Rattle.machine_model.specs.declared.event.Standing.TheVariants.{Running}
 use Rattle.unit_core.specs.Units.{active_of}
 use Rattle.unit_core.specs.Bursts.{BurstView, IsMade, Makes, HasMore, carried_on}
 use Rattle.processor_steps.specs.Processors.{ProcessorView, Keeps, state_of, position_with}

@@ -4,10 +4,10 @@ use Rattle.std.specs.Prelude.{nat_lt}
 use Rattle.std.specs.Option.{option_or}
 use Rattle.machine_model.specs.Refusals.{unless}
 use Rattle.machine_model.specs.Answer.{is_running, ok_unless, most_events}
-use Rattle.machine_events.specs.declared.event.Refused.{Refused}
-use Rattle.machine_events.specs.declared.event.Refused.TheVariants as refused
-use Rattle.machine_events.specs.declared.event.Standing.{Standing}
-use Rattle.machine_events.specs.declared.event.Standing.TheVariants.{Running}
+use Rattle.machine_model.specs.declared.event.Refused.{Refused}
+use Rattle.machine_model.specs.declared.event.Refused.TheVariants as refused
+use Rattle.machine_model.specs.declared.event.Standing.{Standing}
+use Rattle.machine_model.specs.declared.event.Standing.TheVariants.{Running}
 
 pub refused_where_running : (o : Standing) (later : Option Refused) → o ≡ Running → unless (is_running o) refused.Ended later ≡ later
 refused_where_running o later runs = ap (λ (x : Standing). unless (is_running x) refused.Ended later) runs

@@ -7,8 +7,8 @@ use Rattle.task_descriptor.specs.Listing.{Listing}
 use Rattle.machine_model.specs.Machine.{State}
 use Rattle.machine_model.specs.Step.{follows}
 use Rattle.machine_model.specs.Answer.{is_running}
-use Rattle.machine_events.specs.declared.event.Event.{Event}
-use Rattle.machine_events.specs.declared.event.Event.TheVariants.{Assign}
+use Rattle.machine_model.specs.declared.event.Event.{Event}
+use Rattle.machine_model.specs.declared.event.Event.TheVariants.{Assign}
 use Rattle.processor_steps.specs.Choices.{targets_behind, task_behind}
 
 -- the targets to choose from; none once the run has ended

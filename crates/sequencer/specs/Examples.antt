@@ -9,7 +9,7 @@ use Rattle.machine_model.specs.Refusals.{least}
 use Rattle.machine_model.specs.Answer.{play}
 use Rattle.machine_model.specs.HeadEvent.{unit_of}
 use Rattle.machine_model.specs.Examples.{count}
-use Rattle.machine_events.specs.declared.event.Event.TheVariants.{Assign, Exec, Drain, Retire, Drop}
+use Rattle.machine_model.specs.declared.event.Event.TheVariants.{Assign, Exec, Drain, Retire, Drop}
 use Rattle.sequencer.specs.Choices.{choices_of, choice_of}
 use Rattle.sequencer.specs.Histories.{executed_in}
 

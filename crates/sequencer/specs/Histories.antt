@@ -1,9 +1,9 @@
 -- Runs of a history, and the instructions that it executed (own).
 use Rattle.std.specs.Prelude.{ℕ, ◌<◌, Bool, true, false, List}
 use Rattle.std.specs.List.{All, count_by}
-use Rattle.machine_events.specs.declared.event.Event.{Event}
-use Rattle.machine_events.specs.declared.event.Event.TheVariants.{Exec}
-use Rattle.machine_events.specs.declared.event.EventRun.{EventRun}
+use Rattle.machine_model.specs.declared.event.Event.{Event}
+use Rattle.machine_model.specs.declared.event.Event.TheVariants.{Exec}
+use Rattle.machine_model.specs.declared.event.EventRun.{EventRun}
 
 -- each run has an event
 abbrev pub AreCounted : List EventRun → Type 0

@@ -6,9 +6,9 @@ use Rattle.machine_model.specs.Machine.{State}
 use Rattle.machine_model.specs.Step.{Next}
 use Rattle.machine_model.specs.Answer.{answer, most_events}
 use Rattle.machine_model.specs.Replay.{Replays}
-use Rattle.machine_events.specs.declared.event.Event.{Event}
-use Rattle.machine_events.specs.declared.event.Refused.{Refused}
-use Rattle.machine_events.specs.declared.event.Refused.TheVariants as refused
+use Rattle.machine_model.specs.declared.event.Event.{Event}
+use Rattle.machine_model.specs.declared.event.Refused.{Refused}
+use Rattle.machine_model.specs.declared.event.Refused.TheVariants as refused
 use Rattle.processor_steps.specs.Processors.{ProcessorView, state_of, takes_memory}
 
 -- the machine: the accepted program with its certificate, what the events changed, and the events

@@ -2,8 +2,8 @@
 use Rattle.std.specs.Prelude.{◌≡◌, ℕ, ◌<◌, List, length, slice_get, Some}
 use Rattle.machine_model.specs.Machine.{Active}
 use Rattle.machine_model.specs.HeadEvent.{position_of, unit_of}
-use Rattle.machine_events.specs.declared.event.Event.{Event}
-use Rattle.machine_events.specs.declared.event.Event.TheVariants.{Assign}
+use Rattle.machine_model.specs.declared.event.Event.{Event}
+use Rattle.machine_model.specs.declared.event.Event.TheVariants.{Assign}
 use Rattle.sequencer.specs.Machines.{MachineView, state, units_of}
 
 abbrev pub unit_for : MachineView → Event → ℕ

@@ -2,7 +2,7 @@
 //! machine that is shared.
 
 use crate::machine::{Machine, is_same};
-use machine_events::event::{Event, Refused, Spot};
+use machine_model::event::{Event, Refused, Spot};
 use machine_model::laws::bursts_are_events;
 use mips_plain::outcome::OutOfMemory;
 use processor_steps::processor::MOST_EVENTS;
@@ -14,8 +14,8 @@ impl<'a> Machine<'a> {
     ghost use Rattle.std.specs.Option.{option_map};
     ghost use Rattle.machine_model.specs.Machine.{Active};
     ghost use Rattle.machine_model.specs.Unit.{with_log};
-    ghost use Rattle.machine_events.specs.declared.event.Event.TheVariants.{Exec};
-    ghost use Rattle.machine_events.specs.declared.event.Standing.TheVariants as standing;
+    ghost use Rattle.machine_model.specs.declared.event.Event.TheVariants.{Exec};
+    ghost use Rattle.machine_model.specs.declared.event.Standing.TheVariants as standing;
     ghost use Rattle.unit_core.specs.Units.{active_of};
     ghost use Rattle.unit_core.specs.Bursts.{HasMore};
     ghost use Rattle.processor_steps.specs.Processors.{position_with};

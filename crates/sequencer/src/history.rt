@@ -1,6 +1,6 @@
 //! The events of a machine so far, as runs of equal events, in room that is reserved once.
 
-use machine_events::event::{Event, EventRun};
+use machine_model::event::{Event, EventRun};
 use processor_steps::processor::MOST_EVENTS;
 use std::alloc::{AllocError, Global};
 use std::marker::Model;
@@ -17,8 +17,8 @@ pub(crate) struct History {
 impl Model for History {
     ghost use Rattle.std.specs.Prelude.{◌≡◌, ◌≤◌, List, length, vec_capacity};
     ghost use Rattle.machine_model.specs.Answer.{most_events};
-    ghost use Rattle.machine_events.specs.Runs.{events_of};
-    ghost use Rattle.machine_events.specs.declared.event.Event.{Event};
+    ghost use Rattle.machine_model.specs.Runs.{events_of};
+    ghost use Rattle.machine_model.specs.declared.event.Event.{Event};
     ghost use Rattle.sequencer.specs.Histories.{AreCounted, executed_in};
 
     ghost Value = { List Event };
@@ -31,7 +31,7 @@ impl Model for History {
 impl History {
     ghost use Rattle.std.specs.Prelude.{◌≡◌, ◌+◌, ◌<◌, ◌≤◌, [], ◌∷◌, ◌++◌, length, replicate, IfOk};
     ghost use Rattle.machine_model.specs.Answer.{most_events};
-    ghost use Rattle.machine_events.specs.Runs.{events_of};
+    ghost use Rattle.machine_model.specs.Runs.{events_of};
     ghost use Rattle.sequencer.specs.Histories.{AreCounted, executed_in};
 
     /// No event, with its room reserved.
@@ -96,7 +96,7 @@ impl History {
 
 ghost use Rattle.std.specs.Prelude.{◌≡◌, ◌↔◌, ◌+◌, ◌<◌, ◌≤◌, ◌++◌, IsTrue, length, replicate, vec_capacity};
 ghost use Rattle.machine_model.specs.Answer.{most_events};
-ghost use Rattle.machine_events.specs.Runs.{events_of};
+ghost use Rattle.machine_model.specs.Runs.{events_of};
 ghost use Rattle.sequencer.specs.Histories.{AreCounted, executed_in};
 
 /// How many instructions an event executes that is there so many times.

@@ -8,7 +8,7 @@ ghost use Rattle.machine_model.specs.Replay.{ReplaysFrom, Replays};
 ghost use Rattle.machine_model.specs.Answer.{refusal, after};
 ghost use Rattle.machine_model.specs.Claims.{count_h};
 ghost use Rattle.machine_model.specs.HeadEvent.{growth};
-ghost use Rattle.machine_events.specs.declared.event.Event.{Event};
+ghost use Rattle.machine_model.specs.declared.event.Event.{Event};
 ghost use Rattle.processor_steps.specs.Processors.{ArePlaced, executed_by};
 ghost use Rattle.sequencer.specs.Rings.{AreDistinct, EventFits};
 

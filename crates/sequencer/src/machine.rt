@@ -3,7 +3,7 @@
 use crate::history::History;
 use crate::laws::accepted_replays;
 use accepted_laws::laws::{accepted_headline, accepted_never_stuck};
-use machine_events::event::{Commit, Event, EventRun, Refused, Standing};
+use machine_model::event::{Commit, Event, EventRun, Refused, Standing};
 use mark_checker::accept::Accepted;
 use mips_instructions::number::{Place, Reg};
 use mips_plain::memory::Memory;
@@ -59,11 +59,11 @@ impl<'a> Machine<'a> {
     ghost use Rattle.machine_model.specs.Step.{Next};
     ghost use Rattle.machine_model.specs.Answer.{after, refusal, most_events};
     ghost use Rattle.machine_model.specs.HeadEvent.{head_event as head_event_of, event_of_queue, growth};
-    ghost use Rattle.machine_events.specs.Runs.{events_of};
-    ghost use Rattle.machine_events.specs.declared.event.Event.{Event};
-    ghost use Rattle.machine_events.specs.declared.event.Event.TheVariants.{Assign, Exec, Transfer, Retire};
-    ghost use Rattle.machine_events.specs.declared.event.Refused.TheVariants as refused;
-    ghost use Rattle.machine_events.specs.declared.event.Standing.TheVariants as standing;
+    ghost use Rattle.machine_model.specs.Runs.{events_of};
+    ghost use Rattle.machine_model.specs.declared.event.Event.{Event};
+    ghost use Rattle.machine_model.specs.declared.event.Event.TheVariants.{Assign, Exec, Transfer, Retire};
+    ghost use Rattle.machine_model.specs.declared.event.Refused.TheVariants as refused;
+    ghost use Rattle.machine_model.specs.declared.event.Standing.TheVariants as standing;
     ghost use Rattle.machine_model.specs.Replay.{Replays, ReplaysFrom};
     ghost use Rattle.machine_model.specs.Claims.{Claims, EndsLike, count_c, count_h};
     ghost use Rattle.mips_plain.specs.MemoryMap.{byte_of};

@@ -1,7 +1,7 @@
 //! What the units of a machine are ready for, beside what the head is.
 
 use crate::machine::Machine;
-use machine_events::event::Spot;
+use machine_model::event::Spot;
 use mips_instructions::number::Reg;
 
 impl<'a> Machine<'a> {
@@ -11,9 +11,9 @@ impl<'a> Machine<'a> {
     ghost use Rattle.machine_model.specs.Unit.{exec_refusal};
     ghost use Rattle.machine_model.specs.Step.{Next};
     ghost use Rattle.machine_model.specs.Answer.{refusal, most_events};
-    ghost use Rattle.machine_events.specs.declared.event.Event.{Event};
-    ghost use Rattle.machine_events.specs.declared.event.Event.TheVariants.{Exec, Transfer, Drain};
-    ghost use Rattle.machine_events.specs.declared.event.Standing.TheVariants as standing;
+    ghost use Rattle.machine_model.specs.declared.event.Event.{Event};
+    ghost use Rattle.machine_model.specs.declared.event.Event.TheVariants.{Exec, Transfer, Drain};
+    ghost use Rattle.machine_model.specs.declared.event.Standing.TheVariants as standing;
     ghost use Rattle.processor_steps.specs.LeastRegisters.{IsLeast};
     ghost use Rattle.sequencer.specs.Machines.{state, units_of, answer_to};
     ghost use Rattle.sequencer.specs.Rings.{unit_for};

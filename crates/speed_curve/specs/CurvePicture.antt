@@ -1,8 +1,8 @@
 -- The picture of a curve, as the text of an SVG file (own choice).
 use Rattle.std.specs.Fmt.{decimal}
 use Rattle.std.specs.Prelude.{ℕ, ◌+◌, ◌-◌, ◌*◌, ◌/◌, Option, Some, None, List, [], ◌∷◌, ◌++◌, codes, flat_map, length}
-use Rattle.machine_events.specs.declared.event.Standing.{Standing}
-use Rattle.machine_events.specs.declared.event.Standing.TheVariants.{Halted}
+use Rattle.machine_model.specs.declared.event.Standing.{Standing}
+use Rattle.machine_model.specs.declared.event.Standing.TheVariants.{Halted}
 use Rattle.speed_curve.specs.declared.row.Row.{Row}
 use Rattle.speed_curve.specs.TableText.{end_text, rate, share, speed_up}
 use Rattle.speed_curve.specs.Scales.{bar_of, column_of, foot_over, foot_under, height_of, number_text, top_of}

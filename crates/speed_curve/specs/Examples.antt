@@ -7,8 +7,8 @@ use Rattle.mips_instructions.specs.Words.{address, index_of}
 use Rattle.mips_plain.specs.MemoryMap.{region, effective}
 use Rattle.machine_model.specs.Answer.{least}
 use Rattle.machine_model.specs.Examples.{count}
-use Rattle.machine_events.specs.declared.event.Standing.{Standing}
-use Rattle.machine_events.specs.declared.event.Standing.TheVariants.{Running, Halted, Unlisted}
+use Rattle.machine_model.specs.declared.event.Standing.{Standing}
+use Rattle.machine_model.specs.declared.event.Standing.TheVariants.{Running, Halted, Unlisted}
 use Rattle.unit_turns.specs.FirstAllowed.{registers, first_allowed}
 use Rattle.unit_turns.specs.declared.predictor.Predictor.TheVariants as predictor
 use Rattle.unit_turns.specs.Steps.{beginning, after_steps}

@@ -1,8 +1,8 @@
 -- The table of some runs: a heading, and a row for each (own choice).
 use Rattle.std.specs.Prelude.{ℕ, ◌+◌, ◌-◌, ◌*◌, ◌/◌, ◌%◌, Option, Some, None, List, [], ◌∷◌, ◌++◌, Bool, true, false, ◌&&◌, nat_eq, nat_lt, if◌then◌else◌, codes, flat_map}
 use Rattle.std.specs.Fmt.{decimal}
-use Rattle.machine_events.specs.declared.event.Standing.{Standing}
-use Rattle.machine_events.specs.declared.event.Standing.TheVariants.{Running, Halted, Trapped, Unlisted}
+use Rattle.machine_model.specs.declared.event.Standing.{Standing}
+use Rattle.machine_model.specs.declared.event.Standing.TheVariants.{Running, Halted, Trapped, Unlisted}
 use Rattle.task_lives.specs.SummaryText.{column}
 use Rattle.speed_curve.specs.declared.row.Row.{Row}
 

@@ -6,7 +6,7 @@ ghost use Rattle.speed_curve.specs.CurvePicture.{bar_text, column_text, mark_tex
 
 use crate::hundredths::Hundredths;
 use crate::scale::{bar, column, foot_over, foot_under, height};
-use machine_events::event::Standing;
+use machine_model::event::Standing;
 use crate::row::Row;
 use crate::table::{end_of, rate, share, speed_up};
 use std::alloc::AllocError;

@@ -5,7 +5,7 @@ ghost use Rattle.sequencer.specs.Machines.{state, units_of};
 ghost use Rattle.unit_turns.specs.Steps.{beginning, after_steps, Takes};
 ghost use Rattle.speed_curve.specs.Curve.{IsRowOf};
 
-use machine_events::event::Standing;
+use machine_model::event::Standing;
 use mark_checker::accept::Accepted;
 use task_lives::tally::add_up;
 use std::alloc::{AllocError, Global};

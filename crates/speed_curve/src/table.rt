@@ -6,7 +6,7 @@ ghost use Rattle.task_lives.specs.SummaryText.{column};
 ghost use Rattle.speed_curve.specs.TableText.{decimals, end_text, has_ended as has_ended_by, heading, hundredths as hundredths_of, rate as rate_of, rate_text, row_text, rows_text, share as share_of, speed_text, speed_up as speed_up_of, table_text, wasted_text};
 
 use crate::row::Row;
-use machine_events::event::Standing;
+use machine_model::event::Standing;
 use std::alloc::{AllocError, Global};
 
 /// The table of some runs of a program, of which the first is the one on one unit: a heading, and a row for

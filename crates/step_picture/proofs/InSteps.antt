@@ -1,6 +1,6 @@
 -- There are no more steps than events.
 use Rattle.std.proofs.Common.{ℕ, zero, suc, ◌+◌, ◌-◌, ◌<◌, ◌≤◌, Bool, true, false, cond, List, [], ◌∷◌, length, arith}
-use Rattle.machine_events.specs.declared.event.Event.{Event}
+use Rattle.machine_model.specs.declared.event.Event.{Event}
 use Rattle.machine_model.specs.HeadEvent.{active_after}
 use Rattle.unit_waits.specs.Waits.{ends_step}
 use Rattle.step_picture.specs.Numbers.{count_of, step_at, steps_from, steps_of}

@@ -1,7 +1,7 @@
 -- The bars of lives in steps (own choice). The task that halted is not called unfinished.
 use Rattle.std.specs.Prelude.{ℕ, ◌%◌, Bool, false, List, flat_map, nat_eq, if◌then◌else◌}
-use Rattle.machine_events.specs.declared.event.Standing.{Standing}
-use Rattle.machine_events.specs.declared.event.Standing.TheVariants as standing
+use Rattle.machine_model.specs.declared.event.Standing.{Standing}
+use Rattle.machine_model.specs.declared.event.Standing.TheVariants as standing
 use Rattle.task_descriptor.specs.declared.descriptor.Descriptor.{Descriptor}
 use Rattle.task_lives.specs.declared.life.Life.{Life}
 use Rattle.task_lives.specs.Sums.{is_unfinished}

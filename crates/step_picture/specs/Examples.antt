@@ -3,10 +3,10 @@
 use Rattle.std.specs.Prelude.{◌≡◌, ℕ, List, [], ◌∷◌, ◌++◌, true, false, Bool, codes}
 use Rattle.std.specs.Fmt.{digits}
 use Rattle.std.proofs.Common.{refl}
-use Rattle.machine_events.specs.declared.event.Event.{Event}
-use Rattle.machine_events.specs.declared.event.Event.TheVariants.{Assign, Exec, Transfer, Squash}
-use Rattle.machine_events.specs.declared.event.Spot.TheVariants.{Inside}
-use Rattle.machine_events.specs.declared.event.Standing.TheVariants as standing
+use Rattle.machine_model.specs.declared.event.Event.{Event}
+use Rattle.machine_model.specs.declared.event.Event.TheVariants.{Assign, Exec, Transfer, Squash}
+use Rattle.machine_model.specs.declared.event.Spot.TheVariants.{Inside}
+use Rattle.machine_model.specs.declared.event.Standing.TheVariants as standing
 use Rattle.task_descriptor.specs.declared.descriptor.Descriptor.{Descriptor}
 use Rattle.task_lives.specs.declared.life.Ending.{Ending}
 use Rattle.task_lives.specs.declared.life.Ending.TheVariants.{Squashed, Unfinished}

@@ -1,7 +1,7 @@
 -- In which step an event of a history comes, from 1 (own). In a run in steps each unit does at most one event in a
 -- step, the head last, and the head always does one: so an event at position 0 ends a step.
 use Rattle.std.specs.Prelude.{ℕ, ◌+◌, ◌-◌, List, [], ◌∷◌, length, map, slice_get, if◌then◌else◌, Option, Some, None}
-use Rattle.machine_events.specs.declared.event.Event.{Event}
+use Rattle.machine_model.specs.declared.event.Event.{Event}
 use Rattle.machine_model.specs.HeadEvent.{active_after}
 use Rattle.task_lives.specs.declared.life.Life.{Life}
 use Rattle.unit_waits.specs.Waits.{ends_step}

@@ -1,8 +1,8 @@
 -- Where squashes begin: a mark above the bar of the unit after which a squash begins, in the middle of its step (own
 -- choice).
 use Rattle.std.specs.Prelude.{ℕ, ◌+◌, ◌-◌, List, [], ◌∷◌, ◌++◌}
-use Rattle.machine_events.specs.declared.event.Event.{Event}
-use Rattle.machine_events.specs.declared.event.Event.TheVariants.{Squash}
+use Rattle.machine_model.specs.declared.event.Event.{Event}
+use Rattle.machine_model.specs.declared.event.Event.TheVariants.{Squash}
 use Rattle.machine_model.specs.HeadEvent.{unit_of, retired_after}
 use Rattle.task_descriptor.specs.declared.descriptor.Descriptor.{Descriptor}
 use Rattle.run_picture.specs.declared.shape.Shape.{Shape}

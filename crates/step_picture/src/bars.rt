@@ -6,7 +6,7 @@ ghost use Rattle.task_lives.specs.Sums.{is_unfinished as is_unfinished_ending};
 ghost use Rattle.step_picture.specs.Bars.{bar_of as bar_of_life, bar_style as bar_style_of, bar_text, bars_text, halted_unit as halted_unit_of, is_halted as is_halted_life};
 
 use crate::said::write_life;
-use machine_events::event::Standing;
+use machine_model::event::Standing;
 use run_picture::bars::{name_of, width};
 use run_picture::scale::{BAR_HEIGHT, left_edge, top};
 use run_picture::shape::{Form, Shape, Style};

@@ -2,7 +2,7 @@
 
 ghost use Rattle.std.specs.Prelude.{◌≡◌, ◌++◌, ◌<◌, ◌≤◌, ℕ, IfOk, OnOk, length};
 ghost use Rattle.std.specs.String.{string_bytes};
-ghost use Rattle.machine_events.specs.Runs.{events_of};
+ghost use Rattle.machine_model.specs.Runs.{events_of};
 ghost use Rattle.machine_model.specs.Machine.{State};
 ghost use Rattle.machine_model.specs.Answer.{most_events};
 ghost use Rattle.machine_model.specs.Replay.{Replays};
@@ -17,7 +17,7 @@ use crate::heading::write_opening;
 use crate::numbers::{all_in_steps, count, steps};
 use crate::squashes::write_squashes;
 use crate::strips::write_strips;
-use machine_events::event::{Event, EventRun, Standing};
+use machine_model::event::{Event, EventRun, Standing};
 use mark_checker::accept::Accepted;
 use run_picture::bars::push_names;
 use run_picture::drawing::MOST_SINGLE;

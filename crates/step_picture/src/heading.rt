@@ -5,7 +5,7 @@ ghost use Rattle.std.specs.String.{string_bytes};
 ghost use Rattle.step_picture.specs.StepPicture.{called_text, ending_text, front_text, heading_text, legend_text, lines_text, opening_text, outcome_text, sheet_text, title_text};
 
 use crate::sheet::{single_legend, style_sheet, summed_legend};
-use machine_events::event::Standing;
+use machine_model::event::Standing;
 use run_picture::drawing::{MOST_SINGLE, height, write_root};
 use run_picture::words_text::plural;
 use task_lives::tally::Tally;

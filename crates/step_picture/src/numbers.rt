@@ -6,7 +6,7 @@ ghost use Rattle.unit_waits.specs.Waits.{ends_step as ends_step_of};
 ghost use Rattle.task_lives.specs.Sums.{AreFew};
 ghost use Rattle.step_picture.specs.Numbers.{all_in_steps, count_of, in_steps as in_steps_of, step_after, step_at as step_of_event, steps_of};
 
-use machine_events::event::Event;
+use machine_model::event::Event;
 use std::alloc::{AllocError, Global};
 use task_lives::life::Life;
 

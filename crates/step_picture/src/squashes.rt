@@ -7,7 +7,7 @@ ghost use Rattle.step_picture.specs.Squashes.{mark_text, squash_of, squash_text,
 
 use crate::numbers::step_at;
 use crate::said::write_squashed;
-use machine_events::event::Event;
+use machine_model::event::Event;
 use run_picture::marks::{retired_with, unit_at};
 use run_picture::scale::{middle, top};
 use run_picture::shape::{Form, Shape, Style};

@@ -3,8 +3,8 @@ use Rattle.std.proofs.Common.{◌≡◌, ◌↔◌, ℕ, suc, Bool, true, false,
 use Rattle.task_descriptor.specs.Listing.{Listing}
 use Rattle.machine_model.specs.Machine.{State}
 use Rattle.machine_model.specs.Answer.{after, answer}
-use Rattle.machine_events.specs.declared.event.Event.{Event}
-use Rattle.machine_events.specs.declared.event.Refused.{Refused}
+use Rattle.machine_model.specs.declared.event.Event.{Event}
+use Rattle.machine_model.specs.declared.event.Refused.{Refused}
 use Rattle.annotated_asm.specs.declared.position.Position.{Position}
 use Rattle.event_script.specs.EventScript.{names_in}
 use Rattle.event_script.specs.declared.fault.LineFault.{LineFault}

@@ -4,7 +4,7 @@ use Rattle.std.specs.Prelude.{◌≡◌, ◌↔◌, ℕ, Bool, true, List, [], �
 use Rattle.task_descriptor.specs.Listing.{Listing}
 use Rattle.machine_model.specs.Machine.{State, opening}
 use Rattle.machine_model.specs.Answer.{after, answer}
-use Rattle.machine_events.specs.declared.event.Event.{Event}
+use Rattle.machine_model.specs.declared.event.Event.{Event}
 use Rattle.annotated_asm.specs.declared.position.Position.{Position}
 use Rattle.event_script.specs.EventScript.{lines, names_in}
 use Rattle.event_script.specs.declared.fault.LineFault.{LineFault}

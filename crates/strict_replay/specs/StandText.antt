@@ -5,8 +5,8 @@ use Rattle.std.specs.List.{range_with_len}
 use Rattle.std.specs.Fmt.{decimal}
 use Rattle.task_descriptor.specs.Listing.{Listing}
 use Rattle.machine_model.specs.Machine.{Active, State, value}
-use Rattle.machine_events.specs.declared.event.Spot.{Spot}
-use Rattle.machine_events.specs.declared.event.Spot.TheVariants.{Inside, Stopped}
+use Rattle.machine_model.specs.declared.event.Spot.{Spot}
+use Rattle.machine_model.specs.declared.event.Spot.TheVariants.{Inside, Stopped}
 use Rattle.annotated_asm.specs.declared.position.Position.{Position}
 use Rattle.event_trace.specs.Changes.{register_count}
 use Rattle.event_trace.specs.TraceText.{exit_text, place_text, register_text, unit_name}

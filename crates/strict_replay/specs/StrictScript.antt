@@ -10,8 +10,8 @@ use Rattle.program_tokens.specs.Numbers.{magnitude_of}
 use Rattle.mips_plain.specs.TrapText.{trap_text}
 use Rattle.mips_plain.specs.declared.outcome.Trap.{Trap}
 use Rattle.mips_plain.specs.declared.outcome.Trap.TheVariants.{Unaligned, OutOfRange, BadPc, ReadOnly}
-use Rattle.machine_events.specs.declared.event.Standing.{Standing}
-use Rattle.machine_events.specs.declared.event.Standing.TheVariants.{Running, Halted, Trapped, Unlisted}
+use Rattle.machine_model.specs.declared.event.Standing.{Standing}
+use Rattle.machine_model.specs.declared.event.Standing.TheVariants.{Running, Halted, Trapped, Unlisted}
 use Rattle.event_script.specs.EventScript.{behind, in_front_of, register_in}
 use Rattle.strict_replay.specs.declared.expectation.Expectation.{Expectation}
 use Rattle.strict_replay.specs.declared.expectation.Expectation.TheVariants.{Register, Sends, Memory, Output, Stops, Ends}

@@ -1,6 +1,6 @@
 //! What an event must have done.
 
-use machine_events::event::Standing;
+use machine_model::event::Standing;
 use mips_instructions::number::Reg;
 
 /// What an event must have done (own choice). Words are unsigned.

@@ -18,7 +18,7 @@ use event_trace::places::places;
 use event_trace::text::{write_ending, write_refused, write_taken};
 use event_trace::told::Told;
 use event_trace::walk::Walk;
-use machine_events::event::{Event, Refused};
+use machine_model::event::{Event, Refused};
 use mark_checker::accept::Accepted;
 use report_texts::report::Report;
 use sequencer::machine::Machine;

@@ -13,7 +13,7 @@ use crate::unmet::Unmet;
 use event_trace::change::Change;
 use event_trace::text::{write_address, write_ending, write_register};
 use event_trace::unit_change::UnitChange;
-use machine_events::event::Standing;
+use machine_model::event::Standing;
 use mips_instructions::number::Reg;
 use mips_plain::outcome::Trap;
 use std::alloc::AllocError;

@@ -10,7 +10,7 @@ ghost use Rattle.strict_replay.specs.StrictScript.{address_in, content, end_in, 
 
 use crate::expectation::Expectation;
 use event_script::reading::register_of;
-use machine_events::event::Standing;
+use machine_model::event::Standing;
 use mips_plain::outcome::Trap;
 
 /// Where a comment begins.

@@ -11,7 +11,7 @@ ghost use Rattle.strict_replay.specs.StandText.{label_of, labelled, reserved_tex
 
 use crate::held::Held;
 use event_trace::text::{write_exit, write_place, write_register, write_unit};
-use machine_events::event::Spot;
+use machine_model::event::Spot;
 use mips_instructions::number::Reg;
 use sequencer::machine::Machine;
 use annotated_asm::position::Position;

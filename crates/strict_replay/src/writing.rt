@@ -10,7 +10,7 @@ use event_trace::change::Change;
 use event_trace::ring::Ring;
 use event_trace::telling::{Telling, entries};
 use event_trace::unit_change::UnitChange;
-use machine_events::event::{Event, Refused, Standing};
+use machine_model::event::{Event, Refused, Standing};
 use mark_checker::accept::Accepted;
 use std::alloc::{AllocError, Global};
 use task_descriptor::program::Program;

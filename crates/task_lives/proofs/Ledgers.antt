@@ -11,8 +11,8 @@ use Rattle.mips_plain.specs.declared.outcome.Outcome.{Outcome}
 use Rattle.mips_plain.specs.declared.outcome.Outcome.TheVariants.{Running, Halted, Trapped}
 use Rattle.task_descriptor.specs.Listing.{Listing}
 use Rattle.task_descriptor.specs.declared.descriptor.Marked.{Marked}
-use Rattle.machine_events.specs.declared.event.Event.{Event}
-use Rattle.machine_events.specs.declared.event.Event.TheVariants.{Assign, Exec, Transfer, Drain, Squash, Retire, Fault, Drop}
+use Rattle.machine_model.specs.declared.event.Event.{Event}
+use Rattle.machine_model.specs.declared.event.Event.TheVariants.{Assign, Exec, Transfer, Drain, Squash, Retire, Fault, Drop}
 use Rattle.machine_model.specs.Machine.{Active, State}
 use Rattle.machine_model.specs.Unit.{executed, after_exec, put}
 use Rattle.machine_model.specs.Step.{Next, started, filled, handed_over}

@@ -6,9 +6,9 @@ use Rattle.std.proofs.lemmas.List.{take_more, take_all, take-append-drop, length
 use Rattle.std.proofs.lemmas.List.Concat.{flat_map-append}
 use Rattle.std.proofs.lemmas.List.Sums.{fold-append}
 use Rattle.machine_model.specs.HeadEvent.{active_after}
-use Rattle.machine_events.specs.declared.event.Event.{Event}
-use Rattle.machine_events.specs.declared.event.EventRun.{EventRun}
-use Rattle.machine_events.specs.Runs.{events_of}
+use Rattle.machine_model.specs.declared.event.Event.{Event}
+use Rattle.machine_model.specs.declared.event.EventRun.{EventRun}
+use Rattle.machine_model.specs.Runs.{events_of}
 use Rattle.task_lives.specs.Lives.{lives_of, Fits, AllFit}
 use Rattle.task_lives.specs.Following.{FollowingView, Follows, all_lives}
 use Rattle.task_lives.proofs.Followed.{follows_join}

@@ -10,8 +10,8 @@ use Rattle.machine_model.specs.Machine.{State}
 use Rattle.machine_model.specs.Replay.{ReplaysFrom}
 use Rattle.machine_model.specs.Laws.{EventsCount}
 use Rattle.machine_model.specs.HeadEvent.{retired_after, active_after}
-use Rattle.machine_events.specs.declared.event.Event.{Event}
-use Rattle.machine_events.specs.declared.event.Event.TheVariants.{Assign, Exec, Transfer, Drain, Squash, Retire, Fault, Drop}
+use Rattle.machine_model.specs.declared.event.Event.{Event}
+use Rattle.machine_model.specs.declared.event.Event.TheVariants.{Assign, Exec, Transfer, Drain, Squash, Retire, Fault, Drop}
 use Rattle.task_lives.specs.declared.life.Ending.{Ending}
 use Rattle.task_lives.specs.declared.life.Ending.TheVariants.{Retired, Squashed, Dropped, Unfinished}
 use Rattle.task_lives.specs.declared.life.Life.{Life}

@@ -1,9 +1,9 @@
 -- Sums over lives: how many ended in a way, and how many instructions these executed (own).
 use Rattle.std.specs.Prelude.{◌≡◌, ℕ, ◌+◌, ◌≤◌, List, length, map, filter, Bool, true, false}
 use Rattle.std.specs.List.{sum_by, count_by}
-use Rattle.machine_events.specs.declared.event.Commit.{Commit}
-use Rattle.machine_events.specs.declared.event.Event.{Event}
-use Rattle.machine_events.specs.declared.event.Event.TheVariants.{Assign, Exec, Retire}
+use Rattle.machine_model.specs.declared.event.Commit.{Commit}
+use Rattle.machine_model.specs.declared.event.Event.{Event}
+use Rattle.machine_model.specs.declared.event.Event.TheVariants.{Assign, Exec, Retire}
 use Rattle.machine_model.specs.Machine.{Active, State}
 use Rattle.machine_model.specs.Answer.{most_events}
 use Rattle.machine_model.specs.Claims.{count_c}

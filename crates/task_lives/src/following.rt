@@ -5,7 +5,7 @@ ghost use Rattle.task_lives.specs.declared.life.Ending.TheVariants.{Retired};
 ghost use Rattle.task_lives.specs.AtWork.{AreWithin, HaveRoom, closed, all_closed, with_more, more_executed};
 
 use crate::life::{Ending, Life};
-use machine_events::event::{Event, EventRun};
+use machine_model::event::{Event, EventRun};
 use std::alloc::{AllocError, Global};
 use std::marker::Model;
 
@@ -40,8 +40,8 @@ impl Model for Following {
 impl Following {
     ghost use Rattle.std.specs.Prelude.{◌≡◌, ◌+◌, ◌<◌, ◌≤◌, List, [], ◌∷◌, length, replicate, OnOk};
     ghost use Rattle.machine_model.specs.Answer.{most_events};
-    ghost use Rattle.machine_events.specs.declared.event.Event.{Event};
-    ghost use Rattle.machine_events.specs.declared.event.Event.TheVariants.{Assign, Exec, Squash, Retire, Drop};
+    ghost use Rattle.machine_model.specs.declared.event.Event.{Event};
+    ghost use Rattle.machine_model.specs.declared.event.Event.TheVariants.{Assign, Exec, Squash, Retire, Drop};
     ghost use Rattle.task_lives.specs.Lives.{lives_of, Fits, AllFit};
     ghost use Rattle.task_lives.specs.Following.{Follows, all_lives};
 

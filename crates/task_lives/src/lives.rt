@@ -2,13 +2,13 @@
 
 ghost use Rattle.std.specs.Prelude.{◌≡◌, ◌<◌, ◌≤◌, length, IfOk};
 ghost use Rattle.machine_model.specs.Answer.{most_events};
-ghost use Rattle.machine_events.specs.Runs.{events_of};
+ghost use Rattle.machine_model.specs.Runs.{events_of};
 ghost use Rattle.task_lives.specs.Lives.{AllFit, lives_of};
 ghost use Rattle.task_lives.specs.Sums.{AreFew};
 
 use crate::following::Following;
 use crate::life::Life;
-use machine_events::event::EventRun;
+use machine_model::event::EventRun;
 use std::alloc::{AllocError, Global};
 
 /// The lives of the tasks that a history assigned to so many units, at least one, in the order in which

@@ -2,7 +2,7 @@
 
 use crate::given::{BURST, Given, TRIES};
 use crate::machines::machine_text;
-use machine_events::event::{Refused, Standing};
+use machine_model::event::{Refused, Standing};
 use sequencer::machine::Machine;
 use unit_core::burst::Burst;
 

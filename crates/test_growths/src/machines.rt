@@ -2,7 +2,7 @@
 
 use crate::given::{Given, MANY, TRIES};
 use event_script::reading::read as read_script;
-use machine_events::event::{Event, Refused, Standing};
+use machine_model::event::{Event, Refused, Standing};
 use mips_instructions::number::Reg;
 use sequencer::machine::{Machine, MachineFault};
 use std::fmt::Write;

@@ -2,7 +2,7 @@
 
 use crate::given::{Given, Runtime, TRIES};
 use crate::machines::end_text;
-use machine_events::event::Event;
+use machine_model::event::Event;
 use sequencer::predict::Last;
 use std::fmt::Write;
 use threaded_runner::gate::Open as OpenRun;

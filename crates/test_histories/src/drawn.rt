@@ -3,7 +3,7 @@
 ghost use Rattle.std.specs.Prelude.{◌<◌};
 
 use crate::given::{accepted, played, two_rounds};
-use machine_events::event::Event;
+use machine_model::event::Event;
 use mark_checker::accept::Accepted;
 use run_picture::drawing::draw;
 use sequencer::machine::Machine;

@@ -2,7 +2,7 @@
 
 ghost use Rattle.std.specs.Prelude.{◌≡◌, ◌<◌, ◌≤◌};
 
-use machine_events::event::Event;
+use machine_model::event::Event;
 use mark_checker::accept::Accepted;
 use mips_instructions::number::Reg;
 use sequencer::machine::Machine;

@@ -1,7 +1,7 @@
 //! Lines of JSON.
 
 use crate::played::expect_lines;
-use machine_events::event::Event;
+use machine_model::event::Event;
 use test_programs::programs::PAIR;
 
 // Line 5 is the second instruction, so the exit of B leads to the third, at 4194304 + 8.

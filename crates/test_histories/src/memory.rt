@@ -1,7 +1,7 @@
 //! Instructions that load and store, and how they end.
 
 use crate::played::expect_trace;
-use machine_events::event::Event;
+use machine_model::event::Event;
 
 /// Loads a word, subtracts 7, and stores the result whole and its low byte; the last load is unaligned.
 const STORES: &str = ".task A create=$8,$9 targets=-

@@ -7,7 +7,7 @@ use annotator::certify::certify;
 use event_json::last_line::LastLine;
 use event_json::lines::lines;
 use event_trace::trace::trace;
-use machine_events::event::Event;
+use machine_model::event::Event;
 use mark_checker::accept::Accepted;
 use std::alloc::Global;
 use std::process::Abort;

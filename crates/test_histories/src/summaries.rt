@@ -3,7 +3,7 @@
 ghost use Rattle.std.specs.Prelude.{◌<◌};
 
 use crate::given::{A_DROP, accepted, life, played, two_rounds};
-use machine_events::event::Event;
+use machine_model::event::Event;
 use mark_checker::accept::Accepted;
 use task_lives::summary::write;
 use task_lives::tally::{Tally, add_up, by_task};

@@ -2,7 +2,7 @@
 
 use crate::given::register;
 use crate::played::expect_trace;
-use machine_events::event::Event;
+use machine_model::event::Event;
 use test_programs::programs::{COUNT, DIAMOND, PAIR};
 
 // A goes to C, and B was predicted. Each unit begins at the first line of its task; the branch in line 6 is

@@ -1,7 +1,7 @@
 //! What is asserted of a machine.
 
 use crate::given::{Told, register};
-use machine_events::event::{Commit, Event, EventRun, Standing};
+use machine_model::event::{Commit, Event, EventRun, Standing};
 use mips_instructions::instruction::{LoadKind, Op};
 use mips_instructions::number::Gpr;
 use mips_plain::outcome::Read;

@@ -1,6 +1,6 @@
 //! Registers, accepted programs, machines, and events as a table can name them.
 
-use machine_events::event::Event;
+use machine_model::event::Event;
 use mark_checker::accept::Accepted;
 use mips_instructions::number::Reg;
 use sequencer::machine::Machine;

@@ -3,7 +3,7 @@
 use crate::facts::Fact;
 use crate::given::Told;
 use crate::trial::{Act, Row, run_all};
-use machine_events::event::Commit;
+use machine_model::event::Commit;
 use mips_plain::outcome::Read;
 use test_programs::certificates::{COUNT_CERTIFICATE, DIAMOND_CERTIFICATE};
 use test_programs::programs::{COUNT, DIAMOND};

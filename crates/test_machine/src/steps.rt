@@ -2,7 +2,7 @@
 
 use crate::facts::expect_run;
 use crate::given::accepted;
-use machine_events::event::{Event, Standing};
+use machine_model::event::{Event, Standing};
 use mark_checker::accept::Accepted;
 use sequencer::predict::Script;
 use std::alloc::Global;

@@ -2,7 +2,7 @@
 
 use crate::facts::Fact;
 use crate::given::{Told, accepted, machine, register};
-use machine_events::event::{Event, Refused};
+use machine_model::event::{Event, Refused};
 use sequencer::machine::Machine;
 use std::alloc::Global;
 use std::process::Abort;

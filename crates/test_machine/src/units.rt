@@ -2,7 +2,7 @@
 
 use crate::given::register;
 use crate::programs::{count, release};
-use machine_events::event::Spot;
+use machine_model::event::Spot;
 use mark_checker::accept::Accepted;
 use mips_instructions::number::{Reg, RegSet};
 use mips_plain::memory::Memory;

@@ -2,7 +2,7 @@
 
 use crate::given::{Bench, Meeting};
 use crate::runs::{expect_c_and_h, expect_counts};
-use machine_events::event::{Event, EventRun};
+use machine_model::event::{Event, EventRun};
 use mark_checker::accept::Accepted;
 use parallel_check::checking::verdict_shared;
 use sequencer::predict::{First, Last, Predict};

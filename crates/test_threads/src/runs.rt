@@ -1,7 +1,7 @@
 //! Runs by threads: what they put out and how they end. The expected values were worked out by hand.
 
 use crate::given::Bench;
-use machine_events::event::Standing;
+use machine_model::event::Standing;
 use mark_checker::accept::Accepted;
 use mips_instructions::number::Place;
 use sequencer::predict::{First, Last, Predict, Script};

@@ -9,8 +9,8 @@ use Rattle.machine_model.specs.Step.{Next}
 use Rattle.machine_model.specs.Replay.{ReplaysFrom, Replays}
 use Rattle.machine_model.specs.Laws.{EventsCount}
 use Rattle.machine_model.specs.HeadEvent.{unit_of, retired_after, active_after}
-use Rattle.machine_events.specs.declared.event.Event.{Event}
-use Rattle.machine_events.specs.declared.event.Event.TheVariants.{Exec}
+use Rattle.machine_model.specs.declared.event.Event.{Event}
+use Rattle.machine_model.specs.declared.event.Event.TheVariants.{Exec}
 use Rattle.threaded_runner.specs.Counts.{retired_by, active_by, events_from, events_of, IsCounted}
 
 -- retired tasks and units at work

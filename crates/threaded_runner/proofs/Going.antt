@@ -4,9 +4,9 @@ use Rattle.std.specs.Prelude.{replicate, Result}
 use Rattle.machine_model.specs.Machine.{State}
 use Rattle.machine_model.specs.Step.{Next}
 use Rattle.machine_model.specs.Answer.{most_events}
-use Rattle.machine_events.specs.declared.event.Event.{Event}
-use Rattle.machine_events.specs.declared.event.Event.TheVariants.{Exec, Drop}
-use Rattle.machine_events.specs.declared.event.Refused.{Refused}
+use Rattle.machine_model.specs.declared.event.Event.{Event}
+use Rattle.machine_model.specs.declared.event.Event.TheVariants.{Exec, Drop}
+use Rattle.machine_model.specs.declared.event.Refused.{Refused}
 use Rattle.processor_steps.specs.Processors.{takes_memory}
 use Rattle.sequencer.specs.Machines.{MachineView, state, units_of, Applies, SameRing, IsAnswered, answer_to}
 use Rattle.sequencer.specs.Rings.{unit_for}

@@ -5,9 +5,9 @@ use Rattle.std.proofs.Math.Nat.{mod-lt}
 use Rattle.std.specs.Prelude.{◌&&◌, nat_lt, if◌then◌else◌, Option, Some, None, IfNone, slice_get}
 use Rattle.std.specs.Option.{option_map}
 use Rattle.machine_model.specs.Machine.{Active}
-use Rattle.machine_events.specs.declared.event.Spot.{Spot}
+use Rattle.machine_model.specs.declared.event.Spot.{Spot}
 use Rattle.machine_model.specs.Answer.{is_running, most_events}
-use Rattle.machine_events.specs.declared.event.Event.TheVariants.{Exec}
+use Rattle.machine_model.specs.declared.event.Event.TheVariants.{Exec}
 use Rattle.sequencer.specs.Machines.{MachineView, state, units_of}
 use Rattle.sequencer.specs.Rings.{unit_for}
 use Rattle.unit_turns.specs.Turns.{turn_of, turn_at_position, position_of_unit}

@@ -2,7 +2,7 @@
 -- serves the units whose number, modulo the number of workers, is its own.
 use Rattle.std.specs.Prelude.{◌≡◌, ℕ, ◌+◌, ◌%◌, ◌<◌, List, [], ◌∷◌, length, sum, fold, slice_index, nat_eq, if◌then◌else◌}
 use Rattle.machine_model.specs.HeadEvent.{unit_of, retired_after, active_after}
-use Rattle.machine_events.specs.declared.event.Event.{Event}
+use Rattle.machine_model.specs.declared.event.Event.{Event}
 
 -- how many tasks have retired, and how many units are at work, after a history
 abbrev pub retired_by : List Event → ℕ

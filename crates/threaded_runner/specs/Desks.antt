@@ -1,6 +1,6 @@
 -- What the lock holds, as contracts see it (own); the predictor is left out.
 use Rattle.std.specs.Prelude.{◌≡◌, ℕ, ◌<◌, ◌≤◌, ◌⊎◌, List, Bool, true, false, length, replicate, slice_index, slice_set}
-use Rattle.machine_events.specs.declared.event.Standing.TheVariants as standing
+use Rattle.machine_model.specs.declared.event.Standing.TheVariants as standing
 use Rattle.mark_checker.specs.Places.{Checked}
 use Rattle.sequencer.specs.Machines.{MachineView, state, units_of}
 use Rattle.threaded_runner.specs.Counts.{IsCounted}

@@ -1,8 +1,8 @@
 -- Worked examples, computed by the checker: which worker each event of a history belongs to.
 use Rattle.std.specs.Prelude.{◌≡◌, List, [], ◌∷◌}
 use Rattle.std.proofs.Common.{refl}
-use Rattle.machine_events.specs.declared.event.Event.{Event}
-use Rattle.machine_events.specs.declared.event.Event.TheVariants.{Assign, Exec, Squash, Retire, Drop}
+use Rattle.machine_model.specs.declared.event.Event.{Event}
+use Rattle.machine_model.specs.declared.event.Event.TheVariants.{Assign, Exec, Squash, Retire, Drop}
 use Rattle.threaded_runner.specs.Counts.{retired_by, active_by, events_of}
 
 -- two tasks begin, the head executes one instruction and the other unit two; the head retires, the other

@@ -1,9 +1,9 @@
 -- What a worker does is what `turn` says (own): each event of a hold of the lock is one that the turn of one of
 -- its units names, in the machine in which it is applied.
 use Rattle.std.specs.Prelude.{◌≡◌, ℕ, ◌<◌, ◌≤◌, ◌⊎◌, List, [], ◌∷◌, zero, suc, length, true, Some, Err}
-use Rattle.machine_events.specs.declared.event.Event.{Event}
-use Rattle.machine_events.specs.declared.event.Event.TheVariants.{Exec, Drop}
-use Rattle.machine_events.specs.declared.event.Refused.{Refused}
+use Rattle.machine_model.specs.declared.event.Event.{Event}
+use Rattle.machine_model.specs.declared.event.Event.TheVariants.{Exec, Drop}
+use Rattle.machine_model.specs.declared.event.Refused.{Refused}
 use Rattle.processor_steps.specs.Processors.{takes_memory}
 use Rattle.sequencer.specs.Machines.{MachineView, state, SameRing, Applies, IsAnswered}
 use Rattle.sequencer.specs.Rings.{unit_for}

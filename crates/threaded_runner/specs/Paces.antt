@@ -1,7 +1,7 @@
 -- How a worker goes on with one of its units (own): by longer and longer bursts, or by single instructions.
 use Rattle.std.specs.Prelude.{◌≡◌, ℕ, ◌*◌, ◌-◌, max, List, Bool, true, false, ◌&&◌, not, min, nat_eq, nat_lt, nat_le, if◌then◌else◌, length, slice_get, unwrap_or, Option, Some, None, Result, Ok, Err}
-use Rattle.machine_events.specs.declared.event.Event.TheVariants.{Exec}
-use Rattle.machine_events.specs.declared.event.Refused.{Refused}
+use Rattle.machine_model.specs.declared.event.Event.TheVariants.{Exec}
+use Rattle.machine_model.specs.declared.event.Refused.{Refused}
 use Rattle.sequencer.specs.Machines.{MachineView, state}
 use Rattle.sequencer.specs.Rings.{unit_for}
 use Rattle.threaded_runner.specs.declared.pace.Pace.{Pace}

@@ -1,10 +1,10 @@
 -- A worker as contracts see it, and what it does once it lets go of the lock (own).
 use Rattle.std.specs.Prelude.{◌≡◌, ℕ, ◌+◌, ◌<◌, ◌≤◌, ◌⊎◌, List, Bool, min, nat_eq, if◌then◌else◌, length, slice_set, true, false, Option, Some, None, Result, Ok, Err}
-use Rattle.machine_events.specs.declared.event.Event.{Event}
-use Rattle.machine_events.specs.declared.event.Event.TheVariants.{Assign, Exec, Drop}
-use Rattle.machine_events.specs.declared.event.Refused.{Refused}
-use Rattle.machine_events.specs.declared.event.Refused.TheVariants as refused
-use Rattle.machine_events.specs.declared.event.Standing.TheVariants as standing
+use Rattle.machine_model.specs.declared.event.Event.{Event}
+use Rattle.machine_model.specs.declared.event.Event.TheVariants.{Assign, Exec, Drop}
+use Rattle.machine_model.specs.declared.event.Refused.{Refused}
+use Rattle.machine_model.specs.declared.event.Refused.TheVariants as refused
+use Rattle.machine_model.specs.declared.event.Standing.TheVariants as standing
 use Rattle.unit_core.specs.Bursts.{BurstView}
 use Rattle.sequencer.specs.Bursts.{IsFresh, IsRefusedBurst, Takes}
 use Rattle.sequencer.specs.Machines.{MachineView, state, SameRing, Applies}

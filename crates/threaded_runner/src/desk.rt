@@ -7,7 +7,7 @@ use crate::naming::Naming;
 use crate::report::{How, Report, RunFault};
 use crate::share::Share;
 use crate::slots::put;
-use machine_events::event::{Event, Refused, Standing};
+use machine_model::event::{Event, Refused, Standing};
 use sequencer::machine::Machine;
 use sequencer::predict::Predict;
 use std::alloc::{AllocError, Global};
@@ -52,9 +52,9 @@ impl<'a, P: Predict, J: Naming> Desk<'a, P, J> {
     ghost use Rattle.threaded_runner.specs.Shares.{AllWait, IsShareOf};
     ghost use Rattle.threaded_runner.specs.Calls.{AreCalled, AreRung, IsAsleep};
     ghost use Rattle.unit_turns.specs.Turns.{MayChoose};
-    ghost use Rattle.machine_events.specs.declared.event.Event.{Event};
-    ghost use Rattle.machine_events.specs.declared.event.Event.TheVariants.{Exec};
-    ghost use Rattle.machine_events.specs.declared.event.Standing.TheVariants as standing;
+    ghost use Rattle.machine_model.specs.declared.event.Event.{Event};
+    ghost use Rattle.machine_model.specs.declared.event.Event.TheVariants.{Exec};
+    ghost use Rattle.machine_model.specs.declared.event.Standing.TheVariants as standing;
 
     /// A machine at its start, of which no worker has applied an event.
     pub(crate) fn new(
@@ -346,7 +346,7 @@ impl<'a, P: Predict, J: Naming> Desk<'a, P, J> {
 }
 
 ghost use Rattle.std.specs.Prelude.{◌≡◌, ◌<◌, ◌≤◌, ◌++◌, replicate, Some};
-ghost use Rattle.machine_events.specs.declared.event.Event.TheVariants.{Exec};
+ghost use Rattle.machine_model.specs.declared.event.Event.TheVariants.{Exec};
 ghost use Rattle.machine_model.specs.Answer.{most_events};
 ghost use Rattle.sequencer.specs.Machines.{state, SameRing};
 ghost use Rattle.sequencer.specs.Choices.{choice_of};

@@ -7,7 +7,7 @@ pub(crate) use crate::next::{Idle, NextBurst, Then};
 use crate::pace::Pace;
 use crate::share::Share;
 use crate::slots::put;
-use machine_events::event::{Event, Refused, Spot};
+use machine_model::event::{Event, Refused, Spot};
 use sequencer::machine::Machine;
 use sequencer::predict::Predict;
 use std::marker::{Model, PhantomData};
@@ -46,10 +46,10 @@ impl<J: Naming> Model for Worker<J> {
 impl<J: Naming> Worker<J> {
     ghost use Rattle.std.specs.Prelude.{◌≡◌, ℕ, ◌+◌, ◌-◌, ◌<◌, ◌≤◌, ◌⊎◌, min, length, replicate, nat_eq, if◌then◌else◌, Result, Err};
     ghost use Rattle.machine_model.specs.Answer.{most_events};
-    ghost use Rattle.machine_events.specs.declared.event.Event.TheVariants.{Exec};
-    ghost use Rattle.machine_events.specs.declared.event.Refused.{Refused};
-    ghost use Rattle.machine_events.specs.declared.event.Refused.TheVariants as refused;
-    ghost use Rattle.machine_events.specs.declared.event.Standing.TheVariants as standing;
+    ghost use Rattle.machine_model.specs.declared.event.Event.TheVariants.{Exec};
+    ghost use Rattle.machine_model.specs.declared.event.Refused.{Refused};
+    ghost use Rattle.machine_model.specs.declared.event.Refused.TheVariants as refused;
+    ghost use Rattle.machine_model.specs.declared.event.Standing.TheVariants as standing;
     ghost use Rattle.sequencer.specs.Machines.{state};
     ghost use Rattle.sequencer.specs.Rings.{unit_for};
     ghost use Rattle.unit_turns.specs.Turns.{IsTurn, IsOwn, MayChoose, MayBurst, turn_of};

@@ -4,7 +4,7 @@ ghost use Rattle.std.specs.Prelude.{◌≡◌, ℕ, List, length};
 ghost use Rattle.task_descriptor.specs.Listing.{Listing};
 ghost use Rattle.machine_model.specs.Machine.{State};
 ghost use Rattle.machine_model.specs.Replay.{Replays};
-ghost use Rattle.machine_events.specs.declared.event.Event.{Event};
+ghost use Rattle.machine_model.specs.declared.event.Event.{Event};
 ghost use Rattle.threaded_runner.specs.Counts.{retired_by, active_by};
 
 use machine_model::laws::events_count;

@@ -1,8 +1,8 @@
 //! Laws of every machine: each call does nothing.
 
 ghost use Rattle.std.specs.Prelude.{◌≡◌, ℕ, ◌<◌, ◌≤◌, length, Ok};
-ghost use Rattle.machine_events.specs.declared.event.Event.TheVariants.{Drop, Exec};
-ghost use Rattle.machine_events.specs.declared.event.Standing.TheVariants as standing;
+ghost use Rattle.machine_model.specs.declared.event.Event.TheVariants.{Drop, Exec};
+ghost use Rattle.machine_model.specs.declared.event.Standing.TheVariants as standing;
 ghost use Rattle.machine_model.specs.Answer.{most_events};
 ghost use Rattle.machine_model.specs.Replay.{Replays};
 ghost use Rattle.sequencer.specs.Machines.{answer_to, state, units_of};

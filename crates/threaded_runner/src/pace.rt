@@ -3,7 +3,7 @@
 ghost use Rattle.std.specs.Prelude.{◌≡◌, ◌<◌, ◌↔◌, IsTrue};
 ghost use Rattle.threaded_runner.specs.Paces.{after_check_in, after_in_place, after_single, after_taken, anew, doubled, fresh_pace, next_task, one_by_one};
 
-use machine_events::event::Refused;
+use machine_model::event::Refused;
 use unit_core::burst::MOST_STEPS;
 
 /// The most instructions of a task's first burst.

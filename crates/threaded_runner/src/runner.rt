@@ -1,7 +1,7 @@
 //! The run of a program by threads.
 
 ghost use Rattle.std.specs.Prelude.{◌≡◌, ◌≢◌, ◌<◌, ◌≤◌, ◌⊎◌, ◌↔◌, length, IfOk, IfErr};
-ghost use Rattle.machine_events.specs.declared.event.Standing.TheVariants as standing;
+ghost use Rattle.machine_model.specs.declared.event.Standing.TheVariants as standing;
 ghost use Rattle.machine_model.specs.Replay.{Replays};
 ghost use Rattle.sequencer.specs.Machines.{state, units_of};
 ghost use Rattle.threaded_runner.specs.Counts.{IsCounted};

@@ -1,7 +1,7 @@
 //! Which units a worker serves, and the first of them that has something to do.
 
 ghost use Rattle.std.specs.Prelude.{◌≡◌, ◌%◌, ◌<◌, ◌↔◌, IfSome, IfNone, IsTrue};
-ghost use Rattle.machine_events.specs.declared.event.Event.TheVariants.{Exec};
+ghost use Rattle.machine_model.specs.declared.event.Event.TheVariants.{Exec};
 ghost use Rattle.sequencer.specs.Machines.{units_of};
 ghost use Rattle.sequencer.specs.Rings.{unit_for};
 ghost use Rattle.unit_turns.specs.Turns.{IsTurn, turn_of};

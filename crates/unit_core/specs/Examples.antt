@@ -16,9 +16,9 @@ use Rattle.machine_model.specs.Unit.{put, exec_refusal, drain_refusal}
 use Rattle.machine_model.specs.Refusals.{least}
 use Rattle.machine_model.specs.Burst.{with_arrived}
 use Rattle.machine_model.specs.Examples.{bare, task, count}
-use Rattle.machine_events.specs.declared.event.Refused.TheVariants as refused
-use Rattle.machine_events.specs.declared.event.Spot.{Spot}
-use Rattle.machine_events.specs.declared.event.Spot.TheVariants.{Inside, Stopped}
+use Rattle.machine_model.specs.declared.event.Refused.TheVariants as refused
+use Rattle.machine_model.specs.declared.event.Spot.{Spot}
+use Rattle.machine_model.specs.declared.event.Spot.TheVariants.{Inside, Stopped}
 use Rattle.unit_core.specs.Units.{UnitView, active_of}
 use Rattle.unit_core.specs.Bursts.{HasMore}
 use Rattle.unit_core.specs.SentRegisters.{mask_has}

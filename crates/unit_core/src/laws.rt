@@ -6,7 +6,7 @@ ghost use Rattle.task_descriptor.specs.declared.descriptor.Marked.{Marked};
 ghost use Rattle.mark_checker.specs.Places.{Checked, IsAccepted};
 ghost use Rattle.machine_model.specs.Machine.{Active};
 ghost use Rattle.machine_model.specs.Unit.{after_exec};
-ghost use Rattle.machine_events.specs.declared.event.Spot.TheVariants.{Inside};
+ghost use Rattle.machine_model.specs.declared.event.Spot.TheVariants.{Inside};
 ghost use Rattle.unit_core.specs.Units.{IsPlaced};
 ghost use Rattle.unit_core.specs.SentRegisters.{KeepsSent, SentStays};
 

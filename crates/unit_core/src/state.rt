@@ -3,7 +3,7 @@
 ghost use Rattle.std.specs.Prelude.{◌≡◌};
 ghost use Rattle.unit_core.specs.Units.{unlogged};
 
-use machine_events::event::Spot;
+use machine_model::event::Spot;
 use register_ring::held::RegisterWords;
 use register_ring::port::Port;
 

@@ -18,7 +18,7 @@ ghost use Rattle.unit_core.specs.Effects.{Does};
 ghost use Rattle.unit_core.specs.declared.wait.Wait.TheVariants as wait;
 
 use crate::wait::Wait;
-use machine_events::event::Spot;
+use machine_model::event::Spot;
 use mips_instructions::instruction::Op;
 use mips_instructions::number::{Gpr, Reg, RegSet};
 use mips_instructions::places::address_of;

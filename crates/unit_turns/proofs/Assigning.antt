@@ -6,8 +6,8 @@ use Rattle.task_descriptor.specs.Listing.{Listing}
 use Rattle.machine_model.specs.Machine.{State}
 use Rattle.machine_model.specs.Refusals.{unless}
 use Rattle.machine_model.specs.Answer.{refusal}
-use Rattle.machine_events.specs.declared.event.Event.TheVariants.{Assign}
-use Rattle.machine_events.specs.declared.event.Refused.{Refused}
+use Rattle.machine_model.specs.declared.event.Event.TheVariants.{Assign}
+use Rattle.machine_model.specs.declared.event.Refused.{Refused}
 use Rattle.sequencer.specs.Choices.{MayFollow}
 
 passes : (b : Bool) (why : Refused) (behind : Option Refused) → b ≡ true → unless b why behind ≡ behind

@@ -11,10 +11,10 @@ use Rattle.machine_model.specs.Machine.{Active, State}
 use Rattle.machine_model.specs.Unit.{exec_refusal}
 use Rattle.machine_model.specs.Refusals.{unless, for_some}
 use Rattle.machine_model.specs.Answer.{refusal, answer, ok_unless, is_running, most_events}
-use Rattle.machine_events.specs.declared.event.Event.{Event}
-use Rattle.machine_events.specs.declared.event.Event.TheVariants.{Exec, Transfer, Drain, Squash}
-use Rattle.machine_events.specs.declared.event.Refused.{Refused}
-use Rattle.machine_events.specs.declared.event.Refused.TheVariants.{NoSuch, Ended, Full}
+use Rattle.machine_model.specs.declared.event.Event.{Event}
+use Rattle.machine_model.specs.declared.event.Event.TheVariants.{Exec, Transfer, Drain, Squash}
+use Rattle.machine_model.specs.declared.event.Refused.{Refused}
+use Rattle.machine_model.specs.declared.event.Refused.TheVariants.{NoSuch, Ended, Full}
 use Rattle.processor_steps.specs.LeastRegisters.{IsLeast}
 use Rattle.unit_turns.specs.FirstAllowed.{registers, first_allowed, TakesAllowed, SkipsRefused, GoesByLists, TakesLeast, AllowedIsUnrefused}
 use Rattle.unit_turns.specs.Turns.{own_events}

@@ -13,15 +13,15 @@ use Rattle.machine_model.specs.Refusals.{least}
 use Rattle.machine_model.specs.Answer.{after, is_running, refusal}
 use Rattle.machine_model.specs.HeadEvent.{head_event, event_of_head, event_of_queue, task_beginning, drain_or_retire}
 use Rattle.machine_model.specs.Laws.{NextIsAfter}
-use Rattle.machine_events.specs.declared.event.Event.{Event}
-use Rattle.machine_events.specs.declared.event.Event.TheVariants.{Assign, Exec, Transfer, Drain, Squash, Retire, Fault, Drop}
-use Rattle.machine_events.specs.declared.event.Refused.{Refused}
-use Rattle.machine_events.specs.declared.event.Refused.TheVariants.{OutOfMemory}
-use Rattle.machine_events.specs.declared.event.Spot.{Spot}
-use Rattle.machine_events.specs.declared.event.Spot.TheVariants.{Inside, Stopped}
+use Rattle.machine_model.specs.declared.event.Event.{Event}
+use Rattle.machine_model.specs.declared.event.Event.TheVariants.{Assign, Exec, Transfer, Drain, Squash, Retire, Fault, Drop}
+use Rattle.machine_model.specs.declared.event.Refused.{Refused}
+use Rattle.machine_model.specs.declared.event.Refused.TheVariants.{OutOfMemory}
+use Rattle.machine_model.specs.declared.event.Spot.{Spot}
+use Rattle.machine_model.specs.declared.event.Spot.TheVariants.{Inside, Stopped}
 use Rattle.processor_steps.specs.Choices.{task_behind}
-use Rattle.machine_events.specs.declared.event.Standing.{Standing}
-use Rattle.machine_events.specs.declared.event.Standing.TheVariants.{Running, Halted, Trapped, Unlisted}
+use Rattle.machine_model.specs.declared.event.Standing.{Standing}
+use Rattle.machine_model.specs.declared.event.Standing.TheVariants.{Running, Halted, Trapped, Unlisted}
 use Rattle.sequencer.specs.Choices.{choices_of, choice_of}
 use Rattle.sequencer.specs.Machines.{MachineView, Applies, IsAnswered, answer_to, state, units_of}
 use Rattle.unit_turns.specs.FirstAllowed.{registers, first_allowed}

@@ -7,9 +7,9 @@ use Rattle.machine_model.specs.Machine.{State}
 use Rattle.machine_model.specs.Step.{Next}
 use Rattle.machine_model.specs.Answer.{most_events}
 use Rattle.machine_model.specs.HeadEvent.{head_event}
-use Rattle.machine_events.specs.declared.event.Event.{Event}
-use Rattle.machine_events.specs.declared.event.Event.TheVariants.{Assign, Exec, Transfer, Drain, Squash, Retire, Fault, Drop}
-use Rattle.machine_events.specs.declared.event.Standing.TheVariants.{Running}
+use Rattle.machine_model.specs.declared.event.Event.{Event}
+use Rattle.machine_model.specs.declared.event.Event.TheVariants.{Assign, Exec, Transfer, Drain, Squash, Retire, Fault, Drop}
+use Rattle.machine_model.specs.declared.event.Standing.TheVariants.{Running}
 use Rattle.sequencer.specs.Machines.{MachineView, state, units_of}
 use Rattle.sequencer.specs.Rings.{unit_for}
 use Rattle.unit_turns.specs.Turns.{fits_burst, turn_of_head, turn_of}

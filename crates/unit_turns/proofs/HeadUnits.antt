@@ -6,10 +6,10 @@ use Rattle.task_descriptor.specs.Listing.{Listing}
 use Rattle.machine_model.specs.Machine.{Active}
 use Rattle.machine_model.specs.Answer.{is_running}
 use Rattle.machine_model.specs.HeadEvent.{head_event, event_of_queue, event_of_head, drain_or_retire, task_beginning, position_of}
-use Rattle.machine_events.specs.declared.event.Event.{Event}
-use Rattle.machine_events.specs.declared.event.Event.TheVariants.{Assign, Exec, Squash, Fault}
-use Rattle.machine_events.specs.declared.event.Spot.{Spot}
-use Rattle.machine_events.specs.declared.event.Spot.TheVariants.{Inside, Stopped}
+use Rattle.machine_model.specs.declared.event.Event.{Event}
+use Rattle.machine_model.specs.declared.event.Event.TheVariants.{Assign, Exec, Squash, Fault}
+use Rattle.machine_model.specs.declared.event.Spot.{Spot}
+use Rattle.machine_model.specs.declared.event.Spot.TheVariants.{Inside, Stopped}
 use Rattle.sequencer.specs.Machines.{MachineView, state, units_of}
 use Rattle.sequencer.specs.Rings.{unit_for}
 

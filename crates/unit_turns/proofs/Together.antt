@@ -20,11 +20,11 @@ use Rattle.machine_model.specs.Answer.{after, with_queue}
 use Rattle.machine_model.specs.Replay.{ReplaysFrom, Replays}
 use Rattle.machine_model.specs.Laws.{NextIsAfter, ReplayCut}
 use Rattle.machine_model.specs.HeadEvent.{position_of}
-use Rattle.machine_events.specs.declared.event.Event.{Event}
-use Rattle.machine_events.specs.declared.event.Event.TheVariants.{Assign, Exec, Transfer, Drain, Squash, Retire, Fault, Drop}
-use Rattle.machine_events.specs.declared.event.Spot.{Spot}
-use Rattle.machine_events.specs.declared.event.Spot.TheVariants.{Stopped}
-use Rattle.machine_events.specs.declared.event.Standing.TheVariants as standing
+use Rattle.machine_model.specs.declared.event.Event.{Event}
+use Rattle.machine_model.specs.declared.event.Event.TheVariants.{Assign, Exec, Transfer, Drain, Squash, Retire, Fault, Drop}
+use Rattle.machine_model.specs.declared.event.Spot.{Spot}
+use Rattle.machine_model.specs.declared.event.Spot.TheVariants.{Stopped}
+use Rattle.machine_model.specs.declared.event.Standing.TheVariants as standing
 use Rattle.mark_checker.specs.Places.{Checked}
 use Rattle.sequencer.specs.Machines.{MachineView, SameRing, state, units_of}
 use Rattle.processor_steps.proofs.Queues.{last_is}

@@ -5,8 +5,8 @@ use Rattle.std.specs.Option.{option_or}
 use Rattle.task_descriptor.specs.Listing.{Listing}
 use Rattle.machine_model.specs.Machine.{State}
 use Rattle.machine_model.specs.Answer.{refusal}
-use Rattle.machine_events.specs.declared.event.Event.{Event}
-use Rattle.machine_events.specs.declared.event.Event.TheVariants.{Exec, Transfer, Drain, Squash}
+use Rattle.machine_model.specs.declared.event.Event.{Event}
+use Rattle.machine_model.specs.declared.event.Event.TheVariants.{Exec, Transfer, Drain, Squash}
 use Rattle.unit_turns.specs.FirstAllowed.{registers, first_allowed, TakesAllowed, SkipsRefused, GoesByLists}
 use Rattle.unit_turns.specs.Steps.{tries}
 

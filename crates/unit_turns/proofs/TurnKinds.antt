@@ -4,8 +4,8 @@ use Rattle.std.specs.Prelude.{is_none, if◌then◌else◌}
 use Rattle.task_descriptor.specs.Listing.{Listing}
 use Rattle.machine_model.specs.Machine.{Active, State}
 use Rattle.machine_model.specs.Unit.{exec_refusal}
-use Rattle.machine_events.specs.declared.event.Event.{Event}
-use Rattle.machine_events.specs.declared.event.Event.TheVariants.{Assign, Exec, Transfer, Drain, Squash, Retire, Fault, Drop}
+use Rattle.machine_model.specs.declared.event.Event.{Event}
+use Rattle.machine_model.specs.declared.event.Event.TheVariants.{Assign, Exec, Transfer, Drain, Squash, Retire, Fault, Drop}
 use Rattle.sequencer.specs.Machines.{MachineView}
 use Rattle.unit_turns.specs.Turns.{fits_burst, turn_of_head, turn_ahead, turn_of_free, IsTurn, MayBurst}
 use Rattle.unit_turns.specs.declared.turn.Turn.TheVariants.{Apply, Choose, Burst, Wait}

@@ -9,11 +9,11 @@ use Rattle.machine_model.specs.Machine.{Active, State}
 use Rattle.machine_model.specs.Step.{follows}
 use Rattle.machine_model.specs.Refusals.{unless, for_some}
 use Rattle.machine_model.specs.Answer.{refusal, most_events}
-use Rattle.machine_events.specs.declared.event.Event.{Event}
-use Rattle.machine_events.specs.declared.event.Event.TheVariants.{Assign, Exec, Transfer, Drain, Squash, Retire, Fault, Drop}
-use Rattle.machine_events.specs.declared.event.Refused.{Refused}
-use Rattle.machine_events.specs.declared.event.Refused.TheVariants.{NoSuch}
-use Rattle.machine_events.specs.declared.event.Standing.TheVariants.{Running}
+use Rattle.machine_model.specs.declared.event.Event.{Event}
+use Rattle.machine_model.specs.declared.event.Event.TheVariants.{Assign, Exec, Transfer, Drain, Squash, Retire, Fault, Drop}
+use Rattle.machine_model.specs.declared.event.Refused.{Refused}
+use Rattle.machine_model.specs.declared.event.Refused.TheVariants.{NoSuch}
+use Rattle.machine_model.specs.declared.event.Standing.TheVariants.{Running}
 use Rattle.sequencer.specs.Machines.{MachineView, state, units_of}
 use Rattle.sequencer.specs.Rings.{unit_for}
 use Rattle.sequencer.specs.Choices.{choices_of, choice_of, MayFollow}

@@ -7,8 +7,8 @@ use Rattle.machine_model.specs.Machine.{State}
 use Rattle.machine_model.specs.Refusals.{least}
 use Rattle.machine_model.specs.Answer.{play}
 use Rattle.machine_model.specs.Examples.{count, product, unlisted_jump}
-use Rattle.machine_events.specs.declared.event.Event.{Event}
-use Rattle.machine_events.specs.declared.event.Event.TheVariants.{Assign, Exec, Transfer, Drain, Squash, Retire, Fault}
+use Rattle.machine_model.specs.declared.event.Event.{Event}
+use Rattle.machine_model.specs.declared.event.Event.TheVariants.{Assign, Exec, Transfer, Drain, Squash, Retire, Fault}
 use Rattle.unit_turns.specs.FirstAllowed.{registers, first_allowed}
 use Rattle.unit_turns.specs.Turns.{position_of_unit, turn_at}
 use Rattle.unit_turns.specs.declared.turn.Turn.{Turn}

@@ -6,7 +6,7 @@ use Rattle.task_descriptor.specs.Listing.{Listing}
 use Rattle.machine_model.specs.Machine.{State}
 use Rattle.machine_model.specs.Step.{Next}
 use Rattle.machine_model.specs.HeadEvent.{position_of}
-use Rattle.machine_events.specs.declared.event.Event.{Event}
+use Rattle.machine_model.specs.declared.event.Event.{Event}
 use Rattle.unit_turns.specs.declared.predictor.Predictor.{Predictor}
 use Rattle.unit_turns.specs.Steps.{Course, beginning, after_steps}
 

@@ -8,8 +8,8 @@ use Rattle.task_descriptor.specs.Listing.{Listing}
 use Rattle.machine_model.specs.Machine.{State, opening}
 use Rattle.machine_model.specs.Answer.{is_running, after}
 use Rattle.machine_model.specs.HeadEvent.{head_event}
-use Rattle.machine_events.specs.declared.event.Event.{Event}
-use Rattle.machine_events.specs.declared.event.Event.TheVariants.{Exec, Transfer, Drain, Squash}
+use Rattle.machine_model.specs.declared.event.Event.{Event}
+use Rattle.machine_model.specs.declared.event.Event.TheVariants.{Exec, Transfer, Drain, Squash}
 use Rattle.sequencer.specs.Choices.{choices_of, choice_of}
 use Rattle.unit_turns.specs.FirstAllowed.{registers, first_allowed}
 use Rattle.unit_turns.specs.declared.predictor.Predictor.{Predictor}

@@ -6,7 +6,7 @@ use Rattle.mips_instructions.specs.Words.{address, index_of}
 use Rattle.mips_plain.specs.MemoryMap.{region, effective}
 use Rattle.machine_model.specs.Refusals.{least}
 use Rattle.machine_model.specs.Examples.{count}
-use Rattle.machine_events.specs.declared.event.Event.TheVariants.{Assign, Exec, Transfer, Drain, Retire}
+use Rattle.machine_model.specs.declared.event.Event.TheVariants.{Assign, Exec, Transfer, Drain, Retire}
 use Rattle.unit_turns.specs.FirstAllowed.{registers, first_allowed}
 use Rattle.unit_turns.specs.declared.predictor.Predictor.TheVariants as predictor
 use Rattle.unit_turns.specs.Predictions.{answer_for, asked}

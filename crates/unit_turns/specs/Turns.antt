@@ -6,8 +6,8 @@ use Rattle.machine_model.specs.Unit.{exec_refusal}
 use Rattle.machine_model.specs.Answer.{most_events, is_running}
 use Rattle.machine_model.specs.HeadEvent.{head_event}
 use Rattle.machine_model.specs.Claims.{count_h}
-use Rattle.machine_events.specs.declared.event.Event.{Event}
-use Rattle.machine_events.specs.declared.event.Event.TheVariants.{Assign, Exec, Transfer, Drain, Squash, Drop}
+use Rattle.machine_model.specs.declared.event.Event.{Event}
+use Rattle.machine_model.specs.declared.event.Event.TheVariants.{Assign, Exec, Transfer, Drain, Squash, Drop}
 use Rattle.sequencer.specs.Machines.{MachineView, state, units_of, answer_to}
 use Rattle.sequencer.specs.Rings.{unit_for}
 use Rattle.sequencer.specs.Choices.{choices_of, choice_of}

@@ -3,8 +3,8 @@
 ghost use Rattle.std.specs.Prelude.{◌≡◌, ℕ, ◌<◌, ◌↔◌, IfSome, IsTrue, Some, length, if◌then◌else◌};
 ghost use Rattle.machine_model.specs.Answer.{most_events};
 ghost use Rattle.machine_model.specs.HeadEvent.{head_event};
-ghost use Rattle.machine_events.specs.declared.event.Event.TheVariants.{Assign, Exec};
-ghost use Rattle.machine_events.specs.declared.event.Standing.TheVariants as standing;
+ghost use Rattle.machine_model.specs.declared.event.Event.TheVariants.{Assign, Exec};
+ghost use Rattle.machine_model.specs.declared.event.Standing.TheVariants as standing;
 ghost use Rattle.sequencer.specs.Machines.{state, units_of};
 ghost use Rattle.sequencer.specs.Rings.{unit_for};
 ghost use Rattle.sequencer.specs.Histories.{executed_in};
@@ -14,7 +14,7 @@ ghost use Rattle.unit_turns.specs.Turns.{IsTurn, IsOwn, MayBurst, own_events, pa
 
 use crate::laws::{law_head_unit, law_own_event, law_ring};
 use crate::turn::Turn;
-use machine_events::event::{Event, Standing};
+use machine_model::event::{Event, Standing};
 use processor_steps::processor::MOST_EVENTS;
 use sequencer::machine::Machine;
 

@@ -1,6 +1,6 @@
 //! What a worker does next for a unit.
 
-use machine_events::event::Event;
+use machine_model::event::Event;
 
 /// What a worker does next for one of its units, under the lock.
 #[derive(Clone, Copy, Debug, PartialEq, Eq)]

@@ -2,8 +2,8 @@
 
 ghost use Rattle.std.specs.Prelude.{◌≡◌, ◌+◌, ◌<◌, ◌≤◌, true, length, OnOk, OnErr, IfErr, IfSome, Ok};
 ghost use Rattle.machine_model.specs.Answer.{most_events};
-ghost use Rattle.machine_events.specs.declared.event.Refused.TheVariants as refused;
-ghost use Rattle.machine_events.specs.declared.event.Standing.TheVariants as standing;
+ghost use Rattle.machine_model.specs.declared.event.Refused.TheVariants as refused;
+ghost use Rattle.machine_model.specs.declared.event.Standing.TheVariants as standing;
 ghost use Rattle.sequencer.specs.Machines.{state, units_of, answer_to, SameRing};
 ghost use Rattle.unit_turns.specs.FirstAllowed.{first_allowed};
 ghost use Rattle.unit_turns.specs.declared.predictor.Predictor.{Predictor};
@@ -11,7 +11,7 @@ ghost use Rattle.unit_turns.specs.Steps.{goes_on as goes_on_by, tries, with_even
 ghost use Rattle.unit_turns.specs.Courses.{course};
 
 use crate::predictor::Predictor;
-use machine_events::event::{Event, Refused, Standing};
+use machine_model::event::{Event, Refused, Standing};
 use machine_model::laws::next_is_after;
 use sequencer::machine::Machine;
 use sequencer::predict::Predict;

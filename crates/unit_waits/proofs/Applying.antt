@@ -7,7 +7,7 @@ use Rattle.machine_model.specs.Answer.{after}
 use Rattle.machine_model.specs.Laws.{NextIsAfter}
 use Rattle.machine_model.specs.Replay.{ReplaysFrom}
 use Rattle.machine_model.specs.Step.{Next}
-use Rattle.machine_events.specs.declared.event.Event.{Event}
+use Rattle.machine_model.specs.declared.event.Event.{Event}
 use Rattle.mark_checker.specs.Places.{Checked}
 use Rattle.sequencer.specs.Machines.{MachineView, Applies, SameRing, state, units_of}
 use Rattle.unit_waits.specs.Waits.{after_all}

@@ -6,8 +6,8 @@ use Rattle.std.proofs.lemmas.List.{drop_all, drop-drop}
 use Rattle.task_descriptor.specs.Listing.{Listing}
 use Rattle.machine_model.specs.Machine.{State, opening}
 use Rattle.machine_model.specs.Replay.{Replays, ReplaysFrom}
-use Rattle.machine_events.specs.declared.event.Event.{Event}
-use Rattle.machine_events.specs.declared.event.Event.TheVariants.{Retire}
+use Rattle.machine_model.specs.declared.event.Event.{Event}
+use Rattle.machine_model.specs.declared.event.Event.TheVariants.{Retire}
 use Rattle.mark_checker.specs.Places.{Checked}
 use Rattle.sequencer.specs.Machines.{MachineView, SameRing, state, units_of}
 use Rattle.unit_waits.specs.declared.waiting.Waiting.{Waiting}

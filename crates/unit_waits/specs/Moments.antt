@@ -3,7 +3,7 @@
 use Rattle.std.specs.Prelude.{ℕ, List, [], ◌∷◌, ◌++◌, length, if◌then◌else◌}
 use Rattle.task_descriptor.specs.Listing.{Listing}
 use Rattle.machine_model.specs.Machine.{State, opening}
-use Rattle.machine_events.specs.declared.event.Event.{Event}
+use Rattle.machine_model.specs.declared.event.Event.{Event}
 use Rattle.unit_waits.specs.Waits.{after_all, ends_step}
 use Rattle.unit_waits.specs.Signals.{Shown, signals}
 

@@ -6,9 +6,9 @@ use Rattle.machine_model.specs.Machine.{Active, State, creates, pass, value}
 use Rattle.machine_model.specs.Refusals.{least}
 use Rattle.machine_model.specs.Unit.{exec_refusal}
 use Rattle.machine_model.specs.HeadEvent.{unit_of}
-use Rattle.machine_events.specs.declared.event.Event.TheVariants.{Exec}
-use Rattle.machine_events.specs.declared.event.Refused.{Refused}
-use Rattle.machine_events.specs.declared.event.Refused.TheVariants as refused
+use Rattle.machine_model.specs.declared.event.Event.TheVariants.{Exec}
+use Rattle.machine_model.specs.declared.event.Refused.{Refused}
+use Rattle.machine_model.specs.declared.event.Refused.TheVariants as refused
 use Rattle.unit_waits.specs.declared.waiting.Owed.{Owed}
 use Rattle.unit_waits.specs.declared.waiting.Reason.{Reason}
 use Rattle.unit_waits.specs.declared.waiting.Reason.TheVariants.{NeedsRegister, NeedsHead, HasToPass, HasFinished, CouldGoOn}

@@ -9,8 +9,8 @@ use Rattle.mips_plain.specs.MemoryMap.{region, effective}
 use Rattle.task_descriptor.specs.Listing.{Listing}
 use Rattle.machine_model.specs.Refusals.{least}
 use Rattle.machine_model.specs.Examples.{count}
-use Rattle.machine_events.specs.declared.event.Event.{Event}
-use Rattle.machine_events.specs.declared.event.Event.TheVariants.{Assign, Exec, Transfer}
+use Rattle.machine_model.specs.declared.event.Event.{Event}
+use Rattle.machine_model.specs.declared.event.Event.TheVariants.{Assign, Exec, Transfer}
 use Rattle.unit_waits.specs.Signals.{Shown, mask_of}
 use Rattle.unit_waits.specs.Moments.{moments}
 use Rattle.unit_waits.specs.Waveform.{header_text, legend, place_text, register_text, ring_text, scope_line, times_from, variable_line, wait_text}

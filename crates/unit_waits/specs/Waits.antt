@@ -6,7 +6,7 @@ use Rattle.task_descriptor.specs.Listing.{Listing}
 use Rattle.machine_model.specs.Machine.{Active, State, opening}
 use Rattle.machine_model.specs.Answer.{after}
 use Rattle.machine_model.specs.HeadEvent.{position_of}
-use Rattle.machine_events.specs.declared.event.Event.{Event}
+use Rattle.machine_model.specs.declared.event.Event.{Event}
 use Rattle.unit_waits.specs.declared.waiting.Waiting.{Waiting}
 use Rattle.unit_waits.specs.Reasons.{unit_at, reason_of}
 

@@ -4,7 +4,7 @@ ghost use Rattle.std.specs.Prelude.{◌≡◌, ◌≤◌, drop, length, position
 ghost use Rattle.machine_model.specs.HeadEvent.{position_of as position_of_event};
 ghost use Rattle.unit_waits.specs.Waits.{acts as acts_in, ends_step as ends_step_of};
 
-use machine_events::event::Event;
+use machine_model::event::Event;
 
 /// The position that an event is at, in a queue of so many units.
 fn position_of(active: u32, event: &Event) -> u32

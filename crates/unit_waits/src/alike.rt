@@ -5,7 +5,7 @@ ghost use Rattle.unit_waits.specs.declared.waiting.Reason.TheVariants.{NeedsRegi
 ghost use Rattle.unit_waits.specs.Counts.{is_alike as is_alike_to, is_same_debt as is_same_debt_as, is_same_place as is_same_place_as, is_same_reason as is_same_reason_as};
 
 use crate::waiting::{Owed, Reason, Waiting};
-use machine_events::event::Spot;
+use machine_model::event::Spot;
 use mips_instructions::number::Reg;
 
 /// Whether two places are the same.

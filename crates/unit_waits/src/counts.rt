@@ -15,7 +15,7 @@ use crate::count::Count;
 use crate::steps::do_step;
 use crate::waiting::Waiting;
 use crate::waits::machine_at_start;
-use machine_events::event::Event;
+use machine_model::event::Event;
 use mark_checker::accept::Accepted;
 use std::alloc::{AllocError, Global};
 

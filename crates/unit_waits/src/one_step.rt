@@ -7,7 +7,7 @@ ghost use Rattle.unit_waits.specs.Waits.{waits_in, waits_of};
 use crate::acting::acts;
 use crate::reasons::{reason, unit_at};
 use crate::waiting::Waiting;
-use machine_events::event::Event;
+use machine_model::event::Event;
 use mark_checker::accept::Accepted;
 use sequencer::machine::Machine;
 use std::alloc::{AllocError, Global};

@@ -6,7 +6,7 @@ ghost use Rattle.unit_waits.specs.Signals.{ring_signals as ring_signals_of, sign
 
 use crate::ring::ring_signals;
 use crate::unit::unit_signals;
-use machine_events::event::Event;
+use machine_model::event::Event;
 use mark_checker::accept::Accepted;
 use sequencer::machine::Machine;
 use std::alloc::{AllocError, Global};

@@ -11,7 +11,7 @@ ghost use Rattle.unit_waits.specs.Steps.{IsStepDone};
 
 use crate::one_step::waits_in_step;
 use crate::waiting::Waiting;
-use machine_events::event::{Event, Refused};
+use machine_model::event::{Event, Refused};
 use machine_model::laws::next_is_after;
 use mark_checker::accept::Accepted;
 use sequencer::machine::Machine;

@@ -1,6 +1,6 @@
 //! A unit that does nothing in a step, and what keeps it.
 
-use machine_events::event::Spot;
+use machine_model::event::Spot;
 use mips_instructions::number::Reg;
 
 /// Who has to send a register.

@@ -10,7 +10,7 @@ ghost use Rattle.unit_waits.specs.Waits.{waits as waits_of};
 use crate::acting::{behind, last_of_step};
 use crate::steps::do_step;
 use crate::waiting::Waiting;
-use machine_events::event::Event;
+use machine_model::event::Event;
 use mark_checker::accept::Accepted;
 use sequencer::machine::{Machine, MachineFault};
 use std::alloc::{AllocError, Global};

@@ -14,7 +14,7 @@ ghost use Rattle.unit_waits.specs.Waveform.{time_text, times_from, waveform_text
 use crate::changes::write_time;
 use crate::header::write_header;
 use crate::signals::signals;
-use machine_events::event::Event;
+use machine_model::event::Event;
 use machine_model::laws::next_is_after;
 use mark_checker::accept::Accepted;
 use sequencer::machine::Machine;

@@ -10,9 +10,9 @@ use Rattle.mark_checker.specs.Places.{Checked}
 use Rattle.machine_model.specs.Machine.{State, opening}
 use Rattle.machine_model.specs.Laws.{NextIsAfter}
 use Rattle.machine_model.specs.Answer.{Played, answered, play_event, play, ok_unless, first_refusal, after}
-use Rattle.machine_events.specs.declared.event.Event.{Event}
-use Rattle.machine_events.specs.declared.event.Refused.{Refused}
-use Rattle.machine_events.specs.declared.event.Refused.TheVariants as refused
+use Rattle.machine_model.specs.declared.event.Event.{Event}
+use Rattle.machine_model.specs.declared.event.Refused.{Refused}
+use Rattle.machine_model.specs.declared.event.Refused.TheVariants as refused
 use Rattle.sequencer.specs.Machines.{MachineView, Applies, IsAnswered, SameRing, state, units_of}
 use Rattle.verdict_report.specs.Playing.{played_so_far}
 use Rattle.verdict_report.specs.ReplayText.{allowed, answer_line, answers_text}

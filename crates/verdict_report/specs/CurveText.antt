@@ -1,8 +1,8 @@
 -- The text of `curve`: what the runs of a program in steps come to, on 1, 2, 3 units and more (own choice).
 use Rattle.std.specs.Prelude.{◌≡◌, ℕ, List, [], ◌∷◌, nat_eq, if◌then◌else◌}
 use Rattle.task_descriptor.specs.Listing.{Listing}
-use Rattle.machine_events.specs.declared.event.Standing.{Standing}
-use Rattle.machine_events.specs.declared.event.Standing.TheVariants.{Running, Halted, Trapped, Unlisted}
+use Rattle.machine_model.specs.declared.event.Standing.{Standing}
+use Rattle.machine_model.specs.declared.event.Standing.TheVariants.{Running, Halted, Trapped, Unlisted}
 use Rattle.speed_curve.specs.Curve.{AreRows}
 use Rattle.speed_curve.specs.TableText.{table_text}
 use Rattle.speed_curve.specs.declared.row.Row.{Row}

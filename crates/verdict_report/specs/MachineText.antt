@@ -3,8 +3,8 @@ use Rattle.std.specs.Prelude.{ℕ, List, [], ◌∷◌, ◌++◌, ◌-◌, false
 use Rattle.std.specs.Fmt.{decimal, digits}
 use Rattle.machine_model.specs.Machine.{State}
 use Rattle.machine_model.specs.Claims.{count_c, count_h}
-use Rattle.machine_events.specs.declared.event.Standing.{Standing}
-use Rattle.machine_events.specs.declared.event.Standing.TheVariants.{Running, Halted, Trapped, Unlisted}
+use Rattle.machine_model.specs.declared.event.Standing.{Standing}
+use Rattle.machine_model.specs.declared.event.Standing.TheVariants.{Running, Halted, Trapped, Unlisted}
 use Rattle.mips_plain.specs.TrapText.{trap_text}
 use Rattle.report_texts.specs.OutputTexts.{words_text}
 

@@ -1,7 +1,7 @@
 -- A machine in the middle of a script, and what is written of it. No public contract cites it.
 use Rattle.std.specs.Prelude.{List, Result, length}
 use Rattle.machine_model.specs.Answer.{Played}
-use Rattle.machine_events.specs.declared.event.Refused.{Refused}
+use Rattle.machine_model.specs.declared.event.Refused.{Refused}
 use Rattle.sequencer.specs.Machines.{MachineView, state}
 use Rattle.jobs.specs.declared.job.ReplayEmit.{ReplayEmit}
 use Rattle.jobs.specs.declared.job.ReplayEmit.TheVariants as emit

@@ -14,7 +14,7 @@ use crate::telling::tell;
 use speed_curve::drawing::draw;
 use jobs::job::{CertificateSource, CurveEmit, Prediction, Texts};
 use jobs::ranges::{Budget, Units};
-use machine_events::event::Standing;
+use machine_model::event::Standing;
 use mark_checker::accept::Accepted;
 use report_texts::judging::{Judged, judge};
 use report_texts::report::Report;

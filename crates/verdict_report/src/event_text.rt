@@ -4,7 +4,7 @@ ghost use Rattle.std.specs.String.{string_bytes};
 ghost use Rattle.verdict_report.specs.ReplayText.{answer_line, answers_text, script_refused};
 
 use event_script::fault::ScriptFault;
-use machine_events::event::Refused;
+use machine_model::event::Refused;
 use report_texts::report::Report;
 use std::alloc::{AllocError, Global};
 

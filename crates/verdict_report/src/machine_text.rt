@@ -15,7 +15,7 @@ use event_json::last_line::LastLine;
 use event_json::lines::lines;
 use event_trace::trace::trace;
 use jobs::ranges::Units;
-use machine_events::event::{Event, Standing};
+use machine_model::event::{Event, Standing};
 use mark_checker::accept::Accepted;
 use report_texts::plain_text::write_words;
 use run_picture::drawing::draw;

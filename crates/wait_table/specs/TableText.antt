@@ -3,9 +3,9 @@
 use Rattle.std.specs.Prelude.{ℕ, List, [], ◌∷◌, ◌++◌, Bool, true, false, flat_map, slice_get, codes}
 use Rattle.std.specs.Fmt.{decimal}
 use Rattle.task_descriptor.specs.Listing.{Listing}
-use Rattle.machine_events.specs.declared.event.Event.{Event}
-use Rattle.machine_events.specs.declared.event.Spot.{Spot}
-use Rattle.machine_events.specs.declared.event.Spot.TheVariants.{Inside, Stopped}
+use Rattle.machine_model.specs.declared.event.Event.{Event}
+use Rattle.machine_model.specs.declared.event.Spot.{Spot}
+use Rattle.machine_model.specs.declared.event.Spot.TheVariants.{Inside, Stopped}
 use Rattle.event_script.specs.ScriptText.{name_at}
 use Rattle.annotated_asm.specs.declared.position.Position.{Position}
 use Rattle.event_trace.specs.TraceText.{place_text}

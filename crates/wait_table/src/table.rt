@@ -15,7 +15,7 @@ use crate::kinds::{Kind, all_waits, waits_of};
 use crate::order::most_first;
 use crate::text::{write_number, write_waiting};
 use event_trace::places::places;
-use machine_events::event::Event;
+use machine_model::event::Event;
 use mark_checker::accept::Accepted;
 use annotated_asm::position::Position;
 use std::alloc::{AllocError, Global};

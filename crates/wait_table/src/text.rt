@@ -7,7 +7,7 @@ ghost use Rattle.wait_table.specs.TableText.{debt_text, owed_text, reason_text, 
 
 use event_script::writing::task_name;
 use event_trace::text::write_place;
-use machine_events::event::Spot;
+use machine_model::event::Spot;
 use mips_instructions::number::Reg;
 use annotated_asm::position::Position;
 use std::alloc::AllocError;

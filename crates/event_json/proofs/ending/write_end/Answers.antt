@@ -1,7 +1,7 @@
 -- An object with its members.
 use Rattle.std.proofs.Common.{ℕ, List, ◌∷◌, [], ◌++◌, ◌∙◌, ap}
 use Rattle.mips_plain.specs.MemoryMap.{byte_of}
-use Rattle.machine_events.specs.declared.event.Standing.{Standing}
+use Rattle.machine_model.specs.declared.event.Standing.{Standing}
 use Rattle.sequencer.specs.Machines.{state}
 use Rattle.event_json.specs.Fields.{fields_tokens}
 use Rattle.event_json.specs.EndJson.{ending_fields, memory_field, registers_field}

@@ -1,7 +1,7 @@
 -- No other refusal waits for a register.
 use Rattle.std.proofs.Common.{◌≡◌, ℕ, [], refl, sym, append-nil}
-use Rattle.machine_events.specs.declared.event.Refused.{Refused}
-use Rattle.machine_events.specs.declared.event.Refused.TheVariants.{Waiting, Unfinished}
+use Rattle.machine_model.specs.declared.event.Refused.{Refused}
+use Rattle.machine_model.specs.declared.event.Refused.TheVariants.{Waiting, Unfinished}
 use Rattle.event_json.specs.EventJson.{awaited_fields}
 use Rattle.event_json.proofs.event.write_awaited.Goals as goal
 

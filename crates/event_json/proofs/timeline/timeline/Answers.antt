@@ -1,6 +1,6 @@
 -- The events are those of the runs, and the times and lives those of these events.
 use Rattle.std.proofs.Common.{◌∙◌, List, ap}
-use Rattle.machine_events.specs.declared.event.Event.{Event}
+use Rattle.machine_model.specs.declared.event.Event.{Event}
 use Rattle.event_json.specs.Fields.{line_of}
 use Rattle.event_json.specs.Times.{times_of}
 use Rattle.event_json.specs.Timeline.{entries_of, timeline_json, timeline_text}

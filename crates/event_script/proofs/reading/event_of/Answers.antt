@@ -1,6 +1,6 @@
 -- A line with four words or more spells nothing.
 use Rattle.std.proofs.Common.{Result, Err, ap, ◌∙◌}
-use Rattle.machine_events.specs.declared.event.Event.{Event}
+use Rattle.machine_model.specs.declared.event.Event.{Event}
 use Rattle.event_script.specs.declared.fault.LineFault.{LineFault}
 use Rattle.event_script.proofs.LineWords.{four_words}
 use Rattle.event_script.proofs.reading.event_of.Goals as goal

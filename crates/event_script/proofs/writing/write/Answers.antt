@@ -2,8 +2,8 @@
 use Rattle.std.proofs.Common.{◌≡◌, ◌++◌, ◌∙◌, ◌<◌, List, ℕ, ap, subst, take, length, All, Vec, Global}
 use Rattle.std.proofs.lemmas.List.{take_all}
 use Rattle.std.specs.String.{string_bytes}
-use Rattle.machine_events.specs.Runs.{events_of}
-use Rattle.machine_events.specs.declared.event.EventRun.{EventRun}
+use Rattle.machine_model.specs.Runs.{events_of}
+use Rattle.machine_model.specs.declared.event.EventRun.{EventRun}
 use Rattle.event_script.specs.EventScript.{script_of}
 use Rattle.event_script.specs.ScriptText.{line_text, script_text, NamesRegister}
 use Rattle.event_script.proofs.WrittenRuns.{run_more, registers_more}

@@ -2,7 +2,7 @@
 use Rattle.std.proofs.Common.{◌≡◌, take}
 use Rattle.std.specs.List.{All}
 use Rattle.std.specs.String.{string_bytes}
-use Rattle.machine_events.specs.Runs.{events_of}
+use Rattle.machine_model.specs.Runs.{events_of}
 use Rattle.event_script.specs.ScriptText.{NamesRegister, script_text}
 use Rattle.event_script.proofs.writing.write.Given as goal
 

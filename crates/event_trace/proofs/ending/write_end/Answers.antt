@@ -3,7 +3,7 @@ use Rattle.std.proofs.Common.{ℕ, List, ◌∷◌, [], ◌++◌, ◌∙◌, ap}
 use Rattle.std.specs.Prelude.{codes}
 use Rattle.std.specs.String.{string_bytes}
 use Rattle.mips_plain.specs.MemoryMap.{byte_of}
-use Rattle.machine_events.specs.declared.event.Standing.{Standing}
+use Rattle.machine_model.specs.declared.event.Standing.{Standing}
 use Rattle.sequencer.specs.Machines.{state}
 use Rattle.event_trace.specs.TraceText.{ending_text}
 use Rattle.event_trace.specs.Ending.{memory_text, registers_text}

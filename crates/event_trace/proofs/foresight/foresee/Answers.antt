@@ -1,6 +1,6 @@
 -- The units that a squash or a drop leaves are the first ones.
 use Rattle.std.proofs.Common.{sym, ap, ◌∙◌}
-use Rattle.machine_events.specs.declared.event.Event.{Event}
+use Rattle.machine_model.specs.declared.event.Event.{Event}
 use Rattle.machine_model.specs.Answer.{after}
 use Rattle.sequencer.specs.Machines.{state}
 use Rattle.event_trace.specs.Changes.{changes_of}

@@ -1,6 +1,6 @@
 -- By whether a unit stands at the position, and before an instruction.
 use Rattle.std.proofs.Common.{◌≡◌, slice_get, None, sym, ap, ◌∙◌, arith}
-use Rattle.machine_events.specs.declared.event.Spot.{Spot}
+use Rattle.machine_model.specs.declared.event.Spot.{Spot}
 use Rattle.machine_model.specs.Answer.{instruction_at}
 use Rattle.unit_core.specs.Units.{active_of}
 use Rattle.sequencer.specs.Machines.{state}

@@ -4,7 +4,7 @@ use Rattle.std.specs.Prelude.{◌&&◌, not, unwrap_or}
 use Rattle.mips_instructions.specs.Words.{has}
 use Rattle.mips_plain.specs.MemoryMap.{byte_of}
 use Rattle.mips_instructions.specs.Instruction.{dests}
-use Rattle.machine_events.specs.declared.event.Spot.{Spot}
+use Rattle.machine_model.specs.declared.event.Spot.{Spot}
 use Rattle.machine_model.specs.Answer.{operand}
 use Rattle.unit_core.specs.Units.{active_of}
 use Rattle.sequencer.specs.Machines.{state}

@@ -3,9 +3,9 @@ use Rattle.std.proofs.Common.{◌≡◌, ◌+◌, ◌-◌, ◌<◌, List, ◌++�
 use Rattle.std.specs.Vec.{vec_len, vec_capacity}
 use Rattle.std.proofs.lemmas.List.{set-get_or}
 use Rattle.std.proofs.lemmas.List.Elements.{All-push, All-set}
-use Rattle.machine_events.specs.Runs.{events_of}
-use Rattle.machine_events.specs.declared.event.Event.{Event}
-use Rattle.machine_events.specs.declared.event.EventRun.{EventRun}
+use Rattle.machine_model.specs.Runs.{events_of}
+use Rattle.machine_model.specs.declared.event.Event.{Event}
+use Rattle.machine_model.specs.declared.event.EventRun.{EventRun}
 use Rattle.sequencer.specs.Histories.{AreCounted}
 use Rattle.sequencer.proofs.EventRuns.{lengthened, joined, few_runs}
 use Rattle.sequencer.proofs.history.append.Goals.{in-Some+else-is_same, in_default}

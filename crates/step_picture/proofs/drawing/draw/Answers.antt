@@ -1,6 +1,6 @@
 -- The events are those of the runs, and the steps and the lives those of these events.
 use Rattle.std.proofs.Common.{List, ap, ◌∙◌}
-use Rattle.machine_events.specs.declared.event.Event.{Event}
+use Rattle.machine_model.specs.declared.event.Event.{Event}
 use Rattle.step_picture.specs.Numbers.{steps_of}
 use Rattle.step_picture.specs.StepPicture.{step_picture_text, text_by}
 use Rattle.step_picture.proofs.drawing.draw.Goals as goal

@@ -1,6 +1,6 @@
 -- Each run fits behind those before it, and has room.
 use Rattle.std.proofs.Common.{ℕ, List, length, replicate, sym, ap, ◌∙◌, subst, arith}
-use Rattle.machine_events.specs.Runs.{events_of}
+use Rattle.machine_model.specs.Runs.{events_of}
 use Rattle.task_lives.specs.declared.following.AtWork.{AtWork}
 use Rattle.task_lives.specs.declared.life.Life.{Life}
 use Rattle.task_lives.specs.Lives.{AllFit}

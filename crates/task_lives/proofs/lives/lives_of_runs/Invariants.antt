@@ -1,6 +1,6 @@
 -- The runs so far were followed.
 use Rattle.std.proofs.Common.{take}
-use Rattle.machine_events.specs.Runs.{events_of}
+use Rattle.machine_model.specs.Runs.{events_of}
 use Rattle.task_lives.proofs.RunByRun.{IsFollowedTo}
 use Rattle.task_lives.proofs.lives.lives_of_runs.Given as goal
 

@@ -7,9 +7,9 @@ use Rattle.task_descriptor.specs.Listing.{Listing}
 use Rattle.machine_model.specs.Machine.{State}
 use Rattle.machine_model.specs.Refusals.{unless}
 use Rattle.machine_model.specs.Answer.{refusal, is_running}
-use Rattle.machine_events.specs.declared.event.Event.{Event}
-use Rattle.machine_events.specs.declared.event.Event.TheVariants.{Assign}
-use Rattle.machine_events.specs.declared.event.Refused.{Refused}
+use Rattle.machine_model.specs.declared.event.Event.{Event}
+use Rattle.machine_model.specs.declared.event.Event.TheVariants.{Assign}
+use Rattle.machine_model.specs.declared.event.Refused.{Refused}
 use Rattle.sequencer.specs.Machines.{state, units_of}
 use Rattle.sequencer.specs.Rings.{unit_for}
 use Rattle.sequencer.specs.Choices.{MayFollow}

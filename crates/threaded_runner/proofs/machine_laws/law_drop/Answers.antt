@@ -6,9 +6,9 @@ use Rattle.task_descriptor.specs.Listing.{Listing}
 use Rattle.machine_model.specs.Machine.{Active, State}
 use Rattle.machine_model.specs.Answer.{refusal}
 use Rattle.machine_model.specs.Refusals.{unless, for_some}
-use Rattle.machine_events.specs.declared.event.Event.TheVariants.{Drop}
-use Rattle.machine_events.specs.declared.event.Refused.{Refused}
-use Rattle.machine_events.specs.declared.event.Refused.TheVariants as refused
+use Rattle.machine_model.specs.declared.event.Event.TheVariants.{Drop}
+use Rattle.machine_model.specs.declared.event.Refused.{Refused}
+use Rattle.machine_model.specs.declared.event.Refused.TheVariants as refused
 use Rattle.sequencer.specs.Machines.{state, units_of}
 use Rattle.threaded_runner.proofs.machine_laws.law_drop.Goals as goal
 

@@ -5,7 +5,7 @@ use Rattle.task_descriptor.specs.Listing.{Listing, IsWellFormed}
 use Rattle.task_descriptor.specs.WellFormed.{entry_below}
 use Rattle.task_descriptor.specs.declared.descriptor.Descriptor.{Descriptor}
 use Rattle.mask_certificate.specs.Lists.{list_of, mask_at}
-use Rattle.machine_events.specs.declared.event.Spot.TheVariants.{Inside}
+use Rattle.machine_model.specs.declared.event.Spot.TheVariants.{Inside}
 use Rattle.unit_core.proofs.UnitLemmas.{item_there}
 use Rattle.unit_core.proofs.unit.first_spot.Goals as goal
 

@@ -1,6 +1,6 @@
 use Rattle.std.proofs.Common.{◌≡◌, None, sym, ap, ◌∙◌, subst}
 use Rattle.machine_model.specs.Answer.{refusal}
-use Rattle.machine_events.specs.declared.event.Event.{Event}
+use Rattle.machine_model.specs.declared.event.Event.{Event}
 use Rattle.sequencer.specs.Machines.{state, units_of}
 use Rattle.sequencer.specs.Rings.{unit_for}
 use Rattle.unit_turns.proofs.Assigning.{assign_allowed}

@@ -1,7 +1,7 @@
 use Rattle.std.proofs.Common.{◌≡◌, ◌<◌, length, refl, sym, ◌∙◌}
 use Rattle.std.specs.Prelude.{nat_lt}
 use Rattle.std.proofs.lemmas.Bool.{lt-ltb, ltb-true}
-use Rattle.machine_events.specs.declared.event.Event.TheVariants.{Assign, Exec}
+use Rattle.machine_model.specs.declared.event.Event.TheVariants.{Assign, Exec}
 use Rattle.sequencer.specs.Machines.{state, units_of}
 use Rattle.sequencer.specs.Rings.{unit_for}
 use Rattle.unit_turns.proofs.Assigning.{next_is, none_next}

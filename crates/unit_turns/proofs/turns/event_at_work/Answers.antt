@@ -1,6 +1,6 @@
 use Rattle.std.proofs.Common.{length, Some, None, true≢false, refl, sym, ◌∙◌, arith}
 use Rattle.std.specs.Prelude.{map}
-use Rattle.machine_events.specs.declared.event.Event.TheVariants.{Exec, Squash, Transfer, Drain}
+use Rattle.machine_model.specs.declared.event.Event.TheVariants.{Exec, Squash, Transfer, Drain}
 use Rattle.sequencer.specs.Machines.{state, units_of}
 use Rattle.unit_turns.specs.FirstAllowed.{registers, first_allowed}
 use Rattle.unit_turns.proofs.Tries.{finds_exec, finds_register}

@@ -6,7 +6,7 @@ use Rattle.unit_waits.specs.declared.waiting.Waiting.{Waiting}
 use Rattle.unit_waits.specs.declared.count.Count.{Count}
 use Rattle.unit_waits.specs.Counts.{all_waits, counted, counts_of}
 use Rattle.machine_model.specs.Replay.{ReplaysFrom}
-use Rattle.machine_events.specs.declared.event.Event.{Event}
+use Rattle.machine_model.specs.declared.event.Event.{Event}
 use Rattle.sequencer.specs.Machines.{state}
 use Rattle.unit_waits.specs.Waits.{ends_step}
 use Rattle.unit_waits.specs.Steps.{IsStepDone}

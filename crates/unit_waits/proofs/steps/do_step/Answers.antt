@@ -4,8 +4,8 @@ use Rattle.std.proofs.lemmas.List.Quantifiers.{position-Some}
 use Rattle.mark_checker.specs.Places.{Checked}
 use Rattle.machine_model.specs.Machine.{State}
 use Rattle.machine_model.specs.Replay.{ReplaysFrom}
-use Rattle.machine_events.specs.declared.event.Event.{Event}
-use Rattle.machine_events.specs.declared.event.Event.TheVariants.{Retire}
+use Rattle.machine_model.specs.declared.event.Event.{Event}
+use Rattle.machine_model.specs.declared.event.Event.TheVariants.{Retire}
 use Rattle.sequencer.specs.Machines.{state, units_of}
 use Rattle.unit_waits.specs.Waits.{after_all, ends_step}
 use Rattle.unit_waits.proofs.Stepping.{cut_replay, step_done}

@@ -4,7 +4,7 @@ use Rattle.std.specs.List.{position}
 use Rattle.std.proofs.lemmas.List.{length-drop}
 use Rattle.unit_waits.specs.declared.waiting.Waiting.{Waiting}
 use Rattle.machine_model.specs.Replay.{ReplaysFrom}
-use Rattle.machine_events.specs.declared.event.Event.{Event}
+use Rattle.machine_model.specs.declared.event.Event.{Event}
 use Rattle.sequencer.specs.Machines.{state}
 use Rattle.unit_waits.specs.Waits.{ends_step}
 use Rattle.unit_waits.specs.Steps.{IsStepDone}

@@ -5,8 +5,8 @@ use Rattle.std.specs.String.{string_bytes}
 use Rattle.std.proofs.lemmas.List.{length-drop}
 use Rattle.std.proofs.lemmas.List.Quantifiers.{position-Some}
 use Rattle.mark_checker.specs.Places.{Checked}
-use Rattle.machine_events.specs.declared.event.Event.{Event}
-use Rattle.machine_events.specs.declared.event.Event.TheVariants.{Retire}
+use Rattle.machine_model.specs.declared.event.Event.{Event}
+use Rattle.machine_model.specs.declared.event.Event.TheVariants.{Retire}
 use Rattle.sequencer.specs.Machines.{MachineView, state}
 use Rattle.unit_waits.specs.Waits.{after_all, ends_step}
 use Rattle.unit_waits.proofs.Going.{last_by}

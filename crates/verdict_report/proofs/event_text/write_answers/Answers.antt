@@ -2,7 +2,7 @@
 use Rattle.std.proofs.Common.{◌≡◌, ◌+◌, ◌<◌, ◌++◌, ◌∷◌, List, [], Result, ◌∙◌, sym, ap, take, length, length-take-le, arith}
 use Rattle.std.specs.String.{string_bytes}
 use Rattle.std.proofs.lemmas.List.{take_more}
-use Rattle.machine_events.specs.declared.event.Refused.{Refused}
+use Rattle.machine_model.specs.declared.event.Refused.{Refused}
 use Rattle.verdict_report.specs.ReplayText.{answer_line, answers_text}
 use Rattle.verdict_report.proofs.Plays.{answers_more}
 use Rattle.verdict_report.proofs.event_text.write_answers.Goals as goal

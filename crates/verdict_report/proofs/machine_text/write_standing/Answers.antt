@@ -4,7 +4,7 @@ use Rattle.std.specs.Prelude.{codes}
 use Rattle.std.specs.Option.{option_map}
 use Rattle.std.specs.Fmt.{AppendsText, ◌++?◌, format_spec, padded_integral, styled_digits_output}
 use Rattle.std.specs.String.{string_bytes}
-use Rattle.machine_events.specs.declared.event.Standing.{Standing}
+use Rattle.machine_model.specs.declared.event.Standing.{Standing}
 use Rattle.verdict_report.specs.MachineText.{standing_text}
 use Rattle.verdict_report.proofs.Addresses.{address_padded}
 use Rattle.verdict_report.proofs.machine_text.write_standing.Goals as goal

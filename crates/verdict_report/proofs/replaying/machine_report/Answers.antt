@@ -1,7 +1,7 @@
 -- The machine behind the events, with what it answered, is the replay of the events.
 use Rattle.std.proofs.Common.{rules, ◌≡◌, ◌∙◌, sym, ap, List, Result}
 use Rattle.machine_model.specs.Answer.{Played, play}
-use Rattle.machine_events.specs.declared.event.Refused.{Refused}
+use Rattle.machine_model.specs.declared.event.Refused.{Refused}
 use Rattle.sequencer.specs.Machines.{units_of}
 use Rattle.verdict_report.specs.MachineText.{standing_status}
 use Rattle.verdict_report.specs.Playing.{machine_emit, played_so_far}

@@ -1,7 +1,7 @@
 -- One more event is one step of the fold, and one event more of the history if it is allowed.
 use Rattle.std.proofs.Common.{◌+◌, ◌<◌, ◌++◌, ◌∷◌, List, [], Result, ◌∙◌, sym, ap, take, length, length-append, arith}
-use Rattle.machine_events.specs.declared.event.Event.{Event}
-use Rattle.machine_events.specs.declared.event.Refused.{Refused}
+use Rattle.machine_model.specs.declared.event.Event.{Event}
+use Rattle.machine_model.specs.declared.event.Refused.{Refused}
 use Rattle.machine_model.specs.Answer.{play, play_event}
 use Rattle.sequencer.specs.Machines.{units_of}
 use Rattle.verdict_report.specs.Playing.{played_so_far}

@@ -3,7 +3,7 @@ use Rattle.mips_instructions.specs.Words.{has}
 use Rattle.task_descriptor.specs.Listing.{Listing}
 use Rattle.machine_model.specs.Step.{is_reserved}
 use Rattle.machine_model.specs.Answer.{after}
-use Rattle.machine_events.specs.declared.event.Event.TheVariants.{Assign}
+use Rattle.machine_model.specs.declared.event.Event.TheVariants.{Assign}
 use Rattle.processor_steps.specs.Processors.{ProcessorView, state_of, actives}
 use Rattle.processor_steps.proofs.Changed.{assigned}
 use Rattle.processor_steps.proofs.processor.Processor.assign.Goals as goal

@@ -1,5 +1,5 @@
 use Rattle.std.proofs.Common.{ℕ, sym, subst}
-use Rattle.machine_events.specs.declared.event.Event.TheVariants.{Exec}
+use Rattle.machine_model.specs.declared.event.Event.TheVariants.{Exec}
 use Rattle.processor_steps.specs.Processors.{Steps}
 use Rattle.processor_steps.proofs.processor.Processor.exec.Goals as goal
 

@@ -1,7 +1,7 @@
 use Rattle.std.proofs.Common.{◌≡◌, ◌<◌, refl, sym, ap, ◌∙◌, subst, arith}
 use Rattle.machine_model.specs.Answer.{most_events}
-use Rattle.machine_events.specs.declared.event.Event.TheVariants.{Exec}
-use Rattle.machine_events.specs.declared.event.Standing.TheVariants.{Running}
+use Rattle.machine_model.specs.declared.event.Event.TheVariants.{Exec}
+use Rattle.machine_model.specs.declared.event.Standing.TheVariants.{Running}
 use Rattle.processor_steps.specs.Processors.{QueueView, ProcessorView, actives, ArePlaced, Steps}
 use Rattle.processor_steps.proofs.Executions.{LeavesRest, ahead_tried, on_err, not_zero}
 use Rattle.processor_steps.proofs.processor.Processor.exec_ahead.Goals as goal

@@ -5,7 +5,7 @@ use Rattle.std.proofs.lemmas.List.{drop-map}
 use Rattle.mips_plain.specs.declared.outcome.Read.{Read}
 use Rattle.machine_model.specs.Machine.{Active, task_at}
 use Rattle.machine_model.specs.Step.{filled}
-use Rattle.machine_events.specs.declared.event.Commit.{Commit}
+use Rattle.machine_model.specs.declared.event.Commit.{Commit}
 use Rattle.unit_core.specs.Units.{active_of}
 use Rattle.processor_steps.specs.Processors.{QueueView, ProcessorView, actives}
 use Rattle.processor_steps.proofs.Changed.{retired}

@@ -4,9 +4,9 @@ use Rattle.std.specs.Option.{option_or}
 use Rattle.task_descriptor.specs.Listing.{Listing}
 use Rattle.machine_model.specs.Refusals.{unless}
 use Rattle.machine_model.specs.Answer.{refusal, after, most_events}
-use Rattle.machine_events.specs.declared.event.Event.TheVariants.{Retire}
-use Rattle.machine_events.specs.declared.event.Refused.{Refused}
-use Rattle.machine_events.specs.declared.event.Refused.TheVariants as refused
+use Rattle.machine_model.specs.declared.event.Event.TheVariants.{Retire}
+use Rattle.machine_model.specs.declared.event.Refused.{Refused}
+use Rattle.machine_model.specs.declared.event.Refused.TheVariants as refused
 use Rattle.processor_steps.specs.Processors.{state_of}
 use Rattle.processor_steps.specs.CallParts.{Does}
 use Rattle.processor_steps.proofs.TriedSteps.{does_steps}

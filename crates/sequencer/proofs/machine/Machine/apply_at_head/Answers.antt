@@ -1,6 +1,6 @@
 -- The processor took the event, and the history has it behind the others.
 use Rattle.std.proofs.Common.{sym, subst}
-use Rattle.machine_events.specs.declared.event.Event.TheVariants.{Exec}
+use Rattle.machine_model.specs.declared.event.Event.TheVariants.{Exec}
 use Rattle.processor_steps.specs.Processors.{ArePlaced}
 use Rattle.sequencer.specs.Machines.{MachineView, state}
 use Rattle.sequencer.proofs.Machines.{pushed}

@@ -1,6 +1,6 @@
 use Rattle.std.proofs.Common.{◌≡◌, None, subst}
 use Rattle.machine_model.specs.Answer.{refusal}
-use Rattle.machine_events.specs.declared.event.Event.TheVariants.{Exec}
+use Rattle.machine_model.specs.declared.event.Event.TheVariants.{Exec}
 use Rattle.sequencer.specs.Machines.{MachineView, state, units_of}
 use Rattle.sequencer.proofs.ReadyUnits.{ahead_allowed}
 use Rattle.sequencer.proofs.machine.Machine.can_run_ahead.Goals as goal

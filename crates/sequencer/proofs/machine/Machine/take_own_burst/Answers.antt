@@ -1,8 +1,8 @@
 -- The burst is fresh, so its unit takes it over, and the events behind the history are those of its steps.
 use Rattle.std.proofs.Common.{◌≡◌, ℕ, ◌<◌, length, ◌++◌, sym, ap, ◌∙◌, subst, arith}
 use Rattle.std.specs.Prelude.{replicate}
-use Rattle.machine_events.specs.declared.event.Event.TheVariants.{Exec}
-use Rattle.machine_events.specs.declared.event.Standing.TheVariants.{Running}
+use Rattle.machine_model.specs.declared.event.Event.TheVariants.{Exec}
+use Rattle.machine_model.specs.declared.event.Standing.TheVariants.{Running}
 use Rattle.unit_core.specs.Bursts.{BurstView}
 use Rattle.processor_steps.specs.Processors.{Keeps}
 use Rattle.sequencer.specs.Machines.{MachineView, IsMachine, state}

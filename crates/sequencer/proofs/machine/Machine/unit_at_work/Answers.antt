@@ -1,6 +1,6 @@
 use Rattle.std.proofs.Common.{◌≡◌, Some, sym, ap, ◌∙◌}
 use Rattle.std.specs.Prelude.{slice_get}
-use Rattle.machine_events.specs.declared.event.Spot.TheVariants.{Stopped}
+use Rattle.machine_model.specs.declared.event.Spot.TheVariants.{Stopped}
 use Rattle.unit_core.specs.Units.{active_of}
 use Rattle.sequencer.specs.Machines.{MachineView, state}
 use Rattle.sequencer.proofs.LentUnits.{not_stopped}

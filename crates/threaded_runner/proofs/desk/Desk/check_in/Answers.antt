@@ -2,7 +2,7 @@ use Rattle.std.proofs.Common.{◌≡◌, ℕ, ◌+◌, ◌%◌, List, length, Op
 use Rattle.std.proofs.lemmas.List.{length-replicate}
 use Rattle.std.specs.Prelude.{replicate, slice_index, slice_set, unwrap_or, vec_len}
 use Rattle.std.specs.Option.{option_map}
-use Rattle.machine_events.specs.declared.event.Event.TheVariants.{Exec}
+use Rattle.machine_model.specs.declared.event.Event.TheVariants.{Exec}
 use Rattle.unit_core.specs.Units.{UnitView}
 use Rattle.processor_steps.specs.Processors.{position_with}
 use Rattle.sequencer.specs.Machines.{MachineView, state}

@@ -1,5 +1,5 @@
 use Rattle.std.proofs.Common.{◌≡◌, ℕ, ◌<◌, sym, ap, ◌∙◌, subst, arith}
-use Rattle.machine_events.specs.declared.event.Event.TheVariants.{Exec}
+use Rattle.machine_model.specs.declared.event.Event.TheVariants.{Exec}
 use Rattle.sequencer.specs.Machines.{MachineView, units_of}
 use Rattle.sequencer.specs.Rings.{unit_for}
 use Rattle.threaded_runner.specs.declared.share.Share.{Share}

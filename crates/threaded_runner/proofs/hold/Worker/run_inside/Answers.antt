@@ -1,6 +1,6 @@
 use Rattle.std.proofs.Common.{◌≡◌, ℕ, ◌<◌, length, sym, ap, ◌∙◌, subst, arith, refl}
 use Rattle.std.specs.Prelude.{slice_get}
-use Rattle.machine_events.specs.declared.event.Event.TheVariants.{Exec}
+use Rattle.machine_model.specs.declared.event.Event.TheVariants.{Exec}
 use Rattle.sequencer.specs.Machines.{MachineView, state, units_of}
 use Rattle.sequencer.specs.Rings.{unit_for}
 use Rattle.threaded_runner.specs.declared.share.Share.{Share}

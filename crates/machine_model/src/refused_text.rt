@@ -6,7 +6,7 @@ use std::fmt;
 
 impl Refused {
     ghost use Rattle.std.specs.Prelude.{◌≡◌};
-    ghost use Rattle.machine_events.specs.RefusedText.{number_and_name};
+    ghost use Rattle.machine_model.specs.RefusedText.{number_and_name};
 
     /// The number and the name of the refusal.
     pub fn number_and_name(&self) -> (u8, &'static str)
@@ -37,7 +37,7 @@ impl Refused {
 
 impl fmt::Display for Refused {
     ghost use Rattle.std.specs.Prelude.{Some};
-    ghost use Rattle.machine_events.specs.RefusedText.{refusal_text};
+    ghost use Rattle.machine_model.specs.RefusedText.{refusal_text};
 
     ghost output = { λ refused. Some (refusal_text refused) };
 

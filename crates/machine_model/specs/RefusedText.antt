@@ -1,8 +1,8 @@
 -- The number and the name of why an event is refused, and the register that is waited for (own choice).
 use Rattle.std.specs.Prelude.{ℕ, List, [], ◌++◌, codes}
 use Rattle.std.specs.Fmt.{decimal}
-use Rattle.machine_events.specs.declared.event.Refused.{Refused}
-use Rattle.machine_events.specs.declared.event.Refused.TheVariants.{Ended, NoUnit, NoSuch, NotATarget, Stopped, Waiting, NotHead, NotStopped, AlreadyThere, NotYet, NoMismatch, Unfinished, Mismatch, NotListed, IsListed, Full, OutOfMemory}
+use Rattle.machine_model.specs.declared.event.Refused.{Refused}
+use Rattle.machine_model.specs.declared.event.Refused.TheVariants.{Ended, NoUnit, NoSuch, NotATarget, Stopped, Waiting, NotHead, NotStopped, AlreadyThere, NotYet, NoMismatch, Unfinished, Mismatch, NotListed, IsListed, Full, OutOfMemory}
 
 abbrev pub number_and_name : Refused → ℕ × List ℕ
 number_and_name Ended = (1, codes "Ended")

@@ -1,7 +1,7 @@
 -- Runs of equal events, as a history keeps them (own choice).
 use Rattle.std.specs.Prelude.{List, flat_map, replicate}
-use Rattle.machine_events.specs.declared.event.Event.{Event}
-use Rattle.machine_events.specs.declared.event.EventRun.{EventRun}
+use Rattle.machine_model.specs.declared.event.Event.{Event}
+use Rattle.machine_model.specs.declared.event.EventRun.{EventRun}
 
 -- the events of some runs, in order
 abbrev pub events_of : List EventRun → List Event
