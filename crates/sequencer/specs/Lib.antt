@@ -6,3 +6,4 @@ pub mod Choices
 pub mod Finish
 pub mod Bursts
 pub mod Examples
+pub mod OfAccepted

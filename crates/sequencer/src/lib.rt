@@ -9,3 +9,4 @@ pub mod machine;
 pub mod predict;
 mod ready;
 mod units;
+pub mod accepted_laws_laws;

@@ -3,7 +3,7 @@
 ghost use Rattle.task_descriptor.specs.Listing.{IsWellFormed};
 ghost use Rattle.task_graph.specs.Soundness.{Sound};
 ghost use Rattle.mark_checker.specs.Places.{IsAccepted};
-ghost use Rattle.accepted_laws.specs.OfAccepted.{Headline, RunEnds, NeverStuck, PlacesMasked, ReplayedPlacesMasked, AllMasksFit, SentStays};
+ghost use Rattle.sequencer.specs.OfAccepted.{Headline, RunEnds, NeverStuck, PlacesMasked, ReplayedPlacesMasked, AllMasksFit, SentStays};
 
 use machine_model::laws::{
     headline, how_a_run_ends, never_stuck, places_are_valid, sent_registers_stay,

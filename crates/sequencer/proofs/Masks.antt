@@ -13,7 +13,7 @@ use Rattle.machine_model.specs.Machine.{Active, task_at, no_task}
 use Rattle.machine_model.specs.Burst.{MasksFit}
 use Rattle.machine_model.specs.Places.{PlaceValid}
 use Rattle.machine_model.specs.declared.event.Spot.TheVariants.{Inside}
-use Rattle.accepted_laws.specs.OfAccepted.{HasMask, PlacesMasked, masks_of, AllMasksFit}
+use Rattle.sequencer.specs.OfAccepted.{HasMask, PlacesMasked, masks_of, AllMasksFit}
 
 -- what acceptance says of each place, and of each entry
 abbrev pub PlacesSay : Checked → Type 0
