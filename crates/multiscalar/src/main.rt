@@ -7,7 +7,7 @@ use program_edge::program::run;
 use std::io::IsTerminal;
 use std::process;
 use std::process::ExitCode;
-use whole_file::system::SystemFolder;
+use text_pieces::system::SystemFolder;
 
 fn main(rt: HostRuntime) -> ExitCode {
     let mut folder = SystemFolder::new(&rt, process::id(rt.process()));

@@ -20,7 +20,7 @@ use Rattle.program_edge.specs.declared.summary.Tally.{Tally}
 use Rattle.program_edge.specs.declared.told.Ending.{Ending}
 use Rattle.program_edge.specs.FileTexts.{Known}
 use Rattle.program_edge.specs.Hints.{IsSaid}
-use Rattle.whole_file.specs.Files.{Same}
+use Rattle.text_pieces.specs.Files.{Same}
 use Rattle.verdict_report.specs.declared.fault.ServeFault.{ServeFault}
 use Rattle.verdict_report.specs.declared.fault.ServeFault.TheVariants as serve
 use Rattle.program_edge.specs.declared.fault.Fault.TheVariants.{Serve}

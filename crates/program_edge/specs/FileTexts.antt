@@ -12,8 +12,8 @@ use Rattle.jobs.specs.declared.job.Job.TheVariants.{Check}
 use Rattle.jobs.specs.declared.job.Paths.{Paths}
 use Rattle.jobs.specs.declared.job.Texts.{Texts}
 use Rattle.jobs.specs.Files.{has_certificate, has_script}
-use Rattle.shared_fetch.specs.declared.serial.FetchFault.{FetchFault}
-use Rattle.shared_fetch.specs.declared.serial.FetchFault.TheVariants as fetch
+use Rattle.text_pieces.specs.declared.serial.FetchFault.{FetchFault}
+use Rattle.text_pieces.specs.declared.serial.FetchFault.TheVariants as fetch
 use Rattle.program_edge.specs.declared.unread.Reason.{Reason}
 use Rattle.program_edge.specs.declared.unread.Reason.TheVariants.{NoSuchFile, IsDirectory, NotPermitted, TooLong, OutOfMemory, Other}
 use Rattle.program_edge.specs.declared.unread.Unread.{Unread}

@@ -15,7 +15,7 @@ use Rattle.command_line.specs.declared.words.UsageFault.{UsageFault}
 use Rattle.command_line.specs.declared.words.UsageFault.TheVariants as usage
 use Rattle.verdict_report.specs.FaultText.{serve_fault_text}
 use Rattle.verdict_report.specs.Writing.{Begins}
-use Rattle.whole_file.specs.Refusals.{unwritten_words}
+use Rattle.text_pieces.specs.Refusals.{unwritten_words}
 use Rattle.program_edge.specs.Usage.{is_shown}
 
 -- why a file gives no text; the limit is that of a certificate or a script

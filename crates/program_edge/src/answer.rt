@@ -1,6 +1,6 @@
 //! From what was asked and its files to what is written and the status.
 ghost use Rattle.std.specs.Prelude.{◌≡◌, ◌⊎◌, ◌∷◌, IfOk, false};
-ghost use Rattle.whole_file.specs.Files.{Files};
+ghost use Rattle.text_pieces.specs.Files.{Files};
 ghost use Rattle.program_edge.specs.Answering.{IsAnswered, IsAnsweredFor, IsDelivered, IsDeliveredIf, IsDeliveredTold, IsJobDone, IsNotDone, IsPut, IsRead, IsShown, IsTaken, ending_after};
 ghost use Rattle.program_edge.specs.Refusals.{is_refusal};
 ghost use Rattle.program_edge.specs.Several.{IsEach};
@@ -26,8 +26,8 @@ use std::sync::Wait;
 use std::thread::Threads;
 use verdict_report::fault::ServeFault;
 use verdict_report::serve::serve;
-use whole_file::folder::Folder;
-use whole_file::replacing::replace;
+use text_pieces::folder::Folder;
+use text_pieces::replacing::replace;
 
 /// Does the job that was asked for where `errors` is no terminal, as `answer_reader` does it: only a fault is told
 /// there.

@@ -3,7 +3,7 @@
 use crate::unread::Unread;
 use crate::usage::UsageText;
 use verdict_report::fault::ServeFault;
-use whole_file::unwritten::Unwritten;
+use text_pieces::unwritten::Unwritten;
 
 /// Why the program does no job: it says so, and ends with status 2, or with 0 for help and the version.
 #[derive(Debug, Drop)]

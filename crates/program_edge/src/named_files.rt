@@ -4,8 +4,8 @@ ghost use Rattle.program_edge.specs.FileTexts.{Known, Unknown, OpensAs, IsUnread
 
 use crate::asked::STANDARD_INPUT;
 use crate::unread::{Reason, reason_of_reading};
-use shared_fetch::positioned::PositionedFile;
-use shared_fetch::serial::FetchFault;
+use text_pieces::positioned::PositionedFile;
+use text_pieces::serial::FetchFault;
 use std::fs::OpenFile;
 use std::io::{ErrorKind, Input, Read};
 use std::marker::Sync;

@@ -10,7 +10,7 @@ use std::io::Write;
 use std::marker::Sync;
 use std::sync::Wait;
 use std::thread::Threads;
-use whole_file::folder::Folder;
+use text_pieces::folder::Folder;
 
 /// Runs the program on the words and the files of a process, and answers its status, 0 to 3. A result may go to a
 /// file of `folder`; `is_terminal` says whether `errors` is a terminal, and `shows_colors` whether `output` is one that

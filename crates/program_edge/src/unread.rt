@@ -2,7 +2,7 @@
 ghost use Rattle.std.specs.Prelude.{◌≡◌};
 ghost use Rattle.program_edge.specs.FileTexts.{opening_reason, reading_reason};
 
-use shared_fetch::serial::FetchFault;
+use text_pieces::serial::FetchFault;
 use std::io::ErrorKind;
 
 /// Why a file gives no text, as far as the system tells. (own choice)

@@ -1,7 +1,7 @@
 //! Files that are fetched.
 
 use crate::given::{Given, TRIES};
-use shared_fetch::serial::{FetchFault, fetch};
+use text_pieces::serial::{FetchFault, fetch};
 
 pub(crate) fn fetches(given: &Given<'_>) -> Option<()> {
     for _ in 0..TRIES {

@@ -4,9 +4,9 @@ ghost use Rattle.std.specs.Prelude.{◌≡◌, ◌≤◌, length, take};
 
 use crate::answers::{Bench, texts_of};
 use jobs::job::Job;
-use shared_fetch::positioned::PositionedFile;
-use shared_fetch::serial::{FetchFault, fetch};
-use shared_fetch::shared::fetch_shared;
+use text_pieces::positioned::PositionedFile;
+use text_pieces::serial::{FetchFault, fetch};
+use text_pieces::shared::fetch_shared;
 use std::alloc::Global;
 use std::io;
 use std::io::{ErrorKind, Read, Write};

@@ -16,7 +16,7 @@ use program_edge::program::run;
 use std::io::Write;
 use std::process::ExitCode;
 use std::{fs, io};
-use whole_file::system::SystemFolder;
+use text_pieces::system::SystemFolder;
 
 fn main(rt: HostRuntime) -> ExitCode {
     match run_tables(&rt, &rt, &mut rt.stdout()) {

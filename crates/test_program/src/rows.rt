@@ -10,7 +10,7 @@ use std::io::Write;
 use std::marker::Sync;
 use std::sync::Wait;
 use std::thread::Threads;
-use whole_file::system::SystemFolder;
+use text_pieces::system::SystemFolder;
 
 /// What the program may do beside reaching files and taking memory: make threads, and wait.
 pub trait Runtime: Threads + Wait + Sync {}

@@ -1,2 +1,5 @@
 pub mod CutLemmas
 pub mod Splits
+pub mod PartLemmas
+mod NewNames
+mod Written

@@ -6,3 +6,11 @@
 pub mod cutting;
 pub mod piece;
 pub mod text;
+pub mod parts;
+pub mod positioned;
+pub mod serial;
+pub mod shared;
+pub mod folder;
+pub mod replacing;
+pub mod system;
+pub mod unwritten;

@@ -1,2 +1,0 @@
-pub mod PositionedReads
-pub mod Faults

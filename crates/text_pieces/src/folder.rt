@@ -1,0 +1,57 @@
+//! Files that can be made and renamed.
+ghost use Rattle.std.specs.Prelude.{◌≡◌, ◌≢◌, ℕ, Bool, true, List, [], Option, Some, IfOk, OnOk, OnErr};
+ghost use Rattle.text_pieces.specs.Files.{ChangesOnly, Same};
+
+use crate::unwritten::Unwritten;
+use std::io::Write;
+
+/// Files that can be made, renamed and removed by their names. What is known of them takes two names to be
+/// two files.
+pub trait Folder {
+    /// A file that is being written.
+    type File: Write + Drop;
+
+    // Whether what the files hold is known.
+    ghost is_watched: { Bool };
+
+    // What the file of a name holds, where that is known.
+    ghost known: { Self → List ℕ → Option (List ℕ) };
+
+    /// A number that no other process has at the time: the files that this one makes are named by it.
+    fn number(&self) -> u32;
+
+    /// Makes an empty file, with the rights of the file whose place it is to take, where there is one.
+    ///
+    /// # Errors
+    ///
+    /// What the system tells; `InTheWay` where there is a file of this name, `NoPlainFile` where the other name
+    /// is that of something else than a file. Then all is as it was.
+    fn create(&mut self, name: &str, place: &str) -> Result<Self::File, Unwritten>
+        ensures empty { IfOk result (λ file. is_watched ≡ true → Self.File.contents file ≡ Some []) }
+        ensures others { ChangesOnly (known self.old) (known self.new) name.now }
+        ensures err { OnErr result (Same (known self.old) (known self.new)) };
+
+    /// Ends the writing of a file that was made under this name: what was written is on the disk.
+    ///
+    /// # Errors
+    ///
+    /// What the system tells.
+    fn finish(&mut self, name: &str, file: Self::File) -> Result<(), Unwritten>
+        ensures kept { OnOk result (known self.new name.now ≡ Self.File.contents file) }
+        ensures others { ChangesOnly (known self.old) (known self.new) name.now };
+
+    /// Gives a file the name of another, which is no more.
+    ///
+    /// # Errors
+    ///
+    /// What the system tells; then all is as it was.
+    fn rename(&mut self, from: &str, to: &str) -> Result<(), Unwritten>
+        ensures ok { OnOk result (known self.new to.now ≡ known self.old from.now) }
+        ensures others { OnOk result ((name : List ℕ) → name ≢ from.now → name ≢ to.now
+            → known self.new name ≡ known self.old name) }
+        ensures err { OnErr result (Same (known self.old) (known self.new)) };
+
+    /// Removes a file, as far as the system lets it.
+    fn remove(&mut self, name: &str)
+        ensures others { ChangesOnly (known self.old) (known self.new) name.now };
+}

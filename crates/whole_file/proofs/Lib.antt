@@ -1,2 +1,0 @@
-mod NewNames
-mod Written

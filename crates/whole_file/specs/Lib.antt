@@ -1,3 +1,0 @@
-pub mod Files
-pub mod Refusals
-pub mod Examples
