@@ -19,3 +19,16 @@ mod marked_texts;
 mod proposals;
 #[cfg(test)]
 mod speed_marks;
+mod assembler;
+mod canonical;
+mod test_texts_count;
+mod descriptors;
+mod numbers;
+mod round_trip;
+mod source_maps;
+mod statements;
+mod tokens;
+mod diagnostic_texts;
+mod input_texts;
+mod mark_texts;
+mod text_errors;

@@ -1,6 +1,6 @@
 //! Programs from text, and three faults.
 
-use crate::count::assembled;
+use crate::test_texts_count::assembled;
 use crate::numbers::gpr;
 use annotated_asm::assembler::assemble;
 use annotated_asm::fault::AsmFault;

@@ -1,6 +1,6 @@
 //! A program printed and assembled again.
 
-use crate::count::assembled;
+use crate::test_texts_count::assembled;
 use canonical_text::laws::{print_and_assemble, reads_back};
 use std::process::Abort;
 use task_descriptor::program::Program;

@@ -1,6 +1,6 @@
 //! The parts of a program, its reading calls, and names.
 
-use crate::count::{COUNT, assembled};
+use crate::test_texts_count::{COUNT, assembled};
 use crate::numbers::{place, reg};
 use mips_instructions::instruction::Op;
 use mips_instructions::number::RegSet;

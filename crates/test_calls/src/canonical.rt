@@ -1,6 +1,6 @@
 //! The canonical text of the program `count`, with one byte of read-only data.
 
-use crate::count::{COUNT, assembled};
+use crate::test_texts_count::{COUNT, assembled};
 use canonical_text::print::print;
 
 // The same program in another spelling: the other section first, names of registers, labels on the
