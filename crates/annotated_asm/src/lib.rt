@@ -1,17 +1,18 @@
 //! The assembler: a program text with its tasks and marks becomes a program (own text format, in the
-//! manner of MIPS assemblers; tasks and marks as in Sohi, Breach, Vijaykumar, ISCA 1995).
+//! manner of MIPS assemblers; tasks and marks as in Sohi, Breach, Vijaykumar, ISCA 1995). And the map from
+//! instructions, tasks, targets and data to their lines.
 #![tactic(auto)]
 
 pub mod assembler;
 pub mod fault;
 mod fault_text;
 mod item;
+pub mod laws;
 mod layout;
 pub mod line;
 mod name_key;
-mod resolve;
-mod table;
-pub mod laws;
 mod places;
 pub mod position;
 pub mod reading;
+mod resolve;
+mod table;

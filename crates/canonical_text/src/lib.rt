@@ -1,14 +1,15 @@
-//! The canonical text of a program.
+//! The canonical text of a program; a text with other marks written into it, line by line; and the laws that
+//! reading either gives the program back.
 #![tactic(auto)]
 
-mod instructions;
-mod labels;
-mod pieces;
-pub mod print;
 mod editing;
 pub mod fault;
-pub mod marking;
-mod reading;
+mod instructions;
+mod labels;
 pub mod laws;
-mod ranges;
+pub mod marking;
 pub mod marks_read_back_laws;
+mod pieces;
+pub mod print;
+mod ranges;
+mod reading;

@@ -1,5 +1,5 @@
 //! What `explain` writes: what is said of a program text, of a certificate and of an event script, as one list of
-//! diagnostics, in text form, as a log in SARIF, or as lines of JSON.
+//! diagnostics, in text form, as a log in SARIF, or as lines of JSON; and what `annotate` could not mend.
 #![tactic(auto)]
 
 mod beside;
@@ -8,9 +8,10 @@ pub mod explaining;
 pub mod explanation;
 mod inputs;
 pub mod laws;
+pub mod left;
+pub mod left_over_laws;
 pub mod logging;
 pub mod order;
-pub mod left_over_laws;
-pub mod left;
 pub mod proposal;
+#[cfg(test)]
 mod tests;

@@ -1,8 +1,7 @@
-//! The multiscalar machine as a model: when an event is allowed, what it leaves, and
-//! the theorems over every list of events. There is no code here but functions with empty bodies,
-//! whose contracts are the theorems.
+//! The multiscalar machine as a model: its events, when an event is allowed, what it leaves, and the theorems
+//! over every list of events. A law is a function with an empty body, whose contract is the theorem.
 #![tactic(auto)]
 
-pub mod laws;
 pub mod event;
+pub mod laws;
 mod refused_text;

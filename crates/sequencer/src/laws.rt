@@ -12,7 +12,7 @@ ghost use Rattle.machine_model.specs.declared.event.Event.{Event};
 ghost use Rattle.processor_steps.specs.Processors.{ArePlaced, executed_by};
 ghost use Rattle.sequencer.specs.Rings.{AreDistinct, EventFits};
 
-use crate::accepted_laws_laws::replayed_places_masked;
+use crate::accepted_laws::replayed_places_masked;
 use machine_model::laws::{
     answer_is_next, events_count, events_grow, next_is_after, places_are_valid, replays_join,
 };

@@ -1,7 +1,8 @@
 //! The machine: the processor over one accepted program, and the history of events that it is the
-//! replay of.
+//! replay of; and what holds of each such machine.
 #![tactic(auto)]
 
+pub mod accepted_laws;
 mod bursts;
 mod history;
 mod laws;
@@ -9,4 +10,3 @@ pub mod machine;
 pub mod predict;
 mod ready;
 mod units;
-pub mod accepted_laws_laws;

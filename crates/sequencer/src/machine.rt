@@ -2,7 +2,7 @@
 
 use crate::history::History;
 use crate::laws::accepted_replays;
-use crate::accepted_laws_laws::{accepted_headline, accepted_never_stuck};
+use crate::accepted_laws::{accepted_headline, accepted_never_stuck};
 use machine_model::event::{Commit, Event, EventRun, Refused, Standing};
 use mark_checker::accept::Accepted;
 use mips_instructions::number::{Place, Reg};

@@ -1,8 +1,12 @@
-//! Each public call that checks or proposes the marks of a program, once at concrete values: what
-//! no clause says, as that there is memory. The expected values are the formats' own. They stand in a crate
-//! apart from the crates that they call, since a crate with tests is proved a second time.
+//! Public calls of the texts, the checker and the diagnostics, each once at concrete values: what no clause says, as
+//! that there is memory. The expected values are the formats' own. They stand in a crate apart from the crates
+//! that they call, since a crate with tests is proved a second time.
 #![tactic(auto)]
 
+#[cfg(test)]
+mod assembler;
+#[cfg(test)]
+mod canonical;
 #[cfg(test)]
 mod certificates;
 #[cfg(test)]
@@ -10,25 +14,34 @@ mod checker;
 #[cfg(test)]
 mod count;
 #[cfg(test)]
+mod descriptors;
+#[cfg(test)]
+mod diagnostic_texts;
+#[cfg(test)]
 mod given;
 #[cfg(test)]
 mod graph;
 #[cfg(test)]
+mod input_texts;
+#[cfg(test)]
+mod mark_texts;
+#[cfg(test)]
 mod marked_texts;
+#[cfg(test)]
+mod numbers;
 #[cfg(test)]
 mod proposals;
 #[cfg(test)]
-mod speed_marks;
-mod assembler;
-mod canonical;
-mod test_texts_count;
-mod descriptors;
-mod numbers;
 mod round_trip;
+#[cfg(test)]
 mod source_maps;
+#[cfg(test)]
+mod speed_marks;
+#[cfg(test)]
 mod statements;
-mod tokens;
-mod diagnostic_texts;
-mod input_texts;
-mod mark_texts;
+#[cfg(test)]
+mod test_texts_count;
+#[cfg(test)]
 mod text_errors;
+#[cfg(test)]
+mod tokens;

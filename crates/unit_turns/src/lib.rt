@@ -1,14 +1,16 @@
-//! What the worker of a unit does next: one function of the machine and the number of the unit.
+//! What the worker of a unit does next: one function of the machine and the number of the unit. The runner that
+//! lets the units take turns in steps, and the bells by which workers wake each other.
 #![tactic(auto)]
 
+pub mod bell;
+pub mod called;
 pub mod deciding;
 pub mod laws;
-pub mod turn;
 mod predicting;
 pub mod predictor;
 pub mod report;
 pub mod runner;
-mod turns;
-pub mod bell;
-pub mod called;
+#[cfg(test)]
 mod tests;
+pub mod turn;
+mod turns;

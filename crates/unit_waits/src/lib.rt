@@ -1,19 +1,20 @@
-//! Why units wait: in each step of a run, which units at work behind the head do nothing, and what keeps them.
+//! Why units wait: in each step of a run, which units at work behind the head do nothing, and what keeps them;
+//! and a waveform of the run, as a Value Change Dump (IEEE 1364).
 #![tactic(auto)]
 
 pub mod acting;
 mod alike;
+mod changes;
 pub mod count;
 pub mod counts;
+mod header;
 mod one_step;
 mod placed;
 pub mod reasons;
-pub mod steps;
-pub mod waiting;
-pub mod waits;
-mod changes;
-mod header;
 mod ring;
 mod signals;
+pub mod steps;
 mod unit;
+pub mod waiting;
+pub mod waits;
 pub mod waveform;

@@ -4,7 +4,7 @@ ghost use Rattle.std.specs.Prelude.{◌≡◌};
 ghost use Rattle.processor_steps.specs.Processors.{ArePlaced};
 ghost use Rattle.sequencer.specs.Machines.{state};
 
-use sequencer::accepted_laws_laws::replayed_places_masked;
+use sequencer::accepted_laws::replayed_places_masked;
 use machine_model::laws::places_are_valid;
 use mark_checker::accept::Accepted;
 use sequencer::machine::Machine;

@@ -1,6 +1,6 @@
 -- A valid place is reached.
 use Rattle.sequencer.proofs.Masks as masks
-use Rattle.sequencer.proofs.accepted_laws_laws.places_masked.Goals as goal
+use Rattle.sequencer.proofs.accepted_laws.places_masked.Goals as goal
 
 pub returns : goal.returns
 returns c =

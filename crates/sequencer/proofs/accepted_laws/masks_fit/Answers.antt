@@ -1,6 +1,6 @@
 -- What acceptance says of one place.
 use Rattle.sequencer.proofs.Masks as masks
-use Rattle.sequencer.proofs.accepted_laws_laws.masks_fit.Goals as goal
+use Rattle.sequencer.proofs.accepted_laws.masks_fit.Goals as goal
 
 pub returns : goal.returns
 returns c =

@@ -1,5 +1,5 @@
 -- Every place after a list of events is valid.
-use Rattle.sequencer.proofs.accepted_laws_laws.replayed_places_masked.Goals as goal
+use Rattle.sequencer.proofs.accepted_laws.replayed_places_masked.Goals as goal
 
 pub returns : goal.returns
 returns c = λ units events s replay k u at. c.places_masked.ensures u

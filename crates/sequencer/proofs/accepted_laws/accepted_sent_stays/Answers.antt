@@ -2,7 +2,7 @@
 use Rattle.std.proofs.lemmas.Option.{slice_get-get_or}
 use Rattle.machine_model.specs.Machine.{task_at, no_task}
 use Rattle.sequencer.specs.OfAccepted.{masks_of}
-use Rattle.sequencer.proofs.accepted_laws_laws.accepted_sent_stays.Goals as goal
+use Rattle.sequencer.proofs.accepted_laws.accepted_sent_stays.Goals as goal
 
 pub returns : goal.returns
 returns c = λ u index m a b memory valid inside there last.
