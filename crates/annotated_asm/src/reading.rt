@@ -5,14 +5,14 @@ ghost use Rattle.annotated_asm.specs.Steps.{Answers};
 ghost use Rattle.annotated_asm.specs.Items.{labels_of, after_labels};
 ghost use Rattle.annotated_asm.specs.Sources.{token_position, label_sources, task_lists, targets_number, target_stretches, sources_in, with_statement, with_line, sources_of};
 
+use crate::assembler::MOST_TEXT;
+use crate::fault::AsmFault;
+use crate::line::{instruction_count, section_after, statement_at, tokens_of};
 use crate::places::{
     behind, read_places, target_stretches, targets_number, task_lists, token_position,
     width_between,
 };
 use crate::position::{DataSource, LabelSource, Position, SourceMap};
-use crate::assembler::MOST_TEXT;
-use crate::fault::AsmFault;
-use crate::line::{instruction_count, section_after, statement_at, tokens_of};
 use program_statements::statement::{Section, Statement};
 use program_tokens::line::first_line;
 use program_tokens::span::Span;

@@ -5,10 +5,10 @@ ghost use Rattle.annotated_asm.specs.Steps.{Answers};
 ghost use Rattle.annotated_asm.specs.ProgramText.{Spells};
 ghost use Rattle.canonical_text.specs.CanonicalText.{canonical_text};
 
+use crate::print::print;
 use crate::ranges::{bytes_in_range, code_in_range, tasks_in_range};
 use annotated_asm::assembler::assemble;
 use annotated_asm::fault::AsmFault;
-use crate::print::print;
 use std::alloc::Global;
 use task_descriptor::program::Program;
 

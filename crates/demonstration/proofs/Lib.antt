@@ -2,4 +2,3 @@ pub mod PlainReads
 pub mod SeenReads
 pub mod ShownReads
 pub mod Judging
-

@@ -5,13 +5,13 @@ ghost use Rattle.std.specs.String.{string_bytes};
 ghost use Rattle.finding_paths.specs.Shown.{AreShown};
 ghost use Rattle.demonstration.specs.FindingText.{finding_text, left_out_text, path_end, path_line, path_text, place_and_rule, places_text, register_text, rule_text, step_text, task_text, wrong_text};
 
+use annotated_asm::position::Position;
 use annotator::certify::certify;
 use event_script::writing::task_name;
 use event_trace::text::write_place;
 use finding_paths::shown::{ShownFinding, ShownFindings, shown_findings};
 use mark_checker::finding::Finding;
 use mips_instructions::number::Reg;
-use annotated_asm::position::Position;
 use std::alloc::{AllocError, Global};
 use task_descriptor::program::Program;
 

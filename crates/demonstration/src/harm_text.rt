@@ -6,12 +6,12 @@ ghost use Rattle.demonstration.specs.declared.judge.Harm.TheVariants.{CutOff as 
 ghost use Rattle.demonstration.specs.HarmText.{elsewhere_text, harm_text, kind_of_harm, marked_at as marked_of, operands_text, other_text, place_of_harm, read_text, stale_text, words_text};
 
 use crate::judge::{CutOff, Evidence, Harm};
+use annotated_asm::position::Position;
 use event_script::writing::task_name;
 use event_trace::text::write_exit;
 use mips_instructions::instruction::Op;
 use mips_instructions::number::Reg;
 use mips_plain::outcome::Read;
-use annotated_asm::position::Position;
 use std::alloc::AllocError;
 use task_descriptor::descriptor::Marked;
 use task_descriptor::program::Program;

@@ -1,3 +1,2 @@
 pub mod Readable
 pub mod ShownBytes
-

@@ -10,13 +10,13 @@ use crate::fields::{
     write_address_word, write_exit, write_place, write_register_word, write_size, write_standing,
     write_task, write_unit, write_word,
 };
+use crate::writer::JsonWriter;
+use annotated_asm::position::Position;
 use event_trace::change::Change;
 use event_trace::ring::Ring;
 use event_trace::unit_change::UnitChange;
-use crate::writer::JsonWriter;
 use machine_model::event::Standing;
 use mips_instructions::number::Reg;
-use annotated_asm::position::Position;
 use std::alloc::AllocError;
 use task_descriptor::program::Program;
 

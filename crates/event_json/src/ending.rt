@@ -10,8 +10,8 @@ ghost use Rattle.event_json.specs.EndJson.{end_json, ending_fields, memory_field
 
 use crate::fields::{write_address_word, write_register_word, write_standing};
 use crate::last_line::LastLine;
-use event_trace::ending::word_at;
 use crate::writer::JsonWriter;
+use event_trace::ending::word_at;
 use machine_model::event::Standing;
 use mips_instructions::number::Reg;
 use mips_plain::memory::DATA_START;

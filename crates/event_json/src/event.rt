@@ -8,12 +8,12 @@ ghost use Rattle.event_json.specs.EventJson.{answer_field, awaited_fields, event
 
 use crate::change::write_changes;
 use crate::fields::{write_named, write_register, write_task, write_unit};
+use crate::writer::JsonWriter;
+use annotated_asm::position::Position;
 use event_trace::change::Change;
 use event_trace::ring::Ring;
-use crate::writer::JsonWriter;
 use machine_model::event::{Event, Refused};
 use mips_instructions::number::Reg;
-use annotated_asm::position::Position;
 use std::alloc::AllocError;
 use task_descriptor::program::Program;
 

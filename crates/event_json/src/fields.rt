@@ -4,13 +4,13 @@ ghost use Rattle.std.specs.Prelude.{◌≡◌, ◌++◌, [], ◌∷◌, slice_ge
 ghost use Rattle.machine_model.specs.declared.event.Standing.TheVariants.{Trapped, Unlisted};
 ghost use Rattle.event_json.specs.Fields.{address_field, exit_fields, fields_tokens, found_fields, line_fields, named, place_fields, register_field, size_field, standing_fields, task_field, trap_fields, unit_fields, word_field};
 
+use crate::writer::JsonWriter;
+use annotated_asm::position::Position;
 use event_script::writing::task_name;
 use event_trace::ring::Ring;
-use crate::writer::JsonWriter;
 use machine_model::event::Standing;
 use mips_instructions::number::Reg;
 use mips_plain::outcome::Trap;
-use annotated_asm::position::Position;
 use std::alloc::AllocError;
 use task_descriptor::program::Program;
 

@@ -15,15 +15,15 @@ use crate::ending::write_end;
 use crate::event::{write_refused, write_taken};
 use crate::last_line::LastLine;
 use crate::start::write_start;
+use crate::writer::JsonWriter;
+use annotated_asm::position::Position;
 use event_trace::change::Change;
 use event_trace::places::places;
 use event_trace::ring::Ring;
 use event_trace::telling::{Telling, add_entries};
-use crate::writer::JsonWriter;
 use machine_model::event::{Event, Refused, Standing};
 use mark_checker::accept::Accepted;
 use sequencer::machine::Machine;
-use annotated_asm::position::Position;
 use std::alloc::{AllocError, Global};
 use task_descriptor::program::Program;
 

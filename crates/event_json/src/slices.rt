@@ -9,8 +9,8 @@ ghost use Rattle.event_json.specs.Slices.{duration_of, life_fields, slice, slice
 
 use crate::entries::begin_timed_entry;
 use crate::times::time_at;
-use event_script::writing::task_name;
 use crate::writer::JsonWriter;
+use event_script::writing::task_name;
 use std::alloc::AllocError;
 use task_descriptor::program::Program;
 use task_lives::life::{Ending, Life};

@@ -7,10 +7,10 @@ ghost use Rattle.event_trace.specs.TraceText.{address_text, place_text, exit_tex
 
 use crate::change::Change;
 use crate::unit_change::UnitChange;
+use annotated_asm::position::Position;
 use event_script::writing::{task_name, write_event};
 use machine_model::event::{Event, Refused, Standing};
 use mips_instructions::number::Reg;
-use annotated_asm::position::Position;
 use std::alloc::AllocError;
 use task_descriptor::program::Program;
 

@@ -12,9 +12,9 @@ use crate::places::places;
 use crate::ring::Ring;
 use crate::telling::{Telling, entries};
 use crate::text::{write_refused, write_taken};
+use annotated_asm::position::Position;
 use machine_model::event::{Event, Refused, Standing};
 use mark_checker::accept::Accepted;
-use annotated_asm::position::Position;
 use std::alloc::{AllocError, Global};
 use task_descriptor::program::Program;
 

@@ -9,11 +9,11 @@ ghost use Rattle.text_pieces.specs.Pieces.{joined};
 ghost use Rattle.explain_report.specs.Inputs.{ArePlaces, code_spans, file_lines, file_name, span_of};
 
 use annotated_asm::fault::AsmFault;
-use diagnostics::diagnostic::Span;
-use program_tokens::line::first_line;
 use annotated_asm::laws::map_fits;
 use annotated_asm::position::{Position, SourceMap};
 use annotated_asm::reading::source_map;
+use diagnostics::diagnostic::Span;
+use program_tokens::line::first_line;
 use std::alloc::{AllocError, Global};
 use task_descriptor::program::Program;
 use text_pieces::text::Text;

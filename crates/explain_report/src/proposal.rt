@@ -5,13 +5,13 @@ ghost use Rattle.annotated_asm.specs.ProgramText.{parse};
 ghost use Rattle.annotator.specs.Least.{IsLeast};
 ghost use Rattle.explain_report.specs.LeftOvers.{IsFindingCount, IsLeftEmitted, IsLeftIn, IsLeftOf, IsLeftOver, closing_line};
 
+use crate::explaining::explained_text;
 use crate::left::LeftOver;
+use crate::order::in_order;
 use annotated_asm::assembler::assemble;
 use annotated_asm::fault::AsmFault;
 use annotator::certify::certify;
 use diagnostics::colour::Colour;
-use crate::explaining::explained_text;
-use crate::order::in_order;
 use finding_paths::shown::shown_findings;
 use jobs::job::{Emit, Job};
 use mark_diagnostics::error::mark_errors;

@@ -3,9 +3,9 @@
 ghost use Rattle.std.specs.Prelude.{◌≡◌};
 ghost use Rattle.finding_paths.specs.Queries.{to_writer, query_of};
 
+use crate::sought::Sought;
 use mark_checker::finding::{Finding, Rule};
 use mips_instructions::number::Reg;
-use crate::sought::Sought;
 
 /// A query for a path inside a task.
 #[derive(Clone, Copy, Debug, PartialEq, Eq)]

@@ -8,13 +8,13 @@ ghost use Rattle.finding_paths.specs.Queries.{IsFoundBy, CanBeFound};
 ghost use Rattle.finding_paths.specs.Shown.{IsFinding, IsShown, AreShown};
 
 use crate::first::first_findings;
+use crate::paths::{path_onward, path_to};
 use crate::query::{Query, query_of};
 use mark_checker::accept::accepts;
 use mark_checker::finding::Finding;
 use mask_certificate::certificate::Cert;
 use std::alloc::{AllocError, Global};
 use task_descriptor::program::Program;
-use crate::paths::{path_onward, path_to};
 
 /// A finding, and the path that shows it.
 #[derive(Debug, Drop)]

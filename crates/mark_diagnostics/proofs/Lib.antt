@@ -1,6 +1,4 @@
 mod Counting
 mod Numbers
-mod PathSteps
 mod Ranges
-mod SpelledLines
 mod Telling

@@ -14,9 +14,9 @@ use Rattle.mark_checker.specs.Rules.{task_rules, rules, all_rules}
 use Rattle.annotator.specs.Least.{IsLeast}
 use Rattle.finding_paths.specs.Shown.{IsFinding}
 use Rattle.diagnostics.specs.declared.diagnostic.Diagnostic.{Diagnostic}
-use Rattle.mark_diagnostics.specs.Subjects.{Judged, IsJudged}
+use Rattle.mark_subjects.specs.Subjects.{Judged, IsJudged}
 use Rattle.mark_diagnostics.specs.Told.{is_of_mask, told, told_of, all_told, most_shown, leader, leaders, about}
-use Rattle.mark_diagnostics.specs.More.{more_note}
+use Rattle.mark_subjects.specs.More.{more_note}
 use Rattle.mark_diagnostics.specs.Errors.{Says, AreMarkErrors}
 
 left : {X : Type 0} (P : X → Type 0) (xs ys : List X) → All P (xs ++ ys) → All P xs

@@ -17,15 +17,15 @@ use Rattle.diagnostics.specs.declared.diagnostic.Source.TheVariants.{Program}
 use Rattle.diagnostics.specs.declared.diagnostic.Note.{Note}
 use Rattle.diagnostics.specs.declared.diagnostic.Help.{Help}
 use Rattle.diagnostics.specs.declared.diagnostic.Diagnostic.{Diagnostic}
-use Rattle.mark_diagnostics.specs.Subjects.{Judged, IsJudged, register_text, registers_text, task_name, spot_text, place_text, instruction_span, create_span, target_span}
-use Rattle.mark_diagnostics.specs.Parts.{way_notes}
+use Rattle.mark_subjects.specs.Subjects.{Judged, IsJudged, register_text, registers_text, task_name, spot_text, place_text, instruction_span, create_span, target_span}
+use Rattle.mark_subjects.specs.Parts.{way_notes}
 use Rattle.mark_diagnostics.specs.Told.{all_told, most_shown, about, register_in}
-use Rattle.mark_diagnostics.specs.Steps.{path_in, first_entered, stop_note, stop_or}
+use Rattle.mark_subjects.specs.Steps.{path_in, first_entered, stop_note, stop_or}
 use Rattle.mark_diagnostics.specs.Masks.{missing, mask_notes, mask_help}
 use Rattle.mark_diagnostics.specs.Sending.{later, forward_help, release_help, early_notes}
-use Rattle.mark_diagnostics.specs.Exits.{exit_message, exit_notes, exit_help, beyond, beyond_help, wrong_number, wrong_target, place_note, target_help}
-use Rattle.mark_diagnostics.specs.Calls.{return_help}
-use Rattle.mark_diagnostics.specs.More.{more_note}
+use Rattle.exit_diagnostics.specs.Exits.{exit_message, exit_notes, exit_help, beyond, beyond_help, wrong_number, wrong_target, place_note, target_help}
+use Rattle.exit_diagnostics.specs.Calls.{return_help}
+use Rattle.mark_subjects.specs.More.{more_note}
 
 abbrev pub code_of : Rule → Code
 code_of rule.EntryWithoutMask = code.EntryWithoutMask

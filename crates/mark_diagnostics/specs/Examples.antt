@@ -17,17 +17,17 @@ use Rattle.annotated_asm.specs.Sources.{no_sources}
 use Rattle.mark_checker.specs.declared.finding.Finding.{Finding}
 use Rattle.mark_checker.specs.declared.finding.Rule.TheVariants.{ExceedsCreate, ForwardedInNext, SentNotCreated}
 use Rattle.mark_diagnostics.specs.declared.later.Later.TheVariants.{Nowhere, Left}
-use Rattle.mark_diagnostics.specs.Subjects.{Judged, which, targets_text}
-use Rattle.mark_diagnostics.specs.MarkPlaces.{mark_from}
-use Rattle.mark_diagnostics.specs.Spellings.{spelled, first_spelling, names_in}
+use Rattle.mark_subjects.specs.Subjects.{Judged, which, targets_text}
+use Rattle.mark_subjects.specs.MarkPlaces.{mark_from}
+use Rattle.mark_subjects.specs.Spellings.{spelled, first_spelling, names_in}
 use Rattle.mark_diagnostics.specs.Told.{told, leaders}
-use Rattle.mark_diagnostics.specs.declared.meant_stop.MeantStop.TheVariants.{Edge}
-use Rattle.mark_diagnostics.specs.Stops.{missing_stop}
-use Rattle.mark_diagnostics.specs.Steps.{entered, is_target}
-use Rattle.mark_diagnostics.specs.Meant.{meant, may_end, edge_stop, edge_name, edge_advice}
+use Rattle.exit_diagnostics.specs.declared.meant_stop.MeantStop.TheVariants.{Edge}
+use Rattle.mark_subjects.specs.Stops.{missing_stop}
+use Rattle.mark_subjects.specs.Steps.{entered, is_target}
+use Rattle.exit_diagnostics.specs.Meant.{meant, may_end, edge_stop, edge_name, edge_advice}
 use Rattle.mark_diagnostics.specs.Masks.{widened}
 use Rattle.mark_diagnostics.specs.Sending.{later, first_left, advice, release_text}
-use Rattle.mark_diagnostics.specs.Exits.{exit_said, both}
+use Rattle.exit_diagnostics.specs.Exits.{exit_said, both}
 use Rattle.mark_diagnostics.specs.Errors.{message_by}
 
 -- `count` without its stop, and with an empty create mask

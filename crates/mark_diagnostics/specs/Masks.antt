@@ -10,9 +10,9 @@ use Rattle.mark_checker.specs.declared.finding.Finding.{Finding}
 use Rattle.finding_paths.specs.declared.shown.ShownFinding.{ShownFinding}
 use Rattle.diagnostics.specs.declared.diagnostic.Note.{Note}
 use Rattle.diagnostics.specs.declared.diagnostic.Help.{Help}
-use Rattle.mark_diagnostics.specs.Subjects.{Judged, register_text, registers_text, which, create_span}
-use Rattle.mark_diagnostics.specs.Parts.{written, path_note, last_or}
-use Rattle.mark_diagnostics.specs.Steps.{path_in}
+use Rattle.mark_subjects.specs.Subjects.{Judged, register_text, registers_text, which, create_span}
+use Rattle.mark_subjects.specs.Parts.{written, path_note, last_or}
+use Rattle.mark_subjects.specs.Steps.{path_in}
 use Rattle.mark_diagnostics.specs.Told.{register_in}
 
 -- the registers of some findings

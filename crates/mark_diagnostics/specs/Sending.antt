@@ -14,9 +14,9 @@ use Rattle.diagnostics.specs.declared.diagnostic.Help.{Help}
 use Rattle.diagnostics.specs.declared.diagnostic.Replacement.{Replacement}
 use Rattle.mark_diagnostics.specs.declared.later.Later.{Later}
 use Rattle.mark_diagnostics.specs.declared.later.Later.TheVariants.{Nowhere, Left, Is, Put}
-use Rattle.mark_diagnostics.specs.Subjects.{Judged, register_text, registers_text, which, entries_of, forwards, releases, inner_end, instruction_span, after}
-use Rattle.mark_diagnostics.specs.MarkPlaces.{mark_span, first_mark, operands_span}
-use Rattle.mark_diagnostics.specs.Parts.{take_out, path_note, last_or}
+use Rattle.mark_subjects.specs.Subjects.{Judged, register_text, registers_text, which, entries_of, forwards, releases, inner_end, instruction_span, after}
+use Rattle.mark_subjects.specs.MarkPlaces.{mark_span, first_mark, operands_span}
+use Rattle.mark_subjects.specs.Parts.{take_out, path_note, last_or}
 use Rattle.mark_diagnostics.specs.Told.{register_in}
 
 -- Where the register could be sent instead: at the end of the path, which writes it again.

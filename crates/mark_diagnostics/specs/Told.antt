@@ -7,7 +7,7 @@ use Rattle.mark_checker.specs.declared.finding.Rule.{Rule}
 use Rattle.mark_checker.specs.declared.finding.Rule.TheVariants.{ExceedsCreate, SentNotCreated}
 use Rattle.mark_checker.specs.declared.finding.Finding.{Finding}
 use Rattle.mark_checker.specs.Rules.{rules}
-use Rattle.mark_diagnostics.specs.Subjects.{Judged}
+use Rattle.mark_subjects.specs.Subjects.{Judged}
 
 -- a finding of the create mask: it lacks a register that the task may write (rule 5), or one that it sends (rule 8)
 abbrev pub is_of_mask : Rule → Bool

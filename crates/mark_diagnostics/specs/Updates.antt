@@ -4,8 +4,8 @@ use Rattle.std.specs.Fmt.{decimal}
 use Rattle.mips_instructions.specs.Instruction.{dests}
 use Rattle.task_descriptor.specs.declared.descriptor.Marked.{Marked}
 use Rattle.diagnostics.specs.declared.diagnostic.Help.{Help}
-use Rattle.mark_diagnostics.specs.Subjects.{Judged, registers_text, which, releases, inner_end, instruction_span, after}
-use Rattle.mark_diagnostics.specs.Parts.{by_text}
+use Rattle.mark_subjects.specs.Subjects.{Judged, registers_text, which, releases, inner_end, instruction_span, after}
+use Rattle.mark_subjects.specs.Parts.{by_text}
 use Rattle.mark_diagnostics.specs.Sending.{is_none_left}
 
 abbrev pub written_in : Option Marked → (register : ℕ) → Bool

@@ -16,20 +16,20 @@ use Rattle.diagnostics.specs.declared.diagnostic.Severity.TheVariants.{Warning}
 use Rattle.diagnostics.specs.declared.diagnostic.Source.TheVariants.{Program}
 use Rattle.diagnostics.specs.declared.diagnostic.Help.{Help}
 use Rattle.diagnostics.specs.declared.diagnostic.Diagnostic.{Diagnostic}
-use Rattle.mark_diagnostics.specs.declared.remark.Remark.{Remark}
-use Rattle.mark_diagnostics.specs.declared.remark.Remark.TheVariants.{Stop, Costly}
-use Rattle.mark_diagnostics.specs.declared.remark.StopRemark.{StopRemark}
-use Rattle.mark_diagnostics.specs.declared.remark.StopRemark.TheVariants.{NeverRuns, NoExit, NotTaken, GoesInto}
-use Rattle.mark_diagnostics.specs.Subjects.{Judged, IsJudged, register_text, which, task_name, place_text, places_text, releases, is_end, instruction_span, task_span, create_span, targets_span, target_span}
-use Rattle.mark_diagnostics.specs.MarkPlaces.{first_mark}
-use Rattle.mark_diagnostics.specs.Parts.{in_words}
+use Rattle.exit_diagnostics.specs.declared.remark.Remark.{Remark}
+use Rattle.exit_diagnostics.specs.declared.remark.Remark.TheVariants.{Stop, Costly}
+use Rattle.exit_diagnostics.specs.declared.remark.StopRemark.{StopRemark}
+use Rattle.exit_diagnostics.specs.declared.remark.StopRemark.TheVariants.{NeverRuns, NoExit, NotTaken, GoesInto}
+use Rattle.mark_subjects.specs.Subjects.{Judged, IsJudged, register_text, which, task_name, place_text, places_text, releases, is_end, instruction_span, task_span, create_span, targets_span, target_span}
+use Rattle.mark_subjects.specs.MarkPlaces.{first_mark}
+use Rattle.mark_subjects.specs.Parts.{in_words}
 use Rattle.mark_diagnostics.specs.Told.{most_shown}
 use Rattle.mark_diagnostics.specs.Masks.{create_help}
 use Rattle.mark_diagnostics.specs.Sending.{is_none_left, release_text, release_written}
-use Rattle.mark_diagnostics.specs.Calls.{back}
+use Rattle.exit_diagnostics.specs.Calls.{back}
 use Rattle.mark_diagnostics.specs.Updates.{released_next, update_text, update_help}
-use Rattle.mark_diagnostics.specs.Remarks.{untaken, first_untaken, not_taken_help, into_help, stop_remarks}
-use Rattle.mark_diagnostics.specs.More.{more_note}
+use Rattle.exit_diagnostics.specs.Remarks.{untaken, first_untaken, not_taken_help, into_help, stop_remarks}
+use Rattle.mark_subjects.specs.More.{more_note}
 
 abbrev pub code_of : Remark → Code
 code_of (Costly (NeverProduced task register)) = code.NeverProduced

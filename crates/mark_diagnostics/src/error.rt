@@ -5,32 +5,34 @@ ghost use Rattle.std.specs.List.{All, AllZip};
 ghost use Rattle.annotated_asm.specs.ProgramText.{parse};
 ghost use Rattle.annotator.specs.Least.{IsLeast};
 ghost use Rattle.finding_paths.specs.Shown.{IsFinding, IsShown};
-ghost use Rattle.mark_diagnostics.specs.Exits.{place_note, beyond as beyond_of, wrong_target as wrong_target_of};
-ghost use Rattle.mark_diagnostics.specs.Subjects.{task_name, spot_text, place_text};
+ghost use Rattle.exit_diagnostics.specs.Exits.{place_note, beyond as beyond_of, wrong_target as wrong_target_of};
+ghost use Rattle.mark_subjects.specs.Subjects.{task_name, spot_text, place_text};
 ghost use Rattle.mark_diagnostics.specs.Errors.{code_of, span_by, early_text, beyond_text, indirect_text, target_text, mask_text, message_by, notes_by, help_by, first_path, error_diagnostic, Says, AreMarkErrors};
 
-use crate::call::return_help;
-use crate::exit::{
-    add_place_note, beyond, beyond_help, exit_help, exit_message, exit_notes, target_help,
-    wrong_number, wrong_target,
-};
 use crate::mask::{mask_help, mask_notes, missing};
-use crate::parts::{add_more, first_of, place_words, registers_words, spot_words, way_notes};
 use crate::sending::{early_notes, forward_help, later, release_help};
-use crate::step::{first_entered, path_in, stop_note, stop_or};
-use crate::subject::{Made, Subject};
 use crate::told::{about, first_told, register_in};
+use annotated_asm::laws::map_fits;
 use annotator::laws::least_decides;
 use diagnostics::code::Code;
 use diagnostics::diagnostic::{Diagnostic, Help, Note, Severity, Source, Span};
 use diagnostics::listed::Listed;
 use diagnostics::words;
 use diagnostics::words::Words;
+use exit_diagnostics::call::return_help;
+use exit_diagnostics::exit::{
+    add_place_note, beyond, beyond_help, exit_help, exit_message, exit_notes, target_help,
+    wrong_number, wrong_target,
+};
 use finding_paths::shown::{ShownFinding, path_of};
 use mark_checker::accept::accepts;
 use mark_checker::finding::{Finding, Rule};
+use mark_subjects::parts::{
+    add_more, first_of, place_words, registers_words, spot_words, way_notes,
+};
+use mark_subjects::step::{first_entered, path_in, stop_note, stop_or};
+use mark_subjects::subject::{Made, Subject};
 use mask_certificate::certificate::Cert;
-use annotated_asm::laws::map_fits;
 use std::alloc::{AllocError, Global};
 use task_descriptor::program::Program;
 

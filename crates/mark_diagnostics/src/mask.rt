@@ -6,9 +6,6 @@ ghost use Rattle.std.specs.Option.{option_copied};
 ghost use Rattle.mips_instructions.specs.Words.{has};
 ghost use Rattle.mark_diagnostics.specs.Masks.{missing, how, register_note, further_text, further_note, mask_notes, widened, create_help, mask_help};
 
-use crate::parts::{last_or, path_note, registers_where, registers_words, rest_after, written};
-use crate::step::path_in;
-use crate::subject::{Made, Subject, has_number};
 use crate::told::register_in;
 use diagnostics::diagnostic::{Help, Note};
 use diagnostics::listed::Listed;
@@ -16,6 +13,11 @@ use diagnostics::words;
 use diagnostics::words::Words;
 use finding_paths::shown::ShownFinding;
 use mark_checker::finding::{Finding, Rule};
+use mark_subjects::parts::{
+    last_or, path_note, registers_where, registers_words, rest_after, written,
+};
+use mark_subjects::step::path_in;
+use mark_subjects::subject::{Made, Subject, has_number};
 use mips_instructions::number::RegSet;
 use std::alloc::Global;
 use task_descriptor::descriptor::Descriptor;

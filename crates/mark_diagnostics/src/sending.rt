@@ -1,19 +1,19 @@
 //! A register that is sent too early: what to do, and where it is written again.
 
 ghost use Rattle.std.specs.Prelude.{◌≡◌, ◌<◌, ◌++◌, IfOk, OnOk};
-ghost use Rattle.mark_diagnostics.specs.Subjects.{which};
+ghost use Rattle.mark_subjects.specs.Subjects.{which};
 ghost use Rattle.mark_diagnostics.specs.Sending.{written_from, must_wait, is_none_left, may_forward, is_left, left_from, left_by, first_left, left_or, later, put_bit, put_text, is_text, left_text, nowhere_text, advice, forward_help, release_text, release_written, kept, release_help, again_text, again_note, early_notes};
 
 use crate::later::Later;
-use crate::mark_place::{first_mark, mark_span, operands_span};
-use crate::parts::{last_or, path_note, registers_where, registers_words, take_out};
-use crate::subject::{Made, Subject, after, has_number};
 use crate::told::register_in;
 use diagnostics::diagnostic::{Help, Note, Replacement};
 use diagnostics::listed::Listed;
 use diagnostics::words;
 use diagnostics::words::Words;
 use mark_checker::finding::Finding;
+use mark_subjects::mark_place::{first_mark, mark_span, operands_span};
+use mark_subjects::parts::{last_or, path_note, registers_where, registers_words, take_out};
+use mark_subjects::subject::{Made, Subject, after, has_number};
 use mips_instructions::number::RegSet;
 use std::alloc::Global;
 use task_descriptor::descriptor::Marked;

@@ -6,10 +6,10 @@ ghost use Rattle.std.specs.Option.{option_copied, option_to_list};
 ghost use Rattle.annotator.specs.Least.{IsLeast};
 ghost use Rattle.mark_diagnostics.specs.Told.{is_of_mask, told, all_told, is_register, leader, leaders, about, register_in};
 
-use crate::parts::first_of;
-use crate::subject::{Made, Subject};
 use mark_checker::check::check_task;
 use mark_checker::finding::{Finding, Rule};
+use mark_subjects::parts::first_of;
+use mark_subjects::subject::{Made, Subject};
 use mask_certificate::certificate::Cert;
 use mips_instructions::number::Reg;
 use std::alloc::Global;

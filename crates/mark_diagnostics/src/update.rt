@@ -1,15 +1,15 @@
 //! Last updates without a forward bit.
 
 ghost use Rattle.std.specs.Prelude.{◌≡◌, ◌<◌, ◌&&◌, not, IfOk};
-ghost use Rattle.mark_diagnostics.specs.Subjects.{which, registers_text, releases};
+ghost use Rattle.mark_subjects.specs.Subjects.{which, registers_text, releases};
 ghost use Rattle.mark_diagnostics.specs.Updates.{writes as writes_of, released_by, released_next, only_text, update_text, and_out, update_advice, update_help};
 
-use crate::parts::{by_text, registers_where, registers_words};
 use crate::sending::is_none_left;
-use crate::subject::{Made, Subject, after, has_number};
 use diagnostics::diagnostic::Help;
 use diagnostics::words;
 use diagnostics::words::Words;
+use mark_subjects::parts::{by_text, registers_where, registers_words};
+use mark_subjects::subject::{Made, Subject, after, has_number};
 use std::alloc::Global;
 
 /// Whether an instruction writes a register.

@@ -4,30 +4,32 @@ ghost use Rattle.std.specs.Prelude.{◌≡◌, ◌<◌, ◌&&◌, ◌++◌, map 
 ghost use Rattle.std.specs.List.{list_any};
 ghost use Rattle.annotated_asm.specs.ProgramText.{parse};
 ghost use Rattle.annotator.specs.Least.{IsLeast};
-ghost use Rattle.mark_diagnostics.specs.Subjects.{targets_of, releases};
-ghost use Rattle.mark_diagnostics.specs.Remarks.{of_targets, of_start, of_step, of_task, stop_remarks};
+ghost use Rattle.mark_subjects.specs.Subjects.{targets_of, releases};
+ghost use Rattle.exit_diagnostics.specs.Remarks.{of_targets, of_start, of_step, of_task, stop_remarks};
 ghost use Rattle.mark_diagnostics.specs.Warnings.{code_of, span_of, costly_text, goes_into_text, never_runs_text, start_text, not_taken_text, stop_text, message_of, is_never, created_in, produced, is_before, still_released, or_removed, before_help, called_text, unreached_text, help_of, warning, warnings, AreMarkWarnings};
 
-use crate::call::back;
 use crate::error::MOST_SHOWN;
-use crate::mark_place::first_mark;
 use crate::mask::create_help;
-use crate::parts::{add_more, first_of, in_words, place_words, places_words, registers_where};
-use crate::remark::{Remark, StopRemark};
 use crate::sending::{is_none_left, release_words, release_written};
-use crate::stop::{
-    entered_task, first_step, first_untaken, has_exit, has_indirect_exit, has_untaken, into_help,
-    is_asked, never_runs, not_taken_help, untaken,
-};
-use crate::subject::{Made, Subject, has_number, is_end};
 use crate::update::{update_help, update_words};
-use finding_paths::mark::CostlyMark;
-use finding_paths::search::costly_marks;
 use diagnostics::code::Code;
 use diagnostics::diagnostic::{Diagnostic, Help, Severity, Source, Span};
 use diagnostics::listed::Listed;
 use diagnostics::words;
 use diagnostics::words::Words;
+use exit_diagnostics::call::back;
+use exit_diagnostics::remark::{Remark, StopRemark};
+use exit_diagnostics::stop::{
+    entered_task, first_step, first_untaken, has_exit, has_indirect_exit, has_untaken, into_help,
+    is_asked, never_runs, not_taken_help, untaken,
+};
+use finding_paths::mark::CostlyMark;
+use finding_paths::search::costly_marks;
+use mark_subjects::mark_place::first_mark;
+use mark_subjects::parts::{
+    add_more, first_of, in_words, place_words, places_words, registers_where,
+};
+use mark_subjects::subject::{Made, Subject, has_number, is_end};
 use mask_certificate::certificate::Cert;
 use std::alloc::{AllocError, Global};
 use task_descriptor::program::Program;

@@ -30,10 +30,10 @@ use Rattle.program_statements.specs.declared.statement.Target.{Target}
 use Rattle.program_statements.specs.declared.statement.Target.TheVariants as target
 use Rattle.program_statements.specs.declared.statement.Instruction.{Instruction}
 use Rattle.program_statements.specs.declared.statement.Instruction.TheVariants as instruction
-use Rattle.text_diagnostics.specs.declared.form.Inside.TheVariants.{Before}
-use Rattle.text_diagnostics.specs.declared.shape.Range.{Range}
-use Rattle.text_diagnostics.specs.Shapes.{range, range_of}
-use Rattle.text_diagnostics.specs.Meant.{is_within}
+use Rattle.operand_forms.specs.declared.form.Inside.TheVariants.{Before}
+use Rattle.operand_forms.specs.declared.shape.Range.{Range}
+use Rattle.operand_forms.specs.Shapes.{range, range_of}
+use Rattle.operand_forms.specs.Meant.{is_within}
 use Rattle.operand_forms.specs.OperandForms.{is_whole, has_beyond, judged, instruction_shape, instruction_fault, fault_of}
 use Rattle.operand_forms.proofs.OperandKinds.{Kind, General, Numeral, Offset, Destination, Name, all_parts, beyond_tokens}
 use Rattle.operand_forms.proofs.Reading.{AllAgree, are_kinds, beyond_operands, listed, as_list, operands_agree}

@@ -21,7 +21,7 @@ use Rattle.program_statements.specs.declared.statement.Marks.{Marks}
 use Rattle.program_statements.specs.declared.statement.Instruction.{Instruction}
 use Rattle.program_statements.specs.declared.statement.Statement.{Statement}
 use Rattle.program_statements.specs.declared.statement.Statement.TheVariants as statement
-use Rattle.text_diagnostics.specs.Meant.{without_marks}
+use Rattle.operand_forms.specs.Meant.{without_marks}
 use Rattle.operand_forms.specs.OperandForms.{instruction_fault, fault_of}
 use Rattle.operand_forms.proofs.AllMnemonics.{agrees}
 

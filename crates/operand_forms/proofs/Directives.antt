@@ -14,10 +14,10 @@ use Rattle.program_statements.specs.Statements.{start_of, no_operands, space_of,
 use Rattle.program_statements.specs.declared.statement.Section.TheVariants as section
 use Rattle.program_statements.specs.declared.statement.Statement.{Statement}
 use Rattle.program_statements.specs.declared.statement.Statement.TheVariants as statement
-use Rattle.text_diagnostics.specs.declared.shape.Shape.{Shape}
-use Rattle.text_diagnostics.specs.declared.shape.Shape.TheVariants as shape
-use Rattle.text_diagnostics.specs.Shapes.{shape_of, range}
-use Rattle.text_diagnostics.specs.Meant.{is_within}
+use Rattle.operand_forms.specs.declared.shape.Shape.{Shape}
+use Rattle.operand_forms.specs.declared.shape.Shape.TheVariants as shape
+use Rattle.operand_forms.specs.Shapes.{shape_of, range}
+use Rattle.operand_forms.specs.Meant.{is_within}
 use Rattle.operand_forms.specs.OperandForms.{directive_shape, shape_fault, fault_of}
 use Rattle.operand_forms.proofs.RangeTests.{carried, natural_fault, one_number}
 use Rattle.operand_forms.proofs.DataLists.{words_agree, bytes_agree}

@@ -10,12 +10,12 @@ use Rattle.program_statements.specs.Statements.{instruction_of, directive_of}
 use Rattle.program_statements.specs.declared.fault.StatementFault.{StatementFault}
 use Rattle.program_statements.specs.declared.fault.StatementFault.TheVariants as fault
 use Rattle.program_statements.specs.declared.statement.Section.TheVariants as section
-use Rattle.text_diagnostics.specs.declared.form.Part.{Part}
-use Rattle.text_diagnostics.specs.declared.form.Part.TheVariants.{Register, Comma}
-use Rattle.text_diagnostics.specs.declared.form.Inside.{Inside}
-use Rattle.text_diagnostics.specs.declared.form.Inside.TheVariants.{Before}
-use Rattle.text_diagnostics.specs.declared.shape.Shape.{Shape}
-use Rattle.text_diagnostics.specs.Forms.{form_of as parts_of, is_general, leads, next_part, fitting}
+use Rattle.operand_forms.specs.declared.form.Part.{Part}
+use Rattle.operand_forms.specs.declared.form.Part.TheVariants.{Register, Comma}
+use Rattle.operand_forms.specs.declared.form.Inside.{Inside}
+use Rattle.operand_forms.specs.declared.form.Inside.TheVariants.{Before}
+use Rattle.operand_forms.specs.declared.shape.Shape.{Shape}
+use Rattle.operand_forms.specs.Forms.{form_of as parts_of, is_general, leads, next_part, fitting}
 use Rattle.operand_forms.specs.OperandForms.{is_whole, fits, fits_shape, has_beyond, judged, instruction_shape, directive_shape, shape_fault, fault_of, so_far, NamesFirst}
 use Rattle.operand_forms.proofs.OperandKinds.{walked}
 use Rattle.operand_forms.proofs.Mended.{counted, mended, shape_clear}

@@ -7,13 +7,13 @@ use Rattle.program_tokens.specs.declared.token.Token.{Token}
 use Rattle.program_tokens.specs.declared.token.Token.TheVariants as token
 use Rattle.mips_instructions.specs.declared.instruction.Form.{Form}
 use Rattle.mips_instructions.specs.declared.instruction.Form.TheVariants as form
-use Rattle.text_diagnostics.specs.declared.form.Part.{Part}
-use Rattle.text_diagnostics.specs.declared.form.Part.TheVariants.{Register, Number, Place, Label, Comma, Open, Close, Equals, Create, Targets, Numbers, RegisterList, RegisterSet, Places}
-use Rattle.text_diagnostics.specs.declared.form.Inside.{Inside}
-use Rattle.text_diagnostics.specs.declared.form.Inside.TheVariants.{Before, Member, AfterComma}
-use Rattle.text_diagnostics.specs.declared.shape.Shape.{Shape}
-use Rattle.text_diagnostics.specs.declared.shape.Shape.TheVariants as shape
-use Rattle.text_diagnostics.specs.Forms.{instruction_form, form_of as parts_of, is_part, is_list, is_comma, may_be_none, leads, at_part, next_part, fitting}
+use Rattle.operand_forms.specs.declared.form.Part.{Part}
+use Rattle.operand_forms.specs.declared.form.Part.TheVariants.{Register, Number, Place, Label, Comma, Open, Close, Equals, Create, Targets, Numbers, RegisterList, RegisterSet, Places}
+use Rattle.operand_forms.specs.declared.form.Inside.{Inside}
+use Rattle.operand_forms.specs.declared.form.Inside.TheVariants.{Before, Member, AfterComma}
+use Rattle.operand_forms.specs.declared.shape.Shape.{Shape}
+use Rattle.operand_forms.specs.declared.shape.Shape.TheVariants as shape
+use Rattle.operand_forms.specs.Forms.{instruction_form, form_of as parts_of, is_part, is_list, is_comma, may_be_none, leads, at_part, next_part, fitting}
 use Rattle.operand_forms.specs.OperandForms.{is_whole}
 use Rattle.operand_forms.proofs.OperandKinds.{walked}
 

@@ -11,13 +11,13 @@ use Rattle.program_statements.specs.declared.fault.StatementFault.{StatementFaul
 use Rattle.program_statements.specs.declared.fault.StatementFault.TheVariants as fault
 use Rattle.program_statements.specs.declared.operand.Operand.{Operand}
 use Rattle.program_statements.specs.declared.operand.Operand.TheVariants as operand
-use Rattle.text_diagnostics.specs.declared.form.Part.{Part}
-use Rattle.text_diagnostics.specs.declared.form.Part.TheVariants.{Register, Number as NumberPart, Place, Label, Comma, Open, Close}
-use Rattle.text_diagnostics.specs.declared.form.Inside.{Inside}
-use Rattle.text_diagnostics.specs.declared.form.Inside.TheVariants.{Before}
-use Rattle.text_diagnostics.specs.Forms.{leads}
-use Rattle.text_diagnostics.specs.declared.shape.Range.{Range}
-use Rattle.text_diagnostics.specs.Meant.{is_beyond}
+use Rattle.operand_forms.specs.declared.form.Part.{Part}
+use Rattle.operand_forms.specs.declared.form.Part.TheVariants.{Register, Number as NumberPart, Place, Label, Comma, Open, Close}
+use Rattle.operand_forms.specs.declared.form.Inside.{Inside}
+use Rattle.operand_forms.specs.declared.form.Inside.TheVariants.{Before}
+use Rattle.operand_forms.specs.Forms.{leads}
+use Rattle.operand_forms.specs.declared.shape.Range.{Range}
+use Rattle.operand_forms.specs.Meant.{is_beyond}
 use Rattle.operand_forms.specs.OperandForms.{is_whole}
 
 pub data Kind : Type 0 where

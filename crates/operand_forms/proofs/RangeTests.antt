@@ -8,8 +8,8 @@ use Rattle.program_statements.specs.Steps.{◌>>=◌}
 use Rattle.program_statements.specs.Ranges.{natural, signed_half, word, byte}
 use Rattle.program_statements.specs.declared.fault.StatementFault.{StatementFault}
 use Rattle.program_statements.specs.declared.fault.StatementFault.TheVariants as fault
-use Rattle.text_diagnostics.specs.Shapes.{range}
-use Rattle.text_diagnostics.specs.Meant.{is_within}
+use Rattle.operand_forms.specs.Shapes.{range}
+use Rattle.operand_forms.specs.Meant.{is_within}
 use Rattle.operand_forms.specs.OperandForms.{fault_of, judged}
 
 -- a number that is not within is refused for it

@@ -12,8 +12,8 @@ use Rattle.program_statements.specs.declared.fault.StatementFault.TheVariants as
 use Rattle.program_statements.specs.declared.operand.Operand.{Operand}
 use Rattle.program_statements.specs.declared.operand.Operands.{Operands}
 use Rattle.program_statements.specs.declared.operand.Operands.TheVariants as operands
-use Rattle.text_diagnostics.specs.declared.form.Inside.TheVariants.{Before}
-use Rattle.text_diagnostics.specs.declared.shape.Range.{Range}
+use Rattle.operand_forms.specs.declared.form.Inside.TheVariants.{Before}
+use Rattle.operand_forms.specs.declared.shape.Range.{Range}
 use Rattle.operand_forms.specs.OperandForms.{is_whole}
 use Rattle.operand_forms.proofs.OperandKinds.{Kind, General, later_parts, all_parts, is_kind, beyond_operand, whole_later, beyond_tokens, Agrees, operand_agrees}
 

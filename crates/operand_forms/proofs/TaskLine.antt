@@ -17,13 +17,13 @@ use Rattle.program_statements.specs.declared.statement.Target.{Target}
 use Rattle.program_statements.specs.declared.statement.Target.TheVariants as target
 use Rattle.program_statements.specs.declared.statement.Statement.{Statement}
 use Rattle.program_statements.specs.declared.statement.Statement.TheVariants as statement
-use Rattle.text_diagnostics.specs.declared.form.Part.{Part}
-use Rattle.text_diagnostics.specs.declared.form.Part.TheVariants.{Label, Create, Equals, RegisterSet, Targets, Places}
-use Rattle.text_diagnostics.specs.declared.form.Inside.TheVariants.{Before, AfterComma}
-use Rattle.text_diagnostics.specs.declared.shape.Shape.TheVariants as shape
-use Rattle.text_diagnostics.specs.Shapes.{range}
-use Rattle.text_diagnostics.specs.Forms.{leads}
-use Rattle.text_diagnostics.specs.Meant.{is_within}
+use Rattle.operand_forms.specs.declared.form.Part.{Part}
+use Rattle.operand_forms.specs.declared.form.Part.TheVariants.{Label, Create, Equals, RegisterSet, Targets, Places}
+use Rattle.operand_forms.specs.declared.form.Inside.TheVariants.{Before, AfterComma}
+use Rattle.operand_forms.specs.declared.shape.Shape.TheVariants as shape
+use Rattle.operand_forms.specs.Shapes.{range}
+use Rattle.operand_forms.specs.Forms.{leads}
+use Rattle.operand_forms.specs.Meant.{is_within}
 use Rattle.operand_forms.specs.OperandForms.{is_whole, has_beyond, judged, shape_fault, fault_of}
 use Rattle.operand_forms.proofs.OperandKinds.{walked}
 use Rattle.operand_forms.proofs.RangeTests.{carried, natural_fault, both_fault}

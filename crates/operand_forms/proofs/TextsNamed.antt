@@ -7,10 +7,10 @@ use Rattle.program_tokens.specs.Numbers.{number_in, number_of, magnitude_of}
 use Rattle.program_tokens.specs.Registers.{register_of}
 use Rattle.mips_instructions.specs.declared.instruction.Form.{Form}
 use Rattle.mips_instructions.specs.declared.instruction.Form.TheVariants as form
-use Rattle.text_diagnostics.specs.declared.shape.Shape.{Shape}
-use Rattle.text_diagnostics.specs.declared.shape.Shape.TheVariants as shape
-use Rattle.text_diagnostics.specs.Shapes.{form_text, range_of, range_text}
-use Rattle.text_diagnostics.specs.Forms.{form_of as parts_of}
+use Rattle.operand_forms.specs.declared.shape.Shape.{Shape}
+use Rattle.operand_forms.specs.declared.shape.Shape.TheVariants as shape
+use Rattle.operand_forms.specs.Shapes.{form_text, range_of, range_text}
+use Rattle.operand_forms.specs.Forms.{form_of as parts_of}
 use Rattle.operand_forms.specs.ShapeTexts.{is_example, from_to, ends_in, takes_number}
 
 form_taken : (f : Form) → is_example (shape.Instruction f) (form_text (shape.Instruction f)) ≡ true

@@ -5,8 +5,8 @@ use Rattle.program_tokens.specs.declared.token.Token.TheVariants.{Register, Numb
 use Rattle.mips_instructions.specs.declared.instruction.LoadKind.TheVariants.{Lw}
 use Rattle.mips_instructions.specs.declared.instruction.Mnemonic.TheVariants.{Load, JumpLinkReg}
 use Rattle.program_statements.specs.declared.fault.StatementFault.TheVariants as fault
-use Rattle.text_diagnostics.specs.declared.shape.Shape.TheVariants as shape
-use Rattle.text_diagnostics.specs.Shapes.{shape_of}
+use Rattle.operand_forms.specs.declared.shape.Shape.TheVariants as shape
+use Rattle.operand_forms.specs.Shapes.{shape_of}
 use Rattle.operand_forms.specs.OperandForms.{instruction_shape, instruction_fault, directive_shape, shape_fault, so_far}
 
 -- `lw $8,4($9)`

@@ -1,3 +1,11 @@
 pub mod OperandForms
 pub mod ShapeTexts
 pub mod Examples
+pub mod Rows
+pub mod Bytes
+pub mod Shapes
+pub mod ForeignWords
+pub mod Forms
+pub mod Meant
+pub mod LinePlaces
+pub mod Candidates

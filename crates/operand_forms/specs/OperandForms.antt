@@ -10,14 +10,14 @@ use Rattle.mips_instructions.specs.declared.instruction.Mnemonic.TheVariants as 
 use Rattle.mips_instructions.specs.InstructionTable.{form_of}
 use Rattle.program_statements.specs.declared.fault.StatementFault.{StatementFault}
 use Rattle.program_statements.specs.declared.fault.StatementFault.TheVariants as fault
-use Rattle.text_diagnostics.specs.declared.form.Part.{Part}
-use Rattle.text_diagnostics.specs.declared.form.Inside.{Inside}
-use Rattle.text_diagnostics.specs.declared.form.Inside.TheVariants.{Before, Member}
-use Rattle.text_diagnostics.specs.declared.shape.Shape.{Shape}
-use Rattle.text_diagnostics.specs.declared.shape.Shape.TheVariants as shape
-use Rattle.text_diagnostics.specs.Shapes.{shape_of, range_of}
-use Rattle.text_diagnostics.specs.Forms.{form_of as parts_of, next_part, fitting}
-use Rattle.text_diagnostics.specs.Meant.{is_beyond}
+use Rattle.operand_forms.specs.declared.form.Part.{Part}
+use Rattle.operand_forms.specs.declared.form.Inside.{Inside}
+use Rattle.operand_forms.specs.declared.form.Inside.TheVariants.{Before, Member}
+use Rattle.operand_forms.specs.declared.shape.Shape.{Shape}
+use Rattle.operand_forms.specs.declared.shape.Shape.TheVariants as shape
+use Rattle.operand_forms.specs.Shapes.{shape_of, range_of}
+use Rattle.operand_forms.specs.Forms.{form_of as parts_of, next_part, fitting}
+use Rattle.operand_forms.specs.Meant.{is_beyond}
 
 -- nothing more is wanted: no part is left, or the last is a list with a member
 abbrev pub is_end : Inside → List Part → Bool

@@ -10,10 +10,10 @@ ghost use Rattle.program_statements.specs.Statements.{instruction_of, directive_
 ghost use Rattle.program_statements.specs.declared.fault.StatementFault.{StatementFault};
 ghost use Rattle.program_statements.specs.declared.fault.StatementFault.TheVariants.{Mark};
 ghost use Rattle.program_statements.specs.declared.statement.Section.TheVariants.{Text, Data};
-ghost use Rattle.text_diagnostics.specs.declared.shape.Shape.{Shape};
-ghost use Rattle.text_diagnostics.specs.Shapes.{form_text, range_of, range_text};
-ghost use Rattle.text_diagnostics.specs.Forms.{form_of as parts_of};
-ghost use Rattle.text_diagnostics.specs.Meant.{without_marks};
+ghost use Rattle.operand_forms.specs.declared.shape.Shape.{Shape};
+ghost use Rattle.operand_forms.specs.Shapes.{form_text, range_of, range_text};
+ghost use Rattle.operand_forms.specs.Forms.{form_of as parts_of};
+ghost use Rattle.operand_forms.specs.Meant.{without_marks};
 ghost use Rattle.operand_forms.specs.OperandForms.{fault_of, instruction_shape, instruction_fault, directive_shape, shape_fault, NamesFirst};
 ghost use Rattle.operand_forms.specs.ShapeTexts.{is_example, from_to, ends_in, takes_number};
 

@@ -1,5 +1,14 @@
-//! What `explain` says of a statement's operands is what the assembler reads. There is no code here but functions that do
-//! nothing, whose contracts are the theorems.
+//! What operands a statement takes: their forms and ranges, as `explain` names them, and the laws that the assembler
+//! reads exactly these; the words of other assemblers, and the known words that are near an unknown one.
 #![tactic(auto)]
 
+pub mod bytes;
+pub mod candidates;
+pub mod foreign_words;
+pub mod form;
 pub mod laws;
+pub mod line_place;
+pub mod meant;
+pub mod rows;
+pub mod shape;
+pub mod slices;

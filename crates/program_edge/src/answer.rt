@@ -24,10 +24,10 @@ use std::alloc::{AllocError, Global};
 use std::io::Write;
 use std::sync::Wait;
 use std::thread::Threads;
-use verdict_report::fault::ServeFault;
-use verdict_report::serve::serve;
 use text_pieces::folder::Folder;
 use text_pieces::replacing::replace;
+use verdict_report::fault::ServeFault;
+use verdict_report::serve::serve;
 
 /// Does the job that was asked for where `errors` is no terminal, as `answer_reader` does it: only a fault is told
 /// there.

@@ -4,14 +4,14 @@ ghost use Rattle.program_edge.specs.FileTexts.{Known, Unknown, OpensAs, IsUnread
 
 use crate::asked::STANDARD_INPUT;
 use crate::unread::{Reason, reason_of_reading};
-use text_pieces::positioned::PositionedFile;
-use text_pieces::serial::FetchFault;
 use std::fs::OpenFile;
 use std::io::{ErrorKind, Input, Read};
 use std::marker::Sync;
 use std::os::unix::fs::FileExt;
 use std::rt::Files;
 use std::{fs, io};
+use text_pieces::positioned::PositionedFile;
+use text_pieces::serial::FetchFault;
 
 /// The files that a program can open by their names.
 pub trait NamedFiles {

@@ -5,9 +5,9 @@ ghost use Rattle.program_edge.specs.Beside.{IsBeside, IsRest, rest_said};
 
 use crate::hint::hint_for;
 use crate::reports::{Hinted, Written, report_of};
-use jobs::job::{Job, Texts};
 use explain_report::left::LeftOver;
 use explain_report::proposal::left_over;
+use jobs::job::{Job, Texts};
 use std::alloc::{AllocError, Global};
 use std::marker::Model;
 use std::sync::Wait;

@@ -10,11 +10,11 @@ use crate::named_files::NamedFiles;
 use crate::unread::{Reason, Unread, reason_of_opening};
 use annotated_asm::assembler::MOST_TEXT;
 use jobs::job::{Job, Paths, Texts};
-use text_pieces::serial::fetch;
-use text_pieces::shared::fetch_shared;
 use std::alloc::Global;
 use std::marker::Sync;
 use std::thread::Threads;
+use text_pieces::serial::fetch;
+use text_pieces::shared::fetch_shared;
 use text_pieces::text::Text;
 
 /// The most bytes of a program text.

@@ -2,8 +2,8 @@
 ghost use Rattle.std.specs.Prelude.{◌≡◌};
 ghost use Rattle.program_edge.specs.FileTexts.{opening_reason, reading_reason};
 
-use text_pieces::serial::FetchFault;
 use std::io::ErrorKind;
+use text_pieces::serial::FetchFault;
 
 /// Why a file gives no text, as far as the system tells. (own choice)
 #[derive(Clone, Copy, Debug, PartialEq, Eq)]

@@ -19,12 +19,12 @@ use crate::sheet::{marks_legend, stretches_legend, style_sheet};
 use crate::stretches::{push_stretches, stretch_length};
 use crate::words_text::write_title;
 use machine_model::event::{Event, EventRun};
-use task_lives::tally::add_up;
 use std::alloc::{AllocError, Global};
 use task_descriptor::descriptor::Descriptor;
 use task_descriptor::program::Program;
 use task_lives::life::Life;
 use task_lives::lives::lives_of_runs;
+use task_lives::tally::add_up;
 
 /// The most events that are drawn singly; more are summed by stretches.
 pub const MOST_SINGLE: usize = 2_000;

@@ -5,8 +5,8 @@ ghost use Rattle.run_picture.specs.Frame.{axis_of, lane_of, lanes_of, note_of, n
 
 use crate::scale::{AXIS_LEFT, AXIS_WIDTH, LANE_HEIGHT, LANES_TOP, axis_step, bottom, middle};
 use crate::shape::{Form, Shape, Style, Words};
-use task_lives::tally::Tally;
 use std::alloc::AllocError;
+use task_lives::tally::Tally;
 
 /// Adds the two lines above the picture.
 pub(crate) fn push_titles(

@@ -1,7 +1,7 @@
 //! The shapes of a picture. All lengths are in hundredths of a pixel, from the left and from above.
 
-use task_lives::tally::Tally;
 use task_lives::life::{Ending, Life};
+use task_lives::tally::Tally;
 
 /// How a shape looks: a class of the style sheet (own choice).
 #[derive(Clone, Copy, Debug, PartialEq, Eq)]

@@ -6,9 +6,9 @@ ghost use Rattle.run_picture.specs.WordsText.{lives_text, name_text, plural as p
 
 use crate::bars::name_of;
 use crate::shape::Words;
-use task_lives::tally::Tally;
 use std::alloc::AllocError;
 use task_descriptor::descriptor::Descriptor;
+use task_lives::tally::Tally;
 
 /// Writes what a label says.
 pub(crate) fn write_words(

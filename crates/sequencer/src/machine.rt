@@ -1,8 +1,8 @@
 //! The machine: units on a ring over one accepted program, changed by events alone.
 
+use crate::accepted_laws::{accepted_headline, accepted_never_stuck};
 use crate::history::History;
 use crate::laws::accepted_replays;
-use crate::accepted_laws::{accepted_headline, accepted_never_stuck};
 use machine_model::event::{Commit, Event, EventRun, Refused, Standing};
 use mark_checker::accept::Accepted;
 use mips_instructions::number::{Place, Reg};

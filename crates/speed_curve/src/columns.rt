@@ -5,10 +5,10 @@ ghost use Rattle.std.specs.String.{string_bytes};
 ghost use Rattle.speed_curve.specs.CurvePicture.{bar_text, column_text, mark_text, number_label, opening_text, place_text, point_if, point_text, rate_point, said_speed, share_label, speed_point, speed_text, square_text, units_label, value_text, work_text};
 
 use crate::hundredths::Hundredths;
-use crate::scale::{bar, column, foot_over, foot_under, height};
-use machine_model::event::Standing;
 use crate::row::Row;
+use crate::scale::{bar, column, foot_over, foot_under, height};
 use crate::table::{end_of, rate, share, speed_up};
+use machine_model::event::Standing;
 use std::alloc::AllocError;
 
 /// Writes where the rate of a run is.

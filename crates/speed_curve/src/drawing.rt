@@ -6,9 +6,9 @@ ghost use Rattle.speed_curve.specs.CurvePicture.{beside_text, column_text, colum
 
 use crate::columns::{write_column, write_rate_point, write_speed_point};
 use crate::hundredths::Hundredths;
+use crate::row::Row;
 use crate::scale::top;
 use crate::sheet::fixed_text;
-use crate::row::Row;
 use std::alloc::{AllocError, Global};
 
 /// Draws what runs of a program in steps came to, a column for each row: one SVG file, with no script and no

@@ -7,13 +7,13 @@ ghost use Rattle.speed_curve.specs.Curve.{IsRowOf};
 
 use machine_model::event::Standing;
 use mark_checker::accept::Accepted;
-use task_lives::tally::add_up;
 use std::alloc::{AllocError, Global};
+use task_lives::laws::{histories_fit, lives_add_up};
+use task_lives::lives::lives_of_runs;
+use task_lives::tally::add_up;
 use unit_turns::predictor::Predictor;
 use unit_turns::report::{StepsFault, StepsReport};
 use unit_turns::runner::run_steps;
-use task_lives::laws::{histories_fit, lives_add_up};
-use task_lives::lives::lives_of_runs;
 
 /// What a run of a program in steps came to.
 #[derive(Clone, Copy, Debug, PartialEq, Eq)]

@@ -26,12 +26,12 @@ use run_picture::lanes::push_note;
 use run_picture::shape::Words;
 use run_picture::shape_text::write_shapes;
 use run_picture::stretches::{push_stretches, stretch_length};
-use task_lives::tally::{Tally, add_up};
 use std::alloc::{AllocError, Global};
 use task_descriptor::descriptor::Descriptor;
 use task_lives::laws::histories_fit;
 use task_lives::life::Life;
 use task_lives::lives::lives_of_runs;
+use task_lives::tally::{Tally, add_up};
 use unit_waits::waiting::Waiting;
 use unit_waits::waits::waits;
 

@@ -8,8 +8,8 @@ use crate::sheet::{single_legend, style_sheet, summed_legend};
 use machine_model::event::Standing;
 use run_picture::drawing::{MOST_SINGLE, height, write_root};
 use run_picture::words_text::plural;
-use task_lives::tally::Tally;
 use std::alloc::AllocError;
+use task_lives::tally::Tally;
 
 /// Writes the opening of the picture of a run of so many steps, which then stands so.
 pub(crate) fn write_opening(

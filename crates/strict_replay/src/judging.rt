@@ -11,6 +11,7 @@ use crate::meeting::{unmet_in, write_unmet};
 use crate::reading::{content, event_text, is_silent};
 use crate::text::write_stand;
 use crate::unmet::Unmet;
+use annotated_asm::position::Position;
 use event_script::reading::{event_of, next_line};
 use event_script::task_names::TaskNames;
 use event_trace::change::Change;
@@ -22,7 +23,6 @@ use machine_model::event::{Event, Refused};
 use mark_checker::accept::Accepted;
 use report_texts::report::Report;
 use sequencer::machine::Machine;
-use annotated_asm::position::Position;
 use std::alloc::{AllocError, Global};
 use task_descriptor::program::Program;
 

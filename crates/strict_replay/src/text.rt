@@ -10,11 +10,11 @@ ghost use Rattle.event_trace.specs.Changes.{register_count};
 ghost use Rattle.strict_replay.specs.StandText.{label_of, labelled, reserved_text, spot_text, stand_text, unit_registers, unit_spot, unit_stand, units_stand, waiting_text, word_of, word_text, words_text};
 
 use crate::held::Held;
+use annotated_asm::position::Position;
 use event_trace::text::{write_exit, write_place, write_register, write_unit};
 use machine_model::event::Spot;
 use mips_instructions::number::Reg;
 use sequencer::machine::Machine;
-use annotated_asm::position::Position;
 use std::alloc::{AllocError, Global};
 use task_descriptor::program::Program;
 use unit_core::unit::Unit;

@@ -6,11 +6,11 @@ ghost use Rattle.task_lives.specs.Sums.{AreFew};
 ghost use Rattle.task_lives.specs.SummaryText.{column, heading, row_text, summary_text};
 ghost use Rattle.task_lives.specs.Counting.{rows_from};
 
+use crate::life::Life;
 use crate::tally::{Tally, add_up, by_task};
 use std::alloc::{AllocError, Global};
 use task_descriptor::descriptor::Descriptor;
 use task_descriptor::program::Program;
-use crate::life::Life;
 
 /// The summary of a run of a program, whose lives these are: a heading, a row for each task of the program
 /// in the order of their numbers, and a row for all lives. A life of a task that the program lacks counts in

@@ -5,8 +5,8 @@ ghost use Rattle.task_lives.specs.Sums.{AreFew};
 ghost use Rattle.task_lives.specs.Tallies.{tally_of, tallies_of};
 ghost use Rattle.task_lives.specs.Counting.{HasRoom, HaveRoom, with_life, with_task_life};
 
-use std::alloc::{AllocError, Global};
 use crate::life::{Ending, Life};
+use std::alloc::{AllocError, Global};
 
 /// Of some lives, how many there are, how they ended, and how many instructions they executed. Each number
 /// is at most 1,000,000 in the tallies that `add_up` and `by_task` return.

@@ -1,7 +1,7 @@
 //! Programs from text, and three faults.
 
-use crate::test_texts_count::assembled;
 use crate::numbers::gpr;
+use crate::test_texts_count::assembled;
 use annotated_asm::assembler::assemble;
 use annotated_asm::fault::AsmFault;
 use mips_instructions::instruction::{ImmKind, LogicKind, Op};

@@ -1,7 +1,7 @@
 //! The parts of a program, its reading calls, and names.
 
-use crate::test_texts_count::{COUNT, assembled};
 use crate::numbers::{place, reg};
+use crate::test_texts_count::{COUNT, assembled};
 use mips_instructions::instruction::Op;
 use mips_instructions::number::RegSet;
 use std::alloc::Global;

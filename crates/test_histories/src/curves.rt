@@ -1,7 +1,7 @@
 //! Pictures of what runs in steps came to.
 
-use speed_curve::drawing::draw;
 use machine_model::event::Standing;
+use speed_curve::drawing::draw;
 use speed_curve::row::Row;
 use std::alloc::Global;
 use std::process::Abort;

@@ -5,14 +5,14 @@ ghost use Rattle.std.specs.Prelude.{◌<◌};
 use crate::given::{A_DROP, accepted, life, played, two_rounds};
 use machine_model::event::Event;
 use mark_checker::accept::Accepted;
-use task_lives::summary::write;
-use task_lives::tally::{Tally, add_up, by_task};
 use sequencer::machine::Machine;
 use std::alloc::Global;
 use std::process::Abort;
 use task_lives::laws::histories_fit;
 use task_lives::life::Ending;
 use task_lives::lives::lives_of_runs;
+use task_lives::summary::write;
+use task_lives::tally::{Tally, add_up, by_task};
 use test_programs::certificates::{COUNT_CERTIFICATE, DIAMOND_CERTIFICATE};
 use test_programs::programs::{COUNT, DIAMOND};
 

@@ -4,13 +4,13 @@ ghost use Rattle.std.specs.Prelude.{◌≡◌, ◌≤◌, length, take};
 
 use crate::answers::{Bench, texts_of};
 use jobs::job::Job;
-use text_pieces::positioned::PositionedFile;
-use text_pieces::serial::{FetchFault, fetch};
-use text_pieces::shared::fetch_shared;
 use std::alloc::Global;
 use std::io;
 use std::io::{ErrorKind, Read, Write};
 use std::process::Abort;
+use text_pieces::positioned::PositionedFile;
+use text_pieces::serial::{FetchFault, fetch};
+use text_pieces::shared::fetch_shared;
 use text_pieces::text::Text;
 use verdict_report::fault::ServeFault;
 use verdict_report::serve::serve;

@@ -6,13 +6,13 @@ use program_edge::answer::answer;
 use program_edge::asked::asked_by;
 use program_edge::named_files::NamedFiles;
 use program_edge::unread::Reason;
-use text_pieces::serial::FetchFault;
 use std::alloc::Global;
 use std::io;
 use std::io::{ErrorKind, Write};
 use std::process::Abort;
 use test_programs::programs::COUNT;
 use text_pieces::folder::Folder;
+use text_pieces::serial::FetchFault;
 use text_pieces::unwritten::Unwritten;
 
 // Each file holds this text.

@@ -7,13 +7,13 @@ use mark_checker::accept::Accepted;
 use sequencer::predict::Script;
 use std::alloc::Global;
 use std::process::Abort;
-use unit_turns::predictor::Predictor;
-use unit_turns::report::{How, StepsFault, StepsReport};
-use unit_turns::runner::run_steps;
 use test_programs::certificates::{
     COUNT_CERTIFICATE, DIAMOND_CERTIFICATE, PAIR_CERTIFICATE, SPIN_CERTIFICATE,
 };
 use test_programs::programs::{COUNT, DIAMOND, PAIR, SPIN};
+use unit_turns::predictor::Predictor;
+use unit_turns::report::{How, StepsFault, StepsReport};
+use unit_turns::runner::run_steps;
 
 /// Which target a run follows.
 #[derive(Clone, Copy)]

@@ -13,12 +13,12 @@ use Rattle.program_statements.specs.declared.statement.Section.TheVariants.{Text
 use Rattle.diagnostics.specs.Excerpt.{is_readable}
 use Rattle.diagnostics.specs.Quotations.{as_shown}
 use Rattle.syntax_tree.specs.declared.item.LineFaultKind.TheVariants as kind
-use Rattle.text_diagnostics.specs.Shapes.{shape_of}
-use Rattle.text_diagnostics.specs.Meant.{operand_span}
+use Rattle.operand_forms.specs.Shapes.{shape_of}
+use Rattle.operand_forms.specs.Meant.{operand_span}
 use Rattle.syntax_tree.specs.declared.item.Said.TheVariants as said
 use Rattle.syntax_tree.specs.declared.item.Item.{Item}
-use Rattle.text_diagnostics.specs.Candidates.{candidates, word_candidates}
-use Rattle.text_diagnostics.specs.ForeignWords.{instead, operand_row, operand_instead}
+use Rattle.operand_forms.specs.Candidates.{candidates, word_candidates}
+use Rattle.operand_forms.specs.ForeignWords.{instead, operand_row, operand_instead}
 use Rattle.text_diagnostics.specs.Mending.{goes_further, mended, may_be_label}
 use Rattle.text_diagnostics.specs.Sections.{fault_in, line_kind, meant_after}
 

@@ -11,11 +11,11 @@ use Rattle.program_statements.specs.declared.statement.Section.{Section}
 use Rattle.program_statements.specs.declared.statement.Section.TheVariants as section
 use Rattle.program_statements.specs.declared.statement.Instruction.TheVariants as instruction
 use Rattle.program_statements.specs.declared.statement.Statement.TheVariants as statement
-use Rattle.text_diagnostics.specs.Bytes.{bytes_at, byte_at, byte_help, token_help}
-use Rattle.text_diagnostics.specs.Meant.{span_at, number_index, mark_index, is_directive}
+use Rattle.operand_forms.specs.Bytes.{bytes_at, byte_at, byte_help, token_help}
+use Rattle.operand_forms.specs.Meant.{span_at, number_index, mark_index, is_directive}
 use Rattle.diagnostics.specs.Near.{is_near}
-use Rattle.text_diagnostics.specs.Shapes.{shape_of, form_text, range_text}
-use Rattle.text_diagnostics.specs.declared.shape.Shape.{Shape}
+use Rattle.operand_forms.specs.Shapes.{shape_of, form_text, range_text}
+use Rattle.operand_forms.specs.declared.shape.Shape.{Shape}
 use Rattle.syntax_tree.specs.declared.item.LineFaultKind.{LineFaultKind}
 use Rattle.syntax_tree.specs.declared.item.LineFaultKind.TheVariants as kind
 use Rattle.syntax_tree.specs.declared.item.Said.{Said}
@@ -27,10 +27,10 @@ use Rattle.diagnostics.specs.Helps.{in_words, by_text}
 use Rattle.diagnostics.specs.Quotations.{as_shown}
 use Rattle.text_diagnostics.specs.declared.mistake.Kind.{Kind}
 use Rattle.text_diagnostics.specs.declared.mistake.Kind.TheVariants.{LabelTwice, TaskTwice, StartTwice, NoLabel, DataLabel, Passes, CreatesZero, UnfitForward, StopOnHalt, OneSidedStop, ReleasesZero, NoInstruction, SameEntry, NoTaskThere}
-use Rattle.text_diagnostics.specs.declared.rows.Reading.{Reading}
-use Rattle.text_diagnostics.specs.Rows.{reading_of}
-use Rattle.text_diagnostics.specs.ForeignWords.{instead, operand_instead}
-use Rattle.text_diagnostics.specs.LinePlaces.{word_in, shape_named}
+use Rattle.operand_forms.specs.declared.rows.Reading.{Reading}
+use Rattle.operand_forms.specs.Rows.{reading_of}
+use Rattle.operand_forms.specs.ForeignWords.{instead, operand_instead}
+use Rattle.operand_forms.specs.LinePlaces.{word_in, shape_named}
 use Rattle.text_diagnostics.specs.Mending.{mended, may_be_label}
 use Rattle.text_diagnostics.specs.Messages.{is_no_mark}
 use Rattle.text_diagnostics.specs.Places.{span_in}

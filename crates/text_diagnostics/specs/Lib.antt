@@ -1,14 +1,6 @@
 pub mod Knowledge
 pub mod Mistakes
-pub mod Rows
-pub mod Bytes
-pub mod Shapes
-pub mod ForeignWords
-pub mod Forms
-pub mod Meant
-pub mod LinePlaces
 pub mod Sections
-pub mod Candidates
 pub mod Mending
 pub mod Messages
 pub mod Places

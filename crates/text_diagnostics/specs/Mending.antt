@@ -3,14 +3,14 @@ use Rattle.std.specs.Prelude.{ℕ, ◌+◌, ◌-◌, ◌^◌, min, Bool, false, 
 use Rattle.std.specs.Str.{bytes_eq}
 use Rattle.program_tokens.specs.declared.span.Span.{Span}
 use Rattle.program_statements.specs.declared.statement.Section.{Section}
-use Rattle.text_diagnostics.specs.Bytes.{bytes_at, span}
-use Rattle.text_diagnostics.specs.Meant.{operand_span}
+use Rattle.operand_forms.specs.Bytes.{bytes_at, span}
+use Rattle.operand_forms.specs.Meant.{operand_span}
 use Rattle.syntax_tree.specs.declared.item.LineFaultKind.{LineFaultKind}
 use Rattle.syntax_tree.specs.declared.item.LineFaultKind.TheVariants as kind
 use Rattle.diagnostics.specs.Quotations.{as_shown}
-use Rattle.text_diagnostics.specs.Rows.{reading_of}
-use Rattle.text_diagnostics.specs.LinePlaces.{word_in, shape_named}
-use Rattle.text_diagnostics.specs.Candidates.{candidates}
+use Rattle.operand_forms.specs.Rows.{reading_of}
+use Rattle.operand_forms.specs.LinePlaces.{word_in, shape_named}
+use Rattle.operand_forms.specs.Candidates.{candidates}
 use Rattle.text_diagnostics.specs.Sections.{fault_in}
 
 -- a line with a text in place of a part

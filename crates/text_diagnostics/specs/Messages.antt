@@ -8,9 +8,9 @@ use Rattle.program_tokens.specs.declared.token.Token.TheVariants as token
 use Rattle.program_tokens.specs.declared.token.Mark.TheVariants as mark
 use Rattle.program_statements.specs.declared.statement.Section.{Section}
 use Rattle.program_statements.specs.declared.statement.Section.TheVariants as section
-use Rattle.text_diagnostics.specs.Bytes.{bytes_at, byte_at}
-use Rattle.text_diagnostics.specs.Meant.{mark_index, is_directive}
-use Rattle.text_diagnostics.specs.Shapes.{shape_of}
+use Rattle.operand_forms.specs.Bytes.{bytes_at, byte_at}
+use Rattle.operand_forms.specs.Meant.{mark_index, is_directive}
+use Rattle.operand_forms.specs.Shapes.{shape_of}
 use Rattle.syntax_tree.specs.declared.item.LineFaultKind.{LineFaultKind}
 use Rattle.syntax_tree.specs.declared.item.LineFaultKind.TheVariants as kind
 use Rattle.syntax_tree.specs.declared.unknown_names.UsedAs.TheVariants as used
@@ -18,8 +18,8 @@ use Rattle.syntax_tree.specs.declared.whole_faults.Limit.TheVariants as limit
 use Rattle.diagnostics.specs.Quotations.{quoted}
 use Rattle.text_diagnostics.specs.declared.mistake.Kind.{Kind}
 use Rattle.text_diagnostics.specs.declared.mistake.Kind.TheVariants.{LabelTwice, TaskTwice, StartTwice, NoLabel, DataLabel, Passes, CreatesZero, UnfitForward, StopOnHalt, OneSidedStop, ReleasesZero, NoInstruction, SameEntry, NoTaskThere}
-use Rattle.text_diagnostics.specs.declared.rows.Reading.{Reading}
-use Rattle.text_diagnostics.specs.LinePlaces.{word_in}
+use Rattle.operand_forms.specs.declared.rows.Reading.{Reading}
+use Rattle.operand_forms.specs.LinePlaces.{word_in}
 
 -- Of a line that cannot be read.
 

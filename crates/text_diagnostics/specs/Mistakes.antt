@@ -28,7 +28,7 @@ use Rattle.text_diagnostics.specs.declared.mistake.Kind.TheVariants.{LabelTwice,
 use Rattle.text_diagnostics.specs.declared.mistake.Mistake.{Mistake}
 use Rattle.text_diagnostics.specs.declared.known.Known.{Known}
 use Rattle.program_statements.specs.declared.statement.Section.{Section}
-use Rattle.text_diagnostics.specs.Rows.{line_at}
+use Rattle.operand_forms.specs.Rows.{line_at}
 use Rattle.text_diagnostics.specs.Sections.{line_kind, meant_after}
 
 -- Names and limits.

@@ -10,7 +10,7 @@ use Rattle.program_statements.specs.declared.statement.Section.{Section}
 use Rattle.annotated_asm.specs.declared.fault.AsmFault.{AsmFault}
 use Rattle.annotated_asm.specs.declared.fault.AsmFault.TheVariants as fault
 use Rattle.annotated_asm.specs.ProgramText.{parse}
-use Rattle.text_diagnostics.specs.Bytes.{bytes_at}
+use Rattle.operand_forms.specs.Bytes.{bytes_at}
 use Rattle.syntax_tree.specs.declared.item.LineFaultKind.{LineFaultKind}
 use Rattle.syntax_tree.specs.declared.item.Item.{Item}
 use Rattle.syntax_tree.specs.Trees.{tree_of, span_of, fault_at}
@@ -33,8 +33,8 @@ use Rattle.text_diagnostics.specs.declared.mistake.Kind.TheVariants.{Line, Label
 use Rattle.text_diagnostics.specs.declared.known.Known.{Known}
 use Rattle.text_diagnostics.specs.Knowledge.{known_in}
 use Rattle.text_diagnostics.specs.Mistakes.{mistakes}
-use Rattle.text_diagnostics.specs.Rows.{line_at, reading_of}
-use Rattle.text_diagnostics.specs.LinePlaces.{line_place}
+use Rattle.operand_forms.specs.Rows.{line_at, reading_of}
+use Rattle.operand_forms.specs.LinePlaces.{line_place}
 use Rattle.text_diagnostics.specs.Messages.{line_message, item_message}
 use Rattle.text_diagnostics.specs.Places.{shown_span, span_in, place_in, item_span}
 use Rattle.text_diagnostics.specs.Helps.{line_help, item_help}

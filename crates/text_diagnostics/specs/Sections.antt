@@ -21,10 +21,10 @@ use Rattle.syntax_tree.specs.declared.item.LineFaultKind.TheVariants as kind
 use Rattle.syntax_tree.specs.declared.item.Said.{Said}
 use Rattle.syntax_tree.specs.declared.item.Said.TheVariants as said
 use Rattle.syntax_tree.specs.declared.item.Item.{Item}
-use Rattle.text_diagnostics.specs.Bytes.{bytes_at}
-use Rattle.text_diagnostics.specs.Meant.{label_tokens}
-use Rattle.text_diagnostics.specs.Shapes.{shape_of}
-use Rattle.text_diagnostics.specs.LinePlaces.{word_place}
+use Rattle.operand_forms.specs.Bytes.{bytes_at}
+use Rattle.operand_forms.specs.Meant.{label_tokens}
+use Rattle.operand_forms.specs.Shapes.{shape_of}
+use Rattle.operand_forms.specs.LinePlaces.{word_place}
 use Rattle.text_diagnostics.specs.declared.mistake.Kind.{Kind}
 use Rattle.text_diagnostics.specs.declared.mistake.Kind.TheVariants.{Line}
 

@@ -2,22 +2,13 @@
 //! and what to do.
 #![tactic(auto)]
 
-mod bytes;
-mod candidates;
-mod foreign_words;
-mod form;
 mod help;
 mod known;
 pub mod laws;
-mod line_place;
-mod meant;
 mod mending;
 mod message;
 mod mistake;
 mod mistakes;
 mod place;
 pub mod refusal;
-mod rows;
 mod section;
-mod shape;
-mod slices;

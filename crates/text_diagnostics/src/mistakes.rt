@@ -6,9 +6,9 @@ ghost use Rattle.text_diagnostics.specs.Mistakes.{twice_kind, twice, limit_kind,
 
 use crate::known::Known;
 use crate::mistake::{Kind, Mistake};
-use crate::rows::line_at;
 use crate::section::{line_kind, meant_after};
 use mips_instructions::instruction::Op;
+use operand_forms::rows::line_at;
 use program_statements::statement::{Instruction, Marks, Statement};
 use std::alloc::{AllocError, Global};
 use syntax_tree::item::{Item, Said};

@@ -5,12 +5,12 @@ ghost use Rattle.program_statements.specs.Statements.{statement_of};
 ghost use Rattle.syntax_tree.specs.Trees.{kind_of_fault};
 ghost use Rattle.text_diagnostics.specs.Sections.{fault_of_statement, fault_in, section_named, section_in, section_of, fault_there, line_kind, is_misplaced, other_section, after_fault, meant_after};
 
-use crate::bytes::bytes_at;
-use crate::line_place::word_place;
-use crate::meant::label_tokens;
 use crate::mistake::Kind;
-use crate::rows::places_of;
-use crate::shape::shape_of;
+use operand_forms::bytes::bytes_at;
+use operand_forms::line_place::word_place;
+use operand_forms::meant::label_tokens;
+use operand_forms::rows::places_of;
+use operand_forms::shape::shape_of;
 use program_statements::fault::{StatementError, StatementFault};
 use program_statements::line::statement_of;
 use program_statements::statement::{Section, Statement};

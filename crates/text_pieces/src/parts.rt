@@ -4,8 +4,8 @@ ghost use Rattle.text_pieces.specs.PositionedReads.{AreParts, AreFull};
 
 use crate::positioned::PositionedFile;
 use crate::serial::CHUNK;
-use std::alloc::Global;
 use crate::text::Text;
+use std::alloc::Global;
 
 // How many bytes of memory a part gets beyond its own: if it ends inside a line, the rest of that line is
 // added to it, and should fit without moving it.

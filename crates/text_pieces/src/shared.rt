@@ -4,11 +4,11 @@ ghost use Rattle.std.specs.Prelude.{◌≡◌, ◌≤◌, ◌+◌, ◌*◌, ℕ,
 use crate::parts::{fetch_from, fetch_part, put_together};
 use crate::positioned::PositionedFile;
 use crate::serial::{FetchFault, fetch};
+use crate::text::Text;
 use std::alloc::Global;
 use std::marker::Sync;
 use std::thread;
 use std::thread::Threads;
-use crate::text::Text;
 
 /// From how many bytes on a file is fetched by several threads. A shorter one is fetched in less time than
 /// threads are made.

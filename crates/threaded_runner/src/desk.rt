@@ -13,8 +13,8 @@ use sequencer::predict::Predict;
 use std::alloc::{AllocError, Global};
 use std::marker::{Model, PhantomData};
 use unit_core::burst::Burst;
-use unit_turns::laws::law_head_unit;
 use unit_turns::called::Called;
+use unit_turns::laws::law_head_unit;
 
 /// What the lock holds: the machine of the run, and what else its workers share.
 #[derive(Drop)]

@@ -10,12 +10,12 @@ ghost use Rattle.unit_turns.specs.declared.predictor.Predictor.{Predictor};
 ghost use Rattle.unit_turns.specs.Steps.{goes_on as goes_on_by, tries, with_event, with_task, turn_of, turn};
 ghost use Rattle.unit_turns.specs.Courses.{course};
 
+use crate::laws::law_first_allowed;
 use crate::predictor::Predictor;
 use machine_model::event::{Event, Refused, Standing};
 use machine_model::laws::next_is_after;
 use sequencer::machine::Machine;
 use sequencer::predict::Predict;
-use crate::laws::law_first_allowed;
 
 /// Whether the run goes on: the machine has not ended, and has fewer events than the budget.
 pub(crate) fn goes_on(machine: &Machine<'_>, budget: u32) -> bool

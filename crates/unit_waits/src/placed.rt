@@ -4,9 +4,9 @@ ghost use Rattle.std.specs.Prelude.{◌≡◌};
 ghost use Rattle.processor_steps.specs.Processors.{ArePlaced};
 ghost use Rattle.sequencer.specs.Machines.{state};
 
-use sequencer::accepted_laws::replayed_places_masked;
 use machine_model::laws::places_are_valid;
 use mark_checker::accept::Accepted;
+use sequencer::accepted_laws::replayed_places_masked;
 use sequencer::machine::Machine;
 
 /// Each unit of a machine over an accepted program stands at a valid place; the call does nothing.

@@ -4,8 +4,8 @@ ghost use Rattle.std.specs.Prelude.{◌≡◌, ◌<◌};
 ghost use Rattle.sequencer.specs.Machines.{state};
 ghost use Rattle.unit_waits.specs.Signals.{last_word as last_word_of, ring_signals as ring_signals_of};
 
-use sequencer::machine::Machine;
 use crate::reasons::unit_at;
+use sequencer::machine::Machine;
 
 /// How many signals the ring has.
 pub(crate) const OF_RING: usize = 6;

@@ -6,13 +6,13 @@ ghost use Rattle.sequencer.specs.Machines.{state, units_of};
 ghost use Rattle.unit_core.specs.Units.{active_of};
 ghost use Rattle.unit_waits.specs.Signals.{by_reason as by_reason_of, index_of as index_of_spot, mask_of, phase_of as phase_of_spot, position_of as position_of_unit, signals_at_work as signals_at_work_of, signals_free as signals_free_are, unit_signals as unit_signals_of, wait_of as wait_of_unit};
 
+use crate::acting::acts;
+use crate::reasons::{reason, unit_at};
+use crate::waiting::{Owed, Reason};
 use machine_model::event::{Event, Spot};
 use mark_checker::accept::Accepted;
 use sequencer::machine::Machine;
 use unit_core::unit::Unit;
-use crate::acting::acts;
-use crate::reasons::{reason, unit_at};
-use crate::waiting::{Owed, Reason};
 
 /// How many signals a unit has.
 pub(crate) const OF_UNIT: usize = 7;

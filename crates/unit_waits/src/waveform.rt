@@ -11,17 +11,17 @@ ghost use Rattle.unit_waits.specs.Signals.{signals as signals_of};
 ghost use Rattle.unit_waits.specs.Moments.{moments};
 ghost use Rattle.unit_waits.specs.Waveform.{time_text, times_from, waveform_text};
 
+use crate::acting::{behind, last_of_step};
 use crate::changes::write_time;
 use crate::header::write_header;
 use crate::signals::signals;
+use crate::steps::apply_all;
+use crate::waits::machine_at_start;
 use machine_model::event::Event;
 use machine_model::laws::next_is_after;
 use mark_checker::accept::Accepted;
 use sequencer::machine::Machine;
 use std::alloc::{AllocError, Global};
-use crate::acting::{behind, last_of_step};
-use crate::steps::apply_all;
-use crate::waits::machine_at_start;
 
 /// Adds the time of a step with these events, before which the signals showed this, and does the step. Answers
 /// what the signals show. An error says that memory was refused.

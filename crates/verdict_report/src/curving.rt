@@ -11,13 +11,13 @@ ghost use Rattle.report_texts.specs.JudgedTexts.{judgement};
 
 use crate::scheduled::predictor_of;
 use crate::telling::tell;
-use speed_curve::drawing::draw;
 use jobs::job::{CertificateSource, CurveEmit, Prediction, Texts};
 use jobs::ranges::{Budget, Units};
 use machine_model::event::Standing;
 use mark_checker::accept::Accepted;
 use report_texts::judging::{Judged, judge};
 use report_texts::report::Report;
+use speed_curve::drawing::draw;
 use speed_curve::row::{Row, row_of};
 use speed_curve::table::write;
 use std::alloc::{AllocError, Global};

@@ -11,16 +11,16 @@ ghost use Rattle.event_trace.specs.Trace.{trace_text};
 ghost use Rattle.event_json.specs.Json.{json_text};
 ghost use Rattle.verdict_report.specs.MachineText.{machine_text, retired_text, standing_status, standing_text};
 
+use event_json::clock::Clock;
 use event_json::last_line::LastLine;
 use event_json::lines::lines;
+use event_json::timeline::timeline;
 use event_trace::trace::trace;
 use jobs::ranges::Units;
 use machine_model::event::{Event, Standing};
 use mark_checker::accept::Accepted;
 use report_texts::plain_text::write_words;
 use run_picture::drawing::draw;
-use event_json::clock::Clock;
-use event_json::timeline::timeline;
 use sequencer::machine::Machine;
 use std::alloc::{AllocError, Global};
 use task_descriptor::program::Program;

@@ -16,6 +16,7 @@ ghost use Rattle.verdict_report.specs.ReplayText.{allowed, answers_text, events_
 use crate::event_text::{refused_script, write_answers};
 use crate::machine_text::{picture_of, standing_status_of, summary_of, timeline_of, write_machine};
 use crate::replay_form::{MachineForm, ReplayForm, form_of};
+use event_json::clock::Clock;
 use event_json::last_line::LastLine;
 use event_json::lines::lines_and_standing;
 use event_script::fault::ScriptFault;
@@ -28,7 +29,6 @@ use machine_model::laws::next_is_after;
 use mark_checker::accept::Accepted;
 use report_texts::judging::{Judged, judge};
 use report_texts::report::Report;
-use event_json::clock::Clock;
 use sequencer::machine::{Machine, MachineFault};
 use std::alloc::{AllocError, Global};
 use strict_replay::stand::stand;

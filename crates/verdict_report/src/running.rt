@@ -21,6 +21,7 @@ use crate::machine_text::{
 };
 use crate::ran::{Extent, Ran};
 use crate::scheduled::run_scheduled;
+use event_json::clock::Clock;
 use event_json::last_line::LastLine;
 use event_script::writing::write;
 use jobs::job::{CertificateSource, Prediction, RunEmit, Texts};
@@ -30,8 +31,6 @@ use report_texts::judging::{Judged, judge};
 use report_texts::plain_text::write_words;
 use report_texts::report::Report;
 use run_picture::events::single_events;
-use event_json::clock::Clock;
-use unit_waits::waveform::waveform;
 use std::alloc::{AllocError, Global};
 use std::sync::Wait;
 use std::thread::Threads;
@@ -39,6 +38,7 @@ use step_picture::drawing::draw;
 use strict_replay::writing::write_valued;
 use task_lives::laws::histories_fit;
 use threaded_runner::report::How;
+use unit_waits::waveform::waveform;
 use wait_table::table::table;
 
 /// What `run` writes of a program text and the text of its certificate.

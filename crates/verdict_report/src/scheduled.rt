@@ -13,12 +13,12 @@ use sequencer::predict::Script;
 use std::alloc::{AllocError, Global};
 use std::sync::Wait;
 use std::thread::Threads;
-use unit_turns::predictor::Predictor;
-use unit_turns::report::{How as StepsHow, StepsFault, StepsReport};
-use unit_turns::runner::run_steps;
 use threaded_runner::gate::Open;
 use threaded_runner::report::{How, Report, RunFault};
 use threaded_runner::runner::run_workers;
+use unit_turns::predictor::Predictor;
+use unit_turns::report::{How as StepsHow, StepsFault, StepsReport};
+use unit_turns::runner::run_steps;
 
 /// Runs an accepted program as the schedule and the predictor say that are asked for.
 ///

@@ -14,10 +14,10 @@ ghost use Rattle.wait_table.specs.TableText.{counts_text, row_text, rows_text, s
 use crate::kinds::{Kind, all_waits, waits_of};
 use crate::order::most_first;
 use crate::text::{write_number, write_waiting};
+use annotated_asm::position::Position;
 use event_trace::places::places;
 use machine_model::event::Event;
 use mark_checker::accept::Accepted;
-use annotated_asm::position::Position;
 use std::alloc::{AllocError, Global};
 use task_descriptor::program::Program;
 use unit_waits::count::Count;

@@ -5,11 +5,11 @@ ghost use Rattle.std.specs.String.{string_bytes};
 ghost use Rattle.task_lives.specs.SummaryText.{column};
 ghost use Rattle.wait_table.specs.TableText.{debt_text, owed_text, reason_text, spot_text, waiting_text};
 
+use annotated_asm::position::Position;
 use event_script::writing::task_name;
 use event_trace::text::write_place;
 use machine_model::event::Spot;
 use mips_instructions::number::Reg;
-use annotated_asm::position::Position;
 use std::alloc::AllocError;
 use task_descriptor::program::Program;
 use unit_waits::waiting::{Owed, Reason, Waiting};

@@ -9,11 +9,11 @@ use Rattle.mark_checker.specs.declared.finding.Finding.{Finding}
 use Rattle.mark_checker.specs.Rules.{all_rules}
 use Rattle.annotator.specs.Least.{IsLeast}
 use Rattle.finding_paths.specs.Shown.{IsFinding}
-use Rattle.mark_diagnostics.specs.Labels.{labels_from}
-use Rattle.mark_diagnostics.specs.Spellings.{names_in}
-use Rattle.mark_diagnostics.specs.Subjects.{Judged}
+use Rattle.mark_subjects.specs.Labels.{labels_from}
+use Rattle.mark_subjects.specs.Spellings.{names_in}
+use Rattle.mark_subjects.specs.Subjects.{Judged}
 use Rattle.mark_diagnostics.specs.Told.{all_told, most_shown}
-use Rattle.mark_diagnostics.specs.More.{more_note}
+use Rattle.mark_subjects.specs.More.{more_note}
 use Rattle.mark_diagnostics.specs.Errors.{Says}
 use Rattle.mark_diagnostics.proofs.Telling.{of_judged, found_told, nothing_wrong, something_wrong}
 use Rattle.mark_diagnostics.proofs.error.mark_errors.Goals as goal

@@ -1,6 +1,6 @@
 -- The marks so far are added.
 use Rattle.std.proofs.Common.{◌≡◌, ◌++◌, map, take}
-use Rattle.mark_diagnostics.specs.declared.remark.Remark.TheVariants.{Costly}
+use Rattle.exit_diagnostics.specs.declared.remark.Remark.TheVariants.{Costly}
 use Rattle.mark_diagnostics.proofs.warning.add_costly.Given as goal
 
 abbrev pub invariant-loop-mark : goal.invariant-loop-mark

@@ -2,7 +2,7 @@
 use Rattle.std.proofs.Common.{◌≡◌, ℕ, ◌+◌, ◌<◌, List, [], ◌∷◌, ◌++◌, take, map, length, get_or, ap, sym, ◌∙◌, arith}
 use Rattle.std.proofs.lemmas.Grind.{common_steps}
 use Rattle.diagnostics.specs.declared.diagnostic.Diagnostic.{Diagnostic}
-use Rattle.mark_diagnostics.specs.declared.remark.Remark.{Remark}
+use Rattle.exit_diagnostics.specs.declared.remark.Remark.{Remark}
 use Rattle.mark_diagnostics.specs.Warnings.{warning}
 use Rattle.mark_diagnostics.proofs.warning.all_of.Goals as goal
 

@@ -1,6 +1,6 @@
 -- The remarks so far are added.
 use Rattle.std.proofs.Common.{◌≡◌, map, take}
-use Rattle.mark_diagnostics.specs.declared.remark.Remark.TheVariants.{Stop}
+use Rattle.exit_diagnostics.specs.declared.remark.Remark.TheVariants.{Stop}
 use Rattle.mark_diagnostics.proofs.warning.all_remarks.Given as goal
 
 abbrev pub invariant-loop-stop : goal.invariant-loop-stop

@@ -1,10 +1,10 @@
 -- What is said is of what is remarked, in the text's own lines.
 use Rattle.std.proofs.Common.{◌≡◌, List, ◌++◌, map, ap, ◌∙◌}
 use Rattle.finding_paths.specs.declared.mark.CostlyMark.{CostlyMark}
-use Rattle.mark_diagnostics.specs.declared.remark.Remark.{Remark}
-use Rattle.mark_diagnostics.specs.declared.remark.Remark.TheVariants.{Stop, Costly}
-use Rattle.mark_diagnostics.specs.declared.remark.StopRemark.{StopRemark}
-use Rattle.mark_diagnostics.specs.Remarks.{stop_remarks}
+use Rattle.exit_diagnostics.specs.declared.remark.Remark.{Remark}
+use Rattle.exit_diagnostics.specs.declared.remark.Remark.TheVariants.{Stop, Costly}
+use Rattle.exit_diagnostics.specs.declared.remark.StopRemark.{StopRemark}
+use Rattle.exit_diagnostics.specs.Remarks.{stop_remarks}
 use Rattle.mark_diagnostics.specs.Warnings.{warnings}
 use Rattle.mark_diagnostics.proofs.warning.mark_warnings.Goals as goal
 

@@ -3,8 +3,8 @@ use Rattle.std.proofs.Common.{◌≡◌, List, ◌++◌, length, ap, ◌∙◌, 
 use Rattle.std.specs.List.{flat_map, range_with_len}
 use Rattle.task_descriptor.specs.Listing.{Listing}
 use Rattle.task_descriptor.specs.declared.descriptor.Descriptor.{Descriptor}
-use Rattle.mark_diagnostics.specs.declared.remark.StopRemark.{StopRemark}
-use Rattle.mark_diagnostics.specs.Remarks.{of_task}
+use Rattle.exit_diagnostics.specs.declared.remark.StopRemark.{StopRemark}
+use Rattle.exit_diagnostics.specs.Remarks.{of_task}
 use Rattle.mark_diagnostics.proofs.Ranges.{range_more}
 use Rattle.mark_diagnostics.proofs.warning.stop_remarks.Goals as goal
 

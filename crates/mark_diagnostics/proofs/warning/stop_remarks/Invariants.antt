@@ -1,7 +1,7 @@
 -- What is remarked of the tasks so far.
 use Rattle.std.proofs.Common.{◌≡◌}
 use Rattle.std.specs.List.{flat_map, range_with_len}
-use Rattle.mark_diagnostics.specs.Remarks.{of_task}
+use Rattle.exit_diagnostics.specs.Remarks.{of_task}
 use Rattle.mark_diagnostics.proofs.warning.stop_remarks.Given as goal
 
 abbrev pub invariant-loop-task : goal.invariant-loop-task

@@ -1,0 +1,4 @@
+pub mod Meant
+pub mod Exits
+pub mod Calls
+pub mod Remarks

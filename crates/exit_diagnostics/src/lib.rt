@@ -1,0 +1,10 @@
+//! What is said of a task's exits: where they lead, which stop is missing or on the wrong line, what a call returns to,
+//! and tasks that never run.
+#![tactic(auto)]
+
+pub mod call;
+pub mod exit;
+pub mod meant;
+pub mod meant_stop;
+pub mod remark;
+pub mod stop;

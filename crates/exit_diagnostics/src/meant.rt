@@ -1,0 +1,182 @@
+//! The stop that may be meant where a task ends at a place where no task begins.
+
+ghost use Rattle.std.specs.Prelude.{◌≡◌, ◌==◌, ◌&&◌, IfOk};
+ghost use Rattle.std.specs.List.{list_any};
+ghost use Rattle.exit_diagnostics.specs.declared.meant_stop.MeantStop.TheVariants.{Edge, Next};
+ghost use Rattle.mark_subjects.specs.Subjects.{targets_of, is_entry};
+ghost use Rattle.exit_diagnostics.specs.Meant.{way, target_in, to_target, edge_meant, has_stop, may_end, meant, edge_stop, edge_name, edge_advice, next_advice, meant_help};
+
+use crate::meant_stop::MeantStop;
+use crate::stop::stops_always;
+use diagnostics::diagnostic::Help;
+use diagnostics::listed::Listed;
+use diagnostics::words;
+use diagnostics::words::Words;
+use mark_subjects::mark_place::mark_span;
+use mark_subjects::parts::{in_words, place_words, take_out};
+use mark_subjects::put_stop::stop_put;
+use mark_subjects::subject::{Made, Subject};
+use mips_instructions::number::Place;
+use std::alloc::Global;
+use task_descriptor::descriptor::Stop;
+
+/// Whether an index is that of a target.
+pub fn is_among(targets: &[Place], index: u32) -> bool
+    ensures { result ≡ list_any (λ t. t == index) targets.now }
+{
+    targets.iter().any(|target| target.get() == index)
+}
+
+/// Where an edge of an instruction leads, whatever its stop.
+fn way(subject: &Subject, index: u32, taken: bool) -> Option<u32>
+    ensures { result ≡ way subject.now index taken }
+{
+    subject.exit(index, taken).or(subject.inner(index, taken))
+}
+
+/// Whether an index is that of a target where a task begins.
+fn is_open(subject: &Subject, task: u32, index: u32) -> bool
+    ensures { result ≡ (is_entry subject.now index && list_any (λ t. t == index) (targets_of subject.now task)) }
+{
+    subject.is_entry(index) && is_among(subject.targets(task), index)
+}
+
+/// A place, if it is a target of the task, and a task begins there.
+fn target_in(subject: &Subject, task: u32, place: Option<u32>) -> Option<u32>
+    ensures { result ≡ target_in subject.now task place }
+{
+    let Some(index) = place else {
+        return None;
+    };
+    if is_open(subject, task, index) {
+        Some(index)
+    } else {
+        None
+    }
+}
+
+/// Where an edge of an instruction leads, if that is such a target.
+fn to_target(subject: &Subject, task: u32, index: u32, taken: bool) -> Option<u32>
+    ensures { result ≡ to_target subject.now task index taken }
+{
+    target_in(subject, task, way(subject, index, taken))
+}
+
+/// Of a branch, the stop of the one edge that leads to a target.
+fn edge_meant(onward: Option<u32>, taken: Option<u32>) -> MeantStop
+    ensures { result ≡ edge_meant onward taken }
+{
+    match (onward, taken) {
+        (Some(target), None) => MeantStop::Edge {
+            taken: false,
+            target,
+        },
+        (None, Some(target)) => MeantStop::Edge {
+            taken: true,
+            target,
+        },
+        _ => MeantStop::This,
+    }
+}
+
+/// Whether there is a stop.
+fn has_stop(stop: Stop) -> bool
+    ensures { result ≡ has_stop stop }
+{
+    !matches!(stop, Stop::None)
+}
+
+/// Whether an instruction has no stop, and all its edges lead to targets.
+fn may_end(subject: &Subject, task: u32, index: u32) -> bool
+    ensures { result ≡ may_end subject.now task index }
+{
+    !has_stop(subject.stop(index))
+        && (to_target(subject, task, index, false).is_some()
+            && (!way(subject, index, true).is_some()
+                || to_target(subject, task, index, true).is_some()))
+}
+
+/// The stop that may be meant where an instruction ends a task that goes on to a place where no task begins.
+pub fn meant(subject: &Subject, task: u32, index: u32, to: u32) -> MeantStop
+    ensures { result ≡ meant subject.now task index to }
+{
+    if subject.is_branch(index) && (to as usize) < subject.code().len() {
+        let onward = to_target(subject, task, index, false);
+        return edge_meant(onward, to_target(subject, task, index, true));
+    }
+    if stops_always(subject.stop(index)) && may_end(subject, task, to) {
+        MeantStop::Next(to)
+    } else {
+        MeantStop::This
+    }
+}
+
+/// The stop of an edge of a branch.
+fn edge_stop(taken: bool) -> &'static str
+    ensures { result.now ≡ edge_stop taken }
+{
+    if taken { "!st" } else { "!sn" }
+}
+
+/// When a branch goes along an edge.
+fn edge_name(taken: bool) -> &'static str
+    ensures { result.now ≡ edge_name taken }
+{
+    if taken { "taken" } else { "not taken" }
+}
+
+/// What to do: to write the stop of one edge, or else.
+fn edge_advice(alloc: Global, word: &str, edge: &str, target: &str, rest: &str) -> Made<Words>
+    ensures { IfOk result (λ words. words ≡ edge_advice word.now edge.now target.now rest.now) }
+{
+    words!(in alloc; "write {word}: the task then ends only if the branch is {edge}, at {target}, which is a target; or {rest}")
+}
+
+/// What to do: to put the stop on a later line, or else.
+fn next_advice(alloc: Global, line: u32, rest: &str) -> Made<Words>
+    ensures { IfOk result (λ words. words ≡ next_advice line rest.now) }
+{
+    words!(in alloc; "if the task is to end on line {line}, move !s there, from where all ways lead to its targets; or {rest}")
+}
+
+/// That the stop of another edge is written.
+fn edge_help(subject: &Subject, index: u32, taken: bool, target: u32, rest: &str) -> Made<Help>
+    ensures { IfOk result (λ help. help ≡ meant_help subject.now index (Edge taken target) rest.now) }
+{
+    let alloc = subject.alloc();
+    let word = edge_stop(taken);
+    let place = place_words(subject, target)?;
+    let mut replacements = Vec::new(alloc);
+    replacements.push(stop_put(subject, index, word)?)?;
+    Ok(Help {
+        message: edge_advice(alloc, word, edge_name(taken), place.as_str(), rest)?,
+        replacements: Listed::new(replacements),
+    })
+}
+
+/// That the stop is put on the next instruction.
+fn next_help(subject: &Subject, index: u32, next: u32, rest: &str) -> Made<Help>
+    ensures { IfOk result (λ help. help ≡ meant_help subject.now index (Next next) rest.now) }
+{
+    let alloc = subject.alloc();
+    let mark = mark_span(b's', subject.rows(), subject.span(index));
+    let mut replacements = take_out(alloc, mark)?;
+    replacements.push(stop_put(subject, next, "!s")?)?;
+    Ok(Help {
+        message: next_advice(alloc, subject.span(next).line, rest)?,
+        replacements: Listed::new(replacements),
+    })
+}
+
+/// What to do: to write the stop that may be meant, or else.
+pub fn meant_help(subject: &Subject, index: u32, meant: MeantStop, rest: Words) -> Made<Help>
+    ensures { IfOk result (λ help. help ≡ meant_help subject.now index meant rest) }
+{
+    match meant {
+        MeantStop::This => Ok(in_words(subject.alloc(), rest)),
+        MeantStop::Edge { taken, target } => {
+            edge_help(subject, index, taken, target, rest.as_str())
+        }
+        MeantStop::Next(next) => next_help(subject, index, next, rest.as_str()),
+    }
+}

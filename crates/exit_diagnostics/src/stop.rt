@@ -1,0 +1,239 @@
+//! Where a stop, or a way to a task, may be forgotten.
+
+ghost use Rattle.std.specs.Prelude.{◌≡◌, ◌++◌, filter, not, position, is_some, IfOk};
+ghost use Rattle.std.specs.List.{find, list_any};
+ghost use Rattle.std.specs.Option.{option_copied};
+ghost use Rattle.task_graph.specs.Edges.{is_indirect as is_indirect_of};
+ghost use Rattle.mark_checker.specs.Rules.{stops_always as stops_always_of};
+ghost use Rattle.mark_subjects.specs.Subjects.{targets_of, entries_of};
+ghost use Rattle.exit_diagnostics.specs.Exits.{is_taken as is_taken_of, entries_listed as entries_listed_of};
+ghost use Rattle.exit_diagnostics.specs.Remarks.{exits_anywhere, exits, untaken, first_untaken, not_taken_help, has_untaken, entry_of, follows, never_runs, entered_task, first_step, into_help, may_lack_stop, is_asked};
+
+use crate::exit::{entries_listed, is_taken};
+use crate::meant::is_among;
+use diagnostics::diagnostic::Help;
+use diagnostics::listed::Listed;
+use diagnostics::words;
+use diagnostics::words::Words;
+use mark_checker::check::check_task;
+use mark_checker::finding::{Finding, Rule};
+use mark_subjects::parts::{by_text, targets_words};
+use mark_subjects::put_stop::{into, missing_stop, stop_put};
+use mark_subjects::subject::{Made, Subject};
+use mips_instructions::instruction::Op;
+use mips_instructions::number::RegSet;
+use task_descriptor::descriptor::{Descriptor, Stop};
+
+/// Whether an instruction is a jump to an address in a register.
+fn is_indirect(op: &Op) -> bool
+    ensures { result ≡ is_indirect_of op.now }
+{
+    matches!(op, Op::JumpReg(_) | Op::JumpLinkReg(_, _))
+}
+
+/// Whether a stop ends the task whichever way the instruction goes.
+pub fn stops_always(stop: Stop) -> bool
+    ensures { result ≡ stops_always_of stop }
+{
+    matches!(stop, Stop::Always)
+}
+
+/// Whether an exit of an instruction may lead to any target.
+fn exits_anywhere(subject: &Subject, index: u32) -> bool
+    ensures { result ≡ exits_anywhere subject.now index }
+{
+    match subject.code().get(index as usize) {
+        Some(marked) => is_indirect(&marked.op) && stops_always(marked.stop),
+        None => false,
+    }
+}
+
+/// Whether an instruction has an exit.
+fn exits(subject: &Subject, index: u32) -> bool
+    ensures { result ≡ exits subject.now index }
+{
+    subject.exit(index, false).is_some()
+        || (subject.exit(index, true).is_some() || exits_anywhere(subject, index))
+}
+
+/// Whether an exit of a task may lead to any target.
+pub fn has_indirect_exit(subject: &Subject, task: u32) -> bool
+    ensures { result ≡ list_any (λ e. exits_anywhere subject.now e.0) (entries_of subject.now task) }
+{
+    let entries = subject.entries(task);
+    entries.iter().any(|entry| exits_anywhere(subject, entry.0))
+}
+
+/// Whether a task has an exit.
+pub fn has_exit(subject: &Subject, task: u32) -> bool
+    ensures { result ≡ list_any (λ e. exits subject.now e.0) (entries_of subject.now task) }
+{
+    let entries = subject.entries(task);
+    entries.iter().any(|entry| exits(subject, entry.0))
+}
+
+/// The targets of a task that no exit takes.
+pub fn untaken(subject: &Subject, task: u32) -> Made<Vec<u32>>
+    ensures { IfOk result (λ list. list.items ≡ untaken subject.now task) }
+{
+    subject
+        .targets(task)
+        .iter()
+        .map(|target| target.get())
+        .filter(|index| !is_taken(subject, task, *index))
+        .collect(subject.alloc())
+}
+
+/// The targets of a task that some exit takes, and where a task begins.
+fn taken(subject: &Subject, task: u32) -> Made<Vec<u32>>
+    ensures { IfOk result (λ list. list.items ≡ filter (is_taken_of subject.now task) (entries_listed_of subject.now task)) }
+{
+    let listed = entries_listed(subject, task)?;
+    listed
+        .iter()
+        .copied()
+        .filter(|index| is_taken(subject, task, *index))
+        .collect(subject.alloc())
+}
+
+/// The number of a task's first target that no exit takes, if there is one.
+fn position_untaken(subject: &Subject, task: u32) -> Option<usize>
+    ensures { result ≡ position (λ j. not (is_taken_of subject.now task j)) (targets_of subject.now task) }
+{
+    let targets = subject.targets(task);
+    targets
+        .iter()
+        .position(|target| !is_taken(subject, task, target.get()))
+}
+
+/// The number of a task's first target that no exit takes; of none, 0.
+pub fn first_untaken(subject: &Subject, task: u32) -> usize
+    ensures { result ≡ first_untaken subject.now task }
+{
+    position_untaken(subject, task).unwrap_or(0)
+}
+
+/// Whether no exit takes some target of a task.
+pub fn has_untaken(subject: &Subject, task: u32) -> bool
+    ensures { result ≡ has_untaken subject.now task }
+{
+    let targets = subject.targets(task);
+    targets
+        .iter()
+        .any(|target| !is_taken(subject, task, target.get()))
+}
+
+/// What to do about targets that no exit takes.
+pub fn not_taken_help(subject: &Subject, task: u32) -> Made<Help>
+    ensures { IfOk result (λ help. help ≡ not_taken_help subject.now task) }
+{
+    let taken = taken(subject, task)?;
+    let text = targets_words(subject, &taken)?;
+    let message = words!(in subject.alloc(); "is a stop missing? else write {text}")?;
+    by_text(subject.alloc(), message, subject.targets_span(task), text)
+}
+
+/// The index of a task's first instruction; 0 where there is no such task.
+fn entry_of(subject: &Subject, task: u32) -> u32
+    ensures { result ≡ entry_of subject.now task }
+{
+    match subject.tasks().get(task as usize) {
+        Some(descriptor) => descriptor.entry.get(),
+        None => 0,
+    }
+}
+
+/// Whether the task at an index is a target of another one.
+fn follows(entry: u32, other: &Descriptor) -> bool
+    ensures { result ≡ follows entry other.now }
+{
+    other.entry.get() != entry && is_among(other.targets.as_slice(), entry)
+}
+
+/// Whether a task is a target of another one.
+fn is_followed(subject: &Subject, entry: u32) -> bool
+    ensures { result ≡ list_any (follows entry) subject.now.program.tasks }
+{
+    subject.tasks().iter().any(|other| follows(entry, other))
+}
+
+/// Whether a task never runs.
+pub fn never_runs(subject: &Subject, task: u32) -> bool
+    ensures { result ≡ never_runs subject.now task }
+{
+    let entry = entry_of(subject, task);
+    subject.program().start().get() != entry && !is_followed(subject, entry)
+}
+
+/// The task into which an instruction goes on.
+pub fn entered_task(subject: &Subject, index: u32) -> Option<u32>
+    ensures { result ≡ entered_task subject.now index }
+{
+    into(subject, index, false).or(into(subject, index, true))
+}
+
+/// Whether an instruction goes on into a task.
+fn enters(subject: &Subject, index: u32) -> bool
+    ensures { result ≡ is_some (entered_task subject.now index) }
+{
+    entered_task(subject, index).is_some()
+}
+
+/// The first instruction of a task that goes on into a task.
+fn first_entry<'a>(subject: &'a Subject, task: u32) -> Option<&'a (u32, RegSet)>
+    ensures { option_copied result ≡ find (λ e. is_some (entered_task subject.now e.0)) (entries_of subject.now task) }
+{
+    let entries = subject.entries(task);
+    entries.iter().find(|entry| enters(subject, entry.0))
+}
+
+/// The index of the first instruction of a task that goes on into a task.
+pub fn first_step(subject: &Subject, task: u32) -> Option<u32>
+    ensures { result ≡ first_step subject.now task }
+{
+    match first_entry(subject, task) {
+        Some(entry) => Some(entry.0),
+        None => None,
+    }
+}
+
+/// What to do about an instruction that goes on into a task.
+pub fn into_help(subject: &Subject, index: u32) -> Made<Help>
+    ensures { IfOk result (λ help. help ≡ into_help subject.now index) }
+{
+    let word = missing_stop(subject, index);
+    let mut replacements = Vec::new(subject.alloc());
+    replacements.push(stop_put(subject, index, word)?)?;
+    Ok(Help {
+        message: words!(in subject.alloc(); "write {word} here, if the task is to end")?,
+        replacements: Listed::new(replacements),
+    })
+}
+
+/// Whether a finding of this rule may come of a forgotten stop.
+fn may_lack_stop(rule: Rule) -> bool
+    ensures { result ≡ may_lack_stop rule }
+{
+    matches!(
+        rule,
+        Rule::ExceedsCreate | Rule::ForwardedInNext | Rule::ReleasedInNext
+    )
+}
+
+/// Whether one of some findings may come of a forgotten stop.
+fn some_may_lack(findings: &[Finding]) -> bool
+    ensures { result ≡ list_any (λ f. may_lack_stop f.rule) findings.now }
+{
+    findings.iter().any(|finding| may_lack_stop(finding.rule))
+}
+
+/// Whether all is remarked of a task.
+pub fn is_asked(subject: &Subject, all: bool, task: u32) -> Made<bool>
+    ensures { IfOk result (λ asked. asked ≡ is_asked subject.now all task) }
+{
+    if all {
+        return Ok(true);
+    }
+    let found = check_task(subject.alloc(), subject.program(), subject.least(), task)?;
+    Ok(some_may_lack(&found))
+}

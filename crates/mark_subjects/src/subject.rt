@@ -1,0 +1,443 @@
+//! What diagnostics about marks are about.
+
+use crate::label::labels_of;
+use crate::spelling::names_in;
+use annotated_asm::fault::AsmFault;
+use annotated_asm::laws::map_fits;
+use annotated_asm::position::{SourceMap, Stretch};
+use annotated_asm::reading::source_map;
+use diagnostics::diagnostic::Span;
+use diagnostics::words::Words;
+use mask_certificate::certificate::Cert;
+use mips_instructions::instruction::Op;
+use mips_instructions::number::{Place, Reg, RegSet};
+use program_tokens::line::first_line;
+use std::alloc::{AllocError, Global};
+use std::marker::Model;
+use task_descriptor::descriptor::{Descriptor, Marked, Stop};
+use task_descriptor::name::Name;
+use task_descriptor::program::Program;
+use task_graph::edges::{ends_task, leads_to};
+
+/// What is made, where memory is not refused.
+pub type Made<T> = Result<T, AllocError>;
+
+/// A program whose marks are judged, with its text and its least certificate.
+#[derive(Drop)]
+pub struct Subject<'a> {
+    alloc: Global,
+    program: &'a Program,
+    rows: Vec<&'a [u8]>,
+    places: SourceMap,
+    labels: Vec<Option<Name>>,
+    names: Vec<Words>,
+    least: &'a Cert,
+}
+
+impl<'a> Model for Subject<'a> {
+    ghost use Rattle.std.specs.Prelude.{map as each};
+    ghost use Rattle.annotated_asm.specs.Sources.{sources_in};
+    ghost use Rattle.mark_subjects.specs.Subjects.{Judged};
+
+    ghost Value = { Judged };
+
+    ghost view = { λ s. record {
+      program = s.program.now;
+      rows = each (λ row. row.now) s.rows.items;
+      sources = sources_in s.places;
+      labels = s.labels.items;
+      names = s.names.items;
+      least = s.least.now;
+    } };
+}
+
+ghost use Rattle.std.specs.Prelude.{◌≡◌, ◌<◌, map as each, Ok, IfOk};
+ghost use Rattle.std.specs.Option.{option_copied};
+ghost use Rattle.mips_instructions.specs.Words.{has};
+ghost use Rattle.annotated_asm.specs.ProgramText.{parse};
+ghost use Rattle.mask_certificate.specs.Lists.{mask_at};
+ghost use Rattle.task_graph.specs.Edges.{end_of};
+ghost use Rattle.task_descriptor.specs.Listing.{is_conditional as is_conditional_of};
+ghost use Rattle.mips_instructions.specs.Instruction.{released};
+ghost use Rattle.mark_subjects.specs.Subjects.{IsJudged, label_at, register_text, task_name, targets_of, entries_of, task_at, is_entry, forwards, releases, is_branch, stop_of, is_end, exit_end, inner_end, first_byte, span_of, instruction_span, task_span, create_span, targets_span, target_in, target_span, column_after, after};
+ghost use Rattle.program_tokens.specs.Lines.{lines};
+ghost use Rattle.annotated_asm.specs.Sources.{sources_in, sources_of};
+
+impl<'a> Subject<'a> {
+    /// A program with the text that spells it, and its least certificate.
+    pub fn read(
+        alloc: Global,
+        text: &'a [u8],
+        program: &'a Program,
+        least: &'a Cert,
+    ) -> Made<Subject<'a>>
+        requires { parse text.now ≡ Ok program.now }
+        ensures judged { IfOk result (λ subject. IsJudged text.now subject) }
+        ensures program { IfOk result (λ subject. subject.program ≡ program.now) }
+        ensures least { IfOk result (λ subject. subject.least ≡ least.now) }
+    {
+        let rows = lines_of(alloc, text)?;
+        let places = places_of(alloc, text, program)?;
+        let labels = labels_of(alloc, &rows, &places.code)?;
+        let names = names_in(alloc, &rows)?;
+        Ok(Subject {
+            alloc,
+            program,
+            rows,
+            places,
+            labels,
+            names,
+            least,
+        })
+    }
+
+    /// Where memory is taken from.
+    pub fn alloc(&self) -> Global {
+        self.alloc
+    }
+
+    /// The program.
+    pub fn program(&self) -> &Program
+        ensures { result.now ≡ self.now.program }
+    {
+        self.program
+    }
+
+    /// The instructions.
+    pub fn code(&self) -> &[Marked]
+        ensures { result.now ≡ self.now.program.code }
+    {
+        self.program.code()
+    }
+
+    /// The tasks.
+    pub fn tasks(&self) -> &[Descriptor]
+        ensures { result.now ≡ self.now.program.tasks }
+    {
+        self.program.tasks()
+    }
+
+    /// The least certificate.
+    pub fn least(&self) -> &Cert
+        ensures { result.now ≡ self.now.least }
+    {
+        self.least
+    }
+
+    /// The lines of the text.
+    pub fn rows(&self) -> &[&'a [u8]]
+        ensures { each (λ row. row.now) result.now ≡ self.now.rows }
+    {
+        &self.rows
+    }
+
+    /// The instructions that a task reaches, each with the registers that it may still write from there on.
+    pub fn entries(&self, task: u32) -> &[(u32, RegSet)]
+        ensures { result.now ≡ entries_of self.now task }
+    {
+        self.least.list(task)
+    }
+
+    /// The registers that a task may still write from an instruction on; `None` where it does not reach it.
+    pub fn mask(&self, task: u32, index: u32) -> Option<RegSet>
+        ensures { result ≡ mask_at (entries_of self.now task) index }
+    {
+        self.least.mask(task, index)
+    }
+
+    /// How the text writes a register; empty where there is none of this number.
+    pub fn register(&self, number: u8) -> &str
+        ensures { result.now ≡ register_text self.now number }
+    {
+        match self.names.get(usize::from(number)) {
+            Some(name) => name.as_str(),
+            None => "",
+        }
+    }
+
+    /// The name of a task; empty where there is none of this number.
+    pub fn task(&self, task: u32) -> &str
+        ensures { result.now ≡ task_name self.now task }
+    {
+        match self.program.tasks().get(task as usize) {
+            Some(descriptor) => descriptor.name.as_str(),
+            None => "",
+        }
+    }
+
+    /// The targets of a task.
+    pub fn targets(&self, task: u32) -> &[Place]
+        ensures { result.now ≡ targets_of self.now task }
+    {
+        match self.program.tasks().get(task as usize) {
+            Some(descriptor) => descriptor.targets.as_slice(),
+            None => &[],
+        }
+    }
+
+    /// The task that begins at an index, if one does.
+    pub fn task_at(&self, index: u32) -> Option<u32>
+        ensures { result ≡ task_at self.now index }
+    {
+        self.program.task_at(index)
+    }
+
+    /// Whether a task begins at an index.
+    pub fn is_entry(&self, index: u32) -> bool
+        ensures { result ≡ is_entry self.now index }
+    {
+        self.task_at(index).is_some()
+    }
+
+    /// The label of an instruction, if it has one.
+    pub fn label(&self, index: u32) -> Option<Name>
+        ensures { result ≡ label_at self.now index }
+    {
+        match self.labels.get(index as usize) {
+            Some(label) => *label,
+            None => None,
+        }
+    }
+
+    /// Whether an instruction has the forward bit.
+    pub fn forwards(&self, index: u32) -> bool
+        ensures { result ≡ forwards self.now index }
+    {
+        match self.program.code().get(index as usize) {
+            Some(marked) => marked.forward,
+            None => false,
+        }
+    }
+
+    /// Whether an instruction releases a register.
+    pub fn releases(&self, index: u32, register: u8) -> bool
+        requires { register < 34 }
+        ensures { result ≡ releases self.now index register }
+    {
+        match self.program.code().get(index as usize) {
+            Some(marked) => has_released(&marked.op, register),
+            None => false,
+        }
+    }
+
+    /// Whether an instruction is a conditional branch.
+    pub fn is_branch(&self, index: u32) -> bool
+        ensures { result ≡ is_branch self.now index }
+    {
+        match self.program.code().get(index as usize) {
+            Some(marked) => is_conditional(&marked.op),
+            None => false,
+        }
+    }
+
+    /// The stop of an instruction.
+    pub fn stop(&self, index: u32) -> Stop
+        ensures { result ≡ stop_of self.now index }
+    {
+        match self.program.code().get(index as usize) {
+            Some(marked) => marked.stop,
+            None => Stop::None,
+        }
+    }
+
+    /// Where a task goes on to when it ends at an instruction, a branch being taken or not.
+    pub fn exit(&self, index: u32, taken: bool) -> Option<u32>
+        ensures { result ≡ exit_end self.now index taken }
+    {
+        match self.program.code().get(index as usize) {
+            Some(marked) => end_of(marked, index, taken, true),
+            None => None,
+        }
+    }
+
+    /// Where a task goes on to from an instruction without ending, a branch being taken or not.
+    pub fn inner(&self, index: u32, taken: bool) -> Option<u32>
+        ensures { result ≡ inner_end self.now index taken }
+    {
+        match self.program.code().get(index as usize) {
+            Some(marked) => end_of(marked, index, taken, false),
+            None => None,
+        }
+    }
+
+    /// An instruction, whole.
+    pub fn span(&self, index: u32) -> Span
+        ensures { result ≡ instruction_span self.now index }
+    {
+        match (
+            self.places.code.get(index as usize),
+            self.places.widths.get(index as usize),
+        ) {
+            (Some(at), Some(width)) => Span {
+                line: at.line,
+                column: at.column,
+                width: *width,
+            },
+            _ => first_byte(),
+        }
+    }
+
+    /// `.task`, with which a task is declared.
+    pub fn task_span(&self, task: u32) -> Span
+        ensures { result ≡ task_span self.now task }
+    {
+        match self.places.tasks.get(task as usize) {
+            Some(at) => Span {
+                line: at.line,
+                column: at.column,
+                width: 5,
+            },
+            None => first_byte(),
+        }
+    }
+
+    /// `create=` of a task, with its registers.
+    pub fn create_span(&self, task: u32) -> Span
+        ensures { result ≡ create_span self.now task }
+    {
+        match self.places.lists.get(task as usize) {
+            Some(lists) => span_of(Some(&lists.create)),
+            None => first_byte(),
+        }
+    }
+
+    /// `targets=` of a task, with its targets.
+    pub fn targets_span(&self, task: u32) -> Span
+        ensures { result ≡ targets_span self.now task }
+    {
+        match self.places.lists.get(task as usize) {
+            Some(lists) => span_of(Some(&lists.targets)),
+            None => first_byte(),
+        }
+    }
+
+    /// The target of this number in a task's list.
+    pub fn target_span(&self, task: u32, number: usize) -> Span
+        ensures { result ≡ target_span self.now task number }
+    {
+        match self.places.targets.get(task as usize) {
+            Some(stretches) => span_of(stretches.get(number)),
+            None => first_byte(),
+        }
+    }
+}
+
+/// The text's first byte, in place of what the map does not have.
+fn first_byte() -> Span
+    ensures { result ≡ first_byte }
+{
+    Span {
+        line: 1,
+        column: 1,
+        width: 1,
+    }
+}
+
+/// A stretch of the map, if it is there.
+fn span_of(stretch: Option<&Stretch>) -> Span
+    ensures { result ≡ span_of (option_copied stretch.entry) }
+{
+    match stretch {
+        Some(stretch) => Span {
+            line: stretch.position.line,
+            column: stretch.position.column,
+            width: stretch.width,
+        },
+        None => first_byte(),
+    }
+}
+
+/// The end of an edge, if the instruction has it and it is of that kind.
+fn end_of(marked: &Marked, index: u32, taken: bool, leaving: bool) -> Option<u32>
+    requires { index < 4096 }
+    ensures { result ≡ end_of leaving marked.now index taken }
+{
+    if ends_task(marked.stop, taken) == leaving {
+        leads_to(&marked.op, index, taken)
+    } else {
+        None
+    }
+}
+
+/// Whether an index, if there is one, is this.
+pub fn is_end(end: Option<u32>, to: u32) -> bool
+    ensures { result ≡ is_end end to }
+{
+    match end {
+        Some(index) => index == to,
+        None => false,
+    }
+}
+
+/// Whether an instruction releases a register.
+fn has_released(op: &Op, number: u8) -> bool
+    requires { number < 34 }
+    ensures { result ≡ released op.now number }
+{
+    match op {
+        Op::Release(set) => has_number(*set, number),
+        _ => false,
+    }
+}
+
+/// Whether the instruction is a conditional branch.
+fn is_conditional(op: &Op) -> bool
+    ensures { result ≡ is_conditional_of op.now }
+{
+    matches!(op, Op::BranchTwo(..) | Op::BranchOne(..))
+}
+
+/// Whether a set has the register of this number.
+pub fn has_number(set: RegSet, number: u8) -> bool
+    requires { number < 34 }
+    ensures { result ≡ has set number }
+{
+    Reg::new(number).is_some_and(|register| set.has(register))
+}
+
+/// The column so many bytes further on.
+pub fn column_after(column: usize, count: usize) -> usize
+    ensures { result ≡ column_after column count }
+{
+    column + count.min(usize::MAX - column)
+}
+
+/// The place after a part of a line.
+pub fn after(span: Span) -> Span
+    ensures { result ≡ after span }
+{
+    Span {
+        line: span.line,
+        column: column_after(span.column, span.width),
+        width: 0,
+    }
+}
+
+/// The lines of a text.
+fn lines_of(alloc: Global, text: &[u8]) -> Made<Vec<&[u8]>>
+    ensures { IfOk result (λ list. each (λ line. line.now) list.items ≡ lines text.now) }
+{
+    let mut list = Vec::new(alloc);
+    let mut rest = text;
+    'lines: loop {
+        let (line, behind) = first_line(rest);
+        list.push(line)?;
+        match behind {
+            Some(more) => rest = more,
+            None => return Ok(list),
+        }
+    }
+}
+
+/// The places of a text that spells a program.
+fn places_of(alloc: Global, text: &[u8], program: &Program) -> Made<SourceMap>
+    requires { parse text.now ≡ Ok program.now }
+    ensures { IfOk result (λ places. sources_of text.now ≡ Ok (sources_in places)) }
+{
+    map_fits();
+    match source_map(alloc, text) {
+        Ok(places) => Ok(places),
+        Err(AsmFault::OutOfMemory) => Err(AllocError),
+        Err(_) => unreachable!(),
+    }
+}

@@ -1,0 +1,143 @@
+//! Bytes of a line: those of a place, those that no text has, and those that form no token.
+
+ghost use Rattle.std.specs.Prelude.{◌≡◌, is_ok, IfOk};
+ghost use Rattle.std.specs.List.{position};
+ghost use Rattle.std.specs.Str.Lines.{strip_carriage_return};
+ghost use Rattle.program_tokens.specs.Grammar.{line_tokens};
+ghost use Rattle.operand_forms.specs.Bytes.{is_bad_byte, bytes_at, byte_place, byte_span, byte_at, token_span, token_from, token_help, byte_help};
+
+use crate::slices::{after, first};
+use program_tokens::line::read_tokens;
+use program_tokens::span::{Span, read_spans};
+use program_tokens::token::{Token, TokenFault};
+use std::alloc::{AllocError, Global};
+
+/// The place of what has none: the first byte of the line.
+pub const LINE_START: Span = Span { column: 1, len: 1 };
+
+/// The bytes of a place of a line.
+pub fn bytes_at(line: &[u8], span: Span) -> &[u8]
+    ensures { result.now ≡ bytes_at line.now span }
+{
+    first(after(line, span.column.saturating_sub(1)), span.len)
+}
+
+/// The line without the CR that may end it.
+fn without_carriage_return(line: &[u8]) -> &[u8]
+    ensures { result.now ≡ strip_carriage_return line.now }
+{
+    match line {
+        [text @ .., b'\r'] => text,
+        _ => line,
+    }
+}
+
+/// Whether no line may have this byte: it is neither printable ASCII nor the tab.
+fn is_bad_byte(byte: u8) -> bool
+    ensures { result ≡ is_bad_byte byte }
+{
+    (byte < 0x20 || byte > 0x7E) && byte != b'\t'
+}
+
+/// The index of the first byte that no text has.
+fn first_bad(text: &[u8]) -> Option<usize>
+    ensures { result ≡ position is_bad_byte text.now }
+{
+    text.iter().position(|byte| is_bad_byte(*byte))
+}
+
+/// The place of the byte with this index; the line's first byte where there is none.
+fn byte_place(index: Option<usize>) -> Span
+    ensures { result ≡ byte_place index }
+{
+    match index {
+        Some(index) => Span {
+            column: index.saturating_add(1),
+            len: 1,
+        },
+        None => LINE_START,
+    }
+}
+
+/// The first byte of a line that no text has; the line's first byte where there is none.
+#[tactic(auto, unfolding(crate::specs::Bytes::byte_span))]
+pub fn byte_span(line: &[u8]) -> Span
+    ensures { result ≡ byte_span line.now }
+{
+    byte_place(first_bad(without_carriage_return(line)))
+}
+
+/// The byte where a place begins; 0 where the line has none there.
+pub fn byte_at(line: &[u8], span: Span) -> u8
+    ensures { result ≡ byte_at line.now span }
+{
+    line.get(span.column.saturating_sub(1))
+        .copied()
+        .unwrap_or(0)
+}
+
+/// Whether these bytes, as a line of their own, can be read.
+fn is_read(tokens: &mut Vec<Token>, bytes: &[u8]) -> Result<bool, AllocError>
+    ensures { IfOk result (λ yes. yes ≡ is_ok (line_tokens bytes.now)) }
+{
+    match read_tokens(tokens, bytes) {
+        Ok(()) => Ok(true),
+        Err(TokenFault::NotAscii | TokenFault::Token) => Ok(false),
+        Err(TokenFault::OutOfMemory) => Err(AllocError),
+    }
+}
+
+/// The first of these places whose bytes form no token.
+fn token_from(alloc: Global, line: &[u8], spans: &[Span]) -> Result<Span, AllocError>
+    ensures { IfOk result (λ span. span ≡ token_from line.now spans.now) }
+{
+    let mut tokens = Vec::new(alloc);
+    for span in spans {
+        if !is_read(&mut tokens, bytes_at(line, *span))? {
+            return Ok(*span);
+        }
+    }
+    Ok(LINE_START)
+}
+
+/// The first bytes of a line that form no token; the line's first byte where there are none.
+#[tactic(auto, unfolding(crate::specs::Bytes::token_span))]
+pub fn token_span(alloc: Global, line: &[u8]) -> Result<Span, AllocError>
+    ensures { IfOk result (λ span. span ≡ token_span line.now) }
+{
+    let mut spans = Vec::new(alloc);
+    read_spans(&mut spans, line)?;
+    token_from(alloc, line, &spans)
+}
+
+/// What tokens that begin with this byte are.
+pub fn token_help(first: u8) -> &'static str
+    ensures { result.now ≡ token_help first }
+{
+    if first == b'$' {
+        return "a register is $0 to $31 or has a name, such as $sp or $t0";
+    }
+    if first == b'@' {
+        return "a place is @ and decimal digits, such as @7";
+    }
+    if first == b'-' || first.is_ascii_digit() {
+        return "a number is decimal digits, or 0x and hexadecimal digits, such as -4 or 0x1f; a name begins with a letter or _";
+    }
+    if first == b'_' || first.is_ascii_alphabetic() {
+        return "a name has at most 32 letters, digits and _";
+    }
+    "a line has names, registers, numbers, places, directives, marks and , : = ( ) -"
+}
+
+/// What to do about a byte that no text has: 239 begins a byte order mark.
+pub fn byte_help(byte: u8) -> &'static str
+    ensures { result.now ≡ byte_help byte }
+{
+    if byte == 239 {
+        return "save the file as plain ASCII, without a byte order mark";
+    }
+    if byte < 128 {
+        return "a text has printable ASCII characters, spaces and tabs";
+    }
+    "write an ASCII character in its place, such as - for a dash"
+}

@@ -1,0 +1,442 @@
+//! What is written here instead of words and operands of other assemblers.
+
+ghost use Rattle.std.specs.Prelude.{◌≡◌, map as each};
+ghost use Rattle.std.specs.Option.{option_map};
+ghost use Rattle.operand_forms.specs.ForeignWords.{row_of, instead, class_of, is_of, is_meant, operand_row, operand_instead};
+
+/// Words of other assemblers, marks, and what is no token, with what is written instead (own choice). rd, rs, rt and base are
+/// registers, n is a number, T a place in the code and NAME a label.
+const WORDS: [(&str, &str); 140] = [
+    ("add", "write addu rd,rs,rt"),
+    ("addi", "write addiu rt,rs,n"),
+    ("sub", "write subu rd,rs,rt"),
+    ("subi", "write addiu rt,rs,-n"),
+    ("subiu", "write addiu rt,rs,-n"),
+    ("mul", "write mult rs,rt and mflo rd"),
+    ("mulo", "write mult rs,rt and mflo rd"),
+    ("mulu", "write multu rs,rt and mflo rd"),
+    ("mulou", "write multu rs,rt and mflo rd"),
+    (
+        "div",
+        "for a power of 2 and a number that is not negative write sra, else subtract in a loop",
+    ),
+    (
+        "divu",
+        "for a power of 2 write srl, else subtract in a loop",
+    ),
+    (
+        "rem",
+        "for a power of 2 and a number that is not negative write andi, else subtract in a loop",
+    ),
+    (
+        "remu",
+        "for a power of 2 write andi, else subtract in a loop",
+    ),
+    ("neg", "write subu rd,$0,rt"),
+    ("negu", "write subu rd,$0,rt"),
+    ("not", "write nor rd,rs,$0"),
+    ("nand", "write and rd,rs,rt and nor rd,rd,$0"),
+    ("xnor", "write xor rd,rs,rt and nor rd,rd,$0"),
+    (
+        "abs",
+        "write sra $1,rs,31 and xor rd,rs,$1 and subu rd,rd,$1",
+    ),
+    (
+        "rol",
+        "write sll $1,rs,n and srl rd,rs,32-n and or rd,rd,$1",
+    ),
+    (
+        "ror",
+        "write srl $1,rs,n and sll rd,rs,32-n and or rd,rd,$1",
+    ),
+    ("seq", "write xor rd,rs,rt and sltiu rd,rd,1"),
+    ("sne", "write xor rd,rs,rt and sltu rd,$0,rd"),
+    ("sgt", "write slt rd,rt,rs"),
+    ("sgtu", "write sltu rd,rt,rs"),
+    ("sge", "write slt rd,rs,rt and xori rd,rd,1"),
+    ("sgeu", "write sltu rd,rs,rt and xori rd,rd,1"),
+    ("sle", "write slt rd,rt,rs and xori rd,rd,1"),
+    ("sleu", "write sltu rd,rt,rs and xori rd,rd,1"),
+    ("beqz", "write beq rs,$0,T"),
+    ("bnez", "write bne rs,$0,T"),
+    (
+        "blt",
+        "write slt $1,rs,rt, or slti $1,rs,n for a number, and bne $1,$0,T",
+    ),
+    (
+        "bge",
+        "write slt $1,rs,rt, or slti $1,rs,n for a number, and beq $1,$0,T",
+    ),
+    (
+        "bgt",
+        "write slt $1,rt,rs and bne $1,$0,T, or for a number slti $1,rs,n+1 and beq $1,$0,T",
+    ),
+    (
+        "ble",
+        "write slt $1,rt,rs and beq $1,$0,T, or for a number slti $1,rs,n+1 and bne $1,$0,T",
+    ),
+    (
+        "bltu",
+        "write sltu $1,rs,rt, or sltiu $1,rs,n for a number, and bne $1,$0,T",
+    ),
+    (
+        "bgeu",
+        "write sltu $1,rs,rt, or sltiu $1,rs,n for a number, and beq $1,$0,T",
+    ),
+    (
+        "bgtu",
+        "write sltu $1,rt,rs and bne $1,$0,T, or for a number sltiu $1,rs,n+1 and beq $1,$0,T",
+    ),
+    (
+        "bleu",
+        "write sltu $1,rt,rs and beq $1,$0,T, or for a number sltiu $1,rs,n+1 and bne $1,$0,T",
+    ),
+    ("b", "write j T"),
+    ("br", "write j T"),
+    ("jmp", "write j T"),
+    ("goto", "write j T"),
+    ("bl", "write jal T"),
+    ("bal", "write jal T"),
+    ("call", "write jal T"),
+    ("ret", "to return write jr $31 !s"),
+    ("return", "to return write jr $31 !s"),
+    ("mv", "write move rd,rs"),
+    ("mov", "write move rd,rs"),
+    ("lea", "write la rd,NAME"),
+    ("lwu", "write lw rt,n(base)"),
+    ("ld", "write lw twice, for the low and the high word"),
+    ("sd", "write sw twice, for the low and the high word"),
+    (
+        "lwl",
+        "there is no unaligned load: load bytes with lbu and put them together",
+    ),
+    (
+        "lwr",
+        "there is no unaligned load: load bytes with lbu and put them together",
+    ),
+    (
+        "ulw",
+        "there is no unaligned load: load bytes with lbu and put them together",
+    ),
+    (
+        "ulh",
+        "there is no unaligned load: load bytes with lbu and put them together",
+    ),
+    (
+        "ulhu",
+        "there is no unaligned load: load bytes with lbu and put them together",
+    ),
+    ("swl", "there is no unaligned store: store bytes with sb"),
+    ("swr", "there is no unaligned store: store bytes with sb"),
+    ("usw", "there is no unaligned store: store bytes with sb"),
+    ("ush", "there is no unaligned store: store bytes with sb"),
+    ("noop", "write nop"),
+    ("print", "write out rs"),
+    ("exit", "to end the program write halt"),
+    ("end", "to end the program write halt"),
+    ("stop", "to end the program write halt"),
+    (
+        "ecall",
+        "write out rs for a word, or halt to end the program",
+    ),
+    (
+        "syscall",
+        "write out rs for a word, or halt to end the program",
+    ),
+    ("break", "to end the program write halt"),
+    ("dw", "write .word"),
+    ("db", "write .byte"),
+    (".dw", "write .word"),
+    (".db", "write .byte"),
+    (".long", "write .word"),
+    (".int", "write .word"),
+    (".half", "write .byte with the low and the high byte"),
+    (".hword", "write .byte with the low and the high byte"),
+    (".short", "write .byte with the low and the high byte"),
+    (".dword", "write .word with the low and then the high half"),
+    (".quad", "write .word with the low and then the high half"),
+    (".float", "write .word with the number's bits"),
+    (
+        ".double",
+        "write .word with the low and then the high half of the number's bits",
+    ),
+    (
+        ".ascii",
+        "write .byte with the letters' numbers, as .byte 104,105 for hi",
+    ),
+    (
+        ".asciiz",
+        "write .byte with the letters' numbers and 0, as .byte 104,105,0 for hi",
+    ),
+    (
+        ".string",
+        "write .byte with the letters' numbers and 0, as .byte 104,105,0 for hi",
+    ),
+    (".skip", "write .space n"),
+    (".zero", "write .space n"),
+    (
+        ".fill",
+        "write .space n for n zeros, or .byte with each byte",
+    ),
+    (".align", "write .space with as many bytes as are missing"),
+    (".balign", "write .space with as many bytes as are missing"),
+    (".comm", "write .data, the name with a colon, and .space n"),
+    (".lcomm", "write .data, the name with a colon, and .space n"),
+    (".section", "write .text, .data or .rodata alone"),
+    (".ktext", "write .text"),
+    (".kdata", "write .data"),
+    (".sdata", "write .data"),
+    (".bss", "write .data, and .space for the bytes"),
+    (".sbss", "write .data, and .space for the bytes"),
+    (".rdata", "write .rodata"),
+    (
+        ".equ",
+        "there are no constants: write the number where it is used",
+    ),
+    (
+        ".eqv",
+        "there are no constants: write the number where it is used",
+    ),
+    (".macro", "there are no macros: write the lines out"),
+    (".globl", "leave it out: each label is known everywhere"),
+    (".global", "leave it out: each label is known everywhere"),
+    (".extern", "leave it out: each label is known everywhere"),
+    (".set", "leave it out: no line changes how others are read"),
+    (".ent", "leave it out: .task says where a task begins"),
+    (".end", "leave it out: the last line ends the program"),
+    (".file", "leave it out: nothing here needs it"),
+    (".ident", "leave it out: nothing here needs it"),
+    (".type", "leave it out: nothing here needs it"),
+    (".size", "leave it out: nothing here needs it"),
+    (".frame", "leave it out: nothing here needs it"),
+    (".mask", "leave it out: nothing here needs it"),
+    (".fmask", "leave it out: nothing here needs it"),
+    (
+        ".previous",
+        "leave it out, or write .text, .data or .rodata",
+    ),
+    (
+        "!f",
+        "a mark stands at the end of the line, after the operands",
+    ),
+    (
+        "!s",
+        "a mark stands at the end of the line, after the operands",
+    ),
+    (
+        "!st",
+        "a mark stands at the end of the line, after the operands",
+    ),
+    (
+        "!sn",
+        "a mark stands at the end of the line, after the operands",
+    ),
+    ("!fs", "write !f !s"),
+    ("!sf", "write !f !s"),
+    ("!fst", "write !f !st"),
+    ("!fsn", "write !f !sn"),
+    ("!stop", "write !s"),
+    ("!forward", "write !f"),
+    ("!", "a mark is !f, !s, !st or !sn, in small letters"),
+    (
+        "$",
+        "write the number or the name of a register directly after $, as in $8 or $t0",
+    ),
+    ("%", "a register begins with $, as in $8 or $t0"),
+    ("$s8", "write $fp or $30"),
+    ("[", "write an address as in 0($9)"),
+    ("]", "write an address as in 0($9)"),
+    ("+", "write la $8,NAME and then addiu $8,$8,n"),
+    (
+        ".",
+        "a label begins with a letter or _; a directive has small letters",
+    ),
+    (
+        ";",
+        "write each statement on a line of its own; a comment begins with #",
+    ),
+    ("/", "a comment begins with #"),
+    (
+        "'",
+        "a text has no letters in quotation marks: write the number of the letter",
+    ),
+    (
+        "\"",
+        "a text has no strings: write .byte with the numbers of the letters",
+    ),
+];
+
+/// Operands that do not fit, with what is written instead: of a statement, of all with these operands, or of any; the
+/// operand itself or its class.
+const OPERANDS: [((&str, &str), &str); 52] = [
+    (
+        ("", "!"),
+        "a mark stands at the end of the line, after the operands",
+    ),
+    (
+        ("", "$hi"),
+        "HI and LO are read with mfhi and mflo and written with mthi and mtlo",
+    ),
+    (
+        ("", "$lo"),
+        "HI and LO are read with mfhi and mflo and written with mthi and mtlo",
+    ),
+    (
+        ("", "$32"),
+        "HI and LO are read with mfhi and mflo and written with mthi and mtlo",
+    ),
+    (
+        ("", "$33"),
+        "HI and LO are read with mfhi and mflo and written with mthi and mtlo",
+    ),
+    (("addu", "0"), "with a number write addiu rt,rs,n"),
+    (("subu", "0"), "with a number write addiu rt,rs,-n"),
+    (("and", "0"), "with a number write andi rt,rs,n"),
+    (("or", "0"), "with a number write ori rt,rs,n"),
+    (("xor", "0"), "with a number write xori rt,rs,n"),
+    (("slt", "0"), "with a number write slti rt,rs,n"),
+    (("sltu", "0"), "with a number write sltiu rt,rs,n"),
+    (("sllv", "0"), "with a number write sll rd,rt,n"),
+    (("srlv", "0"), "with a number write srl rd,rt,n"),
+    (("srav", "0"), "with a number write sra rd,rt,n"),
+    (("addiu", "$"), "with a register write addu rd,rs,rt"),
+    (("andi", "$"), "with a register write and rd,rs,rt"),
+    (("ori", "$"), "with a register write or rd,rs,rt"),
+    (("xori", "$"), "with a register write xor rd,rs,rt"),
+    (("slti", "$"), "with a register write slt rd,rs,rt"),
+    (("sltiu", "$"), "with a register write sltu rd,rs,rt"),
+    (("sll", "$"), "with a register write sllv rd,rt,rs"),
+    (("srl", "$"), "with a register write srlv rd,rt,rs"),
+    (("sra", "$"), "with a register write srav rd,rt,rs"),
+    (("move", "0"), "with a number write li rd,n"),
+    (("move", "a"), "for the address of a label write la rd,NAME"),
+    (("li", "$"), "with a register write move rd,rs"),
+    (("li", "a"), "for the address of a label write la rd,NAME"),
+    (("la", "0"), "with a number write li rd,n"),
+    (("la", "$"), "with a register write move rd,rs"),
+    (("j", "$"), "to the address in a register write jr rs"),
+    (("jal", "$"), "to the address in a register write jalr rs"),
+    (("jr", "a"), "to a label write j T"),
+    (("jalr", "a"), "to a label write jal T"),
+    (
+        ("beq", "0"),
+        "write $0 for 0; another number goes into a register first, as in li $1,n",
+    ),
+    (
+        ("bne", "0"),
+        "write $0 for 0; another number goes into a register first, as in li $1,n",
+    ),
+    (("mult", ","), "write mult rs,rt and mflo rd"),
+    (("multu", ","), "write multu rs,rt and mflo rd"),
+    (
+        (" $8,4($9)", "a"),
+        "write la $1,NAME on a line before it, and 0($1) here",
+    ),
+    (
+        (" $8,4($9)", "("),
+        "write the offset before it, as in 0($9)",
+    ),
+    ((" $8,4($9)", "$"), "write an address as in 0($9)"),
+    (
+        (".word", "a"),
+        "a word is a number: an address is loaded with la",
+    ),
+    (
+        (".byte", "a"),
+        "a byte is a number: an address is loaded with la",
+    ),
+    (
+        (".word", ":"),
+        "write each number, with commas between them",
+    ),
+    (
+        (".byte", ":"),
+        "write each number, with commas between them",
+    ),
+    ((".task", "none"), "write - for none"),
+    ((".task", "creates"), "write create="),
+    ((".task", "target"), "write targets="),
+    (
+        (".task", "targets"),
+        "write create= before targets=, with - for no register",
+    ),
+    ((".task", "0"), "write a register as in $8"),
+    (
+        (".task", "-"),
+        "write each register, as in $8,$9; a name has letters, digits and _",
+    ),
+    ((".task", "="), "write the name of the task before create="),
+];
+
+/// What stands after this word in a table.
+fn row_of(rows: &[(&'static str, &'static str)], word: &[u8]) -> Option<&'static str>
+    ensures { option_map (λ text. text.now) result ≡ row_of word.now (each (λ row. (row.0.now, row.1.now)) rows.now) }
+{
+    for (name, text) in rows {
+        if name.as_bytes() == word {
+            return Some(*text);
+        }
+    }
+    None
+}
+
+/// What is written instead of a word, a mark or what is no token, if it is known.
+#[tactic(auto, unfolding(crate::specs::ForeignWords::instead))]
+pub fn instead(word: &[u8]) -> Option<&'static str>
+    ensures { option_map (λ text. text.now) result ≡ instead word.now }
+{
+    row_of(&WORDS, word)
+}
+
+/// The class of an operand: a number is one of 0, a name one of a, and any other of its first byte.
+fn class_of(meant: &[u8]) -> &[u8]
+    ensures { result.now ≡ class_of meant.now }
+{
+    match meant {
+        [] => meant,
+        [b'-', b'0'..=b'9', ..] | [b'0'..=b'9', ..] => b"0",
+        [b'_' | b'a'..=b'z' | b'A'..=b'Z', ..] => b"a",
+        _ => &meant[..1],
+    }
+}
+
+/// Whether a row is of this statement, of all with these operands, or of any.
+fn is_of(word: &[u8], form: &str, first: &str) -> bool
+    ensures { result ≡ is_of word.now form.now first.now }
+{
+    first.is_empty() || first.as_bytes() == word || first.as_bytes() == form.as_bytes()
+}
+
+/// Whether a row is of this operand or its class.
+fn is_meant(meant: &[u8], second: &str) -> bool
+    ensures { result ≡ is_meant meant.now second.now }
+{
+    second.as_bytes() == meant || second.as_bytes() == class_of(meant)
+}
+
+/// What stands after this operand in a table.
+#[tactic(auto, unfolding(crate::specs::ForeignWords::operand_row))]
+fn operand_row(
+    rows: &[((&'static str, &'static str), &'static str)],
+    word: &[u8],
+    form: &str,
+    meant: &[u8],
+) -> Option<&'static str>
+    ensures { option_map (λ text. text.now) result
+        ≡ operand_row word.now form.now meant.now (each (λ row. ((row.0.0.now, row.0.1.now), row.1.now)) rows.now) }
+{
+    for ((first, second), text) in rows {
+        if is_of(word, form, first) && is_meant(meant, second) {
+            return Some(*text);
+        }
+    }
+    None
+}
+
+/// What is written instead of an operand that does not fit, if it is known.
+#[tactic(auto, unfolding(crate::specs::ForeignWords::operand_instead))]
+pub fn operand_instead(word: &[u8], form: &str, meant: &[u8]) -> Option<&'static str>
+    ensures { option_map (λ text. text.now) result ≡ operand_instead word.now form.now meant.now }
+{
+    operand_row(&OPERANDS, word, form, meant)
+}

@@ -1,0 +1,74 @@
+//! Which bytes of a line are meant by its fault.
+
+ghost use Rattle.std.specs.Prelude.{◌≡◌, IfOk};
+ghost use Rattle.operand_forms.specs.LinePlaces.{is_label, word_place, word_in, shape_named, line_place};
+
+use crate::bytes::{byte_at, byte_span, bytes_at, token_span};
+use crate::meant::{mark_index, number_index, operand_span, span_at};
+use crate::rows::Reading;
+use crate::shape::{Shape, shape_of};
+use program_tokens::span::Span;
+use std::alloc::{AllocError, Global};
+use syntax_tree::item::LineFaultKind;
+
+/// What stands after a label.
+const COLON: &[u8] = b":";
+
+/// Whether two places of a line are those of a label: a name and a colon.
+fn is_label(line: &[u8], name: Span, colon: Span) -> bool
+    ensures { result ≡ is_label line.now name colon }
+{
+    let first = byte_at(line, name);
+    (first == b'_' || first.is_ascii_alphabetic()) && bytes_at(line, colon) == COLON
+}
+
+/// Where the first word of a line's statement stands, after its labels.
+pub fn word_place(line: &[u8], places: &[Span]) -> Span
+    ensures { result ≡ word_place line.now places.now }
+{
+    let mut rest = places;
+    while let [first, second, others @ ..] = rest {
+        if !is_label(line, *first, *second) {
+            break;
+        }
+        rest = others;
+    }
+    span_at(rest, 0)
+}
+
+/// The first word of a line's statement.
+pub fn word_in<'a>(line: &'a [u8], reading: &Reading) -> &'a [u8]
+    ensures { result.now ≡ word_in line.now reading.now }
+{
+    bytes_at(line, word_place(line, reading.places.as_slice()))
+}
+
+/// The operands that follow a word; none where it begins no statement.
+pub fn shape_named(word: &[u8]) -> Shape
+    ensures { result ≡ shape_named word.now }
+{
+    shape_of(word).unwrap_or(Shape::Nothing)
+}
+
+/// The bytes of a line that are meant by its fault.
+#[tactic(auto, unfolding(crate::specs::LinePlaces::line_place))]
+pub fn line_place(
+    alloc: Global,
+    kind: LineFaultKind,
+    line: &[u8],
+    reading: &Reading,
+) -> Result<Span, AllocError>
+    ensures { IfOk result (λ place. place ≡ line_place kind line.now reading.now) }
+{
+    let tokens = reading.tokens.as_slice();
+    let places = reading.places.as_slice();
+    let shape = shape_named(word_in(line, reading));
+    match kind {
+        LineFaultKind::NotAscii => Ok(byte_span(line)),
+        LineFaultKind::Token => token_span(alloc, line),
+        LineFaultKind::Mnemonic => Ok(word_place(line, places)),
+        LineFaultKind::Operand => Ok(operand_span(shape, tokens, places)),
+        LineFaultKind::Number => Ok(span_at(places, number_index(shape, tokens))),
+        LineFaultKind::Mark => Ok(span_at(places, mark_index(tokens))),
+    }
+}

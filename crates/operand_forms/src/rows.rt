@@ -1,0 +1,79 @@
+//! The lines of a text, and what is read of one.
+
+ghost use Rattle.std.specs.Prelude.{◌≡◌, map as each, IfOk};
+ghost use Rattle.program_tokens.specs.Grammar.{line_tokens};
+ghost use Rattle.program_tokens.specs.Spans.{line_spans};
+ghost use Rattle.program_tokens.specs.Lines.{lines};
+ghost use Rattle.syntax_tree.specs.Details.{tokens_or_none};
+ghost use Rattle.operand_forms.specs.Rows.{line_at, reading_of};
+
+use diagnostics::listed::Listed;
+use program_tokens::line::{first_line, line_tokens};
+use program_tokens::span::{Span, read_spans};
+use program_tokens::token::{Token, TokenFault};
+use std::alloc::{AllocError, Global};
+
+/// The lines of a text.
+pub fn lines_of(alloc: Global, text: &[u8]) -> Result<Vec<&[u8]>, AllocError>
+    ensures { IfOk result (λ list. each (λ line. line.now) list.items ≡ lines text.now) }
+{
+    let mut list = Vec::new(alloc);
+    let mut rest = text;
+    'lines: loop {
+        let (line, after) = first_line(rest);
+        list.push(line)?;
+        match after {
+            Some(more) => rest = more,
+            None => return Ok(list),
+        }
+    }
+}
+
+/// The line of this number, from 1 on; empty where there is none.
+pub fn line_at<'a>(rows: &[&'a [u8]], number: u32) -> &'a [u8]
+    ensures { result.now ≡ line_at (each (λ row. row.now) rows.now) number }
+{
+    match rows.get(number.saturating_sub(1) as usize) {
+        Some(line) => line,
+        None => &[],
+    }
+}
+
+/// What is read of a line.
+#[derive(Drop)]
+pub struct Reading {
+    /// Its tokens; none where some bytes are no token.
+    pub tokens: Listed<Token>,
+    /// Where its tokens stand, and what is no token.
+    pub places: Listed<Span>,
+}
+
+/// The tokens of a line; none where some bytes are no token.
+fn tokens_of(alloc: Global, line: &[u8]) -> Result<Vec<Token>, AllocError>
+    ensures { IfOk result (λ tokens. tokens.items ≡ tokens_or_none (line_tokens line.now)) }
+{
+    match line_tokens(alloc, line) {
+        Ok(tokens) => Ok(tokens),
+        Err(TokenFault::OutOfMemory) => Err(AllocError),
+        Err(TokenFault::NotAscii | TokenFault::Token) => Ok(Vec::new(alloc)),
+    }
+}
+
+/// Where the tokens of a line stand.
+pub fn places_of(alloc: Global, line: &[u8]) -> Result<Vec<Span>, AllocError>
+    ensures { IfOk result (λ places. places.items ≡ line_spans line.now) }
+{
+    let mut places = Vec::new(alloc);
+    read_spans(&mut places, line)?;
+    Ok(places)
+}
+
+/// What is read of a line.
+pub fn read(alloc: Global, line: &[u8]) -> Result<Reading, AllocError>
+    ensures { IfOk result (λ reading. reading ≡ reading_of line.now) }
+{
+    Ok(Reading {
+        tokens: Listed::new(tokens_of(alloc, line)?),
+        places: Listed::new(places_of(alloc, line)?),
+    })
+}

@@ -1,0 +1,134 @@
+//! What operands each statement takes.
+
+ghost use Rattle.std.specs.Prelude.{◌≡◌, map};
+ghost use Rattle.operand_forms.specs.Shapes.{shape_in, shape_of, instruction_text, form_text, range_of, range_text};
+
+use mips_instructions::instruction::{Form, Mnemonic};
+
+/// What the operands of a statement are.
+#[derive(Clone, Copy, Debug, PartialEq, Eq)]
+pub enum Shape {
+    /// Those of an instruction.
+    Instruction(Form),
+    /// No operands.
+    Nothing,
+    /// `NAME`
+    Start,
+    /// `NAME create=REGS targets=TS`
+    Task,
+    /// `n,..`
+    Words,
+    /// `n,..`
+    Bytes,
+    /// `n`
+    Space,
+}
+
+/// The numbers that a statement takes.
+#[derive(Clone, Copy, Debug, PartialEq, Eq)]
+pub struct Range {
+    /// The least.
+    pub low: i64,
+    /// The greatest.
+    pub high: i64,
+}
+
+/// Every directive, with what operands follow it.
+pub const DIRECTIVES: [(&str, Shape); 8] = [
+    (".start", Shape::Start),
+    (".task", Shape::Task),
+    (".text", Shape::Nothing),
+    (".data", Shape::Nothing),
+    (".rodata", Shape::Nothing),
+    (".word", Shape::Words),
+    (".byte", Shape::Bytes),
+    (".space", Shape::Space),
+];
+
+/// The shape of this word in a table.
+fn shape_in(rows: &[(&'static str, Shape)], word: &[u8]) -> Option<Shape>
+    ensures { result ≡ shape_in word.now (map (λ row. (row.0.now, row.1)) rows.now) }
+{
+    for (name, shape) in rows {
+        if name.as_bytes() == word {
+            return Some(*shape);
+        }
+    }
+    None
+}
+
+/// What operands follow this word, if it begins a statement.
+#[tactic(auto, unfolding(crate::specs::Shapes::shape_of))]
+pub fn shape_of(word: &[u8]) -> Option<Shape>
+    ensures { result ≡ shape_of word.now }
+{
+    match Mnemonic::named(word) {
+        Some(mnemonic) => Some(Shape::Instruction(mnemonic.form())),
+        None => shape_in(&DIRECTIVES, word),
+    }
+}
+
+/// Operands of an instruction, as they may stand after its word.
+fn instruction_text(form: Form) -> &'static str
+    ensures { result.now ≡ instruction_text form }
+{
+    match form {
+        Form::Three | Form::ShiftVar => " $8,$9,$10",
+        Form::ShiftBy | Form::Signed | Form::Unsigned => " $8,$9,4",
+        Form::Upper | Form::LoadImmediate => " $8,4",
+        Form::Sources | Form::DestSource | Form::Registers => " $8,$9",
+        Form::Dest | Form::Source => " $8",
+        Form::Memory => " $8,4($9)",
+        Form::BranchTwo => " $8,$9,LABEL",
+        Form::BranchOne | Form::LoadAddress => " $8,LABEL",
+        Form::Jump => " LABEL",
+        Form::Nothing => "",
+    }
+}
+
+/// Operands as they may stand after the word, with the blank before them; nothing where there are none.
+pub fn form_text(shape: Shape) -> &'static str
+    ensures { result.now ≡ form_text shape }
+{
+    match shape {
+        Shape::Instruction(form) => instruction_text(form),
+        Shape::Nothing => "",
+        Shape::Start => " A",
+        Shape::Task => " A create=$8,$9 targets=A,B",
+        Shape::Words | Shape::Bytes => " 1,2",
+        Shape::Space => " 4",
+    }
+}
+
+/// The numbers that the statement takes; 0 alone where it takes none.
+pub fn range_of(shape: Shape) -> Range
+    ensures { result ≡ range_of shape }
+{
+    let (low, high) = match shape {
+        Shape::Instruction(Form::ShiftBy) => (0, 31),
+        Shape::Instruction(Form::Signed | Form::Memory) => (-32_768, 32_767),
+        Shape::Instruction(Form::Unsigned | Form::Upper) => (0, 65_535),
+        Shape::Instruction(Form::LoadImmediate) | Shape::Words => (-2_147_483_648, 4_294_967_295),
+        Shape::Bytes => (-128, 255),
+        Shape::Space => (0, 65_536),
+        _ => (0, 0),
+    };
+    Range { low, high }
+}
+
+/// The same in words.
+pub fn range_text(shape: Shape) -> &'static str
+    ensures { result.now ≡ range_text shape }
+{
+    match shape {
+        Shape::Instruction(Form::ShiftBy) => "a shift amount is 0 to 31",
+        Shape::Instruction(Form::Signed) => "this number is -32768 to 32767",
+        Shape::Instruction(Form::Unsigned | Form::Upper) => "this number is 0 to 65535",
+        Shape::Instruction(Form::Memory) => "an offset is -32768 to 32767",
+        Shape::Instruction(Form::LoadImmediate) => "this number is -2147483648 to 4294967295",
+        Shape::Words => "a word is -2147483648 to 4294967295",
+        Shape::Bytes => "a byte is -128 to 255",
+        Shape::Space => "the size is 0 to 65536",
+        _ => "this statement takes no number",
+    }
+}
