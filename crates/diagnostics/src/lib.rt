@@ -12,6 +12,7 @@ mod label;
 pub mod laws;
 pub mod listed;
 pub mod more;
+pub mod near;
 pub mod quotation;
 pub mod text;
 pub mod words;

@@ -7,7 +7,7 @@ ghost use Rattle.diagnostics.specs.Near.{nearest};
 ghost use Rattle.event_script.specs.EventScript.{names_in};
 ghost use Rattle.input_diagnostics.specs.Meant.{same_letters, near_one, meant, register_by, only_register, register_meant};
 
-use diagnostics::is_near;
+use diagnostics::near::is_near;
 use mips_instructions::number::Reg;
 use program_tokens::line::line_tokens;
 use program_tokens::token::{Token, TokenFault};

@@ -9,7 +9,7 @@ ghost use Rattle.operand_forms.specs.Candidates.{is_known_word, near_statements,
 use crate::foreign_words::instead;
 use crate::shape::{DIRECTIVES, Shape, shape_of};
 use crate::slices::after;
-use diagnostics::is_near;
+use diagnostics::near::is_near;
 use mips_instructions::instruction::{MNEMONICS, Mnemonic};
 use std::alloc::{AllocError, Global};
 use syntax_tree::item::LineFaultKind;
