@@ -66,7 +66,7 @@ def chain(crates, weights, name, known):
 
 
 def side_by_side():
-    cores = os.cpu_count() or 1
+    cores = len(os.sched_getaffinity(0))
     try:
         total = re.search(r"^MemTotal: *(\d+)", Path("/proc/meminfo").read_text(), re.M)
         return max(1, min(cores, int(total.group(1)) // 1_000_000 // MEMORY))
