@@ -1,10 +1,10 @@
 -- Whatever is known of a file, reading it may find something: for files that were not read.
 use Rattle.std.proofs.Common.{◌+◌, ℕ, List, [], take, refl, arith}
 use Rattle.std.specs.Prelude.{Result, Ok, Err}
-use Rattle.program_edge.specs.declared.unread.Reason.{Reason}
+use Rattle.program_edge.specs.declared.unread.UnreadReason.{UnreadReason}
 use Rattle.program_edge.specs.FileTexts.{Known, Unknown, Refuses, Holds, IsFound, opening_reason}
 
-pub some_found : (known : Known) (most : ℕ) → (found : Result (List ℕ) Reason) × IsFound known most found
+pub some_found : (known : Known) (most : ℕ) → (found : Result (List ℕ) UnreadReason) × IsFound known most found
 some_found Unknown most = (Ok [], omega arith)
 some_found (Refuses kind) most = (Err (opening_reason kind), refl)
 some_found (Holds bytes) most = (Ok (take (most + 1) bytes), refl)

@@ -12,14 +12,14 @@ use Rattle.report_texts.specs.OutputTexts.{Report}
 use Rattle.verdict_report.specs.JobTexts.{IsReportOf}
 use Rattle.verdict_report.specs.declared.fault.ServeFault.{ServeFault}
 use Rattle.program_edge.specs.declared.part.Part.{Part as Made}
-use Rattle.program_edge.specs.declared.summary.Judged.{Judged}
+use Rattle.program_edge.specs.declared.summary.ProgramVerdict.{ProgramVerdict}
 use Rattle.program_edge.specs.Several.{IsJobFor, IsJudged, IsPartOfText, Part, part_with}
 
-abbrev part : List ℕ → List ℕ → Judged → Part
+abbrev part : List ℕ → List ℕ → ProgramVerdict → Part
 part output errors judged = record { output = output; errors = errors; judged = judged }
 
-pub same_part : (a a' b b' : List ℕ) (j j' : Judged) → a ≡ a' → b ≡ b' → j ≡ j' → part a b j ≡ part a' b' j'
-same_part a a' b b' j j' p q r = ap (λ (x : List ℕ). part x b j) p ∙ ap (λ (y : List ℕ). part a' y j) q ∙ ap (λ (k : Judged). part a' b' k) r
+pub same_part : (a a' b b' : List ℕ) (j j' : ProgramVerdict) → a ≡ a' → b ≡ b' → j ≡ j' → part a b j ≡ part a' b' j'
+same_part a a' b b' j j' p q r = ap (λ (x : List ℕ). part x b j) p ∙ ap (λ (y : List ℕ). part a' y j) q ∙ ap (λ (k : ProgramVerdict). part a' b' k) r
 
 -- a part, as contracts see it
 abbrev seen : Made → Part

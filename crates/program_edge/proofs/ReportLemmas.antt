@@ -12,7 +12,7 @@ use Rattle.std.specs.declared.string.String.{String}
 use Rattle.text_pieces.specs.Files.{ChangesAt, Same}
 use Rattle.text_pieces.specs.declared.unwritten.Unwritten.{Unwritten}
 use Rattle.program_edge.specs.declared.fault.Fault.TheVariants.{NotWritten, Serve}
-use Rattle.program_edge.specs.declared.told.Ending.{Ending}
+use Rattle.program_edge.specs.declared.told.Answered.{Answered}
 use Rattle.program_edge.specs.Telling.{IsTold}
 use Rattle.program_edge.specs.Answering.{IsAnsweredFor, IsDelivered, IsJobDone, IsNotDone, IsPut, IsRead, IsShown, IsTaken}
 use Rattle.program_edge.specs.FileTexts.{Known}
@@ -36,7 +36,7 @@ in_memory job texts status before after empty done =
     let bytes : done.report.bytes ≡ after = sym (done.written ∙ ap (λ l. l ++ done.report.bytes) empty) in
     subst (IsReportOf job texts) (ap₂ report_of bytes (sym done.answered)) done.right
 
-pub not_kept : (watched : Bool) (hint : List ℕ) (path : String Global) (name : List ℕ) (reason : Unwritten) (report : Report) (ending : Ending) (old new : World)
+pub not_kept : (watched : Bool) (hint : List ℕ) (path : String Global) (name : List ℕ) (reason : Unwritten) (report : Report) (ending : Answered) (old new : World)
     → name ≡ string_bytes path → new.files name ≡ old.files name → ChangesAt old.files new.files name
     → IsTold (NotWritten path reason) ending.status ending.is_told old.output new.output old.errors new.errors
     → IsTaken watched false hint path report ending old new
@@ -48,7 +48,7 @@ not_kept watched hint path name reason report ending old new is stays others tol
 })
 
 -- a report that standard output took is that of a job that was done; one that it did not take, of a job that was not
-pub shown : (audience : Audience) (job : Job) (texts : Texts) (report : Report) (said : List ℕ) (ending : Ending) (old new : World)
+pub shown : (audience : Audience) (job : Job) (texts : Texts) (report : Report) (said : List ℕ) (ending : Answered) (old new : World)
     → IsBeside audience job texts.program.items report said → IsReportOf job texts report
     → IsShown said report ending old new ⊎ IsBroken report ending old new
     → IsJobDone audience job texts ending old new ⊎ IsNotDone job texts ending old new
@@ -69,7 +69,7 @@ shown audience job texts report said ending old new told right (inr h) = inr (re
 })
 
 -- the same, where no file is to take it
-pub shown_here : (watched : Bool) (audience : Audience) (job : Job) (texts : Texts) (place : Option (String Global)) (report : Report) (said : List ℕ) (ending : Ending) (old new : World)
+pub shown_here : (watched : Bool) (audience : Audience) (job : Job) (texts : Texts) (place : Option (String Global)) (report : Report) (said : List ℕ) (ending : Answered) (old new : World)
     → place ≡ None → IsBeside audience job texts.program.items report said → IsReportOf job texts report
     → IsShown said report ending old new ⊎ IsBroken report ending old new
     → IsDelivered watched audience place job texts ending old new ⊎ IsNotDone job texts ending old new
@@ -77,7 +77,7 @@ shown_here watched audience job texts place report said ending old new is told r
     subst (λ (p : Option (String Global)). IsDelivered watched audience p job texts ending old new ⊎ IsNotDone job texts ending old new)
     (sym is) (shown audience job texts report said ending old new told right h)
 
-pub put : (watched : Bool) (audience : Audience) (job : Job) (path : String Global) (texts : Texts) (report : Report) (said : List ℕ) (ending : Ending) (old new : World)
+pub put : (watched : Bool) (audience : Audience) (job : Job) (path : String Global) (texts : Texts) (report : Report) (said : List ℕ) (ending : Answered) (old new : World)
     → IsBeside audience job texts.program.items report said → IsReportOf job texts report
     → IsTaken watched (is_refusal job report.status report.bytes) said path report ending old new
     → IsPut watched audience job path texts ending old new
@@ -97,7 +97,7 @@ unheard false true name job program written h = absurd (cc)
 unheard true w name job program written h = absurd (cc)
 
 -- a job was done whose report standard output took, where nobody listens
-pub done_unheard : (audience : Audience) (job : Job) (texts : Texts) (ending : Ending) (old new : World)
+pub done_unheard : (audience : Audience) (job : Job) (texts : Texts) (ending : Answered) (old new : World)
     → (audience.is_terminal || audience.wants_rest) ≡ false → IsDone job texts ending.status old.output new.output
     → ending.is_told ≡ true → Keeps old.errors new.errors → Same old.files new.files → IsJobDone audience job texts ending old new
 done_unheard audience job texts ending old new h done is_told kept same = record {
@@ -112,7 +112,7 @@ memory_is_no_write : serve.OutOfMemory ≡ serve.Write → ⊥
 memory_is_no_write e = cc
 
 -- a job that was not done for another fault than `Write`
-pub not_done : (job : Job) (texts : Texts) (fault : ServeFault) (ending : Ending) (old new : World)
+pub not_done : (job : Job) (texts : Texts) (fault : ServeFault) (ending : Answered) (old new : World)
     → fault ≡ serve.OutOfMemory → IsTold (Serve fault) ending.status ending.is_told old.output new.output old.errors new.errors
     → Same old.files new.files → IsNotDone job texts ending old new
 not_done job texts fault ending old new is told same = record {
@@ -125,14 +125,14 @@ not_done job texts fault ending old new is told same = record {
 }
 
 -- a request with no further program, and one with further ones
-pub alone : (watched t : Bool) (known : List ℕ → Known) (request : Request) (items names : List (String Global)) (b : Bool) (ending : Ending) (old new : World)
+pub alone : (watched t : Bool) (known : List ℕ → Known) (request : Request) (items names : List (String Global)) (b : Bool) (ending : Answered) (old new : World)
     → names ≡ items → b ≡ (length names == 0) → b ≡ true → IsRead watched t known request ending old new
     → IsAnsweredFor watched t known request items ending old new
 alone watched t known request items names b ending old new same is holds h =
     let none : items ≡ [] = sym same ∙ nil_from_length names (eqb-true (length names) 0 (sym is ∙ holds)) in
     subst (λ (l : List (String Global)). IsAnsweredFor watched t known request l ending old new) (sym none) h
 
-pub several : (watched t : Bool) (known : List ℕ → Known) (request : Request) (items names : List (String Global)) (b : Bool) (ending : Ending) (old new : World)
+pub several : (watched t : Bool) (known : List ℕ → Known) (request : Request) (items names : List (String Global)) (b : Bool) (ending : Answered) (old new : World)
     → names ≡ items → b ≡ (length names == 0) → b ≡ false → IsEach t known request.job (request.paths.program ∷ items) ending old new
     → IsAnsweredFor watched t known request items ending old new
 several watched t known request [] names b ending old new same is holds h =

@@ -14,10 +14,10 @@ use Rattle.std.specs.declared.string.String.{String}
 use Rattle.jobs.specs.declared.job.Job.{Job}
 use Rattle.verdict_report.specs.Writing.{Begins}
 use Rattle.verdict_report.proofs.BeginsLemmas.{whole}
-use Rattle.program_edge.specs.declared.summary.Judged.{Judged}
-use Rattle.program_edge.specs.declared.summary.Judged.TheVariants.{Right, Wrong, Unjudged}
-use Rattle.program_edge.specs.declared.summary.Tally.{Tally}
-use Rattle.program_edge.specs.declared.told.Ending.{Ending}
+use Rattle.program_edge.specs.declared.summary.ProgramVerdict.{ProgramVerdict}
+use Rattle.program_edge.specs.declared.summary.ProgramVerdict.TheVariants.{Right, Wrong, Unjudged}
+use Rattle.program_edge.specs.declared.summary.ProgramTally.{ProgramTally}
+use Rattle.program_edge.specs.declared.told.Answered.{Answered}
 use Rattle.program_edge.specs.FileTexts.{Known}
 use Rattle.program_edge.specs.Hints.{IsSaid}
 use Rattle.text_pieces.specs.Files.{Same}
@@ -38,16 +38,16 @@ parts_more t known job (first ∷ names) [] name part h one = absurd h
 parts_more t known job (first ∷ names) (other ∷ parts) name part h one =
     (h.0, parts_more t known job names parts name part h.1 one)
 
-abbrev three : ℕ → ℕ → ℕ → Tally
+abbrev three : ℕ → ℕ → ℕ → ProgramTally
 three right wrong unjudged = record { right = right; wrong = wrong; unjudged = unjudged }
 
 same_tally : (a b c a' b' c' : ℕ) → a ≡ a' → b ≡ b' → c ≡ c' → three a b c ≡ three a' b' c'
 same_tally a b c a' b' c' p q r = ap (λ x. three x b c) p ∙ ap (λ y. three a' y c) q ∙ ap (λ z. three a' b' z) r
 
-count_more : (p : Judged → Bool) (js : List Judged) (j : Judged) → count_by p (js ++ j ∷ []) ≡ count_by p js + (if p j then 1 else 0)
+count_more : (p : ProgramVerdict → Bool) (js : List ProgramVerdict) (j : ProgramVerdict) → count_by p (js ++ j ∷ []) ≡ count_by p js + (if p j then 1 else 0)
 count_more p js j = sum_by-append (λ x. if p x then 1 else 0) js (j ∷ []) ∙ ap (λ n. count_by p js + n) (zero-add (if p j then 1 else 0))
 
-tally_more : (js : List Judged) (j : Judged) → tally_of (js ++ j ∷ []) ≡ counted (tally_of js) j
+tally_more : (js : List ProgramVerdict) (j : ProgramVerdict) → tally_of (js ++ j ∷ []) ≡ counted (tally_of js) j
 tally_more js Right = same_tally _ _ _ _ _ _ (count_more is_right js Right)
     (count_more is_wrong js Right ∙ add-zero (count_by is_wrong js)) (count_more is_unjudged js Right ∙ add-zero (count_by is_unjudged js))
 tally_more js Wrong = same_tally _ _ _ _ _ _ (count_more is_right js Wrong ∙ add-zero (count_by is_right js))
@@ -59,7 +59,7 @@ pub parts_tally_more : (parts : List Part) (part : Part) → tally_of_parts (par
 parts_tally_more parts part =
     ap tally_of (map-append (λ (p : Part). p.judged) parts (part ∷ [])) ∙ tally_more (map (λ (p : Part). p.judged) parts) part.judged
 
-pub all_more : (tally : Tally) (j : Judged) → all_of (counted tally j) ≡ all_of tally + 1
+pub all_more : (tally : ProgramTally) (j : ProgramVerdict) → all_of (counted tally j) ≡ all_of tally + 1
 all_more tally Right = omega arith
 all_more tally Wrong = omega arith
 all_more tally Unjudged = omega arith
@@ -77,7 +77,7 @@ order_of names i name h is = sym (take-append-drop i names)
     ∙ ap (λ (n : String Global). n ∷ drop (suc i) names) (sym is) ∙ ap (λ (k : ℕ). name ∷ drop k names) (sym (add-one i)))
 
 -- it ended at the program of this index
-pub ends_at : (t : Bool) (known : List ℕ → Known) (job : Job) (names : List (String Global)) (i : ℕ) (name : String Global) (parts : List Part) (ending : Ending) (old between new : World)
+pub ends_at : (t : Bool) (known : List ℕ → Known) (job : Job) (names : List (String Global)) (i : ℕ) (name : String Global) (parts : List Part) (ending : Answered) (old between new : World)
     → i < length names → name ≡ get_or names i name → ArePartsOf t known job (take i names) parts
     → IsWritten (outputs_of parts) (errors_of parts) old between → EndsAt t known job (string_bytes name) ending between new
     → IsEach t known job names ending old new
@@ -93,7 +93,7 @@ ends_at t known job names i name parts ending old between new h is each written 
 }
 
 -- no program is left
-pub sums_up : (t : Bool) (known : List ℕ → Known) (job : Job) (names : List (String Global)) (i : ℕ) (parts : List Part) (tally : Tally) (ending : Ending) (old between new : World)
+pub sums_up : (t : Bool) (known : List ℕ → Known) (job : Job) (names : List (String Global)) (i : ℕ) (parts : List Part) (tally : ProgramTally) (ending : Answered) (old between new : World)
     → length names ≤ i → ArePartsOf t known job (take i names) parts → tally ≡ tally_of_parts parts
     → IsWritten (outputs_of parts) (errors_of parts) old between → Sums tally ending between new
     → IsEach t known job names ending old new
@@ -109,7 +109,7 @@ sums_up t known job names i parts tally ending old between new h each is written
 }
 
 -- memory ran out before the first
-pub ends_before : (t : Bool) (known : List ℕ → Known) (job : Job) (name : String Global) (names : List (String Global)) (ending : Ending) (old new : World)
+pub ends_before : (t : Bool) (known : List ℕ → Known) (job : Job) (name : String Global) (names : List (String Global)) (ending : Answered) (old new : World)
     → EndsAt t known job (string_bytes name) ending old new → IsEach t known job (name ∷ names) ending old new
 ends_before t known job name names ending old new ends = record {
   done = [];
@@ -138,7 +138,7 @@ said_begun (x ∷ said) is_told a b h = h.1
 
 -- one program more had its turn
 pub turn : (t : Bool) (known : List ℕ → Known) (job : Job) (names : List (String Global)) (i : ℕ) (name : String Global) (bytes : List ℕ)
-    (tally after : Tally) (judged : Judged) (a b c e f g : Option (List ℕ)) (parts : List Part) (part : Part)
+    (tally after : ProgramTally) (judged : ProgramVerdict) (a b c e f g : Option (List ℕ)) (parts : List Part) (part : Part)
     → i < length names → name ≡ get_or names i name → bytes ≡ string_bytes name
     → ArePartsOf t known job (take i names) parts → tally ≡ tally_of_parts parts → all_of tally ≡ i
     → Appends a b (outputs_of parts) → Appends e f (errors_of parts)
@@ -151,17 +151,17 @@ turn t known job names i name bytes tally after judged a b c e f g parts part lt
   subst (λ (l : List (String Global)). ArePartsOf t known job l (parts ++ part ∷ []))
       (sym (take_more names i name lt ∙ ap (λ (n : String Global). take i names ++ n ∷ []) (sym is)))
       (parts_more t known job (take i names) parts name part each (subst (λ (l : List ℕ). IsPartOf t known job l part) named one)),
-  counts ∙ ap (λ (x : Tally). counted x judged) tallied ∙ ap (λ (j : Judged). counted (tally_of_parts parts) j) (sym by) ∙ sym (parts_tally_more parts part),
+  counts ∙ ap (λ (x : ProgramTally). counted x judged) tallied ∙ ap (λ (j : ProgramVerdict). counted (tally_of_parts parts) j) (sym by) ∙ sym (parts_tally_more parts part),
   ap all_of counts ∙ all_more tally judged ∙ ap (λ (n : ℕ). n + 1) all,
   added_more (λ p. p.output) a b c parts part out out',
   added_more (λ p. p.errors) e f g parts part err err',
 )
 
 -- the sum was written
-pub summed : (tally : Tally) (status : ℕ) (line : List ℕ) (old new : World) → status ≡ worst_status tally → line ≡ summary_line tally
+pub summed : (tally : ProgramTally) (status : ℕ) (line : List ℕ) (old new : World) → status ≡ worst_status tally → line ≡ summary_line tally
     → IsWritten line [] old new → Sums tally (record { status = status; is_told = true }) old new
 summed tally status line old new is same written =
-    let ended : ℕ → Ending = λ s. record { status = s; is_told = true } in
+    let ended : ℕ → Answered = λ s. record { status = s; is_told = true } in
     inl (ap ended is, subst (λ (l : List ℕ). IsWritten l [] old new) same written)
 
 abbrev fault_in : {A : Type 0} → Result A ServeFault → ServeFault
@@ -171,14 +171,14 @@ fault_in (Err fault) = fault
 pub same_fault : {A : Type 0} (lack : ServeFault) → ◌≡◌ {A = Result A ServeFault} (Err lack) (Err serve.OutOfMemory) → lack ≡ serve.OutOfMemory
 same_fault {A} lack is = ap (fault_in {A = A}) is
 
-pub told_memory : {A : Type 0} (lack : ServeFault) (ending : Ending) (old new : World) → ◌≡◌ {A = Result A ServeFault} (Err lack) (Err serve.OutOfMemory)
+pub told_memory : {A : Type 0} (lack : ServeFault) (ending : Answered) (old new : World) → ◌≡◌ {A = Result A ServeFault} (Err lack) (Err serve.OutOfMemory)
     → IsTold (Serve lack) ending.status ending.is_told old.output new.output old.errors new.errors → Same old.files new.files
     → IsOutOfMemory ending old new
 told_memory {A} lack ending old new is told same =
     (subst (λ f. IsTold (Serve f) ending.status ending.is_told old.output new.output old.errors new.errors) (same_fault {A = A} lack is) told, same)
 
 -- a stream did not take what is said of a program
-pub cut_at : (t : Bool) (known : List ℕ → Known) (job : Job) (name : List ℕ) (part : Part) (said told : List ℕ) (ending : Ending) (old new : World)
+pub cut_at : (t : Bool) (known : List ℕ → Known) (job : Job) (name : List ℕ) (part : Part) (said told : List ℕ) (ending : Answered) (old new : World)
     → IsPartOf t known job name part → said ≡ part.output → told ≡ part.errors → IsCut said told ending old new
     → EndsAt t known job name ending old new
 cut_at t known job name part said told ending old new of p q cut = inr (

@@ -18,7 +18,7 @@ use Rattle.text_pieces.specs.declared.unwritten.Unwritten.{Unwritten}
 use Rattle.program_edge.specs.declared.fault.Fault.{Fault}
 use Rattle.program_edge.specs.declared.fault.Fault.TheVariants.{NotWritten, Serve}
 use Rattle.program_edge.specs.declared.unread.Unread.{Unread}
-use Rattle.program_edge.specs.declared.told.Ending.{Ending}
+use Rattle.program_edge.specs.declared.told.Answered.{Answered}
 use Rattle.program_edge.specs.FileTexts.{Known, AreTextsOf}
 use Rattle.program_edge.specs.Asking.{KnownWords, IsAskedOf}
 use Rattle.program_edge.specs.Beside.{Audience, IsBeside}
@@ -31,7 +31,7 @@ use Rattle.program_edge.specs.Telling.{IsTold, unread_fault}
 
 -- the job was not done: before the fault is told, after Write a beginning of its report was written, after
 -- another fault nothing
-pub record IsNotDone (job : Job) (texts : Texts) (ending : Ending) (old new : World) : Type 0 where
+pub record IsNotDone (job : Job) (texts : Texts) (ending : Answered) (old new : World) : Type 0 where
   pub fault : ServeFault
   pub output : Option (List ℕ)
   pub nothing : fault ≢ serve.Write → Keeps old.output output
@@ -41,7 +41,7 @@ pub record IsNotDone (job : Job) (texts : Texts) (ending : Ending) (old new : Wo
 
 -- the job was done: its report was added to standard output, to standard error what is said beside it, and nothing
 -- to a file
-pub record IsJobDone (audience : Audience) (job : Job) (texts : Texts) (ending : Ending) (old new : World) : Type 0 where
+pub record IsJobDone (audience : Audience) (job : Job) (texts : Texts) (ending : Answered) (old new : World) : Type 0 where
   pub done : IsDone job texts ending.status old.output new.output
   pub beside : List ℕ
   pub told : IsBeside audience job texts.program.items done.report beside
@@ -49,14 +49,14 @@ pub record IsJobDone (audience : Audience) (job : Job) (texts : Texts) (ending :
   pub files : Same old.files new.files
 
 -- standard output took a report, and standard error what is said beside it
-pub record IsShown (beside : List ℕ) (report : Report) (ending : Ending) (old new : World) : Type 0 where
+pub record IsShown (beside : List ℕ) (report : Report) (ending : Answered) (old new : World) : Type 0 where
   pub answered : ending.status ≡ report.status
   pub written : Appends old.output new.output report.bytes
   pub said : IsSaid beside ending.is_told old.errors new.errors
   pub files : Same old.files new.files
 
 -- the file took the report, and holds nothing else; standard error took what is said beside it
-pub record IsKept (watched : Bool) (beside : List ℕ) (path : String Global) (report : Report) (ending : Ending) (old new : World) : Type 0 where
+pub record IsKept (watched : Bool) (beside : List ℕ) (path : String Global) (report : Report) (ending : Answered) (old new : World) : Type 0 where
   pub answered : ending.status ≡ report.status
   pub kept : watched ≡ true → new.files (string_bytes path) ≡ Some report.bytes
   pub others : ChangesAt old.files new.files (string_bytes path)
@@ -64,19 +64,19 @@ pub record IsKept (watched : Bool) (beside : List ℕ) (path : String Global) (r
   pub said : IsSaid beside ending.is_told old.errors new.errors
 
 -- the file did not take the report: it is as it was, and why is told
-pub record IsNotKept (path : String Global) (ending : Ending) (old new : World) : Type 0 where
+pub record IsNotKept (path : String Global) (ending : Answered) (old new : World) : Type 0 where
   pub reason : Unwritten
   pub stays : new.files (string_bytes path) ≡ old.files (string_bytes path)
   pub others : ChangesAt old.files new.files (string_bytes path)
   pub told : IsTold (NotWritten path reason) ending.status ending.is_told old.output new.output old.errors new.errors
 
 -- what becomes of a report that a file is to take: a refusal goes to standard output
-abbrev pub IsTaken : (watched refused : Bool) → (beside : List ℕ) → (path : String Global) → Report → Ending → World → World → Type 0
+abbrev pub IsTaken : (watched refused : Bool) → (beside : List ℕ) → (path : String Global) → Report → Answered → World → World → Type 0
 IsTaken watched true beside path report ending old new = IsShown beside report ending old new ⊎ IsBroken report ending old new
 IsTaken watched false beside path report ending old new = IsKept watched beside path report ending old new ⊎ IsNotKept path ending old new
 
 -- the job was done, and a file is to take its report
-pub record IsPut (watched : Bool) (audience : Audience) (job : Job) (path : String Global) (texts : Texts) (ending : Ending) (old new : World) : Type 0 where
+pub record IsPut (watched : Bool) (audience : Audience) (job : Job) (path : String Global) (texts : Texts) (ending : Answered) (old new : World) : Type 0 where
   pub report : Report
   pub right : IsReportOf job texts report
   pub beside : List ℕ
@@ -84,57 +84,57 @@ pub record IsPut (watched : Bool) (audience : Audience) (job : Job) (path : Stri
   pub taken : IsTaken watched (is_refusal job report.status report.bytes) beside path report ending old new
 
 -- the job was done, with its report where it was asked for
-abbrev pub IsDelivered : (watched : Bool) → Audience → Option (String Global) → Job → Texts → Ending → World → World → Type 0
+abbrev pub IsDelivered : (watched : Bool) → Audience → Option (String Global) → Job → Texts → Answered → World → World → Type 0
 IsDelivered watched audience None job texts ending old new = IsJobDone audience job texts ending old new
 IsDelivered watched audience (Some path) job texts ending old new = IsPut watched audience job path texts ending old new
 
 -- how the program ends, where something was to be told before: is it told, too?
-abbrev pub ending_after : (is_told : Bool) → Ending → Ending
+abbrev pub ending_after : (is_told : Bool) → Answered → Answered
 ending_after is_told own = record { status = own.status; is_told = is_told && own.is_told }
 
 -- the job was made after standard error had heard how far it is, of all of it where `is_told`, and then delivered; the
 -- ending tells of both
-pub record IsMadeTold (watched : Bool) (audience : Audience) (place : Option (String Global)) (job : Job) (texts : Texts) (ending : Ending) (heard : Option (List ℕ)) (old new : World) : Type 0 where
+pub record IsMadeTold (watched : Bool) (audience : Audience) (place : Option (String Global)) (job : Job) (texts : Texts) (ending : Answered) (heard : Option (List ℕ)) (old new : World) : Type 0 where
   pub is_told : Bool
   pub said : IsProgress job texts audience.name is_told old.errors heard
-  pub own : Ending
+  pub own : Answered
   pub ended : ending ≡ ending_after is_told own
   pub delivered : IsDelivered watched audience place job texts own (record old { errors = heard }) new
       ⊎ IsNotDone job texts own (record old { errors = heard }) new
 
 -- the job was delivered, or was not done, after standard error had heard how far it is
-pub record IsDeliveredTold (watched : Bool) (audience : Audience) (place : Option (String Global)) (job : Job) (texts : Texts) (ending : Ending) (old new : World) : Type 0 where
+pub record IsDeliveredTold (watched : Bool) (audience : Audience) (place : Option (String Global)) (job : Job) (texts : Texts) (ending : Answered) (old new : World) : Type 0 where
   pub heard : Option (List ℕ)
   pub begun : Begins old.errors heard (progress_lines job audience.name)
   pub ends : IsMadeTold watched audience place job texts ending heard old new
       ⊎ IsNotDone job texts ending (record old { errors = heard }) new
 
 -- the same for whether standard error is to hear how far the job is
-abbrev pub IsDeliveredIf : (progress watched : Bool) → Audience → Option (String Global) → Job → Texts → Ending → World → World → Type 0
+abbrev pub IsDeliveredIf : (progress watched : Bool) → Audience → Option (String Global) → Job → Texts → Answered → World → World → Type 0
 IsDeliveredIf false watched audience place job texts ending old new =
     IsDelivered watched audience place job texts ending old new ⊎ IsNotDone job texts ending old new
 IsDeliveredIf true watched audience place job texts ending old new = IsDeliveredTold watched audience place job texts ending old new
 
 -- what is said beside the report names the program's file; `is_terminal` says whether standard error is a terminal
-abbrev pub IsServed : (watched is_terminal : Bool) → Request → Result Texts Unread → Ending → World → World → Type 0
+abbrev pub IsServed : (watched is_terminal : Bool) → Request → Result Texts Unread → Answered → World → World → Type 0
 IsServed watched is_terminal request (Ok texts) ending old new =
     IsDeliveredIf request.progress watched (record { is_terminal = is_terminal; wants_rest = request.report; name = string_bytes request.paths.program }) request.output request.job texts ending old new
 IsServed watched is_terminal request (Err unread) ending old new = IsToldAlone (unread_fault request.job unread) ending old new
 
 -- the texts of the job were read, and the job served
-pub record IsRead (watched is_terminal : Bool) (known : List ℕ → Known) (request : Request) (ending : Ending) (old new : World) : Type 0 where
+pub record IsRead (watched is_terminal : Bool) (known : List ℕ → Known) (request : Request) (ending : Answered) (old new : World) : Type 0 where
   pub read : Result Texts Unread
   pub texts : AreTextsOf known request.job request.paths read
   pub served : IsServed watched is_terminal request read ending old new
 
 -- how the program ends on a request of one program, or of several: then the reports go to standard output
-abbrev pub IsAnsweredFor : (watched is_terminal : Bool) → (known : List ℕ → Known) → Request → (further : List (String Global)) → Ending → World → World → Type 0
+abbrev pub IsAnsweredFor : (watched is_terminal : Bool) → (known : List ℕ → Known) → Request → (further : List (String Global)) → Answered → World → World → Type 0
 IsAnsweredFor watched is_terminal known request [] ending old new = IsRead watched is_terminal known request ending old new
 IsAnsweredFor watched is_terminal known request (name ∷ names) ending old new =
     IsEach is_terminal known request.job (request.paths.program ∷ (name ∷ names)) ending old new
 
 -- how the program ends on a request, or on a fault of its words
-abbrev pub IsAnswered : (watched is_terminal : Bool) → (known : List ℕ → Known) → (asked : Result Request Fault) → Ending → World → World → Type 0
+abbrev pub IsAnswered : (watched is_terminal : Bool) → (known : List ℕ → Known) → (asked : Result Request Fault) → Answered → World → World → Type 0
 IsAnswered watched is_terminal known (Ok request) ending old new =
     IsAnsweredFor watched is_terminal known request request.further.items ending old new
 IsAnswered watched is_terminal known (Err fault) ending old new = IsToldAlone fault ending old new
@@ -145,6 +145,6 @@ IsAnswered watched is_terminal known (Err fault) ending old new = IsToldAlone fa
 pub record IsRunOf (watched is_terminal shows_colors : Bool) (words : KnownWords) (known : List ℕ → Known) (status : ℕ) (old new : World) : Type 0 where
   pub asked : Result Request Fault
   pub by_words : IsAskedOf words asked
-  pub ending : Ending
+  pub ending : Answered
   pub answered : IsAnswered watched is_terminal known (settled_asked shows_colors asked) ending old new
   pub ended : status ≡ ending.status

@@ -5,7 +5,7 @@ use Rattle.std.specs.String.{string_bytes}
 use Rattle.std.specs.declared.io.ErrorKind.TheVariants as kind
 use Rattle.std.proofs.Common.{refl}
 use Rattle.program_edge.specs.declared.fault.Fault.TheVariants.{InputTwice, Explained, NotWritten}
-use Rattle.program_edge.specs.declared.unread.Reason.TheVariants.{NoSuchFile, Other}
+use Rattle.program_edge.specs.declared.unread.UnreadReason.TheVariants.{NoSuchFile, Other}
 use Rattle.program_edge.specs.declared.unread.Unread.{Unread}
 use Rattle.jobs.specs.declared.job.CertificateSource.TheVariants.{Least}
 use Rattle.jobs.specs.declared.job.Colors.{Colors}

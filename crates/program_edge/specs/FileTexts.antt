@@ -14,8 +14,8 @@ use Rattle.jobs.specs.declared.job.Texts.{Texts}
 use Rattle.jobs.specs.Files.{has_certificate, has_script}
 use Rattle.text_pieces.specs.declared.serial.FetchFault.{FetchFault}
 use Rattle.text_pieces.specs.declared.serial.FetchFault.TheVariants as fetch
-use Rattle.program_edge.specs.declared.unread.Reason.{Reason}
-use Rattle.program_edge.specs.declared.unread.Reason.TheVariants.{NoSuchFile, IsDirectory, NotPermitted, TooLong, OutOfMemory, Other}
+use Rattle.program_edge.specs.declared.unread.UnreadReason.{UnreadReason}
+use Rattle.program_edge.specs.declared.unread.UnreadReason.TheVariants.{NoSuchFile, IsDirectory, NotPermitted, TooLong, OutOfMemory, Other}
 use Rattle.program_edge.specs.declared.unread.Unread.{Unread}
 
 -- what is known of a file: nothing, that opening it fails with an error of this kind, or the bytes that it
@@ -26,7 +26,7 @@ pub data Known : Type 0 where
   Holds : List ℕ → Known
 
 -- why a file is not opened, for the kind of the error
-abbrev pub opening_reason : ErrorKind → Reason
+abbrev pub opening_reason : ErrorKind → UnreadReason
 opening_reason kind.NotFound = NoSuchFile
 opening_reason kind.IsADirectory = IsDirectory
 opening_reason kind.PermissionDenied = NotPermitted
@@ -43,12 +43,12 @@ OpensAs remaining (Holds bytes) (Ok file) = remaining file ≡ Some bytes
 OpensAs remaining (Holds bytes) (Err error) = error_kind error ≡ kind.OutOfMemory
 
 -- an open file is there
-abbrev pub but_there : Reason → Reason
+abbrev pub but_there : UnreadReason → UnreadReason
 but_there NoSuchFile = Other
 but_there reason = reason
 
 -- why an open file is not read
-abbrev pub reading_reason : FetchFault → Reason
+abbrev pub reading_reason : FetchFault → UnreadReason
 reading_reason fetch.OutOfMemory = OutOfMemory
 reading_reason (fetch.Read kind) = but_there (opening_reason kind)
 
@@ -65,18 +65,18 @@ abbrev pub most_file : ℕ
 most_file = 134217728
 
 -- why a file of which this is known may not be read. Too long is none of these: then it was read
-abbrev pub IsUnread : Known → Reason → Type 0
+abbrev pub IsUnread : Known → UnreadReason → Type 0
 IsUnread Unknown reason = reason ≢ TooLong
 IsUnread (Refuses kind) reason = reason ≡ opening_reason kind
 IsUnread (Holds bytes) reason = reason ≡ OutOfMemory
 
 -- why an open file of which this is known is not read: one that holds bytes is read unless memory runs out
-abbrev pub IsUnreadOpen : Known → Reason → Type 0
+abbrev pub IsUnreadOpen : Known → UnreadReason → Type 0
 IsUnreadOpen (Refuses kind) reason = ⊤
 IsUnreadOpen known reason = IsUnread known reason
 
 -- what reading a file may find: its bytes, or the first `most + 1` of them; or why it can't be read
-abbrev pub IsFound : Known → (most : ℕ) → Result (List ℕ) Reason → Type 0
+abbrev pub IsFound : Known → (most : ℕ) → Result (List ℕ) UnreadReason → Type 0
 IsFound Unknown most (Ok found) = length found ≤ most + 1
 IsFound (Refuses kind) most (Ok found) = ⊥
 IsFound (Holds bytes) most (Ok found) = found ≡ take (most + 1) bytes
@@ -84,17 +84,17 @@ IsFound known most (Err reason) = IsUnread known reason
 
 -- the text of a file beside the program: whole, empty where the job has no such file, and none where it
 -- can't be read or is too long
-abbrev pub text_of : (is_there : Bool) → Result (List ℕ) Reason → Result (List ℕ) Reason
+abbrev pub text_of : (is_there : Bool) → Result (List ℕ) UnreadReason → Result (List ℕ) UnreadReason
 text_of false found = Ok []
 text_of true (Err reason) = Err reason
 text_of true (Ok found) = if nat_le (length found) most_file then Ok found else Err TooLong
 
 -- the file of this path gives no text, for this reason
-abbrev pub Names : Unread → String Global → Reason → Type 0
+abbrev pub Names : Unread → String Global → UnreadReason → Type 0
 Names unread path reason = (unread.path ≡ path) × (unread.reason ≡ reason)
 
 -- the texts of a job, or the first file, in the order program, certificate, script, that gives none
-abbrev pub Gives : Job → Paths → (program certificate script : Result (List ℕ) Reason) → Result Texts Unread → Type 0
+abbrev pub Gives : Job → Paths → (program certificate script : Result (List ℕ) UnreadReason) → Result Texts Unread → Type 0
 Gives job paths program certificate script (Ok texts) =
     (program ≡ Ok texts.program.items)
     × (certificate ≡ Ok texts.certificate)
@@ -106,9 +106,9 @@ Gives job paths (Ok program) (Ok certificate) (Ok script) (Err unread) = ⊥
 
 -- what the files of a job come to, for what was found in each
 pub record AreTextsOf (known : List ℕ → Known) (job : Job) (paths : Paths) (result : Result Texts Unread) : Type 0 where
-  pub program : Result (List ℕ) Reason
-  pub certificate : Result (List ℕ) Reason
-  pub script : Result (List ℕ) Reason
+  pub program : Result (List ℕ) UnreadReason
+  pub certificate : Result (List ℕ) UnreadReason
+  pub script : Result (List ℕ) UnreadReason
   pub found_program : IsFound (known (string_bytes paths.program)) most_program program
   pub found_certificate : IsFound (known (string_bytes paths.certificate)) most_file certificate
   pub found_script : IsFound (known (string_bytes paths.script)) most_file script

@@ -11,12 +11,12 @@ use Rattle.report_texts.specs.OutputTexts.{Report}
 use Rattle.verdict_report.specs.JobTexts.{IsReportOf}
 use Rattle.verdict_report.specs.declared.fault.ServeFault.TheVariants as serve
 use Rattle.program_edge.specs.declared.fault.Fault.TheVariants.{Serve}
-use Rattle.program_edge.specs.declared.summary.Judged.{Judged}
-use Rattle.program_edge.specs.declared.summary.Judged.TheVariants.{Unjudged}
-use Rattle.program_edge.specs.declared.summary.Tally.{Tally}
-use Rattle.program_edge.specs.declared.told.Ending.{Ending}
-use Rattle.program_edge.specs.declared.unread.Reason.{Reason}
-use Rattle.program_edge.specs.declared.unread.Reason.TheVariants.{OutOfMemory}
+use Rattle.program_edge.specs.declared.summary.ProgramVerdict.{ProgramVerdict}
+use Rattle.program_edge.specs.declared.summary.ProgramVerdict.TheVariants.{Unjudged}
+use Rattle.program_edge.specs.declared.summary.ProgramTally.{ProgramTally}
+use Rattle.program_edge.specs.declared.told.Answered.{Answered}
+use Rattle.program_edge.specs.declared.unread.UnreadReason.{UnreadReason}
+use Rattle.program_edge.specs.declared.unread.UnreadReason.TheVariants.{OutOfMemory}
 use Rattle.program_edge.specs.FileTexts.{Known, IsFound, most_program}
 use Rattle.program_edge.specs.Hints.{explains, hint_for}
 use Rattle.program_edge.specs.Streams.{IsCut, IsToldAlone, IsWritten, World}
@@ -27,7 +27,7 @@ use Rattle.program_edge.specs.Telling.{file_line, program_reason}
 pub record Part : Type 0 where
   pub output : List ℕ
   pub errors : List ℕ
-  pub judged : Judged
+  pub judged : ProgramVerdict
 
 -- a program that is not judged, for this reason
 abbrev pub unjudged : (name reason : List ℕ) → Part
@@ -85,13 +85,13 @@ IsPartOfText true is_terminal asked name text part = part ≡ unjudged name (cer
 IsPartOfText false is_terminal asked name text part = IsJudged is_terminal asked name text part
 
 -- what is said of a program of which this was found. Want of memory is none of the reasons: it ends all
-abbrev pub IsPartOfFound : (is_terminal : Bool) → (asked : Job) → (name : List ℕ) → Result (List ℕ) Reason → Part → Type 0
+abbrev pub IsPartOfFound : (is_terminal : Bool) → (asked : Job) → (name : List ℕ) → Result (List ℕ) UnreadReason → Part → Type 0
 IsPartOfFound is_terminal asked name (Ok text) part = IsPartOfText (is_certificate asked text) is_terminal asked name text part
 IsPartOfFound is_terminal asked name (Err reason) part = (reason ≢ OutOfMemory) × (part ≡ unjudged name (program_reason name reason))
 
 -- what is said of the program of this name
 pub record IsPartOf (is_terminal : Bool) (known : List ℕ → Known) (asked : Job) (name : List ℕ) (part : Part) : Type 0 where
-  pub found : Result (List ℕ) Reason
+  pub found : Result (List ℕ) UnreadReason
   pub read : IsFound (known name) most_program found
   pub said : IsPartOfFound is_terminal asked name found part
 
@@ -109,35 +109,35 @@ outputs_of parts = flat_map (λ part. part.output) parts
 abbrev pub errors_of : List Part → List ℕ
 errors_of parts = flat_map (λ part. part.errors) parts
 
-abbrev pub tally_of_parts : List Part → Tally
+abbrev pub tally_of_parts : List Part → ProgramTally
 tally_of_parts parts = tally_of (map (λ part. part.judged) parts)
 
 -- memory ran out, which is told
-abbrev pub IsOutOfMemory : Ending → World → World → Type 0
+abbrev pub IsOutOfMemory : Answered → World → World → Type 0
 IsOutOfMemory ending old new = IsToldAlone (Serve serve.OutOfMemory) ending old new
 
 -- the summary is the last line, and the status the worst of all
-abbrev pub IsSummedUp : Tally → Ending → World → World → Type 0
+abbrev pub IsSummedUp : ProgramTally → Answered → World → World → Type 0
 IsSummedUp tally ending old new =
     (ending ≡ record { status = worst_status tally; is_told = true }) × IsWritten (summary_line tally) [] old new
 
 -- it ended at this program: memory ran out, or a stream did not take what is said of it
-abbrev pub EndsAt : (is_terminal : Bool) → (known : List ℕ → Known) → (asked : Job) → (name : List ℕ) → Ending → World → World → Type 0
+abbrev pub EndsAt : (is_terminal : Bool) → (known : List ℕ → Known) → (asked : Job) → (name : List ℕ) → Answered → World → World → Type 0
 EndsAt is_terminal known asked name ending old new = IsOutOfMemory ending old new
     ⊎ ((part : Part) × IsPartOf is_terminal known asked name part × IsCut part.output part.errors ending old new)
 
 -- the last line was to be the summary
-abbrev pub Sums : Tally → Ending → World → World → Type 0
+abbrev pub Sums : ProgramTally → Answered → World → World → Type 0
 Sums tally ending old new = IsSummedUp tally ending old new
     ⊎ (IsOutOfMemory ending old new ⊎ IsCut (summary_line tally) [] ending old new)
 
 -- the end, after programs that come to this, where these are left: with the summary, if nothing fails
-abbrev pub Ends : (is_terminal : Bool) → (known : List ℕ → Known) → (asked : Job) → (left : List (String Global)) → Tally → Ending → World → World → Type 0
+abbrev pub Ends : (is_terminal : Bool) → (known : List ℕ → Known) → (asked : Job) → (left : List (String Global)) → ProgramTally → Answered → World → World → Type 0
 Ends is_terminal known asked [] tally ending old new = Sums tally ending old new
 Ends is_terminal known asked (name ∷ names) tally ending old new = EndsAt is_terminal known asked (string_bytes name) ending old new
 
 -- the programs of these names had their turn, from the first on, as far as nothing ended it
-pub record IsEach (is_terminal : Bool) (known : List ℕ → Known) (asked : Job) (names : List (String Global)) (ending : Ending) (old new : World) : Type 0 where
+pub record IsEach (is_terminal : Bool) (known : List ℕ → Known) (asked : Job) (names : List (String Global)) (ending : Answered) (old new : World) : Type 0 where
   pub done : List (String Global)
   pub left : List (String Global)
   pub order : names ≡ done ++ left

@@ -7,7 +7,7 @@ use Rattle.verdict_report.specs.Writing.{Begins}
 use Rattle.text_pieces.specs.Files.{Files, Same}
 use Rattle.program_edge.specs.declared.fault.Fault.{Fault}
 use Rattle.program_edge.specs.declared.fault.Fault.TheVariants.{Serve}
-use Rattle.program_edge.specs.declared.told.Ending.{Ending}
+use Rattle.program_edge.specs.declared.told.Answered.{Answered}
 use Rattle.program_edge.specs.Telling.{IsTold}
 
 -- what the two streams and the files hold, where that is known
@@ -17,12 +17,12 @@ pub record World : Type 0 where
   pub files : Files
 
 -- a fault was told, and no file changed
-abbrev pub IsToldAlone : Fault → Ending → World → World → Type 0
+abbrev pub IsToldAlone : Fault → Answered → World → World → Type 0
 IsToldAlone fault ending old new =
     IsTold fault ending.status ending.is_told old.output new.output old.errors new.errors × Same old.files new.files
 
 -- standard output took a beginning of a report, and then failed, which is told
-pub record IsBroken (report : Report) (ending : Ending) (old new : World) : Type 0 where
+pub record IsBroken (report : Report) (ending : Answered) (old new : World) : Type 0 where
   pub output : Option (List ℕ)
   pub begun : Begins old.output output report.bytes
   pub told : IsTold (Serve serve.Write) ending.status ending.is_told output new.output old.errors new.errors
@@ -35,13 +35,13 @@ pub record IsWritten (output errors : List ℕ) (old new : World) : Type 0 where
   pub files : Same old.files new.files
 
 -- standard output took all of it, and standard error a beginning: then it failed, which nothing can tell
-pub record IsUnsaid (output errors : List ℕ) (ending : Ending) (old new : World) : Type 0 where
+pub record IsUnsaid (output errors : List ℕ) (ending : Answered) (old new : World) : Type 0 where
   pub written : Appends old.output new.output output
   pub begun : Begins old.errors new.errors errors
   pub files : Same old.files new.files
   pub ended : ending ≡ record { status = 2; is_told = false }
 
 -- one of the streams failed
-abbrev pub IsCut : (output errors : List ℕ) → Ending → World → World → Type 0
+abbrev pub IsCut : (output errors : List ℕ) → Answered → World → World → Type 0
 IsCut output errors ending old new =
     IsBroken (record { bytes = output; status = 2 }) ending old new ⊎ IsUnsaid output errors ending old new

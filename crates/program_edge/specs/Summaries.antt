@@ -1,38 +1,38 @@
 -- What several programs come to, and the line that says so (own choice).
 use Rattle.std.specs.Prelude.{ℕ, ◌+◌, ◌==◌, Bool, true, false, List, [], ◌∷◌, ◌++◌, codes, count_by, if◌then◌else◌}
 use Rattle.std.specs.Fmt.{decimal}
-use Rattle.program_edge.specs.declared.summary.Judged.{Judged}
-use Rattle.program_edge.specs.declared.summary.Judged.TheVariants.{Right, Wrong, Unjudged}
-use Rattle.program_edge.specs.declared.summary.Tally.{Tally}
+use Rattle.program_edge.specs.declared.summary.ProgramVerdict.{ProgramVerdict}
+use Rattle.program_edge.specs.declared.summary.ProgramVerdict.TheVariants.{Right, Wrong, Unjudged}
+use Rattle.program_edge.specs.declared.summary.ProgramTally.{ProgramTally}
 
 -- what the status of its report says of a program
-abbrev pub judged_by : (status : ℕ) → Judged
+abbrev pub judged_by : (status : ℕ) → ProgramVerdict
 judged_by status = if status == 0 then Right else Wrong
 
-abbrev pub is_right : Judged → Bool
+abbrev pub is_right : ProgramVerdict → Bool
 is_right Right = true
 is_right _ = false
 
-abbrev pub is_wrong : Judged → Bool
+abbrev pub is_wrong : ProgramVerdict → Bool
 is_wrong Wrong = true
 is_wrong _ = false
 
-abbrev pub is_unjudged : Judged → Bool
+abbrev pub is_unjudged : ProgramVerdict → Bool
 is_unjudged Unjudged = true
 is_unjudged _ = false
 
 -- no program
-abbrev pub no_program : Tally
+abbrev pub no_program : ProgramTally
 no_program = record { right = 0; wrong = 0; unjudged = 0 }
 
 -- one program more
-abbrev pub counted : Tally → Judged → Tally
+abbrev pub counted : ProgramTally → ProgramVerdict → ProgramTally
 counted tally Right = record tally { right = tally.right + 1 }
 counted tally Wrong = record tally { wrong = tally.wrong + 1 }
 counted tally Unjudged = record tally { unjudged = tally.unjudged + 1 }
 
 -- how many of some programs are right, wrong, and not judged
-abbrev pub tally_of : List Judged → Tally
+abbrev pub tally_of : List ProgramVerdict → ProgramTally
 tally_of programs = record {
   right = count_by is_right programs;
   wrong = count_by is_wrong programs;
@@ -40,14 +40,14 @@ tally_of programs = record {
 }
 
 -- how many programs there are
-abbrev pub all_of : Tally → ℕ
+abbrev pub all_of : ProgramTally → ℕ
 all_of tally = tally.right + tally.wrong + tally.unjudged
 
 -- the line, as in `4 programs: 2 right, 1 wrong, 1 not judged`
-abbrev pub summary_line : Tally → List ℕ
+abbrev pub summary_line : ProgramTally → List ℕ
 summary_line tally = decimal (all_of tally) ++ (codes " programs: " ++ (decimal tally.right ++ (codes " right, "
     ++ (decimal tally.wrong ++ (codes " wrong, " ++ (decimal tally.unjudged ++ (codes " not judged" ++ 10 ∷ [])))))))
 
 -- the worst status of the programs: 2 of one that is not judged, 1 of a wrong one, 0 of a right one
-abbrev pub worst_status : Tally → ℕ
+abbrev pub worst_status : ProgramTally → ℕ
 worst_status tally = if tally.unjudged == 0 then (if tally.wrong == 0 then 0 else 1) else 2

@@ -5,8 +5,8 @@ use Rattle.std.specs.Str.{bytes_eq}
 use Rattle.std.specs.String.{string_bytes}
 use Rattle.program_edge.specs.declared.fault.Fault.{Fault}
 use Rattle.program_edge.specs.declared.fault.Fault.TheVariants.{Help, Words, NoText, Predict, Emit, OutOfMemory, InputTwice, File, Explained, NoProgram, Serve, NotWritten}
-use Rattle.program_edge.specs.declared.unread.Reason.{Reason}
-use Rattle.program_edge.specs.declared.unread.Reason.TheVariants as reason
+use Rattle.program_edge.specs.declared.unread.UnreadReason.{UnreadReason}
+use Rattle.program_edge.specs.declared.unread.UnreadReason.TheVariants as reason
 use Rattle.program_edge.specs.declared.unread.Unread.{Unread}
 use Rattle.jobs.specs.declared.job.Job.{Job}
 use Rattle.jobs.specs.declared.job.Job.TheVariants.{Explain}
@@ -19,7 +19,7 @@ use Rattle.text_pieces.specs.Refusals.{unwritten_words}
 use Rattle.program_edge.specs.Usage.{is_shown}
 
 -- why a file gives no text; the limit is that of a certificate or a script
-abbrev pub reason_words : Reason → List ℕ
+abbrev pub reason_words : UnreadReason → List ℕ
 reason_words reason.NoSuchFile = codes "no such file"
 reason_words reason.IsDirectory = codes "is a directory"
 reason_words reason.NotPermitted = codes "no permission"
@@ -40,7 +40,7 @@ abbrev pub folder_reason : (name : List ℕ) → List ℕ
 folder_reason name = codes "is a directory; name its files, as in " ++ (name ++ codes "/*.s")
 
 -- why a file of this name gives no program
-abbrev pub program_reason : (name : List ℕ) → Reason → List ℕ
+abbrev pub program_reason : (name : List ℕ) → UnreadReason → List ℕ
 program_reason name reason.IsDirectory = folder_reason name
 program_reason name reason = reason_words reason
 

@@ -16,7 +16,7 @@ use crate::refusal::is_refusal;
 use crate::reports::{Written, written_told};
 use crate::streams::{say, write_whole};
 use crate::texts::{NamedTexts, read_texts};
-use crate::told::{Ending, tell};
+use crate::told::{Answered, tell};
 use crate::unread::Unread;
 use command_line::request::Request;
 use jobs::job::{Job, Texts};
@@ -39,7 +39,7 @@ pub fn answer<F: NamedFiles, D: Folder, O: Write, E: Write, R: Threads + Wait + 
     folder: &mut D,
     output: &mut O,
     errors: &mut E,
-) -> Ending
+) -> Answered
     ensures { IsAnswered D.is_watched false (F.known files.now) asked result
         record { output = O.contents output.old; errors = E.contents errors.old; files = D.known folder.old }
         record { output = O.contents output.new; errors = E.contents errors.new; files = D.known folder.new } }
@@ -61,7 +61,7 @@ pub fn answer_reader<F: NamedFiles, D: Folder, O: Write, E: Write, R: Threads + 
     output: &mut O,
     errors: &mut E,
     is_terminal: bool,
-) -> Ending
+) -> Answered
     ensures { IsAnswered D.is_watched is_terminal (F.known files.now) asked result
         record { output = O.contents output.old; errors = E.contents errors.old; files = D.known folder.old }
         record { output = O.contents output.new; errors = E.contents errors.new; files = D.known folder.new } }
@@ -91,7 +91,7 @@ fn answer_programs<F: NamedFiles, D: Folder, O: Write, E: Write, R: Threads + Wa
     output: &mut O,
     errors: &mut E,
     is_terminal: bool,
-) -> Ending
+) -> Answered
     ensures { IsAnsweredFor D.is_watched is_terminal (F.known files.now) request request.further.items result
         record { output = O.contents output.old; errors = E.contents errors.old; files = D.known folder.old }
         record { output = O.contents output.new; errors = E.contents errors.new; files = D.known folder.new } }
@@ -122,7 +122,7 @@ fn answer_request<F: NamedFiles, D: Folder, O: Write, E: Write, R: Threads + Wai
     output: &mut O,
     errors: &mut E,
     is_terminal: bool,
-) -> Ending
+) -> Answered
     ensures { IsRead D.is_watched is_terminal (F.known files.now) request result
         record { output = O.contents output.old; errors = E.contents errors.old; files = D.known folder.old }
         record { output = O.contents output.new; errors = E.contents errors.new; files = D.known folder.new } }
@@ -159,7 +159,7 @@ fn answer_several<F: NamedFiles, O: Write, E: Write, R: Threads + Wait + Sync>(
     output: &mut O,
     errors: &mut E,
     is_terminal: bool,
-) -> Ending
+) -> Answered
     ensures { (known : Files) → IsEach is_terminal (F.known files.now) request.job (request.paths.program ∷ request.further.items) result
         record { output = O.contents output.old; errors = E.contents errors.old; files = known }
         record { output = O.contents output.new; errors = E.contents errors.new; files = known } }
@@ -221,7 +221,7 @@ fn deliver_if<D: Folder, O: Write, E: Write, R: Threads + Wait + Sync>(
     folder: &mut D,
     output: &mut O,
     errors: &mut E,
-) -> Ending
+) -> Answered
     ensures { IsDeliveredIf progress D.is_watched reader.now place job.now texts.now result
         record { output = O.contents output.old; errors = E.contents errors.old; files = D.known folder.old }
         record { output = O.contents output.new; errors = E.contents errors.new; files = D.known folder.new } }
@@ -243,7 +243,7 @@ fn deliver<D: Folder, O: Write, E: Write, R: Threads + Wait + Sync>(
     folder: &mut D,
     output: &mut O,
     errors: &mut E,
-) -> Ending
+) -> Answered
     ensures { IsDelivered D.is_watched reader.now place job.now texts.now result
         record { output = O.contents output.old; errors = E.contents errors.old; files = D.known folder.old }
         record { output = O.contents output.new; errors = E.contents errors.new; files = D.known folder.new }
@@ -268,7 +268,7 @@ fn deliver_told<D: Folder, O: Write, E: Write, R: Threads + Wait + Sync>(
     folder: &mut D,
     output: &mut O,
     errors: &mut E,
-) -> Ending
+) -> Answered
     ensures { IsDeliveredTold D.is_watched reader.now place job.now texts.now result
         record { output = O.contents output.old; errors = E.contents errors.old; files = D.known folder.old }
         record { output = O.contents output.new; errors = E.contents errors.new; files = D.known folder.new } }
@@ -286,10 +286,10 @@ fn deliver_told<D: Folder, O: Write, E: Write, R: Threads + Wait + Sync>(
 }
 
 // How the program ends where this was told before.
-fn ending_after(is_told: bool, own: Ending) -> Ending
+fn ending_after(is_told: bool, own: Answered) -> Answered
     ensures { result ≡ ending_after is_told own }
 {
-    Ending {
+    Answered {
         status: own.status,
         is_told: is_told && own.is_told,
     }
@@ -306,7 +306,7 @@ fn hand_over<D: Folder, O: Write, E: Write>(
     folder: &mut D,
     output: &mut O,
     errors: &mut E,
-) -> Ending
+) -> Answered
     requires { IsReportOf job.now texts.now record { bytes = report.bytes.items; status = report.status } }
     ensures { IsDelivered D.is_watched reader.now place job.now texts.now result
         record { output = O.contents output.old; errors = E.contents errors.old; files = D.known folder.old }
@@ -347,7 +347,7 @@ fn put<D: Folder, O: Write, E: Write, R: Threads + Wait + Sync>(
     folder: &mut D,
     output: &mut O,
     errors: &mut E,
-) -> Ending
+) -> Answered
     ensures { IsPut D.is_watched reader.now job.now path texts.now result
         record { output = O.contents output.old; errors = E.contents errors.old; files = D.known folder.old }
         record { output = O.contents output.new; errors = E.contents errors.new; files = D.known folder.new }
@@ -382,7 +382,7 @@ fn write_out<O: Write, E: Write, R: Threads + Wait + Sync>(
     reader: &Reader,
     output: &mut O,
     errors: &mut E,
-) -> Ending
+) -> Answered
     ensures { (files : Files) → IsJobDone reader.now job.now texts.now result
         record { output = O.contents output.old; errors = E.contents errors.old; files = files }
         record { output = O.contents output.new; errors = E.contents errors.new; files = files }
@@ -394,7 +394,7 @@ fn write_out<O: Write, E: Write, R: Threads + Wait + Sync>(
         return show_hinted(rt, alloc, job, texts, reader, output, errors);
     }
     match serve(rt, alloc, job, texts, output) {
-        Ok(status) => Ending {
+        Ok(status) => Answered {
             status,
             is_told: true,
         },
@@ -411,7 +411,7 @@ fn show_hinted<O: Write, E: Write, R: Threads + Wait + Sync>(
     reader: &Reader,
     output: &mut O,
     errors: &mut E,
-) -> Ending
+) -> Answered
     ensures { (files : Files) → IsJobDone reader.now job.now texts.now result
         record { output = O.contents output.old; errors = E.contents errors.old; files = files }
         record { output = O.contents output.new; errors = E.contents errors.new; files = files }
@@ -435,7 +435,7 @@ fn take<D: Folder, O: Write, E: Write>(
     folder: &mut D,
     output: &mut O,
     errors: &mut E,
-) -> Ending
+) -> Answered
     ensures { IsTaken D.is_watched (is_refusal job.now report.now.status report.now.bytes.items) hint.now path
         record { bytes = report.now.bytes.items; status = report.now.status } result
         record { output = O.contents output.old; errors = E.contents errors.old; files = D.known folder.old }
@@ -446,7 +446,7 @@ fn take<D: Folder, O: Write, E: Write>(
         return show(report, hint, output, errors);
     }
     match replace(alloc, folder, path.as_str(), bytes) {
-        Ok(()) => Ending {
+        Ok(()) => Answered {
             is_told: say(hint, errors),
             status: report.status,
         },
@@ -455,7 +455,12 @@ fn take<D: Folder, O: Write, E: Write>(
 }
 
 // Writes a report to standard output, and then what is said beside it to standard error.
-fn show<O: Write, E: Write>(report: &Written, hint: &[u8], output: &mut O, errors: &mut E) -> Ending
+fn show<O: Write, E: Write>(
+    report: &Written,
+    hint: &[u8],
+    output: &mut O,
+    errors: &mut E,
+) -> Answered
     ensures { (files : Files) → IsShown hint.now record { bytes = report.now.bytes.items; status = report.now.status } result
         record { output = O.contents output.old; errors = E.contents errors.old; files = files }
         record { output = O.contents output.new; errors = E.contents errors.new; files = files }
@@ -466,7 +471,7 @@ fn show<O: Write, E: Write>(report: &Written, hint: &[u8], output: &mut O, error
     if write_whole(report.bytes.as_slice(), output).is_err() {
         return tell(&Fault::Serve(ServeFault::Write), output, errors);
     }
-    Ending {
+    Answered {
         is_told: say(hint, errors),
         status: report.status,
     }

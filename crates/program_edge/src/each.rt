@@ -10,8 +10,10 @@ use crate::fault::Fault;
 use crate::named_files::NamedFiles;
 use crate::part::part_of;
 use crate::streams::{say, write_whole};
-use crate::summary::{Judged, Tally, count, empty_tally, summary_line, worst_status};
-use crate::told::{Ending, tell};
+use crate::summary::{
+    ProgramTally, ProgramVerdict, count, empty_tally, summary_line, worst_status,
+};
+use crate::told::{Answered, tell};
 use jobs::job::Job;
 use std::alloc::Global;
 use std::io::Write;
@@ -31,7 +33,7 @@ pub(crate) fn answer_each<F: NamedFiles, O: Write, E: Write, R: Threads + Wait +
     output: &mut O,
     errors: &mut E,
     is_terminal: bool,
-) -> Ending
+) -> Answered
     ensures { (known : Files) → IsEach is_terminal (F.known files.now) job.now names.now result
         record { output = O.contents output.old; errors = E.contents errors.old; files = known }
         record { output = O.contents output.new; errors = E.contents errors.new; files = known } }
@@ -65,7 +67,7 @@ fn answer_one<F: NamedFiles, O: Write, E: Write, R: Threads + Wait + Sync>(
     output: &mut O,
     errors: &mut E,
     is_terminal: bool,
-) -> Result<Judged, Ending>
+) -> Result<ProgramVerdict, Answered>
     ensures one { IfOk result (λ judged. (part : PartOf) × IsPartOf is_terminal (F.known files.now) job.now name.now part × (part.judged ≡ judged)
         × ((known : Files) → IsWritten part.output part.errors
         record { output = O.contents output.old; errors = E.contents errors.old; files = known }
@@ -88,7 +90,12 @@ fn answer_one<F: NamedFiles, O: Write, E: Write, R: Threads + Wait + Sync>(
 }
 
 // Says what several programs come to.
-fn sum_up<O: Write, E: Write>(alloc: Global, tally: Tally, output: &mut O, errors: &mut E) -> Ending
+fn sum_up<O: Write, E: Write>(
+    alloc: Global,
+    tally: ProgramTally,
+    output: &mut O,
+    errors: &mut E,
+) -> Answered
     requires { all_of tally ≤ usize.MAX }
     ensures { (known : Files) → Sums tally result
         record { output = O.contents output.old; errors = E.contents errors.old; files = known }
@@ -96,7 +103,7 @@ fn sum_up<O: Write, E: Write>(alloc: Global, tally: Tally, output: &mut O, error
 {
     match line_of(alloc, tally) {
         Ok(line) => match write_both(line.as_bytes(), &[], output, errors) {
-            Ok(()) => Ending {
+            Ok(()) => Answered {
                 status: worst_status(tally),
                 is_told: true,
             },
@@ -107,7 +114,7 @@ fn sum_up<O: Write, E: Write>(alloc: Global, tally: Tally, output: &mut O, error
 }
 
 // The line that sums up.
-fn line_of(alloc: Global, tally: Tally) -> Result<String, ServeFault>
+fn line_of(alloc: Global, tally: ProgramTally) -> Result<String, ServeFault>
     requires { all_of tally ≤ usize.MAX }
     ensures line { IfOk result (λ line. string_bytes line ≡ summary_line tally) }
     ensures memory { OnErr result (result ≡ Err ServeFault.OutOfMemory) }
@@ -121,7 +128,7 @@ fn write_both<O: Write, E: Write>(
     told: &[u8],
     output: &mut O,
     errors: &mut E,
-) -> Result<(), Ending>
+) -> Result<(), Answered>
     ensures whole { OnOk result ((known : Files) → IsWritten said.now told.now
         record { output = O.contents output.old; errors = E.contents errors.old; files = known }
         record { output = O.contents output.new; errors = E.contents errors.new; files = known }) }
@@ -135,7 +142,7 @@ fn write_both<O: Write, E: Write>(
     if say(told, errors) {
         Ok(())
     } else {
-        Err(Ending {
+        Err(Answered {
             status: 2,
             is_told: false,
         })

@@ -3,7 +3,7 @@ ghost use Rattle.std.specs.Prelude.{◌≡◌, if◌then◌else◌, List, ℕ, N
 ghost use Rattle.program_edge.specs.FileTexts.{Known, Unknown, OpensAs, IsUnreadOpen};
 
 use crate::asked::STANDARD_INPUT;
-use crate::unread::{Reason, reason_of_reading};
+use crate::unread::{UnreadReason, reason_of_reading};
 use std::fs::OpenFile;
 use std::io::{ErrorKind, Input, Read};
 use std::marker::Sync;
@@ -33,7 +33,7 @@ pub trait NamedFiles {
 
     /// Why the open file of this name was not read, for the fault that reading it had. A file of known bytes
     /// is read unless memory runs out.
-    fn why_unread(&self, name: &str, fault: FetchFault) -> Reason
+    fn why_unread(&self, name: &str, fault: FetchFault) -> UnreadReason
         ensures { IsUnreadOpen (known self.now name.now) result };
 }
 
@@ -114,7 +114,7 @@ where
         Ok(SystemFile::Path(file))
     }
 
-    fn why_unread(&self, _name: &str, fault: FetchFault) -> Reason
+    fn why_unread(&self, _name: &str, fault: FetchFault) -> UnreadReason
         ensures open { IsUnreadOpen Unknown result }
         ensures system { result ≡ reading_reason fault }
     {
@@ -135,7 +135,7 @@ impl NamedFiles for HostRuntime {
         SystemFiles::new(self).open(name)
     }
 
-    fn why_unread(&self, name: &str, fault: FetchFault) -> Reason
+    fn why_unread(&self, name: &str, fault: FetchFault) -> UnreadReason
         ensures open { IsUnreadOpen Unknown result }
         ensures system { result ≡ reading_reason fault }
     {

@@ -8,9 +8,9 @@ ghost use Rattle.program_edge.specs.Telling.{program_reason};
 use crate::hint::{add, explains};
 use crate::named_files::NamedFiles;
 use crate::reports::{Hinted, hinted_report};
-use crate::summary::{Judged, judged_by};
+use crate::summary::{ProgramVerdict, judged_by};
 use crate::texts::{MOST_PROGRAM, read_file};
-use crate::unread::Reason;
+use crate::unread::UnreadReason;
 use jobs::job::{Job, Texts};
 use std::alloc::{AllocError, Global};
 use std::marker::Sync;
@@ -27,7 +27,7 @@ pub(crate) struct Part {
     /// What standard error gets.
     pub errors: Vec<u8>,
     /// What it counts as.
-    pub judged: Judged,
+    pub judged: ProgramVerdict,
 }
 
 /// What is said of the program of this name, or that memory ran out.
@@ -45,7 +45,7 @@ pub(crate) fn part_of<F: NamedFiles, R: Threads + Wait + Sync>(
 {
     match read_file(alloc, files, name, MOST_PROGRAM) {
         Ok(text) => part_of_text(rt, alloc, job, name, text, is_terminal),
-        Err(Reason::OutOfMemory) => Err(ServeFault::OutOfMemory),
+        Err(UnreadReason::OutOfMemory) => Err(ServeFault::OutOfMemory),
         Err(reason) => Ok(unread_part(alloc, name, reason)?),
     }
 }
@@ -166,12 +166,12 @@ fn named_lines(alloc: Global, name: &str, text: &[u8]) -> Result<Vec<u8>, AllocE
 }
 
 // That a file gives no program, and why: of a folder, how its files are named.
-fn unread_part(alloc: Global, name: &str, reason: Reason) -> Result<Part, AllocError>
+fn unread_part(alloc: Global, name: &str, reason: UnreadReason) -> Result<Part, AllocError>
     ensures { IfOk result (λ part. record { output = part.output.items; errors = part.errors.items; judged = part.judged }
         ≡ unjudged name.now (program_reason name.now reason)) }
 {
     match reason {
-        Reason::IsDirectory => {
+        UnreadReason::IsDirectory => {
             let why = format!(in alloc; "is a directory; name its files, as in {name}/*.s")?;
             unjudged_part(alloc, name, why.as_str())
         }
@@ -199,6 +199,6 @@ fn unjudged_part(alloc: Global, name: &str, why: &str) -> Result<Part, AllocErro
     Ok(Part {
         output: Vec::new(alloc),
         errors: line.into_bytes(),
-        judged: Judged::Unjudged,
+        judged: ProgramVerdict::Unjudged,
     })
 }

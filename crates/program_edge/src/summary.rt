@@ -7,7 +7,7 @@ use std::alloc::{AllocError, Global};
 
 /// What is known of one of several programs.
 #[derive(Clone, Copy, Debug, PartialEq, Eq)]
-pub enum Judged {
+pub enum ProgramVerdict {
     /// The status of its report is 0.
     Right,
     /// The status of its report is another.
@@ -17,19 +17,19 @@ pub enum Judged {
 }
 
 /// What the status of its report says of a program. (own choice)
-pub fn judged_by(status: u8) -> Judged
+pub fn judged_by(status: u8) -> ProgramVerdict
     ensures { result ≡ judged_by status }
 {
     if status == 0 {
-        Judged::Right
+        ProgramVerdict::Right
     } else {
-        Judged::Wrong
+        ProgramVerdict::Wrong
     }
 }
 
 /// How many of several programs are right, wrong, and not judged.
 #[derive(Clone, Copy, Debug, PartialEq, Eq)]
-pub struct Tally {
+pub struct ProgramTally {
     /// Those that are right.
     pub right: usize,
     /// Those that are wrong.
@@ -39,10 +39,10 @@ pub struct Tally {
 }
 
 /// The tally of no program.
-pub fn empty_tally() -> Tally
+pub fn empty_tally() -> ProgramTally
     ensures { result ≡ no_program }
 {
-    Tally {
+    ProgramTally {
         right: 0,
         wrong: 0,
         unjudged: 0,
@@ -50,20 +50,20 @@ pub fn empty_tally() -> Tally
 }
 
 /// A tally with one program more. (own choice)
-pub fn count(tally: Tally, judged: Judged) -> Tally
+pub fn count(tally: ProgramTally, judged: ProgramVerdict) -> ProgramTally
     requires { all_of tally + 1 ≤ usize.MAX }
     ensures { result ≡ counted tally judged }
 {
     match judged {
-        Judged::Right => Tally {
+        ProgramVerdict::Right => ProgramTally {
             right: tally.right + 1,
             ..tally
         },
-        Judged::Wrong => Tally {
+        ProgramVerdict::Wrong => ProgramTally {
             wrong: tally.wrong + 1,
             ..tally
         },
-        Judged::Unjudged => Tally {
+        ProgramVerdict::Unjudged => ProgramTally {
             unjudged: tally.unjudged + 1,
             ..tally
         },
@@ -71,7 +71,7 @@ pub fn count(tally: Tally, judged: Judged) -> Tally
 }
 
 /// The worst status of the programs: 2 where one is not judged, else 1 where one is wrong, else 0. (own choice)
-pub fn worst_status(tally: Tally) -> u8
+pub fn worst_status(tally: ProgramTally) -> u8
     ensures { result ≡ worst_status tally }
 {
     if tally.unjudged > 0 {
@@ -88,11 +88,11 @@ pub fn worst_status(tally: Tally) -> u8
 /// # Errors
 ///
 /// Memory ran out.
-pub fn summary_line(alloc: Global, tally: Tally) -> Result<String, AllocError>
+pub fn summary_line(alloc: Global, tally: ProgramTally) -> Result<String, AllocError>
     requires { all_of tally ≤ usize.MAX }
     ensures { IfOk result (λ line. string_bytes line ≡ summary_line tally) }
 {
-    let Tally {
+    let ProgramTally {
         right,
         wrong,
         unjudged,

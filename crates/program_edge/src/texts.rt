@@ -4,10 +4,10 @@ ghost use Rattle.std.specs.Result.{result_map_both};
 ghost use Rattle.std.specs.String.{string_bytes};
 ghost use Rattle.jobs.specs.Files.{has_certificate};
 ghost use Rattle.program_edge.specs.FileTexts.{IsFound, AreTextsOf, fetchers_of, text_of, most_program, most_file};
-ghost use Rattle.program_edge.specs.declared.unread.Reason.{Reason};
+ghost use Rattle.program_edge.specs.declared.unread.UnreadReason.{UnreadReason};
 
 use crate::named_files::NamedFiles;
-use crate::unread::{Reason, Unread, reason_of_opening};
+use crate::unread::{Unread, UnreadReason, reason_of_opening};
 use annotated_asm::assembler::MOST_TEXT;
 use jobs::job::{Job, Paths, Texts};
 use std::alloc::Global;
@@ -65,7 +65,7 @@ fn read_program<F: NamedFiles>(
     files: &F,
     path: String,
 ) -> Result<(Vec<u8>, String), Unread>
-    ensures { (found : Result (List ℕ) Reason) × IsFound (F.known files.now (string_bytes path)) most_program found
+    ensures { (found : Result (List ℕ) UnreadReason) × IsFound (F.known files.now (string_bytes path)) most_program found
         × MatchResult result (λ read. (found ≡ Ok read.0.items) × (read.1 ≡ path))
         (λ unread. (found ≡ Err unread.reason) × (unread.path ≡ path)) }
 {
@@ -82,7 +82,7 @@ fn read_other<F: NamedFiles>(
     path: String,
     is_there: bool,
 ) -> Result<Vec<u8>, Unread>
-    ensures { (found : Result (List ℕ) Reason) × IsFound (F.known files.now (string_bytes path)) most_file found
+    ensures { (found : Result (List ℕ) UnreadReason) × IsFound (F.known files.now (string_bytes path)) most_file found
         × MatchResult result (λ text. text_of is_there found ≡ Ok text.items)
         (λ unread. (text_of is_there found ≡ Err unread.reason) × (unread.path ≡ path)) }
 {
@@ -93,7 +93,7 @@ fn read_other<F: NamedFiles>(
         Ok(text) if text.len() as u64 <= MOST_FILE => Ok(text),
         Ok(_) => Err(Unread {
             path,
-            reason: Reason::TooLong,
+            reason: UnreadReason::TooLong,
         }),
         Err(reason) => Err(Unread { path, reason }),
     }
@@ -108,7 +108,7 @@ fn read_certificate<F: NamedFiles, R: Threads + Sync>(
     path: String,
     job: &Job,
 ) -> Result<Text, Unread>
-    ensures { (found : Result (List ℕ) Reason) × IsFound (F.known files.now (string_bytes path)) most_file found
+    ensures { (found : Result (List ℕ) UnreadReason) × IsFound (F.known files.now (string_bytes path)) most_file found
         × MatchResult result (λ text. text_of (has_certificate job.now) found ≡ Ok text)
         (λ unread. (text_of (has_certificate job.now) found ≡ Err unread.reason) × (unread.path ≡ path)) }
 {
@@ -119,7 +119,7 @@ fn read_certificate<F: NamedFiles, R: Threads + Sync>(
         Ok(text) if text.is_within(MOST_FILE as usize) => Ok(text),
         Ok(_) => Err(Unread {
             path,
-            reason: Reason::TooLong,
+            reason: UnreadReason::TooLong,
         }),
         Err(reason) => Err(Unread { path, reason }),
     }
@@ -142,7 +142,7 @@ fn read_pieces<F: NamedFiles, R: Threads + Sync>(
     files: &F,
     name: &str,
     workers: u32,
-) -> Result<Text, Reason>
+) -> Result<Text, UnreadReason>
     ensures { IsFound (F.known files.now name.now) most_file result }
 {
     let mut opened = files
@@ -160,7 +160,7 @@ pub(crate) fn read_file<F: NamedFiles>(
     files: &F,
     name: &str,
     most: u64,
-) -> Result<Vec<u8>, Reason>
+) -> Result<Vec<u8>, UnreadReason>
     requires { most ≤ 134217728 }
     ensures { IsFound (F.known files.now name.now) most (result_map_both (λ v. v.items) (λ reason. reason) result) }
 {

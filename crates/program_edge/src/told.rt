@@ -7,7 +7,7 @@ ghost use Rattle.verdict_report.specs.Writing.{Begins};
 ghost use Rattle.program_edge.specs.Telling.{IsTold, file_words, folder_reason, name_of, said_of, unread_program_words, unread_words};
 
 use crate::fault::Fault;
-use crate::unread::{Reason, Unread};
+use crate::unread::{Unread, UnreadReason};
 use std::io;
 use std::io::Write;
 use verdict_report::fault::ServeFault;
@@ -15,7 +15,7 @@ use verdict_report::writing::write_text;
 
 /// How the program ends.
 #[derive(Clone, Copy, Debug, PartialEq, Eq)]
-pub struct Ending {
+pub struct Answered {
     /// The status, 0 to 3.
     pub status: u8,
     /// Whether all that the program had to say was written.
@@ -25,19 +25,19 @@ pub struct Ending {
 /// Says what a fault is: help on standard output, any other fault on standard error. The status is 0 for
 /// help that was written whole, else 2. Where the writer fails, what went out is a beginning of it. (own
 /// choice)
-pub fn tell<O: Write, E: Write>(fault: &Fault, output: &mut O, errors: &mut E) -> Ending
+pub fn tell<O: Write, E: Write>(fault: &Fault, output: &mut O, errors: &mut E) -> Answered
     ensures { IsTold fault.now result.status result.is_told (O.contents output.old)
         (O.contents output.new) (E.contents errors.old) (E.contents errors.new) }
 {
     match fault {
         Fault::Help(_) => {
             let is_told = say(fault, output).is_ok();
-            Ending {
+            Answered {
                 status: if is_told { 0 } else { 2 },
                 is_told,
             }
         }
-        _ => Ending {
+        _ => Answered {
             is_told: say(fault, errors).is_ok(),
             status: 2,
         },
@@ -122,7 +122,7 @@ fn write_unread_program<W: Write>(unread: &Unread, writer: &mut W) -> io::Result
     ensures part { Begins (W.contents writer.old) (W.contents writer.new) (unread_program_words unread.now) }
 {
     match unread.reason {
-        Reason::IsDirectory => write_folder(unread.path.as_str(), writer),
+        UnreadReason::IsDirectory => write_folder(unread.path.as_str(), writer),
         _ => write_unread(unread, writer),
     }
 }

@@ -7,7 +7,7 @@ use text_pieces::serial::FetchFault;
 
 /// Why a file gives no text, as far as the system tells. (own choice)
 #[derive(Clone, Copy, Debug, PartialEq, Eq)]
-pub enum Reason {
+pub enum UnreadReason {
     /// There is no file of this name.
     NoSuchFile,
     /// It is a directory.
@@ -23,7 +23,7 @@ pub enum Reason {
     Other,
 }
 
-impl Reason {
+impl UnreadReason {
     ghost use Rattle.std.specs.Prelude.{◌≡◌};
     ghost use Rattle.program_edge.specs.Telling.{reason_words};
 
@@ -32,12 +32,12 @@ impl Reason {
         ensures { result.now ≡ reason_words self }
     {
         match self {
-            Reason::NoSuchFile => "no such file",
-            Reason::IsDirectory => "is a directory",
-            Reason::NotPermitted => "no permission",
-            Reason::TooLong => "longer than 134217728 bytes",
-            Reason::OutOfMemory => "out of memory",
-            Reason::Other => "cannot be read",
+            UnreadReason::NoSuchFile => "no such file",
+            UnreadReason::IsDirectory => "is a directory",
+            UnreadReason::NotPermitted => "no permission",
+            UnreadReason::TooLong => "longer than 134217728 bytes",
+            UnreadReason::OutOfMemory => "out of memory",
+            UnreadReason::Other => "cannot be read",
         }
     }
 }
@@ -48,30 +48,30 @@ pub struct Unread {
     /// The file's name, as the words have it.
     pub path: String,
     /// Why it gives no text.
-    pub reason: Reason,
+    pub reason: UnreadReason,
 }
 
 /// Why a file is not opened, for the kind of error that the system told. (own choice)
-pub fn reason_of_opening(kind: ErrorKind) -> Reason
+pub fn reason_of_opening(kind: ErrorKind) -> UnreadReason
     ensures { result ≡ opening_reason kind }
 {
     match kind {
-        ErrorKind::NotFound => Reason::NoSuchFile,
-        ErrorKind::IsADirectory => Reason::IsDirectory,
-        ErrorKind::PermissionDenied => Reason::NotPermitted,
-        ErrorKind::OutOfMemory => Reason::OutOfMemory,
-        _ => Reason::Other,
+        ErrorKind::NotFound => UnreadReason::NoSuchFile,
+        ErrorKind::IsADirectory => UnreadReason::IsDirectory,
+        ErrorKind::PermissionDenied => UnreadReason::NotPermitted,
+        ErrorKind::OutOfMemory => UnreadReason::OutOfMemory,
+        _ => UnreadReason::Other,
     }
 }
 
 /// Why an open file is not read. It is there, whatever a read says. (own choice)
-pub fn reason_of_reading(fault: FetchFault) -> Reason
+pub fn reason_of_reading(fault: FetchFault) -> UnreadReason
     ensures { result ≡ reading_reason fault }
 {
     match fault {
-        FetchFault::OutOfMemory => Reason::OutOfMemory,
+        FetchFault::OutOfMemory => UnreadReason::OutOfMemory,
         FetchFault::Read(kind) => match reason_of_opening(kind) {
-            Reason::NoSuchFile => Reason::Other,
+            UnreadReason::NoSuchFile => UnreadReason::Other,
             reason => reason,
         },
     }

@@ -10,8 +10,8 @@ use Rattle.machine_model.specs.declared.event.Spot.TheVariants.{Inside, Stopped}
 use Rattle.annotated_asm.specs.declared.position.Position.{Position}
 use Rattle.event_trace.specs.Changes.{register_count}
 use Rattle.event_trace.specs.TraceText.{exit_text, place_text, register_text, unit_name}
-use Rattle.strict_replay.specs.declared.held.Held.{Held}
-use Rattle.strict_replay.specs.declared.held.Held.TheVariants.{Has, Arrived, Sent}
+use Rattle.strict_replay.specs.declared.held.HeldWords.{HeldWords}
+use Rattle.strict_replay.specs.declared.held.HeldWords.TheVariants.{Has, Arrived, Sent}
 
 abbrev pub spot_text : Listing → List Position → Spot → List ℕ
 spot_text p places (Inside index) = codes "at " ++ place_text places index
@@ -27,17 +27,17 @@ abbrev pub labelled : (label list : List ℕ) → List ℕ
 labelled label [] = []
 labelled label (b ∷ bs) = codes "        " ++ (label ++ (b ∷ bs ++ 10 ∷ []))
 
-abbrev pub word_of : Held → Active → (r : ℕ) → Option ℕ
+abbrev pub word_of : HeldWords → Active → (r : ℕ) → Option ℕ
 word_of Has u r = value u r
 word_of Arrived u r = u.arrived r
 word_of Sent u r = u.sent r
 
-abbrev pub label_of : Held → List ℕ
+abbrev pub label_of : HeldWords → List ℕ
 label_of Has = codes "has:"
 label_of Arrived = codes "arrived:"
 label_of Sent = codes "sent:"
 
-abbrev pub words_text : Held → Active → List ℕ
+abbrev pub words_text : HeldWords → Active → List ℕ
 words_text held u = labelled (label_of held) (flat_map (λ r. word_text r (word_of held u r)) (range_with_len 0 register_count))
 
 -- a register that is reserved

@@ -2,7 +2,7 @@
 
 /// Which of a unit's words.
 #[derive(Clone, Copy, Debug, PartialEq, Eq)]
-pub enum Held {
+pub enum HeldWords {
     /// Those that the registers have.
     Has,
     /// Those that came from the unit before it.

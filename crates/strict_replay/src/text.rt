@@ -9,7 +9,7 @@ ghost use Rattle.unit_core.specs.Units.{active_of};
 ghost use Rattle.event_trace.specs.Changes.{register_count};
 ghost use Rattle.strict_replay.specs.StandText.{label_of, labelled, reserved_text, spot_text, stand_text, unit_registers, unit_spot, unit_stand, units_stand, waiting_text, word_of, word_text, words_text};
 
-use crate::held::Held;
+use crate::held::HeldWords;
 use annotated_asm::position::Position;
 use event_trace::text::{write_exit, write_place, write_register, write_unit};
 use machine_model::event::Spot;
@@ -64,29 +64,34 @@ fn write_labelled(text: &mut String, label: &str, list: &str) -> Result<(), Allo
 }
 
 /// A unit's word for a register.
-fn word_of(unit: &Unit, held: &Held, register: Reg) -> Option<u32>
+fn word_of(unit: &Unit, held: &HeldWords, register: Reg) -> Option<u32>
     ensures { result ≡ word_of held.now (active_of unit.now) register }
 {
     match held {
-        Held::Has => unit.value(register),
-        Held::Arrived => unit.arrived(register),
-        Held::Sent => unit.sent(register),
+        HeldWords::Has => unit.value(register),
+        HeldWords::Arrived => unit.arrived(register),
+        HeldWords::Sent => unit.sent(register),
     }
 }
 
 /// What stands before a unit's words.
-fn label_of(held: &Held) -> &str
+fn label_of(held: &HeldWords) -> &str
     ensures { result.now ≡ label_of held.now }
 {
     match held {
-        Held::Has => "has:",
-        Held::Arrived => "arrived:",
-        Held::Sent => "sent:",
+        HeldWords::Has => "has:",
+        HeldWords::Arrived => "arrived:",
+        HeldWords::Sent => "sent:",
     }
 }
 
 /// Adds the register of a number with a unit's word for it, unless that is 0.
-fn write_numbered(text: &mut String, unit: &Unit, held: &Held, number: u8) -> Result<(), AllocError>
+fn write_numbered(
+    text: &mut String,
+    unit: &Unit,
+    held: &HeldWords,
+    number: u8,
+) -> Result<(), AllocError>
     requires { number < 34 }
     ensures { OnOk result (string_bytes text.new ≡ string_bytes text.old ++ word_text number (word_of held.now (active_of unit.now) number)) }
 {
@@ -97,7 +102,7 @@ fn write_numbered(text: &mut String, unit: &Unit, held: &Held, number: u8) -> Re
 }
 
 /// A unit's words for the registers.
-fn words_of(alloc: Global, unit: &Unit, held: &Held) -> Result<String, AllocError>
+fn words_of(alloc: Global, unit: &Unit, held: &HeldWords) -> Result<String, AllocError>
     ensures { IfOk result (λ list. string_bytes list ≡ flat_map (λ r. word_text r (word_of held.now (active_of unit.now) r)) (range_with_len 0 register_count)) }
 {
     let mut list = String::new(alloc);
@@ -108,7 +113,12 @@ fn words_of(alloc: Global, unit: &Unit, held: &Held) -> Result<String, AllocErro
 }
 
 /// Adds a unit's words for the registers, on a line.
-fn write_words(alloc: Global, text: &mut String, unit: &Unit, held: &Held) -> Result<(), AllocError>
+fn write_words(
+    alloc: Global,
+    text: &mut String,
+    unit: &Unit,
+    held: &HeldWords,
+) -> Result<(), AllocError>
     ensures { OnOk result (string_bytes text.new ≡ string_bytes text.old ++ words_text held.now (active_of unit.now)) }
 {
     let list = words_of(alloc, unit, held)?;
@@ -179,9 +189,9 @@ fn write_unit_spot(
 fn write_registers(alloc: Global, text: &mut String, unit: &Unit) -> Result<(), AllocError>
     ensures { OnOk result (string_bytes text.new ≡ string_bytes text.old ++ unit_registers (active_of unit.now)) }
 {
-    write_words(alloc, text, unit, &Held::Has)?;
-    write_words(alloc, text, unit, &Held::Arrived)?;
-    write_words(alloc, text, unit, &Held::Sent)?;
+    write_words(alloc, text, unit, &HeldWords::Has)?;
+    write_words(alloc, text, unit, &HeldWords::Arrived)?;
+    write_words(alloc, text, unit, &HeldWords::Sent)?;
     write_waiting(alloc, text, unit)
 }
 

@@ -1,6 +1,6 @@
 //! `annotate`: what is proposed, and what `check` says of it.
 
-use crate::answers::{Bench, EMPTY, Row, answer, expect, expect_of, run_all, texts_of};
+use crate::answers::{AnswerRow, Bench, EMPTY, answer, expect, expect_of, run_all, texts_of};
 use std::alloc::Global;
 use std::process::Abort;
 use test_programs::certificates::COUNT_CERTIFICATE_WIDE;
@@ -10,26 +10,26 @@ use test_programs::programs::{
 };
 
 // The proposal forwards $10 as well, since no path writes it again.
-const PROPOSALS: [Row<'static>; 4] = [
-    Row {
+const PROPOSALS: [AnswerRow<'static>; 4] = [
+    AnswerRow {
         words: "annotate a.s",
         program: COUNT_BARE,
         expected: COUNT_FORWARDED,
         ..EMPTY
     },
-    Row {
+    AnswerRow {
         words: "annotate --emit cert a.s",
         program: COUNT_BARE,
         expected: COUNT_CERTIFICATE_WIDE,
         ..EMPTY
     },
-    Row {
+    AnswerRow {
         words: "annotate --emit keep a.s",
         program: COUNT,
         expected: COUNT_CERTIFICATE_WIDE,
         ..EMPTY
     },
-    Row {
+    AnswerRow {
         words: "annotate --emit marks a.s",
         program: LAID_OUT,
         expected: LAID_OUT_MARKED,

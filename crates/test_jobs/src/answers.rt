@@ -16,7 +16,7 @@ impl<R: Abort + Threads + Wait + Sync> Bench for R {}
 
 /// A run of the program: its command line, its texts, and what it answers.
 #[derive(Clone, Copy)]
-pub struct Row<'a> {
+pub struct AnswerRow<'a> {
     /// The words behind the program's own name, split at blanks.
     pub words: &'a str,
     /// The program text.
@@ -32,7 +32,7 @@ pub struct Row<'a> {
 }
 
 /// A row with nothing in it.
-pub const EMPTY: Row<'static> = Row {
+pub const EMPTY: AnswerRow<'static> = AnswerRow {
     words: "",
     program: "",
     certificate: "",
@@ -41,7 +41,7 @@ pub const EMPTY: Row<'static> = Row {
     status: 0,
 };
 
-impl Row<'_> {
+impl AnswerRow<'_> {
     /// Asserts the answer, and that a certificate in `cert 1` gives the same in `cert 2`.
     pub fn runs(&self, rt: &impl Bench, alloc: Global) {
         self.runs_as(rt, alloc, self.words);
@@ -66,7 +66,7 @@ impl Row<'_> {
 }
 
 /// Asserts the answer of each row.
-pub fn run_all(rt: &impl Bench, alloc: Global, rows: &[Row<'_>]) {
+pub fn run_all(rt: &impl Bench, alloc: Global, rows: &[AnswerRow<'_>]) {
     for row in rows {
         row.runs(rt, alloc);
     }
@@ -94,7 +94,7 @@ pub fn expect_of(
     expected: &str,
     status: u8,
 ) {
-    let row = Row {
+    let row = AnswerRow {
         words,
         program,
         certificate: "",

@@ -105,7 +105,7 @@ fn expect_fetched(rt: &impl Abort, alloc: Global, most: u64, expected: &[u8]) {
 // A file that is held in memory. It may say another size than it has, and its positioned reads fail
 // from an offset on.
 #[derive(Drop)]
-pub struct Held {
+pub struct HeldFile {
     bytes: Vec<u8>,
     offset: usize,
     told: Option<u64>,
@@ -113,10 +113,10 @@ pub struct Held {
     is_worn: bool,
 }
 
-impl Held {
+impl HeldFile {
     /// A file with these bytes, which one thread reads.
-    pub fn new(bytes: Vec<u8>) -> Held {
-        Held {
+    pub fn new(bytes: Vec<u8>) -> HeldFile {
+        HeldFile {
             bytes,
             offset: 0,
             told: None,
@@ -126,7 +126,7 @@ impl Held {
     }
 }
 
-impl Read for Held {
+impl Read for HeldFile {
     fn read(&mut self, buf: &mut [u8]) -> io::Result<usize> {
         if self.is_worn {
             return Err(io::Error::from(ErrorKind::Other));
@@ -137,7 +137,7 @@ impl Read for Held {
     }
 }
 
-impl PositionedFile for Held {
+impl PositionedFile for HeldFile {
     ghost use Rattle.std.specs.Prelude.{None};
 
     ghost bytes = { λ _. None };
@@ -168,7 +168,7 @@ fn copy_from(bytes: &[u8], offset: usize, buffer: &mut [u8]) -> usize
 const LONG: usize = 300_000;
 
 // A file of as many bytes, in which lines of 70 bytes differ from those beside them.
-fn long_file(rt: &impl Abort, alloc: Global) -> Held {
+fn long_file(rt: &impl Abort, alloc: Global) -> HeldFile {
     let mut bytes = Vec::new(alloc);
     for offset in 0..LONG {
         let byte = if offset % 70 == 69 {
@@ -178,7 +178,7 @@ fn long_file(rt: &impl Abort, alloc: Global) -> Held {
         };
         assert!(rt; bytes.push(byte).is_ok());
     }
-    Held {
+    HeldFile {
         bytes,
         offset: 0,
         told: Some(LONG as u64),
@@ -189,7 +189,7 @@ fn long_file(rt: &impl Abort, alloc: Global) -> Held {
 
 // Asserts that a file of this size, whose positioned reads fail from an offset on, is fetched the same by each
 // number of workers.
-fn expect_shared<R: Bench>(rt: &R, alloc: Global, file: &mut Held, fails_from: u64, most: u64) {
+fn expect_shared<R: Bench>(rt: &R, alloc: Global, file: &mut HeldFile, fails_from: u64, most: u64) {
     assert!(rt; most <= 134_217_728);
     file.fails_from = fails_from;
     for &workers in &[0, 1, 4, 17] {

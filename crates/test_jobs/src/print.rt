@@ -1,20 +1,20 @@
 //! `print`.
 
-use crate::answers::{EMPTY, Row, expect, expect_of_each, run_all, texts_of};
+use crate::answers::{AnswerRow, EMPTY, expect, expect_of_each, run_all, texts_of};
 use test_programs::programs::{COUNT, COUNT_OTHERWISE};
 
-const PRINTED: Row<'static> = Row {
+const PRINTED: AnswerRow<'static> = AnswerRow {
     words: "print a.s",
     ..EMPTY
 };
 
-const SPELLINGS: [Row<'static>; 2] = [
-    Row {
+const SPELLINGS: [AnswerRow<'static>; 2] = [
+    AnswerRow {
         program: COUNT_OTHERWISE,
         expected: COUNT,
         ..PRINTED
     },
-    Row {
+    AnswerRow {
         program: ".task A create=- targets=-
 A: li $8,65536 !f
 li $8,40000

@@ -1,6 +1,6 @@
 //! `replay`: what it writes of scripts.
 
-use crate::answers::{Bench, EMPTY, Row};
+use crate::answers::{AnswerRow, Bench, EMPTY};
 use crate::scripts::{
     COUNT_DROPPED, COUNT_REFUSED, COUNT_TAKEN_AGAIN, COUNT_WAITS, JUMP_UNLISTED, READ_AHEAD,
     WRONG_PATH_LOADED, WRONG_PATH_SPUN, answers_of, events_of,
@@ -13,10 +13,10 @@ use test_programs::certificates::{
 use test_programs::programs::{COUNT, READ_ONLY, UNLISTED_JUMP, WRONG_PATH_LOAD, WRONG_PATH_SPIN};
 
 // Asserts a row whose script stands with its answers; what it expects is written after these.
-fn replays(rt: &impl Bench, alloc: Global, row: &Row<'_>) {
+fn replays(rt: &impl Bench, alloc: Global, row: &AnswerRow<'_>) {
     let script = events_of(rt, alloc, row.script);
     let expected = answers_of(rt, alloc, row.script, row.expected);
-    let row = Row {
+    let row = AnswerRow {
         script: script.as_str(),
         expected: expected.as_str(),
         ..*row
@@ -24,40 +24,40 @@ fn replays(rt: &impl Bench, alloc: Global, row: &Row<'_>) {
     row.runs(rt, alloc);
 }
 
-fn replay_all(rt: &impl Bench, alloc: Global, rows: &[Row<'_>]) {
+fn replay_all(rt: &impl Bench, alloc: Global, rows: &[AnswerRow<'_>]) {
     for row in rows {
         replays(rt, alloc, row);
     }
 }
 
-const ON_TWO_UNITS: Row<'static> = Row {
+const ON_TWO_UNITS: AnswerRow<'static> = AnswerRow {
     words: "replay --units 2 a.s a.cert a.events",
     ..EMPTY
 };
 
-const OF_COUNT: Row<'static> = Row {
+const OF_COUNT: AnswerRow<'static> = AnswerRow {
     program: COUNT,
     certificate: COUNT_CERTIFICATE,
     ..ON_TWO_UNITS
 };
 
-const COUNTS: [Row<'static>; 4] = [
-    Row {
+const COUNTS: [AnswerRow<'static>; 4] = [
+    AnswerRow {
         script: COUNT_WAITS,
         expected: "retired 0 c 0 h 1\nrunning\n",
         ..OF_COUNT
     },
-    Row {
+    AnswerRow {
         script: COUNT_TAKEN_AGAIN,
         expected: "retired 1 c 4 h 6\nrunning\n",
         ..OF_COUNT
     },
-    Row {
+    AnswerRow {
         script: COUNT_REFUSED,
         expected: "retired 0 c 0 h 4\nrunning\n",
         ..OF_COUNT
     },
-    Row {
+    AnswerRow {
         words: "replay --units 3 a.s a.cert a.events",
         script: COUNT_DROPPED,
         expected: "retired 0 c 0 h 0\nrunning\n",
@@ -70,22 +70,22 @@ fn replays_count(rt: HostRuntime) {
     replay_all(&rt, rt.alloc(), &COUNTS);
 }
 
-const WRONG_PATHS: [Row<'static>; 4] = [
-    Row {
+const WRONG_PATHS: [AnswerRow<'static>; 4] = [
+    AnswerRow {
         program: WRONG_PATH_LOAD,
         certificate: WRONG_PATH_LOAD_CERTIFICATE,
         script: WRONG_PATH_LOADED,
         expected: "1\nretired 1 c 2 h 4\nhalted\n",
         ..ON_TWO_UNITS
     },
-    Row {
+    AnswerRow {
         program: WRONG_PATH_SPIN,
         certificate: WRONG_PATH_SPIN_CERTIFICATE,
         script: WRONG_PATH_SPUN,
         expected: "retired 1 c 1 h 2\nhalted\n",
         ..ON_TWO_UNITS
     },
-    Row {
+    AnswerRow {
         program: READ_ONLY,
         certificate: READ_ONLY_CERTIFICATE,
         script: READ_AHEAD,
@@ -93,7 +93,7 @@ const WRONG_PATHS: [Row<'static>; 4] = [
         ..ON_TWO_UNITS
     },
     // The run ends at an address that the task does not list.
-    Row {
+    AnswerRow {
         words: "replay --units 1 a.s a.cert a.events",
         program: UNLISTED_JUMP,
         certificate: UNLISTED_JUMP_CERTIFICATE,
@@ -137,7 +137,7 @@ fn expect_of_count<'a>(
     expected: &'a str,
     status: u8,
 ) {
-    let row = Row {
+    let row = AnswerRow {
         script,
         expected,
         status,

@@ -1,11 +1,11 @@
 //! Results that go to files: whole, or not at all.
 
 use crate::answers::{Bench, words_of};
-use crate::files::Held;
+use crate::files::HeldFile;
 use program_edge::answer::answer;
 use program_edge::asked::asked_by;
 use program_edge::named_files::NamedFiles;
-use program_edge::unread::Reason;
+use program_edge::unread::UnreadReason;
 use std::alloc::Global;
 use std::io;
 use std::io::{ErrorKind, Write};
@@ -25,16 +25,16 @@ struct SameText<'a> {
 impl NamedFiles for SameText<'_> {
     ghost use Rattle.program_edge.specs.FileTexts.{Unknown};
 
-    type File = Held;
+    type File = HeldFile;
 
     ghost known = { λ _ _. Unknown };
 
-    fn open(&self, _name: &str) -> io::Result<Held> {
-        Ok(Held::new(self.text.as_bytes().to_vec(self.alloc)?))
+    fn open(&self, _name: &str) -> io::Result<HeldFile> {
+        Ok(HeldFile::new(self.text.as_bytes().to_vec(self.alloc)?))
     }
 
-    fn why_unread(&self, _name: &str, _fault: FetchFault) -> Reason {
-        Reason::Other
+    fn why_unread(&self, _name: &str, _fault: FetchFault) -> UnreadReason {
+        UnreadReason::Other
     }
 }
 

@@ -1,6 +1,6 @@
 //! `run`: what threads come to is the same whatever their order.
 
-use crate::answers::{Bench, EMPTY, Row, answer, expect, run_all, texts_of};
+use crate::answers::{AnswerRow, Bench, EMPTY, answer, expect, run_all, texts_of};
 use std::alloc::Global;
 use test_programs::certificates::{
     COUNT_CERTIFICATE, DIAMOND_CERTIFICATE, PRODUCT_CERTIFICATE, READ_ONLY_CERTIFICATE,
@@ -8,12 +8,12 @@ use test_programs::certificates::{
 };
 use test_programs::programs::{COUNT, DIAMOND, PRODUCT, RELEASE, SPIN, UNLISTED_JUMP};
 
-const RUN: Row<'static> = Row {
+const RUN: AnswerRow<'static> = AnswerRow {
     words: "run a.s a.cert",
     ..EMPTY
 };
 
-const COUNTED: Row<'static> = Row {
+const COUNTED: AnswerRow<'static> = AnswerRow {
     program: COUNT,
     certificate: COUNT_CERTIFICATE,
     expected: "10\nretired 4 c 16 h 18\nhalted\n",
@@ -25,13 +25,13 @@ const UNITS: [u32; 4] = [1, 2, 4, 16];
 const PREDICTIONS: [&str; 3] = ["first", "last", "1,0"];
 
 // Asserts a row with these units, by a thread for each.
-fn runs_on(rt: &impl Bench, alloc: Global, row: &Row<'_>, units: u32, predict: &str) {
+fn runs_on(rt: &impl Bench, alloc: Global, row: &AnswerRow<'_>, units: u32, predict: &str) {
     let words = format!(in alloc; "run a.s a.cert --units {units} --predict {predict}");
     let words = words.ok().expect(rt, "room for words");
     row.runs_as(rt, alloc, words.as_str());
 }
 
-fn runs_on_each(rt: &impl Bench, alloc: Global, row: &Row<'_>, predict: &str) {
+fn runs_on_each(rt: &impl Bench, alloc: Global, row: &AnswerRow<'_>, predict: &str) {
     for &units in &UNITS {
         runs_on(rt, alloc, row, units, predict);
     }
@@ -44,34 +44,34 @@ fn runs_count(rt: HostRuntime) {
     }
 }
 
-const PROGRAMS: [Row<'static>; 6] = [
-    Row {
+const PROGRAMS: [AnswerRow<'static>; 6] = [
+    AnswerRow {
         program: UNLISTED_JUMP,
         certificate: UNLISTED_JUMP_CERTIFICATE,
         expected: "retired 0 c 0 h 3\nunlisted 00400010\n",
         status: 1,
         ..RUN
     },
-    Row {
+    AnswerRow {
         program: RELEASE,
         certificate: RELEASE_CERTIFICATE,
         expected: "0\nretired 1 c 3 h 5\nhalted\n",
         ..RUN
     },
-    Row {
+    AnswerRow {
         program: PRODUCT,
         certificate: PRODUCT_CERTIFICATE,
         expected: "4294967292\n4\nretired 1 c 2 h 7\nhalted\n",
         ..RUN
     },
-    Row {
+    AnswerRow {
         program: DIAMOND,
         certificate: DIAMOND_CERTIFICATE,
         expected: "7\nretired 2 c 3 h 6\nhalted\n",
         ..RUN
     },
     // The head takes the way on which a load traps.
-    Row {
+    AnswerRow {
         program: READ_ONLY_TRAPS,
         certificate: READ_ONLY_CERTIFICATE,
         expected: "retired 1 c 2 h 6\ntrapped 2 OutOfRange\n",
@@ -79,7 +79,7 @@ const PROGRAMS: [Row<'static>; 6] = [
         ..RUN
     },
     // The squares of -2 are the same signed, but for their upper half.
-    Row {
+    AnswerRow {
         program: SIGNED_PRODUCT,
         certificate: PRODUCT_CERTIFICATE,
         expected: "0\n4\nretired 1 c 2 h 7\nhalted\n",
@@ -119,7 +119,7 @@ fn runs_programs(rt: HostRuntime) {
     run_all(&rt, rt.alloc(), &PROGRAMS);
 }
 
-const OUT_OF_BUDGET: Row<'static> = Row {
+const OUT_OF_BUDGET: AnswerRow<'static> = AnswerRow {
     words: "run --budget 100 a.s a.cert",
     program: SPIN,
     certificate: SPIN_CERTIFICATE,
@@ -134,7 +134,7 @@ fn runs_out_of_budget(rt: HostRuntime) {
 }
 
 // Asserts that `replay` of the script that `run` writes allows each event, and ends as `run` says.
-fn replays_run(rt: &impl Bench, alloc: Global, row: &Row<'_>, units: u32) {
+fn replays_run(rt: &impl Bench, alloc: Global, row: &AnswerRow<'_>, units: u32) {
     let words = format!(in alloc; "run --emit script --units {units} --predict last a.s a.cert");
     let words = words.ok().expect(rt, "room for words");
     let (program, certificate) = (row.program.as_bytes(), row.certificate.as_bytes());
@@ -156,7 +156,7 @@ fn replays_run(rt: &impl Bench, alloc: Global, row: &Row<'_>, units: u32) {
     );
 }
 
-fn replays_on_each(rt: &impl Bench, alloc: Global, row: &Row<'_>) {
+fn replays_on_each(rt: &impl Bench, alloc: Global, row: &AnswerRow<'_>) {
     for &units in &UNITS {
         replays_run(rt, alloc, row, units);
     }

@@ -1,41 +1,41 @@
 //! `seq`.
 
-use crate::answers::{EMPTY, Row, run_all};
+use crate::answers::{AnswerRow, EMPTY, run_all};
 use test_programs::programs::{COUNT, COUNT_WITHOUT_HALT, END_OF_CODE, UNLISTED_JUMP};
 
 // A run that halts, and one that traps.
-const HALTS: Row<'static> = Row {
+const HALTS: AnswerRow<'static> = AnswerRow {
     words: "seq a.s",
     ..EMPTY
 };
 
-const TRAPS: Row<'static> = Row { status: 1, ..HALTS };
+const TRAPS: AnswerRow<'static> = AnswerRow { status: 1, ..HALTS };
 
-const PROGRAMS: [Row<'static>; 5] = [
-    Row {
+const PROGRAMS: [AnswerRow<'static>; 5] = [
+    AnswerRow {
         program: COUNT,
         expected: "10\nhalted after 18 instructions\n",
         ..HALTS
     },
-    Row {
+    AnswerRow {
         words: "seq --budget 17 a.s",
         program: COUNT,
         expected: "10\nout of budget after 17 instructions\n",
         status: 3,
         ..EMPTY
     },
-    Row {
+    AnswerRow {
         words: "seq --budget 18 a.s",
         program: COUNT,
         expected: "10\nhalted after 18 instructions\n",
         ..EMPTY
     },
-    Row {
+    AnswerRow {
         program: COUNT_WITHOUT_HALT,
         expected: "10\ntrapped 3 BadPc after 18 instructions\n",
         ..TRAPS
     },
-    Row {
+    AnswerRow {
         program: UNLISTED_JUMP,
         expected: "4194320\nhalted after 5 instructions\n",
         ..HALTS
@@ -47,23 +47,23 @@ fn runs_programs(rt: HostRuntime) {
     run_all(&rt, rt.alloc(), &PROGRAMS);
 }
 
-const ORDER_OF_TRAPS: [Row<'static>; 4] = [
-    Row {
+const ORDER_OF_TRAPS: [AnswerRow<'static>; 4] = [
+    AnswerRow {
         program: ".task A create=$8 targets=-\nA: li $8,0x1001FFFE\nsw $0,0($8)\nhalt\n",
         expected: "trapped 1 Unaligned after 3 instructions\n",
         ..TRAPS
     },
-    Row {
+    AnswerRow {
         program: ".task A create=$8 targets=-\nA: li $8,0x10020000\nsw $0,0($8)\nhalt\n",
         expected: "trapped 2 OutOfRange after 3 instructions\n",
         ..TRAPS
     },
-    Row {
+    AnswerRow {
         program: ".task A create=$8 targets=-\nA: li $8,0x1001FFFF\nsb $0,0($8)\nhalt\n",
         expected: "halted after 4 instructions\n",
         ..HALTS
     },
-    Row {
+    AnswerRow {
         program: END_OF_CODE,
         expected: "trapped 3 BadPc after 2 instructions\n",
         ..TRAPS
@@ -75,18 +75,18 @@ fn traps_in_order(rt: HostRuntime) {
     run_all(&rt, rt.alloc(), &ORDER_OF_TRAPS);
 }
 
-const READ_ONLY_DATA: [Row<'static>; 3] = [
-    Row {
+const READ_ONLY_DATA: [AnswerRow<'static>; 3] = [
+    AnswerRow {
         program: ".task A create=- targets=-\n.rodata\nK: .word 7\n.text\nA: la $8,K\nsw $0,0($8)\nhalt\n",
         expected: "trapped 4 ReadOnly after 3 instructions\n",
         ..TRAPS
     },
-    Row {
+    AnswerRow {
         program: ".task A create=- targets=-\n.rodata\nK: .word 7\n.text\nA: la $8,K\nsw $0,2($8)\nhalt\n",
         expected: "trapped 1 Unaligned after 3 instructions\n",
         ..TRAPS
     },
-    Row {
+    AnswerRow {
         program: ".task A create=- targets=-\n.rodata\nK: .word 7\n.text\nA: la $8,K\nlw $8,-4($8)\nhalt\n",
         expected: "trapped 2 OutOfRange after 3 instructions\n",
         ..TRAPS
@@ -98,8 +98,8 @@ fn keeps_read_only_data(rt: HostRuntime) {
     run_all(&rt, rt.alloc(), &READ_ONLY_DATA);
 }
 
-const WORDS: [Row<'static>; 2] = [
-    Row {
+const WORDS: [AnswerRow<'static>; 2] = [
+    AnswerRow {
         program: ".task A create=- targets=-
 A: li $8,-8
 sra $9,$8,1
@@ -115,7 +115,7 @@ halt
         expected: "4294967292\n15\n1\n0\nhalted after 10 instructions\n",
         ..HALTS
     },
-    Row {
+    AnswerRow {
         program: ".task A create=- targets=-
 .data
 D: .byte 128,255

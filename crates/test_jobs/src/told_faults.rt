@@ -5,7 +5,7 @@ use crate::held_back::HeldBack;
 use program_edge::asked::asked_by;
 use program_edge::fault::Fault;
 use program_edge::told::tell;
-use program_edge::unread::{Reason, Unread};
+use program_edge::unread::{Unread, UnreadReason};
 use std::alloc::Global;
 use std::process::Abort;
 use verdict_report::fault::ServeFault;
@@ -71,7 +71,7 @@ fn tells_of_files(rt: HostRuntime) {
     );
     let unread = Unread {
         path: text(&rt, rt.alloc(), "a.cert"),
-        reason: Reason::TooLong,
+        reason: UnreadReason::TooLong,
     };
     let line = "multiscalar: file a.cert: longer than 134217728 bytes\n";
     expect_line(&rt, rt.alloc(), &Fault::Explained(unread), line);
@@ -81,13 +81,13 @@ fn tells_of_files(rt: HostRuntime) {
 fn tells_of_programs(rt: HostRuntime) {
     let missing = Unread {
         path: text(&rt, rt.alloc(), "a.s"),
-        reason: Reason::NoSuchFile,
+        reason: UnreadReason::NoSuchFile,
     };
     let line = "multiscalar: file a.s: no such file\n";
     expect_line(&rt, rt.alloc(), &Fault::NoProgram(missing), line);
     let folder = Unread {
         path: text(&rt, rt.alloc(), "src"),
-        reason: Reason::IsDirectory,
+        reason: UnreadReason::IsDirectory,
     };
     let line = "multiscalar: file src: is a directory; name its files, as in src/*.s\n";
     expect_line(&rt, rt.alloc(), &Fault::NoProgram(folder), line);

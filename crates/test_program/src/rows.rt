@@ -33,7 +33,7 @@ pub struct Command<'a> {
 
 /// Command lines that come to the same.
 #[derive(Drop)]
-pub struct Row<'a> {
+pub struct TableRow<'a> {
     /// The command lines.
     pub commands: Vec<Command<'a>>,
     /// What standard output is to get.
@@ -50,10 +50,10 @@ struct Written {
     status: u8,
 }
 
-impl<'a> Row<'a> {
+impl<'a> TableRow<'a> {
     /// A row with nothing in it.
-    pub fn new(alloc: Global) -> Row<'a> {
-        Row {
+    pub fn new(alloc: Global) -> TableRow<'a> {
+        TableRow {
             commands: Vec::new(alloc),
             output: Expected::new(alloc),
             errors: Expected::new(alloc),

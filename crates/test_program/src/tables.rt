@@ -2,7 +2,7 @@
 
 use crate::expected::push_line;
 use crate::lines::{Line, line_of};
-use crate::rows::{Command, Row, Runtime};
+use crate::rows::{Command, Runtime, TableRow};
 use std::fs::File;
 use std::io::Write;
 use std::{fs, io, mem};
@@ -15,7 +15,7 @@ struct Table<'a, R> {
     path: &'a str,
     // The file that is being written.
     file: Option<File>,
-    row: Row<'a>,
+    row: TableRow<'a>,
     // How many command lines were run.
     count: usize,
     // Whether nothing was told so far.
@@ -41,7 +41,7 @@ pub fn run_table(
         rt,
         path,
         file: None,
-        row: Row::new(host.alloc()),
+        row: TableRow::new(host.alloc()),
         count: 0,
         is_right: true,
     };
@@ -95,7 +95,7 @@ impl<'a, R: Runtime> Table<'a, R> {
         if self.row.commands.is_empty() {
             return Ok(false);
         }
-        let row = mem::replace(&mut self.row, Row::new(self.host.alloc()));
+        let row = mem::replace(&mut self.row, TableRow::new(self.host.alloc()));
         if !row.run(self.host, self.rt, self.path, status, told)? {
             self.is_right = false;
         }
