@@ -29,7 +29,7 @@ import threads
 HERE = pathlib.Path(__file__).resolve().parent
 TOP = HERE.parent
 NAME = "machine_bench"
-LINE = f"{NAME}: mips_instructions annotated_asm annotator mark_checker machine_events unit_core sequencer threaded_runner\n"
+LINE = f"{NAME}: mips_instructions annotated_asm annotator mark_checker machine_model unit_core sequencer threaded_runner\n"
 EVENTS = 900000
 
 # How often a process makes 64 events and a burst of 64 in turn: with 900,000 events before,

@@ -10,7 +10,7 @@ then for random accepted programs (accepted.py), it draws units, a budget and a
 predictor, and compares the picture and the status of `curve --emit svg --least` with
 those that the picture below gives for the rows of curve.py. The picture must be
 well-formed XML with no script and no reference outside; its style sheet and legend
-are taken as they stand in curve_picture/src/sheet.rt. What differs is told, and the
+are taken as they stand in speed_curve/src/sheet.rt. What differs is told, and the
 script ends with status 1. The other forms write the picture below: of a program, or
 of rows as they are given. It is no part of the tests.
 """
@@ -27,7 +27,7 @@ import curve
 import model
 
 TOP = pathlib.Path(__file__).resolve().parent.parent
-SHEET = (TOP / "crates/curve_picture/src/sheet.rt").read_text().split('"', 1)[1].rsplit('"', 1)[0]
+SHEET = (TOP / "crates/speed_curve/src/sheet.rt").read_text().split('"', 1)[1].rsplit('"', 1)[0]
 SVG = "{http://www.w3.org/2000/svg}"
 LEFT, WIDTH = 88, 1160
 ZERO, SPACE = 488, 88

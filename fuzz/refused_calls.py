@@ -33,10 +33,10 @@ TOP = HERE.parent
 EXAMPLES = TOP / "examples"
 CALLS = TOP / "crates" / "test_growths"
 NAME = "calls_of_libraries"
-BELOW = ("mips_instructions mips_plain task_descriptor annotated_asm source_map diagnostics text_diagnostics canonical_text canonical_round_trip task_graph "
-         "mask_certificate mark_checker annotator finding_paths mark_diagnostics input_diagnostics machine_events register_ring unit_core sequencer "
-         "parallel_check threaded_runner synchronous_runner event_script text_pieces shared_fetch jobs command_line verdict_report "
-         "task_lives run_summary run_picture event_trace event_json speed_curve curve_picture marks_in_text costly_marks diagnostic_log")
+BELOW = ("mips_instructions mips_plain task_descriptor annotated_asm diagnostics text_diagnostics canonical_text task_graph "
+         "mask_certificate mark_checker annotator finding_paths mark_diagnostics input_diagnostics machine_model register_ring unit_core sequencer "
+         "parallel_check threaded_runner unit_turns event_script text_pieces jobs command_line verdict_report "
+         "task_lives run_picture event_trace event_json speed_curve diagnostic_log")
 
 SOURCE = r"""
 #define _GNU_SOURCE

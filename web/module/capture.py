@@ -36,15 +36,19 @@ def start_with(toolchain, copy):
 
 
 def below(crate):
-    """The folders of the crates that a crate stands on, lower before upper, as crates.txt has them."""
+    """The folders of the crates that a crate stands on, lower before upper."""
     lines = (it.partition('#')[0].partition(':') for it in (crate.parent.parent / 'crates.txt').read_text().splitlines())
     needs = {head.split()[0]: rest.split() for head, colon, rest in lines if colon}
-    wanted, found = [crate.name], set()
-    while wanted:
-        new = {it for it in needs[wanted.pop()] if it in needs} - found
-        wanted += new
-        found |= new
-    return [crate.parent / it for it in needs if it in found]
+    found = []
+
+    def add_below(name):
+        for it in needs[name]:
+            if it in needs and it not in found:
+                add_below(it)
+                found.append(it)
+
+    add_below(crate.name)
+    return [crate.parent / it for it in found]
 
 
 def build_libraries(rt, crate):
