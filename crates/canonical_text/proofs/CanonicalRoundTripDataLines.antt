@@ -20,7 +20,7 @@ use Rattle.program_statements.specs.declared.statement.Section.{Section}
 use Rattle.program_statements.specs.declared.statement.Statement.{Statement}
 use Rattle.program_statements.specs.declared.statement.Statement.TheVariants as statement
 use Rattle.canonical_text.proofs.Spelling.{Reads, blank, joined, directive_stops, token as one_token}
-use Rattle.canonical_text.proofs.Pieces.{hexadecimal_reads}
+use Rattle.canonical_text.proofs.PiecesReadBack.{hexadecimal_reads}
 
 -- Directives.
 

@@ -10,7 +10,7 @@ mod LineSteps
 pub mod Spelling
 pub mod ByteTests
 pub mod Numerals
-pub mod Pieces
+pub mod PiecesReadBack
 pub mod Operations
 pub mod MarkedLines
 pub mod SetTexts

@@ -23,7 +23,7 @@ use Rattle.program_tokens.specs.declared.token.Number.TheVariants.{Small}
 use Rattle.canonical_text.specs.CanonicalText.{commas, spelled, based, register_text, members, place_named, place_text, operand_text, op_text, forward_text, stop_text}
 use Rattle.canonical_text.specs.Ranges.{IsHalf, IsOperandInRange, IsInRange}
 use Rattle.canonical_text.proofs.Spelling.{Reads, nothing, blank, joined, mark_stops, token as one_token}
-use Rattle.canonical_text.proofs.Pieces.{name_reads, register_reads, decimal_reads, signed_reads, index_reads, comma, opened, closed}
+use Rattle.canonical_text.proofs.PiecesReadBack.{name_reads, register_reads, decimal_reads, signed_reads, index_reads, comma, opened, closed}
 use Rattle.std.proofs.lemmas.List.{append-nil}
 use Rattle.std.proofs.Common.{subst}
 

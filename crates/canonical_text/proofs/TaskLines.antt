@@ -23,7 +23,7 @@ use Rattle.program_statements.specs.declared.statement.Target.{Target}
 use Rattle.program_statements.specs.declared.statement.Target.TheVariants as target
 use Rattle.program_statements.specs.declared.statement.Statement.{Statement}
 use Rattle.canonical_text.proofs.Spelling.{Reads, blank, joined, directive_stops, token as one_token}
-use Rattle.canonical_text.proofs.Pieces.{name_reads, equals, minus}
+use Rattle.canonical_text.proofs.PiecesReadBack.{name_reads, equals, minus}
 use Rattle.canonical_text.proofs.Operations.{ReadEach, done, more, comma_tokens, commas_read, register_tokens, registers_read, members_below, place_token_named, place_token, place_reads}
 use Rattle.canonical_text.proofs.SetTexts.{registers_back, members_back}
 use Rattle.canonical_text.proofs.Meanings.{target_named, target_of}

@@ -13,7 +13,7 @@ use Rattle.program_statements.specs.declared.statement.Section.{Section}
 use Rattle.program_statements.specs.declared.statement.Section.TheVariants as section
 use Rattle.program_statements.specs.declared.statement.Statement.TheVariants as statement
 use Rattle.canonical_text.proofs.Spelling.{blank, nothing, joined as joined_texts}
-use Rattle.canonical_text.proofs.Pieces.{name_reads, colon}
+use Rattle.canonical_text.proofs.PiecesReadBack.{name_reads, colon}
 use Rattle.canonical_text.proofs.Operations.{found_passes, op_reads, marks_read}
 use Rattle.canonical_text.proofs.Meanings.{is_named}
 use Rattle.canonical_text.specs.Ranges.{IsInRange}

@@ -1,3 +1,3 @@
 mod Silence
-mod Explaining
+mod SaidIsExplained
 mod Counting
