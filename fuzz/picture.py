@@ -1,19 +1,21 @@
 #!/usr/bin/env python3
 """Compares the pictures of runs with the lives of their scripts.
 
-    picture.py --svg FILE --script FILE [--units N]
+    picture.py --svg FILE --script FILE [--units N] [--count event|step]
     picture.py --program PROGRAM [FOLDER ..]
 
 The first form reads a picture and the event script that it shows. The second
 runs the built `multiscalar`: for each example that has a certificate it records
-runs on 1, 2, 4 and 16 units, and draws the replay of each; runs in steps are drawn, too. From the script alone,
-by a model of its own, this computes the lives of the tasks, the instructions, the
-registers passed on and the squashes. The picture must be well-formed XML with no
-script and no reference outside, and must have exactly these: for each life one bar
-with its task, unit, events, instructions and ending, at its place. Names may not
-be wider than their bars, nor bars of a unit overlap. Of a run of more than 2,000
-events it compares the height of each part of each column. What differs is told,
-and the script ends with status 1. It is no part of the tests.
+runs on 1, 2, 4 and 16 units, and draws the replay of each; runs in steps are drawn by
+events and by steps. From the script alone, by a model of its own, this computes the
+lives of the tasks, the instructions, the registers passed on and the squashes, by their
+events or steps. The picture must be well-formed XML with no script and no reference
+outside, and must have exactly these: for each life one bar with its task, unit, events
+or steps, instructions and ending, at its place. Names may not be wider than their bars,
+nor bars of a unit overlap. A picture of steps must have strips exactly where a unit has
+a task and does nothing, and no two that are neighbours and say the same. Of a run of
+more than 2,000 events or steps it compares the height of each part of each column. What
+differs is told, and the script ends with status 1. It is no part of the tests.
 """
 import argparse
 import collections
@@ -29,14 +31,27 @@ SVG = "{http://www.w3.org/2000/svg}"
 MOST_SINGLE = 2000
 LEFT, WIDTH = 88.0, 1160.0
 Life = collections.namedtuple("Life", "task unit first last executed ending")
-TITLE = re.compile(r"task (\w+), unit (\d+), events? (\d+)(?: to (\d+))?, instructions: (\d+), (\w+)")
+MOST_MARKED = 300
+TITLE = re.compile(r"task (\w+), unit (\d+), (?:event|step)s? (\d+)(?: to (\d+))?, instructions: (\d+), (\w+)")
+STRIP = re.compile(r"steps? (\d+)(?: to (\d+) \((\d+) steps\))?: (.+)")
 STRETCHES = 290
 
 
-def history_of(text, units):
-    """Lives, transfers (event, register, from, to) and squashes (event, unit); events count from 1."""
+def steps_of(text):
+    """The step of each event, from 1: an event of the head ends a step."""
+    active, step = 0, 1
+    for line in text.splitlines():
+        word, *rest = line.split()
+        yield step
+        at = active if word == "assign" else int(rest[0]) if rest else 0
+        step += at == 0
+        active = {"assign": active + 1, "squash": at + 1, "retire": active - 1, "drop": at}.get(word, active)
+
+
+def history_of(text, units, numbers):
+    """Lives, transfers (number, register, from, to) and squashes (number, unit), by the numbers of the events."""
     lives, passes, squashes, queue = [], [], [], []
-    for number, line in enumerate(text.splitlines(), 1):
+    for number, line in zip(numbers, text.splitlines()):
         word, *rest = line.split()
         if word == "assign":
             # the unit after that of the youngest task, or where the last head was
@@ -72,12 +87,13 @@ def end(queue, kept, number, ending):
     del queue[kept:]
 
 
-def faults_of(svg, script, units):
+def faults_of(svg, script, units, counted="event"):
     """What is wrong with a picture of a script."""
     root = tree.fromstring(svg)
-    events = len(script.splitlines())
+    numbers = list(steps_of(script)) if counted == "step" else range(1, len(script.splitlines()) + 1)
+    events = numbers[-1] if numbers else 0
     history_of.next = 0
-    lives, passes, squashes = history_of(script, units) if events else ([], [], [])
+    lives, passes, squashes = history_of(script, units, numbers) if events else ([], [], [])
     for element in root.iter():
         if element.tag in (SVG + "script", SVG + "image", SVG + "foreignObject"):
             yield f"an element {element.tag}"
@@ -88,21 +104,70 @@ def faults_of(svg, script, units):
         yield from stretch_faults(root, lives, events, units)
         return
     yield from bar_faults(root, lives, events)
-    yield from mark_faults(root, lives, passes, squashes)
+    has_room = counted == "event" or events <= MOST_MARKED
+    yield from mark_faults(root, lives if has_room else [], passes if has_room else [], squashes, counted)
+    if counted == "step":
+        yield from strip_faults(root, lives, events, script, units, numbers)
 
 
-def mark_faults(root, lives, passes, squashes):
+def strip_faults(root, lives, steps, script, units, numbers):
+    """A strip stands where a unit has a task in a step, and does nothing in it."""
+    busy = doers_of(script, units, numbers)
+    wanted = {(life.unit, step) for life in lives for step in range(life.first, life.last + 1)} - busy
+    if script and not ends_step(script):
+        wanted = {(unit, step) for unit, step in wanted if step < steps}
+    drawn, said = collections.Counter(), {}
+    for bar in root.iter(SVG + "rect"):
+        title = bar.find(SVG + "title")
+        if title is None or not bar.get("class").startswith("wait "):
+            continue
+        first, last, count, why = STRIP.fullmatch(title.text).groups()
+        first, last = int(first), int(last or first)
+        unit = int((float(bar.get("y")) - 152) // 68)
+        if int(count or 1) != last - first + 1:
+            yield f"a strip of steps {first} to {last} says {count}"
+        begin, behind = (LEFT + step * WIDTH / steps for step in (first - 1, last))
+        left, width = float(bar.get("x")), float(bar.get("width"))
+        if abs(left - begin) > 0.02 or abs(left + width - behind) > 0.04:
+            yield f"the strip of unit {unit}, steps {first} to {last} is at {left}, {width} wide"
+        drawn.update((unit, step) for step in range(first, last + 1))
+        if said.get((unit, first - 1)) == why:
+            yield f"two strips of unit {unit} that are neighbours at step {first} say the same"
+        said[unit, last] = why
+    if drawn != collections.Counter(wanted):
+        yield f"{sum(drawn.values())} steps of waiting, where there are {len(wanted)}, or others"
+
+
+def doers_of(text, units, numbers):
+    """Which unit does something in which step."""
+    busy, head, active = set(), 0, 0
+    for number, line in zip(numbers, text.splitlines()):
+        word, *rest = line.split()
+        at = active if word == "assign" else int(rest[0]) if rest else 0
+        busy.add(((head + at) % units, number))
+        head += word == "retire"
+        active = {"assign": active + 1, "squash": at + 1, "retire": active - 1, "drop": at}.get(word, active)
+    return busy
+
+
+def ends_step(text):
+    """Whether the last event ends a step."""
+    *_, last, behind = steps_of(text + "retire\n")
+    return behind > last
+
+
+def mark_faults(root, lives, passes, squashes, counted):
     told = [title.text for title in root.iter(SVG + "title")]
     for number, register, source, target in passes:
         wanted = 1 if target else 2
-        if told.count(f"event {number}: ${register} goes from unit {source} to unit {target}") != wanted:
-            yield f"no arrow of event {number}"
+        if told.count(f"{counted} {number}: ${register} goes from unit {source} to unit {target}") != wanted:
+            yield f"no arrow of {counted} {number}"
     arrows = sum("goes from unit" in text for text in told)
     if arrows != sum(1 if target else 2 for _, _, _, target in passes):
         yield f"{arrows} arrows of {len(passes)} transfers"
     for number, unit in squashes:
-        if told.count(f"event {number}: what follows unit {unit} is squashed") != 1:
-            yield f"no mark of the squash of event {number}"
+        if told.count(f"{counted} {number}: what follows unit {unit} is squashed") != 1:
+            yield f"no mark of the squash of {counted} {number}"
     ticks = sum(line.get("class", "").startswith("instruction") for line in root.iter(SVG + "line"))
     executed = sum(life.executed for life in lives)
     if ticks != executed:
@@ -114,16 +179,18 @@ def bar_faults(root, lives, events):
     rows = collections.defaultdict(list)
     for bar in root.iter(SVG + "rect"):
         title = bar.find(SVG + "title")
-        if title is None:
+        if title is None or bar.get("class").startswith("wait "):
             continue
         task, unit, first, last, executed, ending = TITLE.fullmatch(title.text).groups()
         life = Life(task, int(unit), int(first), int(last or first), int(executed), ending)
-        drawn.append(life)
         left, width = float(bar.get("x")), float(bar.get("width"))
         begin = LEFT + (life.first - 1) * WIDTH / events
         behind = LEFT + life.last * WIDTH / events
         if abs(left - begin) > 0.02 or abs(left + width - behind) > 0.04:
             yield f"the bar of {life} is at {left}, {width} wide"
+        if ending == "halted":
+            life = life._replace(ending="unfinished")
+        drawn.append(life)
         if bar.get("class") != ending:
             yield f"the bar of {life} looks {bar.get('class')}"
         rows[float(bar.get("y"))].append((left, left + width))
@@ -174,17 +241,20 @@ def accepts(program, folder):
 
 
 def pictures_of(program, folder):
-    """Pictures of runs of an example, with their scripts and numbers of units."""
+    """Pictures of runs of an example, with their scripts, numbers of units, and what they count."""
     texts = [folder / "program.s", folder / "certificate.cert2"]
     for units in (1, 2, 4, 16):
         script = run(program, "run", "--emit", "script", "--units", units, *texts)
         with tempfile.NamedTemporaryFile() as file:
             file.write(script)
             file.flush()
-            yield units, script.decode(), run(program, "replay", "--emit", "svg", "--units", units, *texts, file.name)
+            picture = run(program, "replay", "--emit", "svg", "--units", units, *texts, file.name)
+            yield units, script.decode(), picture, "event"
         # a run in steps is the same each time
         steps = ["run", "--schedule", "steps", "--units", units, *texts, "--emit"]
-        yield units, run(program, *steps, "script").decode(), run(program, *steps, "svg")
+        script = run(program, *steps, "script").decode()
+        yield units, script, run(program, *steps, "svg", "--axis", "events"), "event"
+        yield units, script, run(program, *steps, "svg"), "step"
 
 
 def main():
@@ -193,10 +263,11 @@ def main():
     options.add_argument("--svg", type=pathlib.Path)
     options.add_argument("--script", type=pathlib.Path)
     options.add_argument("--units", type=int, default=4)
+    options.add_argument("--count", choices=("event", "step"), default="event")
     options.add_argument("folders", metavar="FOLDER", type=pathlib.Path, nargs="*")
     given = options.parse_args()
     if given.svg and given.script:
-        cases = [(given.svg.name, given.units, given.script.read_text(), given.svg.read_bytes())]
+        cases = [(given.svg.name, given.units, given.script.read_text(), given.svg.read_bytes(), given.count)]
     elif given.program:
         folders = given.folders or sorted(
             path.parent for path in TOP.glob("examples/*/certificate.cert2") if accepts(given.program, path.parent))
@@ -204,11 +275,11 @@ def main():
     else:
         options.error("give --svg and --script, or --program")
     seen, failed = 0, 0
-    for name, units, script, svg in cases:
+    for name, units, script, svg, counted in cases:
         seen += 1
-        for fault in faults_of(svg, script, units):
+        for fault in faults_of(svg, script, units, counted):
             failed += 1
-            print(f"{name} on {units} units: {fault}")
+            print(f"{name} on {units} units, by {counted}s: {fault}")
     print(f"{seen} pictures, {failed} faults")
     sys.exit(1 if failed else 0)
 

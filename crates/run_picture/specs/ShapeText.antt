@@ -10,6 +10,8 @@ use Rattle.run_picture.specs.declared.shape.Style.{Style}
 use Rattle.run_picture.specs.declared.shape.Style.TheVariants.{Heading, Quiet, Ground, UnitName, Grid, Axis, AxisNumber, Caption, Bar, Share, TaskName, Instruction, FineInstruction, Arrow, FineArrow, RegisterName, SquashMark, Halted, WaitForRegister, WaitForTurn, WaitToPass}
 use Rattle.run_picture.specs.declared.shape.Form.{Form}
 use Rattle.run_picture.specs.declared.shape.Form.TheVariants.{Rectangle, Line, Wedge, Label}
+use Rattle.run_picture.specs.declared.shape.Counted.{Counted}
+use Rattle.run_picture.specs.declared.shape.Counted.TheVariants as counted
 use Rattle.run_picture.specs.declared.shape.Hover.{Hover}
 use Rattle.run_picture.specs.declared.shape.Hover.TheVariants.{Nothing, OfLife, OfTransfer, OfSquash}
 use Rattle.run_picture.specs.Scales.{pixels_text}
@@ -80,14 +82,22 @@ abbrev pub life_text : (name : List ℕ) → Life → List ℕ
 life_text name life =
     place_text name life.unit ++ (span_text (life.first + 1) (life.last + 1) ++ course_text life.executed (ending_text life.ending))
 
+-- the event or the step in which something comes
+abbrev pub counted_text : Counted → List ℕ
+counted_text counted.Events = codes "event"
+counted_text counted.Steps = codes "step"
+
+abbrev pub when_text : Counted → (number : ℕ) → List ℕ
+when_text counts number = codes "<title>" ++ (counted_text counts ++ (codes " " ++ (decimal number ++ codes ": ")))
+
 abbrev pub hover_text : List Descriptor → Hover → List ℕ
 hover_text tasks Nothing = []
 hover_text tasks (OfLife life) = life_text (name_of tasks life.task) life
-hover_text tasks (OfTransfer number register from unit) =
-    codes "<title>event " ++ (decimal number ++ (codes ": $" ++ (decimal register ++ (codes " goes from unit " ++ (decimal from
-    ++ (codes " to unit " ++ (decimal unit ++ codes "</title>")))))))
-hover_text tasks (OfSquash number unit) =
-    codes "<title>event " ++ (decimal number ++ (codes ": what follows unit " ++ (decimal unit ++ codes " is squashed</title>")))
+hover_text tasks (OfTransfer counts number register from unit) =
+    when_text counts number
+    ++ (codes "$" ++ (decimal register ++ (codes " goes from unit " ++ (decimal from ++ (codes " to unit " ++ (decimal unit ++ codes "</title>"))))))
+hover_text tasks (OfSquash counts number unit) =
+    when_text counts number ++ (codes "what follows unit " ++ (decimal unit ++ codes " is squashed</title>"))
 
 -- what a label says, and the closing tag
 abbrev pub end_text : List Descriptor → Form → List ℕ

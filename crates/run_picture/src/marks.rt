@@ -6,7 +6,7 @@ ghost use Rattle.machine_model.specs.HeadEvent.{retired_after, unit_of};
 ghost use Rattle.run_picture.specs.Marks.{arrow_of, arrows_of, by_room as style_by_room, marks_at, marks_of, register_of, squash_of, tick_of, transfer_of, unit_before};
 
 use crate::scale::{BAR_HEIGHT, middle, room, top};
-use crate::shape::{Form, Hover, Shape, Style, Words};
+use crate::shape::{Counted, Form, Hover, Shape, Style, Words};
 use machine_model::event::Event;
 use std::alloc::AllocError;
 
@@ -29,7 +29,16 @@ pub(crate) fn push_marks(
 {
     let mut retired: u32 = 0;
     for (index, event) in events.iter().enumerate() {
-        push_mark(shapes, units, count, retired, index as u32, *event)?;
+        let number = index as u32 + 1;
+        push_mark(
+            shapes,
+            Counted::Events,
+            units,
+            count,
+            retired,
+            number,
+            *event,
+        )?;
         retired = retired_with(retired, *event);
     }
     Ok(())
@@ -47,32 +56,33 @@ pub fn retired_with(retired: u32, event: Event) -> u32
     }
 }
 
-/// Adds the marks of an event, before which so many tasks retired.
-fn push_mark(
+/// Adds the marks of an event, before which so many tasks retired, in the room of this number, from 1, of so many events
+/// or steps. An error says that memory was refused.
+pub fn push_mark(
     shapes: &mut Vec<Shape>,
+    counted: Counted,
     units: u32,
     count: u32,
     retired: u32,
-    index: u32,
+    number: u32,
     event: Event,
 ) -> Result<(), AllocError>
     requires some { 0 < units }
-    requires few { index < 2 ^ 31 }
-    ensures { OnOk result (shapes.new.items ≡ shapes.old.items ++ marks_at units count index (unit_of units retired 0 event) event) }
+    ensures { OnOk result (shapes.new.items ≡ shapes.old.items ++ marks_at counted units count number (unit_of units retired 0 event) event) }
 {
     match event {
         Event::Exec(position) => {
             let unit = unit_at(units, retired, position);
-            shapes.push(tick(count, index, unit))?;
+            shapes.push(tick(count, number, unit))?;
             Ok(())
         }
         Event::Transfer(position, register) => {
             let unit = unit_at(units, retired, position);
-            push_transfer(shapes, units, count, index, unit, register.get())
+            push_transfer(shapes, counted, units, count, number, unit, register.get())
         }
         Event::Squash(position) => {
             let unit = unit_at(units, retired, position);
-            shapes.push(squash(count, index, unit))?;
+            shapes.push(squash(counted, count, number, unit))?;
             Ok(())
         }
         _ => Ok(()),
@@ -97,45 +107,44 @@ fn by_room(count: u32, fine: Style, full: Style) -> Style
 }
 
 /// A tick in the lower part of the unit's bar.
-fn tick(count: u32, index: u32, unit: u32) -> Shape
-    ensures { result ≡ tick_of count index unit }
+fn tick(count: u32, number: u32, unit: u32) -> Shape
+    ensures { result ≡ tick_of count number unit }
 {
-    let x = middle(count, index);
+    let x = middle(count, number.saturating_sub(1));
     let y = top(unit) + BAR_HEIGHT;
     let style = by_room(count, Style::FineInstruction, Style::Instruction);
     Shape::plain(style, Form::Line(x, y - 1_300, x, y - 400))
 }
 
 /// A mark above the bar of the unit behind which a squash begins.
-fn squash(count: u32, index: u32, unit: u32) -> Shape
-    requires { index < 2 ^ 31 }
-    ensures { result ≡ squash_of count index unit }
+fn squash(counted: Counted, count: u32, number: u32, unit: u32) -> Shape
+    ensures { result ≡ squash_of counted count number unit }
 {
-    let x = middle(count, index);
+    let x = middle(count, number.saturating_sub(1));
     Shape {
         style: Style::SquashMark,
         form: Form::Wedge(x.saturating_sub(700), top(unit) - 900),
-        hover: Hover::OfSquash(index + 1, unit),
+        hover: Hover::OfSquash(counted, number, unit),
     }
 }
 
 /// Adds the arrow of a register to the unit that takes it, and the register's number where there is room.
 fn push_transfer(
     shapes: &mut Vec<Shape>,
+    counted: Counted,
     units: u32,
     count: u32,
-    index: u32,
+    number: u32,
     unit: u32,
     register: u8,
 ) -> Result<(), AllocError>
     requires some { 0 < units }
-    requires few { index < 2 ^ 31 }
-    ensures { OnOk result (shapes.new.items ≡ shapes.old.items ++ transfer_of units count index unit register) }
+    ensures { OnOk result (shapes.new.items ≡ shapes.old.items ++ transfer_of counted units count number unit register) }
 {
     let from = before(units, unit);
-    let hover = Hover::OfTransfer(index + 1, register, from, unit);
-    push_arrows(shapes, count, index, hover, from, unit)?;
-    push_register(shapes, count, index, unit, register)
+    let hover = Hover::OfTransfer(counted, number, register, from, unit);
+    push_arrows(shapes, count, number, hover, from, unit)?;
+    push_register(shapes, count, number, unit, register)
 }
 
 /// The unit before a unit round the ring.
@@ -150,29 +159,29 @@ fn before(units: u32, unit: u32) -> u32
 fn push_arrows(
     shapes: &mut Vec<Shape>,
     count: u32,
-    index: u32,
+    number: u32,
     hover: Hover,
     from: u32,
     unit: u32,
 ) -> Result<(), AllocError>
-    ensures { OnOk result (shapes.new.items ≡ shapes.old.items ++ arrows_of count index hover from unit) }
+    ensures { OnOk result (shapes.new.items ≡ shapes.old.items ++ arrows_of count number hover from unit) }
 {
     let y = top(unit);
     if unit == 0 {
         let leaves = top(from) + BAR_HEIGHT;
-        shapes.push(arrow(count, index, hover, leaves, leaves + 1_400))?;
-        shapes.push(arrow(count, index, hover, y - 1_400, y))?;
+        shapes.push(arrow(count, number, hover, leaves, leaves + 1_400))?;
+        shapes.push(arrow(count, number, hover, y - 1_400, y))?;
     } else {
-        shapes.push(arrow(count, index, hover, y - 2_800, y))?;
+        shapes.push(arrow(count, number, hover, y - 2_800, y))?;
     }
     Ok(())
 }
 
 /// An arrow down at the middle of an event's room.
-fn arrow(count: u32, index: u32, hover: Hover, top: u64, bottom: u64) -> Shape
-    ensures { result ≡ arrow_of count index hover top bottom }
+fn arrow(count: u32, number: u32, hover: Hover, top: u64, bottom: u64) -> Shape
+    ensures { result ≡ arrow_of count number hover top bottom }
 {
-    let x = middle(count, index);
+    let x = middle(count, number.saturating_sub(1));
     Shape {
         style: by_room(count, Style::FineArrow, Style::Arrow),
         form: Form::Line(x, top, x, bottom),
@@ -184,16 +193,16 @@ fn arrow(count: u32, index: u32, hover: Hover, top: u64, bottom: u64) -> Shape
 fn push_register(
     shapes: &mut Vec<Shape>,
     count: u32,
-    index: u32,
+    number: u32,
     unit: u32,
     register: u8,
 ) -> Result<(), AllocError>
-    ensures { OnOk result (shapes.new.items ≡ shapes.old.items ++ register_of count index unit register) }
+    ensures { OnOk result (shapes.new.items ≡ shapes.old.items ++ register_of count number unit register) }
 {
     if room(count) < ROOM_OF_REGISTER {
         return Ok(());
     }
-    let x = middle(count, index) + 500;
+    let x = middle(count, number.saturating_sub(1)) + 500;
     let form = Form::Label(x, top(unit) - 900, Words::Register(register));
     shapes.push(Shape::plain(Style::RegisterName, form))?;
     Ok(())

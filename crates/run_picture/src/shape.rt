@@ -79,6 +79,15 @@ pub enum Words {
     StretchOfSteps(u32),
 }
 
+/// What a picture counts from left to right.
+#[derive(Clone, Copy, Debug, PartialEq, Eq)]
+pub enum Counted {
+    /// Events.
+    Events,
+    /// Steps.
+    Steps,
+}
+
 /// What is said of a shape where a pointer rests on it.
 #[derive(Clone, Copy, Debug, PartialEq, Eq)]
 pub enum Hover {
@@ -86,10 +95,10 @@ pub enum Hover {
     Nothing,
     /// A life.
     OfLife(Life),
-    /// By this event, numbered from 1, a register goes from one unit to another.
-    OfTransfer(u32, u8, u32, u32),
-    /// By this event, numbered from 1, what follows a unit is squashed.
-    OfSquash(u32, u32),
+    /// In this event or step, numbered from 1, a register goes from one unit to another.
+    OfTransfer(Counted, u32, u8, u32, u32),
+    /// In this event or step, numbered from 1, what follows a unit is squashed.
+    OfSquash(Counted, u32, u32),
 }
 
 /// The form of a shape.

@@ -2,11 +2,11 @@
 
 ghost use Rattle.std.specs.Prelude.{◌≡◌, ◌+◌, ◌++◌, OnOk};
 ghost use Rattle.std.specs.String.{string_bytes};
-ghost use Rattle.run_picture.specs.ShapeText.{beginning_text, course_text, end_text, ending_text, hover_text, life_text, place_text, shape_text, shapes_text, share_text, span_text, style_text};
+ghost use Rattle.run_picture.specs.ShapeText.{beginning_text, counted_text, course_text, end_text, ending_text, hover_text, life_text, place_text, shape_text, shapes_text, share_text, span_text, style_text, when_text};
 
 use crate::bars::name_of;
 use crate::pixels::Pixels;
-use crate::shape::{Form, Hover, Shape, Style};
+use crate::shape::{Counted, Form, Hover, Shape, Style};
 use crate::words_text::write_words;
 use std::alloc::AllocError;
 use task_descriptor::descriptor::Descriptor;
@@ -90,14 +90,35 @@ fn write_hover(text: &mut String, tasks: &[Descriptor], hover: Hover) -> Result<
     match hover {
         Hover::Nothing => Ok(()),
         Hover::OfLife(life) => write_life(text, name_of(tasks, life.task), life),
-        Hover::OfTransfer(number, register, from, to) => write!(
-            text,
-            "<title>event {number}: ${register} goes from unit {from} to unit {to}</title>"
-        ),
-        Hover::OfSquash(number, unit) => write!(
-            text,
-            "<title>event {number}: what follows unit {unit} is squashed</title>"
-        ),
+        Hover::OfTransfer(counted, number, register, from, to) => {
+            write_when(text, counted, number)?;
+            write!(
+                text,
+                "${register} goes from unit {from} to unit {to}</title>"
+            )
+        }
+        Hover::OfSquash(counted, number, unit) => {
+            write_when(text, counted, number)?;
+            write!(text, "what follows unit {unit} is squashed</title>")
+        }
+    }
+}
+
+/// Writes in which event or step something comes, as the beginning of what is said of it.
+fn write_when(text: &mut String, counted: Counted, number: u32) -> Result<(), AllocError>
+    ensures { OnOk result (string_bytes text.new ≡ string_bytes text.old ++ when_text counted number) }
+{
+    let counted = word_of_counted(counted);
+    write!(text, "<title>{counted} {number}: ")
+}
+
+/// The word for an event or a step.
+fn word_of_counted(counted: Counted) -> &'static str
+    ensures { result.now ≡ counted_text counted }
+{
+    match counted {
+        Counted::Events => "event",
+        Counted::Steps => "step",
     }
 }
 

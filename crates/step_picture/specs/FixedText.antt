@@ -17,10 +17,12 @@ style_sheet = lines_text (
     ∷ codes ".retired,.halted{fill:#cfe8d5;stroke:#2f6b4a}.squashed{fill:url(#hatched);stroke:#b0402a}.dropped{fill:url(#dotted);stroke:#7d5f10}"
     ∷ codes ".unfinished{fill:#d8e4f5;stroke:#34588f;stroke-dasharray:5 3}.retired,.squashed,.dropped,.unfinished{stroke-width:1.5}.halted{stroke-width:4}"
     ∷ codes ".share{stroke:none}.share,.wait{shape-rendering:crispEdges}.needs{fill:#d9822b}.turn{fill:url(#upright)}.pass{fill:url(#level)}.squash{fill:#b0402a;stroke:#fff}"
+    ∷ codes ".instruction{stroke:#1f2933;stroke-width:1.6}.transfer{stroke:#52606d;stroke-width:1.3;marker-end:url(#head);pointer-events:stroke}.head,.register{fill:#52606d}.register{font-size:12px}"
     ∷ codes ".rose{fill:#fae3dc}.red{stroke:#e09a86}.sand{fill:#f6edd0}.ochre{fill:#a98a35}.mist{fill:#e4e9ee}.slate{stroke:#52606d}.lilac{fill:#eadcf8}.violet{stroke:#7a4fb0}"
     ∷ codes "@media (prefers-color-scheme:dark){"
     ∷ codes "text{fill:#e4e9ee}.quiet,.caption,.number{fill:#9aa7b4}.task{stroke:#1c2229}.paper,.idle{fill:#1c2229}.idle,.grid{stroke:#38424d}.lane{fill:#232b33}"
     ∷ codes ".retired,.halted{fill:#214a33;stroke:#6fd198}.squashed{stroke:#ff9d94}.dropped{stroke:#d8b45a}.unfinished{fill:#22344f;stroke:#7fb0ff}.needs{fill:#f0a04b}.squash{fill:#ff9d94;stroke:#1c2229}"
+    ∷ codes ".instruction{stroke:#e4e9ee}.transfer{stroke:#9aa7b4}.head,.register{fill:#9aa7b4}"
     ∷ codes ".rose{fill:#4a2220}.red{stroke:#b3564a}.sand{fill:#40361a}.mist{fill:#38424d}.slate{stroke:#c3ccd5}.lilac{fill:#3a2a52}.violet{stroke:#c9a2f5}"
     ∷ codes "}"
     ∷ codes "</style>"
@@ -29,6 +31,7 @@ style_sheet = lines_text (
     ∷ codes "<pattern id='dotted' width='7' height='7' patternUnits='userSpaceOnUse'><path class='sand' d='M0 0H7V7H0Z'/><circle class='ochre' cx='2' cy='2' r='1.2'/><circle class='ochre' cx='5.5' cy='5.5' r='1.2'/></pattern>"
     ∷ codes "<pattern id='upright' width='5' height='5' patternUnits='userSpaceOnUse'><path class='mist' d='M0 0H5V5H0Z'/><path class='slate' d='M1 0V5' stroke-width='2'/></pattern>"
     ∷ codes "<pattern id='level' width='5' height='5' patternUnits='userSpaceOnUse'><path class='lilac' d='M0 0H5V5H0Z'/><path class='violet' d='M0 1H5' stroke-width='2'/></pattern>"
+    ∷ codes "<marker id='head' viewBox='0 0 8 8' refX='7' refY='4' markerWidth='7' markerHeight='7' markerUnits='userSpaceOnUse' orient='auto'><path class='head' d='M0 .8 7.4 4 0 7.2z'/></marker>"
     ∷ codes "</defs>"
     ∷ codes "<path class='paper' d='M0 0H1280V9999H0Z'/>"
     ∷ codes "<g>"
@@ -46,7 +49,13 @@ single_legend = lines_text (
     ∷ codes "<rect class='wait needs' x='88' y='122' width='28' height='13'/><text x='124' y='133'>waits for a register</text>"
     ∷ codes "<rect class='wait turn' x='316' y='122' width='28' height='13'/><text x='352' y='133'>waits to be the head</text>"
     ∷ codes "<rect class='wait pass' x='564' y='122' width='28' height='13'/><text x='600' y='133'>has to pass a register on</text>"
-    ∷ codes "</g>"
+    ∷ [])
+
+-- what the marks of the events look like
+unfoldable pub marks_legend : List ℕ
+marks_legend = lines_text (
+    codes "<path class='instruction' d='M810 97v10M816 97v10M822 97v10'/><text x='832' y='107'>instruction</text>"
+    ∷ codes "<path class='transfer' d='M802 120V137'/><text x='814' y='133'>register to the next unit; from the last one, to unit 0</text>"
     ∷ [])
 
 -- what else is in a picture of stretches
@@ -54,5 +63,4 @@ unfoldable pub summed_legend : List ℕ
 summed_legend = lines_text (
     codes "<rect class='unfinished' x='430' y='94' width='28' height='16'/><text x='466' y='107'>unfinished, or halted</text>"
     ∷ codes "<rect class='idle' x='630' y='94' width='28' height='16'/><text x='666' y='107'>no task</text>"
-    ∷ codes "</g>"
     ∷ [])

@@ -1,8 +1,9 @@
 pub mod Numbers
 pub mod Bars
 pub mod Strips
-pub mod Squashes
+pub mod Marks
 pub mod SaidText
 pub mod FixedText
+pub mod PredictorText
 pub mod StepPicture
 pub mod Examples

@@ -1,15 +1,15 @@
 -- What is said of shapes where a pointer rests on them, and the SVG element of such a shape.
 use Rattle.std.specs.Fmt.{decimal}
-use Rattle.std.specs.Prelude.{ℕ, ◌+◌, List, ◌++◌, Bool, codes, nat_eq, if◌then◌else◌}
+use Rattle.std.specs.Prelude.{ℕ, ◌+◌, ◌-◌, List, ◌++◌, Bool, codes, nat_eq, if◌then◌else◌}
 use Rattle.task_descriptor.specs.declared.descriptor.Descriptor.{Descriptor}
 use Rattle.task_lives.specs.declared.life.Life.{Life}
 use Rattle.unit_waits.specs.declared.waiting.Owed.{Owed}
 use Rattle.unit_waits.specs.declared.waiting.Reason.{Reason}
 use Rattle.unit_waits.specs.declared.waiting.Reason.TheVariants.{NeedsRegister, NeedsHead, HasToPass, HasFinished, CouldGoOn}
-use Rattle.unit_waits.specs.declared.waiting.Waiting.{Waiting}
 use Rattle.run_picture.specs.Bars.{name_of}
 use Rattle.run_picture.specs.ShapeText.{beginning_text, course_text, end_text, ending_text, place_text, style_text}
 use Rattle.run_picture.specs.declared.shape.Shape.{Shape}
+use Rattle.step_picture.specs.declared.strip.Strip.{Strip}
 
 -- ---- a life, whose steps are numbered from 1 here
 
@@ -24,7 +24,7 @@ abbrev pub life_text : (name : List ℕ) → Life → (is_halted : Bool) → Lis
 life_text name life is_halted =
     place_text name life.unit ++ (span_text (life.first + 1) (life.last + 1) ++ course_text life.executed (life_ending life is_halted))
 
--- ---- a wait
+-- ---- a stretch of waiting
 
 -- what is done for a register, and who owes it
 abbrev pub owing_text : (is_sent : Bool) → List ℕ
@@ -41,20 +41,17 @@ reason_text tasks (HasToPass r owed) = owed_text (codes "has to pass on") r (nam
 reason_text tasks HasFinished = codes "has finished, and waits to be the head"
 reason_text tasks CouldGoOn = codes "could go on"
 
-abbrev pub step_text : (step : ℕ) → List ℕ
-step_text step = codes "<title>step " ++ (decimal step ++ codes ": ")
+-- one step, or the first, the last, and how many there are
+abbrev pub steps_text : (first last : ℕ) → List ℕ
+steps_text first last =
+    if nat_eq first last then codes "<title>step " ++ (decimal first ++ codes ": ")
+    else codes "<title>steps " ++ (decimal first ++ (codes " to " ++ (decimal last ++ (codes " (" ++ (decimal (last + 1 - first) ++ codes " steps): ")))))
 
 abbrev pub why_text : List Descriptor → Reason → List ℕ
 why_text tasks reason = reason_text tasks reason ++ codes "</title>"
 
-abbrev pub waiting_text : List Descriptor → Waiting → List ℕ
-waiting_text tasks w = step_text w.step ++ why_text tasks w.reason
-
--- ---- a squash
-
-abbrev pub squashed_text : (step unit : ℕ) → List ℕ
-squashed_text step unit =
-    codes "<title>step " ++ (decimal step ++ (codes ": what follows unit " ++ (decimal unit ++ codes " is squashed</title>")))
+abbrev pub waited_text : List Descriptor → Strip → List ℕ
+waited_text tasks s = steps_text s.first.step s.last ++ why_text tasks s.first.reason
 
 -- ---- the element of a shape of which this is said
 abbrev pub element_text : List Descriptor → Shape → (said : List ℕ) → List ℕ

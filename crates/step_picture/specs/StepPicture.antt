@@ -12,6 +12,7 @@ use Rattle.task_lives.specs.declared.tally.Tally.{Tally}
 use Rattle.task_lives.specs.Tallies.{tally_of}
 use Rattle.unit_waits.specs.declared.waiting.Waiting.{Waiting}
 use Rattle.unit_waits.specs.Waits.{waits}
+use Rattle.jobs.specs.declared.job.Prediction.{Prediction}
 use Rattle.run_picture.specs.declared.shape.Shape.{Shape}
 use Rattle.run_picture.specs.declared.shape.Style.TheVariants.{Axis, Caption}
 use Rattle.run_picture.specs.declared.shape.Words.TheVariants.{Steps, OneEvent, StretchOfSteps}
@@ -26,8 +27,9 @@ use Rattle.run_picture.specs.Picture.{height_of, root_text}
 use Rattle.step_picture.specs.Numbers.{all_in_steps, count_of, steps_of}
 use Rattle.step_picture.specs.Bars.{bars_text, halted_unit}
 use Rattle.step_picture.specs.Strips.{strips_text}
-use Rattle.step_picture.specs.Squashes.{squashes_text}
-use Rattle.step_picture.specs.FixedText.{style_sheet, single_legend, summed_legend}
+use Rattle.step_picture.specs.Marks.{marks_of}
+use Rattle.step_picture.specs.PredictorText.{predictor_text}
+use Rattle.step_picture.specs.FixedText.{style_sheet, single_legend, marks_legend, summed_legend}
 
 -- ---- the frame
 
@@ -43,11 +45,11 @@ frame_of units count = lanes_of units ++ axis_of units count
 
 -- ---- inside it, by the lives in steps
 
--- a bar for each life, a strip for each wait, and a mark for each squash
+-- a bar for each life, the strips of the waits, and the marks of the events
 abbrev pub drawn_text : List Descriptor → (units count halted : ℕ) → (steps : List ℕ) → List Event → List Life → List Waiting → List ℕ
 drawn_text tasks units count halted steps history lives waited =
     bars_text tasks count halted lives
-    ++ (strips_text tasks count waited ++ squashes_text tasks units count steps history)
+    ++ (strips_text tasks units count waited ++ shapes_text tasks (marks_of units count steps history))
 
 -- the names of the tasks on the bars
 abbrev pub labels_of : List Descriptor → (units count : ℕ) → List Life → List Shape
@@ -78,10 +80,14 @@ abbrev pub called_text : (units count : ℕ) → List ℕ
 called_text units count = codes "<title>" ++ (title_text units count ++ (codes "</title>" ++ 10 ∷ []))
 
 abbrev pub legend_text : (count : ℕ) → List ℕ
-legend_text count = if nat_le count 2000 then single_legend else summed_legend
+legend_text count =
+    if nat_le count 300 then single_legend ++ marks_legend else if nat_le count 2000 then single_legend else summed_legend
+
+abbrev pub ended_legend : (count : ℕ) → List ℕ
+ended_legend count = legend_text count ++ (codes "</g>" ++ 10 ∷ [])
 
 abbrev pub sheet_text : (count : ℕ) → List ℕ
-sheet_text count = style_sheet ++ legend_text count
+sheet_text count = style_sheet ++ ended_legend count
 
 abbrev pub heading_text : (units count : ℕ) → List ℕ
 heading_text units count = codes "<text class='title' x='88' y='46'>" ++ (title_text units count ++ (codes "</text>" ++ 10 ∷ []))
@@ -96,35 +102,41 @@ ending_text (standing.Unlisted at) = codes "is unlisted"
 abbrev pub outcome_text : Tally → (ending : List ℕ) → List ℕ
 outcome_text tally ending =
     codes "<text class='quiet' x='88' y='72'>tasks retired: " ++ (decimal tally.retired ++ (codes ", squashed: " ++ (decimal tally.squashed
-    ++ (codes "; the run " ++ (ending ++ (codes "</text>" ++ 10 ∷ []))))))
+    ++ (codes "; the run " ++ ending))))
 
-abbrev pub lines_text : (units count : ℕ) → Standing → Tally → List ℕ
-lines_text units count standing tally = heading_text units count ++ outcome_text tally (ending_text standing)
+abbrev pub predicted_text : Prediction → List ℕ
+predicted_text predict = codes "; predictor: " ++ (predictor_text predict ++ (codes "</text>" ++ 10 ∷ []))
+
+-- what came of the tasks and of the run, and the predictor
+abbrev pub caption_text : Prediction → Standing → Tally → List ℕ
+caption_text predict standing tally = outcome_text tally (ending_text standing) ++ predicted_text predict
+
+abbrev pub lines_text : (units count : ℕ) → Prediction → Standing → Tally → List ℕ
+lines_text units count predict standing tally = heading_text units count ++ caption_text predict standing tally
 
 abbrev pub front_text : (units count : ℕ) → List ℕ
 front_text units count = root_text (height_of units) ++ (called_text units count ++ sheet_text count)
 
-abbrev pub opening_text : (units count : ℕ) → Standing → Tally → List ℕ
-opening_text units count standing tally = front_text units count ++ lines_text units count standing tally
+abbrev pub opening_text : (units count : ℕ) → Prediction → Standing → Tally → List ℕ
+opening_text units count predict standing tally = front_text units count ++ lines_text units count predict standing tally
 
 -- ---- the text of a history, by the steps of its events, the lives in steps, and the tally of the lives
 abbrev pub closing : List ℕ
 closing = codes "</svg>" ++ 10 ∷ []
 
-abbrev pub body_text : Listing → (units count halted : ℕ) → (steps : List ℕ) → List Event → List Life → List ℕ
-body_text p units count halted steps history lives =
-    shapes_text p.tasks (frame_of units count)
-    ++ (inner_text p units count halted steps history lives ++ closing)
+abbrev pub head_text : List Descriptor → (units count : ℕ) → Prediction → Standing → Tally → List ℕ
+head_text tasks units count predict standing tally =
+    opening_text units count predict standing tally ++ shapes_text tasks (frame_of units count)
 
-abbrev pub file_text : Listing → (units count : ℕ) → Standing → (steps : List ℕ) → List Event → List Life → Tally → List ℕ
-file_text p units count standing steps history lives tally =
-    opening_text units count standing tally
-    ++ body_text p units count (halted_unit units tally.retired standing) steps history lives
+abbrev pub file_text : Listing → (units count : ℕ) → Prediction → Standing → (steps : List ℕ) → List Event → List Life → Tally → List ℕ
+file_text p units count predict standing steps history lives tally =
+    head_text p.tasks units count predict standing tally
+    ++ (inner_text p units count (halted_unit units tally.retired standing) steps history lives ++ closing)
 
-abbrev pub text_by : Listing → (units : ℕ) → Standing → (steps : List ℕ) → List Event → List Life → List ℕ
-text_by p units standing steps history lives =
-    file_text p units (count_of steps) standing steps history (all_in_steps steps lives) (tally_of lives)
+abbrev pub text_by : Listing → (units : ℕ) → Prediction → Standing → (steps : List ℕ) → List Event → List Life → List ℕ
+text_by p units predict standing steps history lives =
+    file_text p units (count_of steps) predict standing steps history (all_in_steps steps lives) (tally_of lives)
 
--- the whole text, of a history of a program on so many units that then stands so
-unfoldable pub step_picture_text : Listing → (units : ℕ) → Standing → (history : List Event) → List ℕ
-step_picture_text p units standing history = text_by p units standing (steps_of history) history (lives_of units history)
+-- the whole text, of a history of a program on so many units that was predicted so, and then stands so
+unfoldable pub step_picture_text : Listing → (units : ℕ) → Prediction → Standing → (history : List Event) → List ℕ
+step_picture_text p units predict standing history = text_by p units predict standing (steps_of history) history (lives_of units history)

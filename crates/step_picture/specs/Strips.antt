@@ -1,7 +1,9 @@
--- Why units wait, as strips in the lower part of their bars: one for each wait of the table of waits, as wide as its
--- step (own choice).
-use Rattle.std.specs.Prelude.{ℕ, ◌+◌, ◌-◌, List, [], flat_map, Option, Some, None}
+-- Why units wait, as strips in the lower part of their bars: one for each stretch of steps in which a unit waits for one
+-- reason (own choice).
+use Rattle.std.specs.Prelude.{ℕ, ◌+◌, ◌-◌, List, [], ◌∷◌, ◌++◌, Bool, true, false, not, ◌&&◌, filter, flat_map, nat_eq, if◌then◌else◌, Option, Some, None}
+use Rattle.std.specs.List.{range_with_len}
 use Rattle.task_descriptor.specs.declared.descriptor.Descriptor.{Descriptor}
+use Rattle.unit_waits.specs.declared.waiting.Owed.{Owed}
 use Rattle.unit_waits.specs.declared.waiting.Reason.{Reason}
 use Rattle.unit_waits.specs.declared.waiting.Reason.TheVariants.{NeedsRegister, NeedsHead, HasToPass, HasFinished, CouldGoOn}
 use Rattle.unit_waits.specs.declared.waiting.Waiting.{Waiting}
@@ -10,7 +12,47 @@ use Rattle.run_picture.specs.declared.shape.Style.{Style}
 use Rattle.run_picture.specs.declared.shape.Style.TheVariants.{WaitForRegister, WaitForTurn, WaitToPass}
 use Rattle.run_picture.specs.Scales.{left_edge_of, top_of}
 use Rattle.run_picture.specs.Shapes.{rectangle}
-use Rattle.step_picture.specs.SaidText.{element_text, waiting_text}
+use Rattle.step_picture.specs.declared.strip.Strip.{Strip}
+use Rattle.step_picture.specs.SaidText.{element_text, waited_text}
+
+-- the same register, owed by the same task on the same unit, which both times has sent it or has not
+abbrev pub is_one_debt : (r : ℕ) → Owed → (q : ℕ) → Owed → Bool
+is_one_debt r o q d = nat_eq r q && nat_eq o.task d.task && nat_eq o.unit d.unit && (if o.is_sent then d.is_sent else not d.is_sent)
+
+abbrev pub is_one_reason : Reason → Reason → Bool
+is_one_reason (NeedsRegister r o) (NeedsRegister q d) = is_one_debt r o q d
+is_one_reason NeedsHead NeedsHead = true
+is_one_reason (HasToPass r o) (HasToPass q d) = is_one_debt r o q d
+is_one_reason HasFinished HasFinished = true
+is_one_reason CouldGoOn CouldGoOn = true
+is_one_reason _ _ = false
+
+-- the strip that a wait begins
+abbrev pub begun : Waiting → Strip
+begun w = record { first = w; last = w.step }
+
+-- a wait lengthens a strip: it is that of the next step, of the same task and for the same reason
+abbrev pub lengthens : Strip → Waiting → Bool
+lengthens s w = nat_eq w.step (s.last + 1) && nat_eq s.first.task w.task && is_one_reason s.first.reason w.reason
+
+-- the strip up to a wait, and what ends before it
+abbrev pub next_strip : Strip → Waiting → Strip
+next_strip s w = if lengthens s w then record s { last = w.step } else begun w
+
+abbrev pub ended_before : Strip → Waiting → List Strip
+ended_before s w = if lengthens s w then [] else s ∷ []
+
+-- the strips of the waits of one unit, of which some made a strip already
+abbrev pub strips_from : Strip → List Waiting → List Strip
+strips_from s [] = s ∷ []
+strips_from s (w ∷ ws) = ended_before s w ++ strips_from (next_strip s w) ws
+
+abbrev pub strips_of : List Waiting → List Strip
+strips_of [] = []
+strips_of (w ∷ ws) = strips_from (begun w) ws
+
+abbrev pub waits_on : (unit : ℕ) → List Waiting → List Waiting
+waits_on unit waits = filter (λ w. nat_eq w.unit unit) waits
 
 -- how a reason is shaded, if it keeps a unit
 abbrev pub shade_of : Reason → Option Style
@@ -20,17 +62,21 @@ shade_of (HasToPass r owed) = Some WaitToPass
 shade_of HasFinished = Some WaitForTurn
 shade_of CouldGoOn = None
 
--- the strip of a wait in a run of so many steps
-abbrev pub strip_of : (count : ℕ) → Waiting → Style → Shape
-strip_of count w style =
-    rectangle style (left_edge_of count (w.step - 1)) (top_of w.unit + 2400) (left_edge_of count w.step - left_edge_of count (w.step - 1)) 1300
+-- the strip in a run of so many steps, as wide as its steps
+abbrev pub shape_of : (count : ℕ) → Strip → Style → Shape
+shape_of count s style =
+    rectangle style (left_edge_of count (s.first.step - 1)) (top_of s.first.unit + 2400) (left_edge_of count s.last - left_edge_of count (s.first.step - 1)) 1300
 
-abbrev pub strip_text : List Descriptor → (count : ℕ) → Waiting → Option Style → List ℕ
-strip_text tasks count w None = []
-strip_text tasks count w (Some style) = element_text tasks (strip_of count w style) (waiting_text tasks w)
+abbrev pub shaded_text : List Descriptor → (count : ℕ) → Strip → Option Style → List ℕ
+shaded_text tasks count s None = []
+shaded_text tasks count s (Some style) = element_text tasks (shape_of count s style) (waited_text tasks s)
 
-abbrev pub strip_at : List Descriptor → (count : ℕ) → Waiting → List ℕ
-strip_at tasks count w = strip_text tasks count w (shade_of w.reason)
+abbrev pub strip_text : List Descriptor → (count : ℕ) → Strip → List ℕ
+strip_text tasks count s = shaded_text tasks count s (shade_of s.first.reason)
 
-abbrev pub strips_text : List Descriptor → (count : ℕ) → List Waiting → List ℕ
-strips_text tasks count waits = flat_map (strip_at tasks count) waits
+-- lane by lane
+abbrev pub lane_text : List Descriptor → (count : ℕ) → List Waiting → (unit : ℕ) → List ℕ
+lane_text tasks count waits unit = flat_map (strip_text tasks count) (strips_of (waits_on unit waits))
+
+abbrev pub strips_text : List Descriptor → (units count : ℕ) → List Waiting → List ℕ
+strips_text tasks units count waits = flat_map (lane_text tasks count waits) (range_with_len 0 units)

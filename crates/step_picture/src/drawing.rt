@@ -7,16 +7,18 @@ ghost use Rattle.machine_model.specs.Machine.{State};
 ghost use Rattle.machine_model.specs.Answer.{most_events};
 ghost use Rattle.machine_model.specs.Replay.{Replays};
 ghost use Rattle.task_lives.specs.Sums.{AreFew};
+ghost use Rattle.step_picture.specs.Marks.{marks_of};
 ghost use Rattle.step_picture.specs.Numbers.{all_in_steps as lives_in_steps, count_of, steps_of};
-ghost use Rattle.step_picture.specs.StepPicture.{body_text, closing, drawn_text, file_text, frame_of, inner_text, labels_of, single_text, step_picture_text, summed_of, text_by};
+ghost use Rattle.step_picture.specs.StepPicture.{closing, drawn_text, file_text, frame_of, head_text, inner_text, labels_of, single_text, step_picture_text, summed_of, text_by};
 ghost use Rattle.run_picture.specs.ShapeText.{shapes_text};
 
 use crate::bars::{halted_unit, write_bars};
 use crate::frame::frame;
 use crate::heading::write_opening;
+use crate::marks::push_marks;
 use crate::numbers::{all_in_steps, count, steps};
-use crate::squashes::write_squashes;
 use crate::strips::write_strips;
+use jobs::job::Prediction;
 use machine_model::event::{Event, EventRun, Standing};
 use mark_checker::accept::Accepted;
 use run_picture::bars::push_names;
@@ -35,14 +37,15 @@ use task_lives::tally::{Tally, add_up};
 use unit_waits::waiting::Waiting;
 use unit_waits::waits::waits;
 
-/// Draws the history of a run in steps of an accepted program on so many units, 1 to 16, after which the run stands so:
-/// one SVG file, with no script and no font of its own. Each event of the history is allowed where it comes, and there
-/// are at most 1,000,000. An event at position 0 ends a step. The error says that memory was refused.
+/// Draws the history of a run in steps of an accepted program on so many units, 1 to 16, which was predicted so, and
+/// then stands so: one SVG file, with no script and no font of its own. Each event of the history is allowed where it
+/// comes, and there are at most 1,000,000. An event at position 0 ends a step. The error says that memory was refused.
 #[tactic(auto, unfolding(crate::specs::StepPicture::step_picture_text))]
 pub fn draw(
     alloc: Global,
     accepted: &Accepted,
     units: u32,
+    predict: &Prediction,
     standing: Standing,
     runs: &[EventRun],
 ) -> Result<String, AllocError>
@@ -50,13 +53,15 @@ pub fn draw(
     requires few { units ≤ 16 }
     requires replay { (s : State) × Replays accepted.now.program units (events_of runs.now) s }
     requires room { length (events_of runs.now) ≤ most_events }
-    ensures { IfOk result (λ text. string_bytes text ≡ step_picture_text accepted.now.program units standing (events_of runs.now)) }
+    ensures { IfOk result (λ text. string_bytes text ≡ step_picture_text accepted.now.program units predict.now standing (events_of runs.now)) }
 {
     histories_fit();
     let events = single_events(alloc, runs)?;
     let lives = lives_of_runs(alloc, runs, units)?;
     let steps = steps(alloc, &events)?;
-    let text = draw_lives(alloc, accepted, units, standing, &steps, &events, &lives)?;
+    let text = draw_lives(
+        alloc, accepted, units, predict, standing, &steps, &events, &lives,
+    )?;
     Ok(text)
 }
 
@@ -65,6 +70,7 @@ fn draw_lives(
     alloc: Global,
     accepted: &Accepted,
     units: u32,
+    predict: &Prediction,
     standing: Standing,
     steps: &[u32],
     events: &[Event],
@@ -75,13 +81,13 @@ fn draw_lives(
     requires room { length events.now ≤ most_events }
     requires steps { steps.now ≡ steps_of events.now }
     requires few { AreFew lives.now }
-    ensures { IfOk result (λ text. string_bytes text ≡ text_by accepted.now.program units standing steps.now events.now lives.now) }
+    ensures { IfOk result (λ text. string_bytes text ≡ text_by accepted.now.program units predict.now standing steps.now events.now lives.now) }
 {
     let found = all_in_steps(alloc, steps, lives)?;
     let tally = add_up(lives);
     let mut text = String::new(alloc);
     write_file(
-        alloc, &mut text, accepted, units, standing, steps, events, &found, tally,
+        alloc, &mut text, accepted, units, predict, standing, steps, events, &found, tally,
     )?;
     Ok(text)
 }
@@ -92,6 +98,7 @@ fn write_file(
     text: &mut String,
     accepted: &Accepted,
     units: u32,
+    predict: &Prediction,
     standing: Standing,
     steps: &[u32],
     events: &[Event],
@@ -104,35 +111,38 @@ fn write_file(
     requires steps { steps.now ≡ steps_of events.now }
     requires few { AreFew lives.now }
     ensures { OnOk result (string_bytes text.new ≡ string_bytes text.old
-        ++ file_text accepted.now.program units (count_of steps.now) standing steps.now events.now lives.now tally) }
+        ++ file_text accepted.now.program units (count_of steps.now) predict.now standing steps.now events.now lives.now tally) }
 {
     let halted = halted_unit(units, tally.retired, standing);
-    write_opening(text, units, count(steps), standing, tally)?;
-    write_body(alloc, text, accepted, units, halted, steps, events, lives)
-}
-
-/// Writes the shapes, and the end of the file.
-fn write_body(
-    alloc: Global,
-    text: &mut String,
-    accepted: &Accepted,
-    units: u32,
-    halted: u32,
-    steps: &[u32],
-    events: &[Event],
-    lives: &[Life],
-) -> Result<(), AllocError>
-    requires units { (0 < units) × (units ≤ 16) }
-    requires replay { (s : State) × Replays accepted.now.program units events.now s }
-    requires room { length events.now ≤ most_events }
-    requires steps { steps.now ≡ steps_of events.now }
-    requires few { AreFew lives.now }
-    ensures { OnOk result (string_bytes text.new ≡ string_bytes text.old
-        ++ body_text accepted.now.program units (count_of steps.now) halted steps.now events.now lives.now) }
-{
-    write_frame(alloc, text, accepted.program().tasks(), units, count(steps))?;
+    write_head(
+        alloc,
+        text,
+        accepted.program().tasks(),
+        units,
+        count(steps),
+        predict,
+        standing,
+        tally,
+    )?;
     write_inner(alloc, text, accepted, units, halted, steps, events, lives)?;
     write_closing(text)
+}
+
+/// Writes the opening, the lanes and the axis.
+fn write_head(
+    alloc: Global,
+    text: &mut String,
+    tasks: &[Descriptor],
+    units: u32,
+    count: u32,
+    predict: &Prediction,
+    standing: Standing,
+    tally: Tally,
+) -> Result<(), AllocError>
+    ensures { OnOk result (string_bytes text.new ≡ string_bytes text.old ++ head_text tasks.now units count predict.now standing tally) }
+{
+    write_opening(text, units, count, predict, standing, tally)?;
+    write_frame(alloc, text, tasks, units, count)
 }
 
 /// Writes the end of the file.
@@ -183,7 +193,7 @@ fn write_inner(
     }
 }
 
-/// Writes a bar for each life, a strip for each wait, a mark for each squash, and the names of the tasks.
+/// Writes a bar for each life, the strips of the waits, the marks of the events, and the names of the tasks.
 fn write_single(
     alloc: Global,
     text: &mut String,
@@ -202,12 +212,15 @@ fn write_single(
 {
     let tasks = accepted.program().tasks();
     let waits = waits(alloc, accepted, units, events)?;
-    write_drawn(text, tasks, units, halted, steps, events, lives, &waits)?;
+    write_drawn(
+        alloc, text, tasks, units, halted, steps, events, lives, &waits,
+    )?;
     write_labels(alloc, text, tasks, units, count(steps), lives)
 }
 
-/// Writes the bars of lives, the strips of waits, and the marks of squashes.
+/// Writes the bars of lives, the strips of waits, and the marks of events.
 fn write_drawn(
+    alloc: Global,
     text: &mut String,
     tasks: &[Descriptor],
     units: u32,
@@ -224,8 +237,28 @@ fn write_drawn(
 {
     let count = count(steps);
     write_bars(text, tasks, count, halted, lives)?;
-    write_strips(text, tasks, count, waits)?;
-    write_squashes(text, tasks, units, count, steps, events)
+    write_strips(alloc, text, tasks, units, count, waits)?;
+    write_marks(alloc, text, tasks, units, count, steps, events)
+}
+
+/// Writes the marks of events.
+fn write_marks(
+    alloc: Global,
+    text: &mut String,
+    tasks: &[Descriptor],
+    units: u32,
+    count: u32,
+    steps: &[u32],
+    events: &[Event],
+) -> Result<(), AllocError>
+    requires some { 0 < units }
+    requires room { length events.now ≤ most_events }
+    ensures { OnOk result (string_bytes text.new ≡ string_bytes text.old
+        ++ shapes_text tasks.now (marks_of units count steps.now events.now)) }
+{
+    let mut shapes = Vec::new(alloc);
+    push_marks(&mut shapes, units, count, steps, events)?;
+    write_shapes(text, tasks, &shapes)
 }
 
 /// Writes the names of the tasks, and a note.

@@ -2,27 +2,31 @@
 
 ghost use Rattle.std.specs.Prelude.{◌≡◌, ◌++◌, OnOk};
 ghost use Rattle.std.specs.String.{string_bytes};
-ghost use Rattle.step_picture.specs.StepPicture.{called_text, ending_text, front_text, heading_text, legend_text, lines_text, opening_text, outcome_text, sheet_text, title_text};
+ghost use Rattle.step_picture.specs.StepPicture.{called_text, caption_text, ended_legend, ending_text, front_text, heading_text, legend_text, lines_text, opening_text, outcome_text, predicted_text, sheet_text, title_text};
 
-use crate::sheet::{single_legend, style_sheet, summed_legend};
+use crate::marks::MOST_MARKED;
+use crate::predictor_text::write_predictor;
+use crate::sheet::{marks_legend, single_legend, style_sheet, summed_legend};
+use jobs::job::Prediction;
 use machine_model::event::Standing;
 use run_picture::drawing::{MOST_SINGLE, height, write_root};
 use run_picture::words_text::plural;
 use std::alloc::AllocError;
 use task_lives::tally::Tally;
 
-/// Writes the opening of the picture of a run of so many steps, which then stands so.
+/// Writes the opening of the picture of a run of so many steps, which was predicted so, and then stands so.
 pub(crate) fn write_opening(
     text: &mut String,
     units: u32,
     count: u32,
+    predict: &Prediction,
     standing: Standing,
     tally: Tally,
 ) -> Result<(), AllocError>
-    ensures { OnOk result (string_bytes text.new ≡ string_bytes text.old ++ opening_text units count standing tally) }
+    ensures { OnOk result (string_bytes text.new ≡ string_bytes text.old ++ opening_text units count predict.now standing tally) }
 {
     write_front(text, units, count)?;
-    write_lines(text, units, count, standing, tally)
+    write_lines(text, units, count, predict, standing, tally)
 }
 
 /// Writes the beginning of the file.
@@ -57,14 +61,25 @@ fn write_sheet(text: &mut String, count: u32) -> Result<(), AllocError>
     ensures { OnOk result (string_bytes text.new ≡ string_bytes text.old ++ sheet_text count) }
 {
     text.push_str(style_sheet())?;
-    write_legend(text, count)
+    write_ended_legend(text, count)
 }
 
-/// Writes the legend of single steps, or of stretches.
+/// Writes the legend, and its end.
+fn write_ended_legend(text: &mut String, count: u32) -> Result<(), AllocError>
+    ensures { OnOk result (string_bytes text.new ≡ string_bytes text.old ++ ended_legend count) }
+{
+    write_legend(text, count)?;
+    text.push_str("</g>\n")
+}
+
+/// Writes the legend of single steps, with or without the marks of all events, or of stretches.
 fn write_legend(text: &mut String, count: u32) -> Result<(), AllocError>
     ensures { OnOk result (string_bytes text.new ≡ string_bytes text.old ++ legend_text count) }
 {
-    if count as usize <= MOST_SINGLE {
+    if count <= MOST_MARKED {
+        text.push_str(single_legend())?;
+        text.push_str(marks_legend())
+    } else if count as usize <= MOST_SINGLE {
         text.push_str(single_legend())
     } else {
         text.push_str(summed_legend())
@@ -76,13 +91,27 @@ fn write_lines(
     text: &mut String,
     units: u32,
     count: u32,
+    predict: &Prediction,
     standing: Standing,
     tally: Tally,
 ) -> Result<(), AllocError>
-    ensures { OnOk result (string_bytes text.new ≡ string_bytes text.old ++ lines_text units count standing tally) }
+    ensures { OnOk result (string_bytes text.new ≡ string_bytes text.old ++ lines_text units count predict.now standing tally) }
 {
     write_heading(text, units, count)?;
-    write_outcome(text, tally, ending(standing))
+    write_caption(text, predict, standing, tally)
+}
+
+/// Writes what came of the tasks and of the run, and the predictor.
+fn write_caption(
+    text: &mut String,
+    predict: &Prediction,
+    standing: Standing,
+    tally: Tally,
+) -> Result<(), AllocError>
+    ensures { OnOk result (string_bytes text.new ≡ string_bytes text.old ++ caption_text predict.now standing tally) }
+{
+    write_outcome(text, tally, ending(standing))?;
+    write_predicted(text, predict)
 }
 
 /// Writes how many units and steps there are.
@@ -112,8 +141,17 @@ fn write_outcome(text: &mut String, tally: Tally, ending: &str) -> Result<(), Al
 {
     let retired = tally.retired;
     let squashed = tally.squashed;
-    writeln!(
+    write!(
         text,
-        "<text class='quiet' x='88' y='72'>tasks retired: {retired}, squashed: {squashed}; the run {ending}</text>"
+        "<text class='quiet' x='88' y='72'>tasks retired: {retired}, squashed: {squashed}; the run {ending}"
     )
+}
+
+/// Writes how the next task was predicted, as the end of the line.
+fn write_predicted(text: &mut String, predict: &Prediction) -> Result<(), AllocError>
+    ensures { OnOk result (string_bytes text.new ≡ string_bytes text.old ++ predicted_text predict.now) }
+{
+    text.push_str("; predictor: ")?;
+    write_predictor(text, predict)?;
+    text.push_str("</text>\n")
 }

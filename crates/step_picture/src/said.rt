@@ -2,15 +2,16 @@
 
 ghost use Rattle.std.specs.Prelude.{◌≡◌, ◌+◌, ◌++◌, OnOk};
 ghost use Rattle.std.specs.String.{string_bytes};
-ghost use Rattle.step_picture.specs.SaidText.{life_ending as life_ending_text, life_text, owed_text, owing_text, reason_text, span_text, squashed_text, step_text, waiting_text, why_text};
+ghost use Rattle.step_picture.specs.SaidText.{life_ending as life_ending_text, life_text, owed_text, owing_text, reason_text, span_text, steps_text, waited_text, why_text};
 
+use crate::strip::Strip;
 use mips_instructions::number::Reg;
 use run_picture::bars::name_of;
 use run_picture::shape_text::{number_of, word_of, write_course, write_place};
 use std::alloc::AllocError;
 use task_descriptor::descriptor::Descriptor;
 use task_lives::life::Life;
-use unit_waits::waiting::{Owed, Reason, Waiting};
+use unit_waits::waiting::{Owed, Reason};
 
 /// Writes what is said of a life; its steps are numbered from 1.
 pub(crate) fn write_life(
@@ -48,23 +49,27 @@ fn life_ending(life: Life, is_halted: bool) -> &'static str
     }
 }
 
-/// Writes why a unit waits in a step.
-pub(crate) fn write_waiting(
+/// Writes why a unit waits in some steps.
+pub(crate) fn write_waited(
     text: &mut String,
     tasks: &[Descriptor],
-    waiting: &Waiting,
+    strip: &Strip,
 ) -> Result<(), AllocError>
-    ensures { OnOk result (string_bytes text.new ≡ string_bytes text.old ++ waiting_text tasks.now waiting.now) }
+    ensures { OnOk result (string_bytes text.new ≡ string_bytes text.old ++ waited_text tasks.now strip.now) }
 {
-    write_step(text, waiting.step)?;
-    write_why(text, tasks, &waiting.reason)
+    write_steps(text, strip.first.step, strip.last)?;
+    write_why(text, tasks, &strip.first.reason)
 }
 
-/// Writes a step.
-fn write_step(text: &mut String, step: u32) -> Result<(), AllocError>
-    ensures { OnOk result (string_bytes text.new ≡ string_bytes text.old ++ step_text step) }
+/// Writes one step, or the first, the last, and how many there are.
+fn write_steps(text: &mut String, first: u32, last: u32) -> Result<(), AllocError>
+    ensures { OnOk result (string_bytes text.new ≡ string_bytes text.old ++ steps_text first last) }
 {
-    write!(text, "<title>step {step}: ")
+    if first == last {
+        return write!(text, "<title>step {first}: ");
+    }
+    let steps = (u64::from(last) + 1).saturating_sub(u64::from(first));
+    write!(text, "<title>steps {first} to {last} ({steps} steps): ")
 }
 
 /// Writes what keeps a unit, and the end of what is said.
@@ -119,14 +124,4 @@ fn owing(is_sent: bool) -> &'static str
     } else {
         " on unit "
     }
-}
-
-/// Writes that what follows a unit is squashed in a step.
-pub(crate) fn write_squashed(text: &mut String, step: u32, unit: u32) -> Result<(), AllocError>
-    ensures { OnOk result (string_bytes text.new ≡ string_bytes text.old ++ squashed_text step unit) }
-{
-    write!(
-        text,
-        "<title>step {step}: what follows unit {unit} is squashed</title>"
-    )
 }

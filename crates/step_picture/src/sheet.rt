@@ -1,7 +1,7 @@
 //! The parts of the file that are the same in every picture.
 
 ghost use Rattle.std.specs.Prelude.{◌≡◌};
-ghost use Rattle.step_picture.specs.FixedText.{single_legend, style_sheet, summed_legend};
+ghost use Rattle.step_picture.specs.FixedText.{marks_legend, single_legend, style_sheet, summed_legend};
 
 /// The style of all shapes, light or dark. What a colour says, a pattern or a border says too.
 const SHEET: &str = "<style>
@@ -12,10 +12,12 @@ text{fill:#1f2933;font-size:14px;pointer-events:none}line{pointer-events:none}
 .retired,.halted{fill:#cfe8d5;stroke:#2f6b4a}.squashed{fill:url(#hatched);stroke:#b0402a}.dropped{fill:url(#dotted);stroke:#7d5f10}
 .unfinished{fill:#d8e4f5;stroke:#34588f;stroke-dasharray:5 3}.retired,.squashed,.dropped,.unfinished{stroke-width:1.5}.halted{stroke-width:4}
 .share{stroke:none}.share,.wait{shape-rendering:crispEdges}.needs{fill:#d9822b}.turn{fill:url(#upright)}.pass{fill:url(#level)}.squash{fill:#b0402a;stroke:#fff}
+.instruction{stroke:#1f2933;stroke-width:1.6}.transfer{stroke:#52606d;stroke-width:1.3;marker-end:url(#head);pointer-events:stroke}.head,.register{fill:#52606d}.register{font-size:12px}
 .rose{fill:#fae3dc}.red{stroke:#e09a86}.sand{fill:#f6edd0}.ochre{fill:#a98a35}.mist{fill:#e4e9ee}.slate{stroke:#52606d}.lilac{fill:#eadcf8}.violet{stroke:#7a4fb0}
 @media (prefers-color-scheme:dark){
 text{fill:#e4e9ee}.quiet,.caption,.number{fill:#9aa7b4}.task{stroke:#1c2229}.paper,.idle{fill:#1c2229}.idle,.grid{stroke:#38424d}.lane{fill:#232b33}
 .retired,.halted{fill:#214a33;stroke:#6fd198}.squashed{stroke:#ff9d94}.dropped{stroke:#d8b45a}.unfinished{fill:#22344f;stroke:#7fb0ff}.needs{fill:#f0a04b}.squash{fill:#ff9d94;stroke:#1c2229}
+.instruction{stroke:#e4e9ee}.transfer{stroke:#9aa7b4}.head,.register{fill:#9aa7b4}
 .rose{fill:#4a2220}.red{stroke:#b3564a}.sand{fill:#40361a}.mist{fill:#38424d}.slate{stroke:#c3ccd5}.lilac{fill:#3a2a52}.violet{stroke:#c9a2f5}
 }
 </style>
@@ -24,6 +26,7 @@ text{fill:#e4e9ee}.quiet,.caption,.number{fill:#9aa7b4}.task{stroke:#1c2229}.pap
 <pattern id='dotted' width='7' height='7' patternUnits='userSpaceOnUse'><path class='sand' d='M0 0H7V7H0Z'/><circle class='ochre' cx='2' cy='2' r='1.2'/><circle class='ochre' cx='5.5' cy='5.5' r='1.2'/></pattern>
 <pattern id='upright' width='5' height='5' patternUnits='userSpaceOnUse'><path class='mist' d='M0 0H5V5H0Z'/><path class='slate' d='M1 0V5' stroke-width='2'/></pattern>
 <pattern id='level' width='5' height='5' patternUnits='userSpaceOnUse'><path class='lilac' d='M0 0H5V5H0Z'/><path class='violet' d='M0 1H5' stroke-width='2'/></pattern>
+<marker id='head' viewBox='0 0 8 8' refX='7' refY='4' markerWidth='7' markerHeight='7' markerUnits='userSpaceOnUse' orient='auto'><path class='head' d='M0 .8 7.4 4 0 7.2z'/></marker>
 </defs>
 <path class='paper' d='M0 0H1280V9999H0Z'/>
 <g>
@@ -40,14 +43,18 @@ const SINGLE_LEGEND: &str =
 <rect class='wait needs' x='88' y='122' width='28' height='13'/><text x='124' y='133'>waits for a register</text>
 <rect class='wait turn' x='316' y='122' width='28' height='13'/><text x='352' y='133'>waits to be the head</text>
 <rect class='wait pass' x='564' y='122' width='28' height='13'/><text x='600' y='133'>has to pass a register on</text>
-</g>
+";
+
+/// What the marks of the events look like.
+const MARKS_LEGEND: &str =
+    "<path class='instruction' d='M810 97v10M816 97v10M822 97v10'/><text x='832' y='107'>instruction</text>
+<path class='transfer' d='M802 120V137'/><text x='814' y='133'>register to the next unit; from the last one, to unit 0</text>
 ";
 
 /// What else is in a picture of stretches.
 const SUMMED_LEGEND: &str =
     "<rect class='unfinished' x='430' y='94' width='28' height='16'/><text x='466' y='107'>unfinished, or halted</text>
 <rect class='idle' x='630' y='94' width='28' height='16'/><text x='666' y='107'>no task</text>
-</g>
 ";
 
 /// The style sheet, the patterns, the ground, and the legend of all bars.
@@ -64,6 +71,14 @@ pub(crate) fn single_legend() -> &'static str
     ensures { result.now ≡ single_legend }
 {
     SINGLE_LEGEND
+}
+
+/// The legend of the marks of the events.
+#[tactic(auto, unfolding(crate::specs::FixedText::marks_legend))]
+pub(crate) fn marks_legend() -> &'static str
+    ensures { result.now ≡ marks_legend }
+{
+    MARKS_LEGEND
 }
 
 /// The legend of what else is in a picture of stretches.

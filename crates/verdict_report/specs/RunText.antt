@@ -100,25 +100,25 @@ last_line_of OutOfBudget = last_line.OutOfBudget
 -- what is written of a run: its end; its history as a script, which is read as that history; or what the
 -- tasks that it assigned came to, and its steps; or a picture of its history, by events or by steps; or the trace of its history, by
 -- the lines of the program text, or the same in JSON; or the table of its waits, its waveform or its timeline
-abbrev pub IsWrittenOf : RunEmit → (units : ℕ) → (text : List ℕ) → Listing → Run → List ℕ → Type 0
-IsWrittenOf emit.Report units text p run bytes = bytes ≡ ending_text run.how run.state
-IsWrittenOf emit.Script units text p run bytes = (bytes ≡ script_text p run.history) × (script_of p bytes ≡ Ok run.history)
-IsWrittenOf emit.ScriptWithValues units text p run bytes = bytes ≡ valued_script p units run.history
-IsWrittenOf emit.Summary units text p run bytes = bytes ≡ summary_text p (lives_of units run.history) ++ steps_text run.steps run.state
-IsWrittenOf emit.Picture units text p run bytes = bytes ≡ picture_text p units run.history
-IsWrittenOf emit.StepPicture units text p run bytes = bytes ≡ step_picture_text p units run.state.outcome run.history
-IsWrittenOf emit.Trace units text p run bytes = bytes ≡ trace_text p (places_of text) units run.history
-IsWrittenOf emit.Json units text p run bytes = bytes ≡ json_text p (places_of text) units run.history (last_line_of run.how)
-IsWrittenOf emit.Waits units text p run bytes = bytes ≡ waits_text p (places_of text) units run.history
-IsWrittenOf emit.Waveform units text p run bytes = bytes ≡ waveform_text p units run.history
-IsWrittenOf emit.Timeline units text p run bytes = bytes ≡ timeline_text p units (clock_of run.steps) run.history
+abbrev pub IsWrittenOf : RunEmit → (units : ℕ) → Prediction → (text : List ℕ) → Listing → Run → List ℕ → Type 0
+IsWrittenOf emit.Report units predict text p run bytes = bytes ≡ ending_text run.how run.state
+IsWrittenOf emit.Script units predict text p run bytes = (bytes ≡ script_text p run.history) × (script_of p bytes ≡ Ok run.history)
+IsWrittenOf emit.ScriptWithValues units predict text p run bytes = bytes ≡ valued_script p units run.history
+IsWrittenOf emit.Summary units predict text p run bytes = bytes ≡ summary_text p (lives_of units run.history) ++ steps_text run.steps run.state
+IsWrittenOf emit.Picture units predict text p run bytes = bytes ≡ picture_text p units run.history
+IsWrittenOf emit.StepPicture units predict text p run bytes = bytes ≡ step_picture_text p units predict run.state.outcome run.history
+IsWrittenOf emit.Trace units predict text p run bytes = bytes ≡ trace_text p (places_of text) units run.history
+IsWrittenOf emit.Json units predict text p run bytes = bytes ≡ json_text p (places_of text) units run.history (last_line_of run.how)
+IsWrittenOf emit.Waits units predict text p run bytes = bytes ≡ waits_text p (places_of text) units run.history
+IsWrittenOf emit.Waveform units predict text p run bytes = bytes ≡ waveform_text p units run.history
+IsWrittenOf emit.Timeline units predict text p run bytes = bytes ≡ timeline_text p units (clock_of run.steps) run.history
 
 -- the report of some run of a program in which nothing is found, and which this text spells
 pub record IsRunReport (schedule : Schedule) (units budget : ℕ) (predict : Prediction) (emitted : RunEmit) (text : List ℕ) (p : Listing) (report : Report) : Type 0 where
   pub run : Run
   pub right : IsRunOf p units budget run
   pub scheduled : IsScheduled schedule p units budget predict run
-  pub written : IsWrittenOf emitted units text p run report.bytes
+  pub written : IsWrittenOf emitted units predict text p run report.bytes
   pub answered : report.status ≡ ending_status run.how run.state
 
 abbrev pub IsRunJudged : Schedule → (units budget : ℕ) → Prediction → RunEmit → (text : List ℕ) → Judgement → Report → Type 0

@@ -79,5 +79,13 @@ fn run_accepted(
     ensures { IfOk result (λ report. IsRunReport Steps steps.now.units steps.now.budget steps.now.predict.now steps.now.emit text.now accepted.now.program report) }
 {
     let ran = run_in_steps(alloc, steps.units, steps.budget, steps.predict, accepted)?;
-    report_of_run(alloc, steps.emit, steps.units, &ran, text, accepted)
+    report_of_run(
+        alloc,
+        steps.emit,
+        steps.units,
+        steps.predict,
+        &ran,
+        text,
+        accepted,
+    )
 }

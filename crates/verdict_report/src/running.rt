@@ -84,7 +84,7 @@ fn run_accepted<R: Threads + Wait + Sync>(
     ensures own { result ≢ Err ServeFault.Foreign }
 {
     let ran = run_scheduled(rt, alloc, extent, predict, accepted)?;
-    Ok(report_of_run(alloc, emit, extent.units, &ran, text, accepted)?)
+    Ok(report_of_run(alloc, emit, extent.units, predict, &ran, text, accepted)?)
 }
 
 /// What is written of a run, and the status.
@@ -92,13 +92,14 @@ pub(crate) fn report_of_run(
     alloc: Global,
     emit: RunEmit,
     units: Units,
+    predict: &Prediction,
     ran: &Ran<'_>,
     text: &[u8],
     accepted: &Accepted,
 ) -> Result<Report, AllocError>
     requires over { ran.now.machine.accepted ≡ accepted.now }
     requires units { (units_of ran.now.machine ≤ 16) × (units_of ran.now.machine ≡ units) }
-    ensures bytes { IfOk result (λ report. IsWrittenOf emit units text.now accepted.now.program (run_of ran.now) report.bytes) }
+    ensures bytes { IfOk result (λ report. IsWrittenOf emit units predict.now text.now accepted.now.program (run_of ran.now) report.bytes) }
     ensures status { IfOk result (λ report. report.status ≡ ending_status ran.now.how (state ran.now.machine)) }
 {
     let bytes = match emit {
@@ -110,7 +111,7 @@ pub(crate) fn report_of_run(
         }
         RunEmit::Summary => summary(alloc, units, ran, accepted)?,
         RunEmit::Picture => picture_of(alloc, units, &ran.machine, accepted.program())?,
-        RunEmit::StepPicture => step_picture_of(alloc, units, ran, accepted)?,
+        RunEmit::StepPicture => step_picture_of(alloc, units, predict, ran, accepted)?,
         RunEmit::Trace => {
             let events = single_events(alloc, ran.machine.history())?;
             trace_of(alloc, units, accepted, text, &events)?
@@ -210,13 +211,14 @@ fn waveform_of(
 fn step_picture_of(
     alloc: Global,
     units: Units,
+    predict: &Prediction,
     ran: &Ran<'_>,
     accepted: &Accepted,
 ) -> Result<Vec<u8>, AllocError>
     requires over { ran.now.machine.accepted ≡ accepted.now }
     requires units { (units_of ran.now.machine ≤ 16) × (units_of ran.now.machine ≡ units) }
     ensures { IfOk result (λ bytes. bytes.items
-        ≡ step_picture_text accepted.now.program units (state ran.now.machine).outcome ran.now.machine.history) }
+        ≡ step_picture_text accepted.now.program units predict.now (state ran.now.machine).outcome ran.now.machine.history) }
 {
     histories_fit();
     let machine = &ran.machine;
@@ -224,6 +226,7 @@ fn step_picture_of(
         alloc,
         accepted,
         units.get(),
+        predict,
         machine.outcome(),
         machine.history(),
     )?;
