@@ -22,6 +22,7 @@ unit_change_name (unit_change.Drained r word) = codes "drained"
 unit_change_name unit_change.Squashed = codes "squashed"
 unit_change_name unit_change.Dropped = codes "dropped"
 unit_change_name (unit_change.Retired exit) = codes "retired"
+unit_change_name unit_change.BecameHead = codes "became_head"
 
 -- what else is said of a unit
 abbrev pub unit_change_fields : Listing → List Position → UnitChange → List Field
@@ -32,10 +33,12 @@ unit_change_fields p places (unit_change.Drained r word) = register_field r ∷ 
 unit_change_fields p places unit_change.Squashed = []
 unit_change_fields p places unit_change.Dropped = []
 unit_change_fields p places (unit_change.Retired exit) = exit_fields p places exit
+unit_change_fields p places unit_change.BecameHead = []
 
 abbrev pub change_fields : Listing → List Position → RingView → Change → List Field
 change_fields p places ring (change.AtUnit position task c) =
     change_field (unit_change_name c) ∷ (unit_fields ring position ++ (task_field p task ∷ unit_change_fields p places c))
+change_fields p places ring (change.Took r word) = change_field (codes "took") ∷ register_field r ∷ word_field word ∷ []
 change_fields p places ring (change.Loaded at word) = change_field (codes "loaded") ∷ address_field at ∷ word_field word ∷ []
 change_fields p places ring (change.Stored at word size) = change_field (codes "stored") ∷ address_field at ∷ word_field word ∷ size_field size ∷ []
 change_fields p places ring (change.Wrote r word) = change_field (codes "wrote") ∷ register_field r ∷ word_field word ∷ []

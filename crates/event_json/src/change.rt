@@ -39,6 +39,7 @@ fn unit_change_name(change: &UnitChange) -> &'static str
         UnitChange::Squashed => "squashed",
         UnitChange::Dropped => "dropped",
         UnitChange::Retired { .. } => "retired",
+        UnitChange::BecameHead => "became_head",
     }
 }
 
@@ -76,6 +77,7 @@ fn write_unit_rest(
         UnitChange::Squashed => Ok(()),
         UnitChange::Dropped => Ok(()),
         UnitChange::Retired { exit } => write_exit(out, program, places, exit),
+        UnitChange::BecameHead => Ok(()),
     }
 }
 
@@ -175,6 +177,7 @@ fn write_change_fields(
             task,
             change,
         } => write_at_unit(out, program, places, ring, position, task, &change),
+        Change::Took { register, word } => write_value(out, "took", register, word),
         Change::Loaded { address, word } => write_access(out, "loaded", address, word),
         Change::Stored {
             address,

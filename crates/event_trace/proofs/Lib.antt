@@ -1,4 +1,5 @@
 pub mod Parts
 pub mod Steps
 pub mod LostUnits
+pub mod Takings
 pub mod Executions

@@ -1,5 +1,5 @@
 -- What an event changed, read off the state before it, s, and the state behind it, s' (own choice).
-use Rattle.std.specs.Prelude.{ℕ, suc, List, [], ◌∷◌, ◌++◌, Bool, not, ◌&&◌, ◌%◌, ◌^◌, if◌then◌else◌, flat_map, length, drop, slice_get, is_some, unwrap_or, Option, Some, None}
+use Rattle.std.specs.Prelude.{ℕ, suc, List, [], ◌∷◌, ◌++◌, Bool, false, nat_eq, not, ◌&&◌, ◌%◌, ◌^◌, if◌then◌else◌, flat_map, length, drop, slice_get, is_some, unwrap_or, Option, Some, None}
 use Rattle.std.specs.List.{range_with_len}
 use Rattle.mips_plain.specs.MemoryMap.{byte_of, effective}
 use Rattle.mips_instructions.specs.Instruction.{dests, reg_a, reg_b}
@@ -18,9 +18,9 @@ use Rattle.machine_model.specs.declared.event.Spot.TheVariants.{Inside, Stopped}
 use Rattle.machine_model.specs.declared.event.Standing.{Standing}
 use Rattle.machine_model.specs.declared.event.Standing.TheVariants as standing
 use Rattle.event_trace.specs.declared.change.Change.{Change}
-use Rattle.event_trace.specs.declared.change.Change.TheVariants.{AtUnit, Loaded, Stored, Wrote, Sent, PutOut, MovedTo, StoppedAt, Ended}
+use Rattle.event_trace.specs.declared.change.Change.TheVariants.{AtUnit, Took, Loaded, Stored, Wrote, Sent, PutOut, MovedTo, StoppedAt, Ended}
 use Rattle.event_trace.specs.declared.unit_change.UnitChange.{UnitChange}
-use Rattle.event_trace.specs.declared.unit_change.UnitChange.TheVariants.{Began, Executed, Arrived, Drained, Squashed, Dropped, Retired}
+use Rattle.event_trace.specs.declared.unit_change.UnitChange.TheVariants.{Began, Executed, Arrived, Drained, Squashed, Dropped, Retired, BecameHead}
 
 -- how many registers there are
 unfoldable pub register_count : ℕ
@@ -74,11 +74,26 @@ abbrev pub executed : Listing → State → (k : ℕ) → (before behind : Optio
 executed p s' k (Some u) (Some v) = execution p s' k u v (instruction_at p u.place)
 executed p s' k before behind = []
 
+-- ---- registers that arrive as a unit takes its task or becomes the head
+
+-- whether a register has arrived; none has where there is no unit
+abbrev pub has_arrived : Option Active → ℕ → Bool
+has_arrived None r = false
+has_arrived (Some u) r = is_some (u.arrived r)
+
+-- whether a register that was not there before has arrived at a unit, with a word other than 0, which all have at
+-- the start of a run
+abbrev pub takes : (before : ℕ → Bool) → (v : Active) → ℕ → Bool
+takes before v r = not (before r) && not (nat_eq (unwrap_or (v.arrived r) 0) 0)
+
+abbrev pub taken : (before : ℕ → Bool) → (v : Active) → List Change
+taken before v = for_registers (takes before v) (λ r. Took r (unwrap_or (v.arrived r) 0))
+
 -- ---- the other events: what is said of the unit at a position, if there is one
 
 abbrev pub began : (k : ℕ) → Option Active → List Change
 began k None = []
-began k (Some v) = AtUnit k v.task (Began (index_of_place v.place)) ∷ []
+began k (Some v) = AtUnit k v.task (Began (index_of_place v.place)) ∷ taken (has_arrived None) v
 
 abbrev pub arrived : (k r : ℕ) → Option Active → List Change
 arrived k r None = []
@@ -91,6 +106,11 @@ drained k r (Some v) = AtUnit k v.task (Drained r (unwrap_or (v.sent r) 0)) ∷ 
 abbrev pub retired : Option Active → List Change
 retired None = []
 retired (Some u) = AtUnit 0 u.task (Retired (unwrap_or (exit_of u.place) 0)) ∷ []
+
+-- the unit behind one that retires: before the event it was at position 1
+abbrev pub became_head : (before : ℕ → Bool) → Option Active → List Change
+became_head before None = []
+became_head before (Some v) = AtUnit 1 v.task BecameHead ∷ taken before v
 
 -- the units that are no longer there, the first of which was at position k
 abbrev pub lost : UnitChange → (k : ℕ) → List Active → List Change
@@ -105,6 +125,6 @@ changes_of p s (event.Exec k) s' = executed p s' k (slice_get s.queue k) (slice_
 changes_of p s (event.Transfer k r) s' = arrived k r (slice_get s'.queue k)
 changes_of p s (event.Drain k r) s' = drained k r (slice_get s'.queue k)
 changes_of p s (event.Squash k) s' = lost Squashed (length s'.queue) (drop (length s'.queue) s.queue)
-changes_of p s event.Retire s' = retired (slice_get s.queue 0)
+changes_of p s event.Retire s' = retired (slice_get s.queue 0) ++ became_head (has_arrived (slice_get s.queue 1)) (slice_get s'.queue 0)
 changes_of p s event.Fault s' = Ended s'.outcome ∷ []
 changes_of p s (event.Drop k) s' = lost Dropped (length s'.queue) (drop (length s'.queue) s.queue)

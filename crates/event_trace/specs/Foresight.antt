@@ -12,8 +12,8 @@ use Rattle.event_trace.specs.declared.change.Change.TheVariants.{AtUnit, Wrote, 
 use Rattle.event_trace.specs.declared.unit_change.UnitChange.TheVariants.{Executed}
 use Rattle.event_trace.specs.declared.foreseen.Execution.{Execution}
 use Rattle.event_trace.specs.declared.foreseen.Foreseen.{Foreseen}
-use Rattle.event_trace.specs.declared.foreseen.Foreseen.TheVariants.{Begins, Executes, Takes, Sends, Known, Ends}
-use Rattle.event_trace.specs.Changes.{arrived, began, drained, for_registers, outside, stands_at, unless_ended}
+use Rattle.event_trace.specs.declared.foreseen.Foreseen.TheVariants.{Begins, Executes, Takes, Sends, Retires, Known, Ends}
+use Rattle.event_trace.specs.Changes.{arrived, became_head, began, drained, for_registers, outside, stands_at, unless_ended}
 
 -- what the unit at position k has before it executes an instruction
 pub record IsOf (k : ℕ) (u : Active) (op : Op) (x : Execution) : Type 0 where
@@ -46,5 +46,6 @@ realized p (Begins k) s' = began k (slice_get s'.queue k)
 realized p (Executes x) s' = executed_by p s' x (slice_get s'.queue x.position)
 realized p (Takes k r) s' = arrived k r (slice_get s'.queue k)
 realized p (Sends k r) s' = drained k r (slice_get s'.queue k)
+realized p (Retires changes before) s' = changes.items ++ became_head (has before) (slice_get s'.queue 0)
 realized p (Known changes) s' = changes.items
 realized p Ends s' = Ended s'.outcome ∷ []

@@ -6,3 +6,4 @@ pub mod Entries
 pub mod Following
 pub mod Ending
 pub mod Trace
+pub mod Examples

@@ -55,6 +55,7 @@ unit_text p places (unit_change.Drained r word) = codes "sends " ++ register_tex
 unit_text p places unit_change.Squashed = codes "is squashed"
 unit_text p places unit_change.Dropped = codes "is dropped"
 unit_text p places (unit_change.Retired exit) = codes "retires; its exit is " ++ exit_text p places exit
+unit_text p places unit_change.BecameHead = codes "becomes the head"
 
 -- a unit, by its position and by the name of its task
 abbrev pub unit_name : Listing → (position task : ℕ) → List ℕ
@@ -62,6 +63,7 @@ unit_name p position task = codes "unit " ++ (decimal position ++ (codes ", task
 
 abbrev pub change_text : Listing → List Position → Change → List ℕ
 change_text p places (change.AtUnit position task c) = unit_name p position task ++ (codes ": " ++ unit_text p places c)
+change_text p places (change.Took r word) = codes "takes " ++ register_text r word
 change_text p places (change.Loaded at word) = codes "loads " ++ (decimal word ++ (codes " from " ++ address_text at))
 change_text p places (change.Stored at word size) = codes "stores " ++ (decimal word ++ (codes " at " ++ address_text at))
 change_text p places (change.Wrote r word) = codes "writes " ++ register_text r word

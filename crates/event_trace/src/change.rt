@@ -13,11 +13,18 @@ use std::alloc::{AllocError, Global};
 /// are unsigned.
 #[derive(Clone, Copy, Debug, PartialEq, Eq)]
 pub enum Change {
-    /// A unit changed. What an instruction did stands behind the change of the unit that executed it.
+    /// A unit changed. What an instruction did stands behind the change of the unit that executed it, and which
+    /// registers arrived behind that of the unit that took its task or became the head.
     AtUnit {
         position: u32,
         task: u32,
         change: UnitChange,
+    },
+    /// This register, which was not there before, arrived with this word, which is not 0, as the unit took its task or
+    /// became the head.
+    Took {
+        register: Reg,
+        word: u32,
     },
     /// The instruction loaded this word from this address: after its sign or zeros were extended.
     Loaded {

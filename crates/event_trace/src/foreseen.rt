@@ -16,6 +16,9 @@ pub(crate) enum Foreseen {
     Takes(u32, Reg),
     /// The unit at this position, which has stopped, sends this register.
     Sends(u32, Reg),
+    /// The head retires, as these changes say, and the next unit becomes the head, at which these registers have
+    /// arrived.
+    Retires(Vec<Change>, RegSet),
     /// These changes: the machine before the event shows all of them, as it has the units that go.
     Known(Vec<Change>),
     /// The run ends.

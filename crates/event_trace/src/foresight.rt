@@ -1,11 +1,12 @@
 //! What is foreseen of an event, read off the machine before it.
 
-ghost use Rattle.std.specs.Prelude.{◌≡◌, ◌++◌, ◌+◌, drop, slice_get, unwrap_or, IfOk, OnOk};
+ghost use Rattle.std.specs.Prelude.{◌≡◌, ℕ, ◌<◌, ◌++◌, ◌+◌, drop, slice_get, unwrap_or, IfOk, OnOk};
+ghost use Rattle.mips_instructions.specs.Words.{has};
 ghost use Rattle.machine_model.specs.Answer.{after, exit_of};
 ghost use Rattle.machine_model.specs.Machine.{State};
 ghost use Rattle.machine_model.specs.declared.event.Event.TheVariants.{Exec};
 ghost use Rattle.sequencer.specs.Machines.{state};
-ghost use Rattle.event_trace.specs.Changes.{changes_of, lost, retired};
+ghost use Rattle.event_trace.specs.Changes.{changes_of, has_arrived, lost, retired};
 ghost use Rattle.event_trace.specs.Foresight.{realized};
 
 use crate::change::{Change, add, at_unit};
@@ -13,6 +14,7 @@ use crate::foreseen::Foreseen;
 use crate::instruction::{execution, instruction_at};
 use crate::unit_change::UnitChange;
 use machine_model::event::{Event, Spot};
+use mips_instructions::number::RegSet;
 use sequencer::machine::Machine;
 use std::alloc::{AllocError, Global};
 use task_descriptor::program::Program;
@@ -39,7 +41,8 @@ pub(crate) fn foresee(
         }
         Event::Retire => {
             let going = retired(alloc, machine)?;
-            Ok(Foreseen::Known(going))
+            let before = arrived_at(machine, 1);
+            Ok(Foreseen::Retires(going, before))
         }
         Event::Fault => Ok(Foreseen::Ends),
         Event::Drop(position) => {
@@ -128,4 +131,14 @@ fn retired(alloc: Global, machine: &Machine<'_>) -> Result<Vec<Change>, AllocErr
     };
     let exit = exit_of(unit.spot());
     at_unit(alloc, 0, unit.task(), UnitChange::Retired { exit })
+}
+
+/// The registers that have arrived at the unit at a position; none if no unit is there.
+fn arrived_at(machine: &Machine<'_>, position: u32) -> RegSet
+    ensures { (r : ℕ) → r < 34 → has result r ≡ has_arrived (slice_get (state machine.now).queue position) r }
+{
+    match machine.unit(position) {
+        Some(unit) => unit.arrived_set(),
+        None => RegSet::empty(),
+    }
 }

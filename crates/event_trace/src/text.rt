@@ -117,6 +117,7 @@ fn write_unit_change(
             write!(text, "retires; its exit is ")?;
             write_exit(text, program, places, exit)
         }
+        UnitChange::BecameHead => write!(text, "becomes the head"),
     }
 }
 
@@ -152,6 +153,10 @@ fn write_change(
             write_unit(text, program, position, task)?;
             write!(text, ": ")?;
             write_unit_change(text, program, places, change)
+        }
+        Change::Took { register, word } => {
+            write!(text, "takes ")?;
+            write_register(text, register, word)
         }
         Change::Loaded { address, word } => write_access(text, "loads", word, "from", address),
         Change::Stored { address, word, .. } => write_access(text, "stores", word, "at", address),

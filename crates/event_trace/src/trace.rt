@@ -20,9 +20,8 @@ use task_descriptor::program::Program;
 
 /// The trace of some events on a machine of so many units that is at the start of an accepted program: each
 /// event in the words of a script, behind its number and with its answer, and under one that was allowed what
-/// it changed, as `changes_of` lists it; and behind them how the machine then stands. Registers that arrive at an
-/// Assign or a Retire have no line. `program_text` is the text of the program: instructions are told by its
-/// lines. An error says that memory was refused.
+/// it changed, as `changes_of` lists it; and behind them how the machine then stands. `program_text` is the text of
+/// the program: instructions are told by its lines. An error says that memory was refused.
 pub fn trace(
     alloc: Global,
     accepted: &Accepted,

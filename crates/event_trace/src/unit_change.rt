@@ -19,4 +19,6 @@ pub enum UnitChange {
     Dropped,
     /// Its task retired; the next task begins at this address.
     Retired { exit: u32 },
+    /// It became the head, as the unit before it retired.
+    BecameHead,
 }

@@ -6,7 +6,8 @@ use machine_model::event::Event;
 use test_programs::programs::{COUNT, DIAMOND, PAIR};
 
 // A goes to C, and B was predicted. Each unit begins at the first line of its task; the branch in line 6 is
-// taken, so it leads to line 8, and both units behind A go.
+// taken, so it leads to line 8, and both units behind A go. A's $8 is reserved for C and D, and arrives at each as it
+// becomes the head.
 #[test]
 fn a_wrong_prediction(rt: HostRuntime) {
     let events = [
@@ -57,11 +58,15 @@ fn a_wrong_prediction(rt: HostRuntime) {
     unit 2, task D: begins at line 9
 11 retire: ok
     unit 0, task A: retires; its exit is line 8
+    unit 1, task C: becomes the head
+    takes $8 = 1
 12 exec 0: ok
     unit 0, task C: executes line 8
     stops; its exit is line 9
 13 retire: ok
     unit 0, task C: retires; its exit is line 9
+    unit 1, task D: becomes the head
+    takes $8 = 1
 14 exec 0: ok
     unit 0, task D: executes line 9
     writes $9 = 7
@@ -83,7 +88,7 @@ at the end: the run has halted
 }
 
 // $8 and $9 are forwarded and travel; $10 is written and not forwarded, so a drain sends it. The branch in line
-// 8 goes back to A. The second round counts on from the first one's registers.
+// 8 goes back to A. The second round counts on from the first one's registers; $10 arrives as it becomes the head.
 #[test]
 fn registers_travel(rt: HostRuntime) {
     let events = [
@@ -153,6 +158,8 @@ fn registers_travel(rt: HostRuntime) {
     goes on at line 7
 17 retire: ok
     unit 0, task A: retires; its exit is line 5
+    unit 1, task A: becomes the head
+    takes $10 = 1
 at the end: the run goes on
     $8 = 2
     $9 = 3
