@@ -305,12 +305,15 @@ def refused_so(fault, text, results):
 def remarks(program, text):
     """The identifiers of what is said of the text of a certificate."""
     try:
-        found = verdict(program, cert_parse(text, program))
+        lists = cert_parse(text, program)
     except CertFault as fault:
         return ["-".join(["certificate", *fault.text()[len("certificate refused: "):-1].split()[:2]])]
+    found, least = verdict(program, lists), certify(program)
     own, masks = [it for it in found if it[2] <= 4], set()
     if not own:
-        return ["certificate-unfit"] if len(found) > len(verdict(program, certify(program))) else []
+        return ["certificate-unfit"] if len(found) > len(verdict(program, least)) else []
+    if [len(it) for it in lists] != [len(it) for it in least]:
+        return ["certificate-unfit"]
     codes = []
     for task, index, rule, _ in own:
         if rule < 3 or (task, index) not in masks:

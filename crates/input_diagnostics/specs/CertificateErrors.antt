@@ -5,10 +5,11 @@ use Rattle.mask_certificate.specs.declared.fault.CertFault.{CertFault}
 use Rattle.mask_certificate.specs.CertificateReading.{cert_parse, names_of}
 use Rattle.diagnostics.specs.declared.diagnostic.Diagnostic.{Diagnostic}
 use Rattle.input_diagnostics.specs.RefusedCertificates.{digits_in, refused_error}
-use Rattle.input_diagnostics.specs.Misfits.{ProgramView, own_findings, misfit_errors}
+use Rattle.input_diagnostics.specs.Misfits.{ProgramView, own_findings}
+use Rattle.input_diagnostics.specs.Stale.{fit_errors}
 
 abbrev pub errors_by : Listing → ProgramView → (least : List (List (ℕ × ℕ))) → (text : List ℕ) → Result (List (List (ℕ × ℕ))) CertFault → List Diagnostic
-errors_by p lines least text (Ok cert) = misfit_errors p cert least (digits_in text) lines
+errors_by p lines least text (Ok cert) = fit_errors p cert least (digits_in text) lines
 errors_by p lines least text (Err fault) = refused_error p text fault
 
 -- what is wrong with the text of a certificate: why it is refused, or where it does not fit the program, which has this least

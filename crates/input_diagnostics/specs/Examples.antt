@@ -22,6 +22,7 @@ use Rattle.input_diagnostics.specs.MistakenTexts.{mistaken_kind}
 use Rattle.input_diagnostics.specs.ScriptErrors.{script_errors}
 use Rattle.input_diagnostics.specs.RefusedCertificates.{refused_error}
 use Rattle.input_diagnostics.specs.Misfits.{misfit_error}
+use Rattle.input_diagnostics.specs.Stale.{other_task as other_among, stale_error}
 
 abbrev named : List ℕ → Descriptor
 named name = record { name = name; entry = 0; create = 0; targets = [] }
@@ -75,21 +76,49 @@ pub other_capitals : map told (script_errors program (codes "EXEC 0\nassign loop
 unfolding digits is_readable is_utf8 chars encode letter_start as_shown quoted
 other_capitals = refl
 
--- what only `replay --strict` reads, with the spaces before it
-pub with_expectation : map told (script_errors program (codes "exec 0 : $8=1  # the first\nstep 2\n"))
-    ≡ (at 1 7 20, codes "expectations, comments and steps are for replay --strict", Some (codes "take it out: here a line is an event alone"))
-    ∷ (at 2 1 6, codes "expectations, comments and steps are for replay --strict", Some (codes "take the line out: here a line is an event alone"))
+-- what only `replay --strict` reads, with the spaces before it: once for all lines
+pub with_expectation : map told (script_errors program (codes "exec 0 : $8=1  # the first\nstep 2\nexec\nretire # now\n"))
+    ≡ (at 1 7 20, codes "expectations, comments and steps are for replay --strict", Some (codes "judge the script with replay --strict; to explain it, take them out of each line"))
+    ∷ (at 3 5 0, codes "a word is missing here", Some (codes "write exec and a position, as in exec 0"))
     ∷ []
 with_expectation = refl
+
+pub a_trace : map told (script_errors program (codes "1 assign MAIN: ok\n    unit 0, task MAIN: begins at line 3\n"))
+    ≡ (at 1 1 17, codes "this is a trace, not a script of events", Some (codes "run --emit script writes one; add --with-values to judge it with replay --strict")) ∷ []
+a_trace = refl
 
 pub register_by_name : map told (script_errors program (codes "transfer 1 $t0"))
     ≡ (at 1 12 3, codes "an event names a register by its number", Some (codes "write $8")) ∷ []
 unfolding digits line_tokens tokens_after token_of kind_of number_of magnitude_of number_in register_of register_named
 register_by_name = refl
 
+-- the register and the position exchanged
+pub exchanged : map told (script_errors program (codes "transfer $8 1"))
+    ≡ (at 1 1 13, codes "the position comes before the register", Some (codes "write transfer 1 $8")) ∷ []
+unfolding digits is_readable is_utf8 chars encode letter_start as_shown line_tokens tokens_after token_of kind_of number_of magnitude_of number_in register_of register_named
+exchanged = refl
+
 pub two_spaces : map told (script_errors program (codes "exec  0"))
-    ≡ (at 1 6 1, codes "one space too many", Some (codes "take it out: one space stands between two words, and none before or after them")) ∷ []
+    ≡ (at 1 6 1, codes "one space too many", Some (codes "remove this space")) ∷ []
 two_spaces = refl
+
+-- a comma beside a space, and one between two words
+pub commas : map told (script_errors program (codes "drain 0, $9\ndrain 0,$9\n"))
+    ≡ (at 1 8 1, codes "an event has no comma", Some (codes "remove it"))
+    ∷ (at 2 8 1, codes "an event has no comma", Some (codes "write a space in its place"))
+    ∷ []
+commas = refl
+
+-- a tab in front of a word, and one between two words
+pub tabs : map told (script_errors program (codes "\texec 0\nexec\t0\n"))
+    ≡ (at 1 1 1, codes "an event has no tab", Some (codes "remove it"))
+    ∷ (at 2 5 1, codes "an event has no tab", Some (codes "write a space in its place"))
+    ∷ []
+tabs = refl
+
+pub byte_order_mark : map told (script_errors program (239 ∷ 187 ∷ 191 ∷ codes "retire\n"))
+    ≡ (at 1 1 3, codes "the line begins with a byte order mark", Some (codes "remove it")) ∷ []
+byte_order_mark = refl
 
 -- once for all lines
 pub carriage_returns : map told (script_errors program (codes "retire\r\nfault\r\n"))
@@ -98,10 +127,34 @@ carriage_returns = refl
 
 -- ---- certificates
 
-pub short_mask : map told (refused_error program (codes "cert 2\ntask MAIN\n1 600\n") (fault.Line 3))
-    ≡ (at 3 3 3, codes "this is not a mask of 16 digits", Some (codes "write 16 digits, 0 to 9 and a to f in lower case, with zeros in front and no bit above 33")) ∷ []
-unfolding digits
+-- zeros are missing in front, or there is a `0x`
+pub short_mask : map told (refused_error program (codes "cert 2\ntask MAIN\n1 700\n") (fault.Line 3))
+    ≡ (at 3 3 3, codes "this is not a mask of 16 digits", Some (codes "write 0000000000000700")) ∷ []
+unfolding digits is_readable is_utf8 chars encode letter_start as_shown
 short_mask = refl
+
+-- all such masks at once
+pub short_masks : map told (refused_error program (codes "cert 1\ntask MAIN\n1 700\n2 00000700\n3 0\n") (fault.Line 3))
+    ≡ (at 3 3 3, codes "this is not a mask of 8 digits", Some (codes "write 00000700"))
+    ∷ (at 5 3 1, codes "this is not a mask of 8 digits", Some (codes "write 00000000"))
+    ∷ []
+unfolding digits is_readable is_utf8 chars encode letter_start as_shown
+short_masks = refl
+
+pub narrow_mask : map told (refused_error program (codes "cert 1\ntask MAIN\n1 0x7A0\n") (fault.Line 3))
+    ≡ (at 3 3 5, codes "this is not a mask of 8 digits", Some (codes "write 000007a0")) ∷ []
+unfolding digits is_readable is_utf8 chars encode letter_start as_shown
+narrow_mask = refl
+
+-- bits above 33
+pub large_mask : map told (refused_error program (codes "cert 2\ntask MAIN\n1 70000000000\n") (fault.Line 3))
+    ≡ (at 3 3 11, codes "this is not a mask of 16 digits", Some (codes "write 16 digits, 0 to 9 and a to f in lower case, with zeros in front and no bit above 33")) ∷ []
+unfolding digits
+large_mask = refl
+
+pub empty_line : map told (refused_error program (codes "cert 2\n\ntask MAIN\n") (fault.Line 2))
+    ≡ (at 2 1 0, codes "the line is empty", Some (codes "take it out")) ∷ []
+empty_line = refl
 
 pub capitals : map told (refused_error program (codes "cert 2\ntask MAIN\n1 0000000000000C00\n") (fault.Line 3))
     ≡ (at 3 3 16, codes "the mask has capital letters", Some (codes "write 0000000000000c00")) ∷ []
@@ -144,9 +197,19 @@ lacking = refl
 pub idle : told (misfit_error program (((0, 0) ∷ []) ∷ ((1, 0x200) ∷ (2, 0x300) ∷ []) ∷ []) (((0, 0) ∷ []) ∷ ((1, 0x200) ∷ (2, 0x200) ∷ []) ∷ []) 16 (record { rows = []; code = [] })
     (record { task = 1; index = 1; rule = rule.LacksNext; reg = Some 8 })
     (record { task = 1; index = 1; rule = rule.LacksNext; reg = Some 8 } ∷ []))
-    ≡ (at 5 3 16, codes "the mask of task LOOP at index 1 lacks $8, which the mask at index 2 has and no path from there writes", Some (codes "write 0000000000000200 at index 2"))
+    ≡ (at 5 3 16, codes "the mask of task LOOP at index 1 lacks $8: the mask at index 2 has it, though it is never written from there on", Some (codes "write 0000000000000200 at index 2"))
 unfolding digits
 idle = refl
+
+-- the first task with another number of instructions
+pub other : other_among (((0, 0) ∷ []) ∷ ((1, 0) ∷ []) ∷ []) (((0, 0) ∷ []) ∷ ((1, 0) ∷ (2, 0) ∷ []) ∷ []) 2 ≡ Some 1
+other = refl
+
+-- an instruction was put into MAIN
+pub stale : told (stale_error program (((0, 0) ∷ []) ∷ ((1, 0) ∷ []) ∷ []) (((0, 0) ∷ (1, 0) ∷ []) ∷ ((2, 0) ∷ []) ∷ []) 0)
+    ≡ (at 2 1 9, codes "this certificate is of another text: task MAIN has 2 instructions here, 1 there", Some (codes "make a new one: multiscalar annotate --emit keep PROGRAM > CERT"))
+unfolding digits
+stale = refl
 
 -- ---- texts that are given as programs
 

@@ -5,5 +5,6 @@ pub mod MistakenTexts
 pub mod RefusedCertificates
 pub mod Larger
 pub mod Misfits
+pub mod Stale
 pub mod CertificateErrors
 pub mod Examples

@@ -121,7 +121,7 @@ lacks_message name index registers =
 abbrev pub idle_words : (name : List ℕ) → (index register other : ℕ) → List ℕ
 idle_words name index register other =
     codes "the mask of task " ++ (name ++ (codes " at index " ++ (decimal index ++ (codes " lacks $" ++ (decimal register
-    ++ (codes ", which the mask at index " ++ (decimal other ++ codes " has and no path from there writes")))))))
+    ++ (codes ": the mask at index " ++ (decimal other ++ codes " has it, though it is never written from there on")))))))
 
 -- of a mask that lacks only what another mask, at an index, has for no reason
 abbrev pub idle_message : (name : List ℕ) → Finding → (group : List Finding) → (other : Option ℕ) → List ℕ
@@ -201,7 +201,8 @@ told_from p cert least digits lines before (f ∷ fs) =
     (if goes_on before f then [] else misfit_error p cert least digits lines f (take_while (is_same_mask f) (f ∷ fs)) ∷ [])
     ++ told_from p cert least digits lines (Some f) fs
 
--- what is said of a certificate of masks with so many digits, beside the program's least one
+-- an error for each mask that is missing or lacks registers, in a certificate of masks with so many digits, beside the
+-- program's least one
 abbrev pub misfit_errors : Listing → (cert least : List (List (ℕ × ℕ))) → (digits : ℕ) → ProgramView → List Diagnostic
 misfit_errors p cert least digits lines =
     let told = told_from p cert least digits lines None (own_findings p cert) in

@@ -1,5 +1,5 @@
 -- What is said of the text of a certificate that is refused (own choice).
-use Rattle.std.specs.Prelude.{ℕ, ◌+◌, ◌-◌, Bool, not, ◌||◌, ◌==◌, nat_eq, nat_lt, nat_le, if◌then◌else◌, List, [], ◌∷◌, ◌++◌, length, take, drop, slice_get, slice_index, position, codes, unwrap_or, is_some, Option, Some, None}
+use Rattle.std.specs.Prelude.{ℕ, ◌+◌, ◌-◌, Bool, true, false, not, ◌&&◌, ◌||◌, ◌==◌, nat_eq, nat_lt, nat_le, if◌then◌else◌, List, [], ◌∷◌, ◌++◌, length, take, drop, replicate, slice_get, slice_index, position, codes, unwrap_or, is_some, Option, Some, None}
 use Rattle.std.specs.Fmt.{decimal}
 use Rattle.std.specs.List.{list_all, list_any, count_by, starts_with}
 use Rattle.std.specs.Str.{bytes_eq, str_to_ascii_lowercase}
@@ -16,9 +16,9 @@ use Rattle.diagnostics.specs.declared.diagnostic.Source.TheVariants.{Certificate
 use Rattle.diagnostics.specs.declared.diagnostic.Span.{Span}
 use Rattle.diagnostics.specs.Quotations.{as_shown, quoted}
 use Rattle.input_diagnostics.specs.declared.refused.LineSlip.{LineSlip}
-use Rattle.input_diagnostics.specs.declared.refused.LineSlip.TheVariants.{Unended, Name, First, Form, Index, Capitals, High, Mask}
+use Rattle.input_diagnostics.specs.declared.refused.LineSlip.TheVariants.{Unended, Name, Empty, First, Form, Index, Capitals, High, Incomplete, Mask}
 use Rattle.diagnostics.specs.Helps.{in_words, by_text}
-use Rattle.input_diagnostics.specs.Saying.{error, row_at, span, return_error}
+use Rattle.input_diagnostics.specs.Saying.{error, row_at, span, return_error, most_shown}
 use Rattle.input_diagnostics.specs.ScriptErrors.{ends_with_return}
 
 -- the command that makes a certificate
@@ -40,26 +40,47 @@ next_name p rows n = name_in (slice_get p.tasks (count_by is_task_row (take (n -
 
 -- ---- a line that has no form
 
--- what is wrong with a mask behind the first `k` bytes of a row, where masks have so many digits: it has another number of
--- digits; its digits are right, so it has a bit above 33; only capital letters are wrong; or other bytes are
+-- a mask without the `0x` in front of it, in small letters
+abbrev pub bare : (small : List ℕ) → List ℕ
+bare small = if starts_with nat_eq small (codes "0x") then drop 2 small else small
+
+abbrev pub bare_mask : (mask : List ℕ) → List ℕ
+bare_mask mask = bare (str_to_ascii_lowercase mask)
+
+abbrev pub is_zero : ℕ → Bool
+is_zero b = b == 48
+
+-- digits that are a mask of so many digits once there are zeros in front of them: those before the last eight are zeros, since
+-- the last eight are the registers 0 to 31
+abbrev pub is_incomplete : (digits : ℕ) → (bare : List ℕ) → Bool
+is_incomplete digits bare =
+    nat_lt 0 (length bare) && (nat_le (length bare) digits && (list_all is_mask_digit bare && list_all is_zero (take (length bare - 8) bare)))
+
+-- with zeros in front of them
+abbrev pub completed : (digits : ℕ) → (bare : List ℕ) → List ℕ
+completed digits bare = replicate (digits - length bare) 48 ++ bare
+
+-- What is wrong with a mask behind the first `k` bytes of a row, where masks have so many digits. Of so many digits, it has a
+-- bit above 33, or capital letters; else only zeros in front are missing, or there is a `0x`; or it is no mask at all.
 abbrev pub mask_slip : (digits k : ℕ) → (mask : List ℕ) → LineSlip
 mask_slip digits k mask =
-    if not (length mask == digits) then Mask k
-    else (if list_all is_mask_digit mask then High k
-    else (if list_all is_mask_digit (str_to_ascii_lowercase mask) then Capitals k
-    else Mask k))
+    if length mask == digits && list_all is_mask_digit (str_to_ascii_lowercase mask)
+    then (if list_all is_mask_digit mask then High k else Capitals k)
+    else (if is_incomplete digits (bare_mask mask) then Incomplete k else Mask k)
 
 abbrev pub slip_by : (digits : ℕ) → (space : Option ℕ) → (row : List ℕ) → LineSlip
 slip_by digits None row = Form
 slip_by digits (Some k) row = if is_some (index_in (take k row)) then mask_slip digits k (drop (k + 1) row) else Index k
 
--- a line without LF; a `task` line, whose name is none; a line that has to be the first `task` line; else what an entry lacks
+-- a line without LF; a `task` line, whose name is none; an empty line; a line that has to be the first `task` line; else what
+-- an entry lacks
 abbrev pub line_slip : (ended : Bool) → (n digits : ℕ) → (row : List ℕ) → LineSlip
 line_slip ended n digits row =
     if not ended then Unended
     else (if is_task_row row then Name
+    else (if length row == 0 then Empty
     else (if n == 2 then First
-    else slip_by digits (position is_space row) row))
+    else slip_by digits (position is_space row) row)))
 
 abbrev pub mask_span : (n : ℕ) → (row : List ℕ) → (k : ℕ) → Span
 mask_span n row k = span n (k + 1) (length row - (k + 1))
@@ -67,26 +88,34 @@ mask_span n row k = span n (k + 1) (length row - (k + 1))
 abbrev pub slip_span : (n : ℕ) → (row : List ℕ) → LineSlip → Span
 slip_span n row Unended = span n (length row) 0
 slip_span n row Name = span n 5 (length row - 5)
+slip_span n row Empty = span n 0 0
 slip_span n row First = span n 0 (length row)
 slip_span n row Form = span n 0 (length row)
 slip_span n row (Index k) = span n 0 k
 slip_span n row (Capitals k) = mask_span n row k
 slip_span n row (High k) = mask_span n row k
+slip_span n row (Incomplete k) = mask_span n row k
 slip_span n row (Mask k) = mask_span n row k
 
 -- `digits` is how many digits a mask has
+abbrev pub no_mask_message : (digits : ℕ) → List ℕ
+no_mask_message digits = codes "this is not a mask of " ++ (decimal digits ++ codes " digits")
+
 abbrev pub slip_message : (digits : ℕ) → (row : List ℕ) → LineSlip → List ℕ
 slip_message digits row Unended = codes "the last line does not end with LF"
 slip_message digits row Name = quoted (drop 5 row) ++ codes " cannot be the name of a task"
+slip_message digits row Empty = codes "the line is empty"
 slip_message digits row First = codes "the line of the first task comes first"
 slip_message digits row Form = codes "this is not a line of a certificate"
 slip_message digits row (Index k) = quoted (take k row) ++ codes " is not the index of an instruction"
 slip_message digits row (Capitals k) = codes "the mask has capital letters"
 slip_message digits row (High k) = codes "the mask has a bit above 33, the number of the last register"
-slip_message digits row (Mask k) = codes "this is not a mask of " ++ (decimal digits ++ codes " digits")
+slip_message digits row (Incomplete k) = no_mask_message digits
+slip_message digits row (Mask k) = no_mask_message digits
 
 abbrev pub slip_words : (digits : ℕ) → LineSlip → List ℕ
 slip_words digits Unended = codes "end it with LF"
+slip_words digits Empty = codes "take it out"
 slip_words digits (Index k) = codes "write an index in decimal, without leading zeros, at most 4095"
 slip_words digits (High k) = codes "write 00000000 to 00000003 as the first eight digits"
 slip_words digits (Mask k) =
@@ -106,10 +135,15 @@ abbrev pub small_help : Span → (mask : List ℕ) → Help
 small_help at mask =
     let small = as_shown (str_to_ascii_lowercase mask) in by_text (codes "write " ++ small) at small
 
+abbrev pub completed_help : (digits : ℕ) → Span → (mask : List ℕ) → Help
+completed_help digits at mask =
+    let whole = as_shown (completed digits (bare_mask mask)) in by_text (codes "write " ++ whole) at whole
+
 abbrev pub slip_help : (digits : ℕ) → Span → (next : Option (List ℕ)) → (row : List ℕ) → LineSlip → Help
 slip_help digits at next row Name = name_help at next
 slip_help digits at next row First = first_help next
 slip_help digits at next row (Capitals k) = small_help at (drop (k + 1) row)
+slip_help digits at next row (Incomplete k) = completed_help digits at (drop (k + 1) row)
 slip_help digits at next row slip = in_words (slip_words digits slip)
 
 -- ---- what is said of each fault
@@ -130,6 +164,41 @@ line_error p text n =
     if ends_with_return row then return_error Certificate Line n row
     else error Certificate Line at (slip_message (digits_in text) row slip) []
     (slip_help (digits_in text) at (next_name p (lines text) n) row slip)
+
+-- what is wrong with a line as an entry
+abbrev pub row_slip : (digits : ℕ) → (row : List ℕ) → LineSlip
+row_slip digits row = slip_by digits (position is_space row) row
+
+abbrev pub is_incomplete_slip : LineSlip → Bool
+is_incomplete_slip (Incomplete k) = true
+is_incomplete_slip _ = false
+
+-- what is said of line n, where the mask behind the first `k` bytes lacks zeros in front
+abbrev pub incomplete_error : (digits n : ℕ) → (row : List ℕ) → (k : ℕ) → Diagnostic
+incomplete_error digits n row k =
+    let at = mask_span n row k in
+    error Certificate Line at (no_mask_message digits) [] (completed_help digits at (drop (k + 1) row))
+
+abbrev pub incomplete_by : (digits n : ℕ) → (row : List ℕ) → LineSlip → List Diagnostic
+incomplete_by digits n row (Incomplete k) = incomplete_error digits n row k ∷ []
+incomplete_by digits n row _ = []
+
+-- of line n, if it stands after line `last`
+abbrev pub incomplete_after : (digits last n : ℕ) → (row : List ℕ) → List Diagnostic
+incomplete_after digits last n row = if nat_lt last n then incomplete_by digits n row (row_slip digits row) else []
+
+-- and of all lines after line `last`; line n is the first of these rows
+abbrev pub incomplete_from : (digits last n : ℕ) → (rows : List (List ℕ)) → List Diagnostic
+incomplete_from digits last n [] = []
+incomplete_from digits last n (row ∷ rows) =
+    incomplete_after digits last n row ++ incomplete_from digits last (n + 1) rows
+
+-- what is said of line n; if its mask lacks zeros in front, then also of the masks after it that do, up to 1,000 in all
+abbrev pub line_errors : Listing → (text : List ℕ) → (n : ℕ) → List Diagnostic
+line_errors p text n =
+    line_error p text n
+    ∷ (if is_incomplete_slip (row_slip (digits_in text) (row_at (lines text) n))
+    then take (most_shown - 1) (incomplete_from (digits_in text) n 1 (lines text)) else [])
 
 -- the first line of a text
 abbrev pub header_message : (row : List ℕ) → List ℕ
@@ -194,7 +263,7 @@ shape_error rows =
 -- what is said of a text that is refused
 abbrev pub refused_error : Listing → (text : List ℕ) → CertFault → List Diagnostic
 refused_error p text fault.Header = header_error text (row_at (lines text) 1) ∷ []
-refused_error p text (fault.Line n) = line_error p text n ∷ []
+refused_error p text (fault.Line n) = line_errors p text n
 refused_error p text (fault.TaskName n) = task_error p (lines text) n ∷ []
 refused_error p text fault.MissingTask = missing_error p (lines text) ∷ []
 refused_error p text fault.Shape = shape_error (lines text) ∷ []

@@ -4,9 +4,9 @@ ghost use Rattle.std.specs.Prelude.{◌≡◌, ◌↔◌, [], IfOk};
 ghost use Rattle.mask_certificate.specs.CertificateReading.{cert_parse, names_of};
 ghost use Rattle.input_diagnostics.specs.CertificateErrors.{certificate_errors, Serves};
 
-use crate::misfit::misfit_errors;
 use crate::program_lines::ProgramLines;
 use crate::refused::{digits_in, refused_error};
+use crate::stale::fit_errors;
 use diagnostics::diagnostic::Diagnostic;
 use mask_certificate::certificate::Cert;
 use mask_certificate::fault::CertFault;
@@ -15,8 +15,9 @@ use std::alloc::{AllocError, Global};
 use task_descriptor::program::Program;
 
 /// What is wrong with the text of a certificate that is given beside a program, of which these are the lines and the least
-/// certificate: why the text is refused; or an error for each mask that lacks registers, with the least mask to write, and
-/// for each mask that is missing, at most 1,000, and how many more there are. There is none exactly where the text is a certificate in which the rules 1 to 4 find nothing:
+/// certificate: why the text is refused; or that it is of another text, where a task has another number of instructions; or an
+/// error for each mask that lacks registers, with the least mask to write, and for each mask that is missing, at most 1,000,
+/// and how many more there are. There is none exactly where the text is a certificate in which the rules 1 to 4 find nothing:
 /// those are the rules that judge it alone. So a mask that has more registers than it needs is no error.
 ///
 /// # Errors
@@ -34,7 +35,7 @@ pub fn certificate_errors(
 {
     match read(alloc, text, program) {
         Ok(cert) => {
-            let list = misfit_errors(alloc, program, &cert, least, digits_in(text), lines)?;
+            let list = fit_errors(alloc, program, &cert, least, digits_in(text), lines)?;
             Ok(list)
         }
         Err(CertFault::OutOfMemory) => Err(AllocError),

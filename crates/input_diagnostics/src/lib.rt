@@ -12,3 +12,4 @@ pub mod refused;
 mod saying;
 pub mod script;
 pub mod slip;
+mod stale;

@@ -31,7 +31,11 @@ use std::alloc::{AllocError, Global};
 use task_descriptor::program::Program;
 
 /// The findings of the rules that judge the certificate alone.
-fn own_findings(alloc: Global, program: &Program, cert: &Cert) -> Result<Vec<Finding>, AllocError>
+pub(crate) fn own_findings(
+    alloc: Global,
+    program: &Program,
+    cert: &Cert,
+) -> Result<Vec<Finding>, AllocError>
     ensures { IfOk result (λ list. list.items ≡ own_findings program.now cert.now) }
 {
     let found = verdict(alloc, program, cert)?;
@@ -45,7 +49,7 @@ fn own_findings(alloc: Global, program: &Program, cert: &Cert) -> Result<Vec<Fin
 }
 
 /// The line that begins a task.
-fn task_line(cert: &Cert, task: u32) -> usize
+pub(crate) fn task_line(cert: &Cert, task: u32) -> usize
     ensures { result ≡ task_line cert.now task }
 {
     let mut line: usize = 2;
@@ -280,7 +284,7 @@ fn idle_words(
 {
     words!(
         in alloc;
-        "the mask of task {name} at index {index} lacks ${register}, which the mask at index {other} has and no path from there writes"
+        "the mask of task {name} at index {index} lacks ${register}: the mask at index {other} has it, though it is never written from there on"
     )
 }
 
@@ -594,7 +598,7 @@ fn told_of(
     Ok((list, count))
 }
 
-/// What is said of a certificate whose masks have so many digits.
+/// An error for each mask that is missing or lacks registers, in a certificate whose masks have so many digits.
 pub(crate) fn misfit_errors(
     alloc: Global,
     program: &Program,
@@ -602,12 +606,13 @@ pub(crate) fn misfit_errors(
     least: &Cert,
     digits: usize,
     lines: &ProgramLines<'_>,
+    findings: &[Finding],
 ) -> Result<Vec<Diagnostic>, AllocError>
+    requires { findings.now ≡ own_findings program.now cert.now }
     ensures { IfOk result (λ list. list.items ≡ misfit_errors program.now cert.now least.now digits lines.now) }
 {
-    let findings = own_findings(alloc, program, cert)?;
     let (mut list, count) = told_of(
-        alloc, program, cert, least, digits, lines, &findings, MOST_SHOWN,
+        alloc, program, cert, least, digits, lines, findings, MOST_SHOWN,
     )?;
     let more = count.saturating_sub(MOST_SHOWN);
     add_more(

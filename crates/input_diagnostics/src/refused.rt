@@ -1,15 +1,17 @@
 //! What is said of the text of a certificate that is refused.
 
-ghost use Rattle.std.specs.Prelude.{◌≡◌, ◌+◌, map as each, position, take, drop, IfOk};
+ghost use Rattle.std.specs.Prelude.{◌≡◌, ◌+◌, ◌-◌, ◌≤◌, ◌++◌, ◌∷◌, [], map as each, position, take, drop, length, if◌then◌else◌, IfOk, OnOk};
 ghost use Rattle.std.specs.List.{count_by, list_all};
 ghost use Rattle.std.specs.Option.{option_map};
 ghost use Rattle.std.specs.Str.{str_to_ascii_lowercase};
 ghost use Rattle.mask_certificate.specs.CertificateReading.{is_space, index_in, is_mask_digit};
 ghost use Rattle.event_script.specs.EventScript.{lines};
-ghost use Rattle.input_diagnostics.specs.RefusedCertificates.{anew, is_task_row, next_name, mask_slip, slip_by, line_slip, mask_span, slip_span, slip_message, slip_words, name_help, first_help, small_help, slip_help, digits_in, is_ended, line_error, header_message, empty_error, header_error, is_task, task_message, task_error, missing_error, index_of, shape_line, shape_message, shape_error, refused_error};
+ghost use Rattle.input_diagnostics.specs.declared.refused.LineSlip.TheVariants.{Capitals, High, Incomplete};
+ghost use Rattle.input_diagnostics.specs.Saying.{most_shown, row_at};
+ghost use Rattle.input_diagnostics.specs.RefusedCertificates.{anew, is_task_row, next_name, bare, is_zero, is_incomplete, completed, bare_mask, mask_slip, no_mask_message, slip_by, line_slip, mask_span, slip_span, slip_message, slip_words, name_help, first_help, small_help, completed_help, slip_help, digits_in, is_ended, line_error, row_slip, is_incomplete_slip, incomplete_error, incomplete_by, incomplete_after, incomplete_from, line_errors, header_message, empty_error, header_error, is_task, task_message, task_error, missing_error, index_of, shape_line, shape_message, shape_error, refused_error};
 
 use crate::lines::{lines_of, row_at};
-use crate::saying::{plain_error, return_error, span};
+use crate::saying::{MOST_SHOWN, plain_error, return_error, span};
 use crate::script::ends_with_return;
 use diagnostics::code::Code;
 use diagnostics::diagnostic::{Diagnostic, Help, Source, Span};
@@ -29,6 +31,8 @@ pub enum LineSlip {
     Unended,
     /// It is a `task` line, and its name is none.
     Name,
+    /// It is empty.
+    Empty,
     /// It stands where the first `task` line has to.
     First,
     /// It is neither a `task` line, nor has it a space.
@@ -39,6 +43,8 @@ pub enum LineSlip {
     Capitals(usize),
     /// After its first space stands a mask with a bit above 33.
     High(usize),
+    /// After its first space stands a mask without its leading zeros, or with `0x` in front of it.
+    Incomplete(usize),
     /// After its first space stands no mask.
     Mask(usize),
 }
@@ -138,12 +144,53 @@ fn is_all_digits(text: &[u8]) -> bool
     text.iter().all(|byte| is_mask_digit(*byte))
 }
 
-/// Whether a text has digits of masks alone, but for capital letters.
-fn is_all_letters(alloc: Global, text: &[u8]) -> Result<bool, AllocError>
-    ensures { IfOk result (λ all. all ≡ list_all is_mask_digit (str_to_ascii_lowercase text.now)) }
+/// A mask without the `0x` in front of it, which is given in small letters.
+fn bare(small: &[u8]) -> &[u8]
+    ensures { result.now ≡ bare small.now }
 {
-    let small = text.to_ascii_lowercase(alloc)?;
-    Ok(is_all_digits(&small))
+    if small.starts_with(b"0x") {
+        &small[2.min(small.len())..]
+    } else {
+        small
+    }
+}
+
+/// Whether the digits before the last eight are zeros.
+fn is_low(bare: &[u8]) -> bool
+    ensures { result ≡ list_all is_zero (take (length bare.now - 8) bare.now) }
+{
+    bare[..bare.len().saturating_sub(8)]
+        .iter()
+        .all(|digit| *digit == b'0')
+}
+
+/// Whether digits are a mask of so many digits once there are zeros in front of them.
+fn is_incomplete(digits: usize, bare: &[u8]) -> bool
+    ensures { result ≡ is_incomplete digits bare.now }
+{
+    0 < bare.len() && bare.len() <= digits && is_all_digits(bare) && is_low(bare)
+}
+
+/// Digits with zeros in front of them, so many in all.
+fn completed(alloc: Global, digits: usize, bare: &[u8]) -> Result<Vec<u8>, AllocError>
+    ensures { IfOk result (λ whole. whole.items ≡ completed digits bare.now) }
+{
+    let mut whole = Vec::new(alloc);
+    whole.resize(digits.saturating_sub(bare.len()), b'0')?;
+    whole.extend_from_slice(bare)?;
+    Ok(whole)
+}
+
+/// What is wrong with a mask after so many bytes that has digits alone, though letters may be capital, and no more or fewer
+/// than it should.
+fn whole_slip(space: usize, mask: &[u8]) -> LineSlip
+    ensures { result ≡ (if list_all is_mask_digit mask.now then High space else Capitals space) }
+{
+    if is_all_digits(mask) {
+        LineSlip::High(space)
+    } else {
+        LineSlip::Capitals(space)
+    }
 }
 
 /// What is wrong with a mask after so many bytes, where masks have so many digits.
@@ -155,14 +202,12 @@ fn mask_slip(
 ) -> Result<LineSlip, AllocError>
     ensures { IfOk result (λ slip. slip ≡ mask_slip digits space mask.now) }
 {
-    if mask.len() != digits {
-        return Ok(LineSlip::Mask(space));
+    let small = mask.to_ascii_lowercase(alloc)?;
+    if mask.len() == digits && is_all_digits(&small) {
+        return Ok(whole_slip(space, mask));
     }
-    if is_all_digits(mask) {
-        return Ok(LineSlip::High(space));
-    }
-    if is_all_letters(alloc, mask)? {
-        Ok(LineSlip::Capitals(space))
+    if is_incomplete(digits, bare(&small)) {
+        Ok(LineSlip::Incomplete(space))
     } else {
         Ok(LineSlip::Mask(space))
     }
@@ -202,6 +247,8 @@ fn line_slip(
         Ok(LineSlip::Unended)
     } else if is_task_row(row) {
         Ok(LineSlip::Name)
+    } else if row.is_empty() {
+        Ok(LineSlip::Empty)
     } else if number == 2 {
         Ok(LineSlip::First)
     } else {
@@ -227,10 +274,12 @@ fn slip_span(number: usize, row: &[u8], slip: LineSlip) -> Span
     match slip {
         LineSlip::Unended => span(number, row.len(), 0),
         LineSlip::Name => span(number, 5, row.len().saturating_sub(5)),
+        LineSlip::Empty => span(number, 0, 0),
         LineSlip::First | LineSlip::Form => span(number, 0, row.len()),
         LineSlip::Index(space) => span(number, 0, space),
         LineSlip::Capitals(space) => mask_span(number, row, space),
         LineSlip::High(space) => mask_span(number, row, space),
+        LineSlip::Incomplete(space) => mask_span(number, row, space),
         LineSlip::Mask(space) => mask_span(number, row, space),
     }
 }
@@ -249,6 +298,13 @@ fn name_of(row: &[u8]) -> &[u8]
     &row[5.min(row.len())..]
 }
 
+/// That there is no mask of so many digits.
+fn no_mask_message(alloc: Global, digits: usize) -> Result<Words, AllocError>
+    ensures { IfOk result (λ words. words ≡ no_mask_message digits) }
+{
+    words!(in alloc; "this is not a mask of {digits} digits")
+}
+
 /// What is wrong with a line, where masks have so many digits.
 fn slip_message(
     alloc: Global,
@@ -264,6 +320,7 @@ fn slip_message(
             let name = quoted(alloc, name_of(row))?;
             words!(in alloc; "{name} cannot be the name of a task")
         }
+        LineSlip::Empty => Words::of(alloc, "the line is empty"),
         LineSlip::First => Words::of(alloc, "the line of the first task comes first"),
         LineSlip::Form => Words::of(alloc, "this is not a line of a certificate"),
         LineSlip::Index(space) => {
@@ -275,7 +332,8 @@ fn slip_message(
             alloc,
             "the mask has a bit above 33, the number of the last register",
         ),
-        LineSlip::Mask(_) => words!(in alloc; "this is not a mask of {digits} digits"),
+        LineSlip::Incomplete(_) => no_mask_message(alloc, digits),
+        LineSlip::Mask(_) => no_mask_message(alloc, digits),
     }
 }
 
@@ -285,6 +343,7 @@ fn slip_words(alloc: Global, digits: usize, slip: LineSlip) -> Result<Words, All
 {
     match slip {
         LineSlip::Unended => Words::of(alloc, "end it with LF"),
+        LineSlip::Empty => Words::of(alloc, "take it out"),
         LineSlip::Index(_) => Words::of(
             alloc,
             "write an index in decimal, without leading zeros, at most 4095",
@@ -341,6 +400,15 @@ fn small_help(alloc: Global, at: Span, mask: &[u8]) -> Result<Help, AllocError>
     by_text(alloc, words!(in alloc; "write {small}")?, at, small)
 }
 
+/// What to do about a mask without its leading zeros: to write all its digits.
+fn completed_help(alloc: Global, digits: usize, at: Span, mask: &[u8]) -> Result<Help, AllocError>
+    ensures { IfOk result (λ help. help ≡ completed_help digits at mask.now) }
+{
+    let small = mask.to_ascii_lowercase(alloc)?;
+    let whole = as_shown(alloc, &completed(alloc, digits, bare(&small))?)?;
+    by_text(alloc, words!(in alloc; "write {whole}")?, at, whole)
+}
+
 /// What to do about a line.
 fn slip_help(
     alloc: Global,
@@ -356,6 +424,7 @@ fn slip_help(
         LineSlip::Name => name_help(alloc, at, next),
         LineSlip::First => first_help(alloc, next),
         LineSlip::Capitals(space) => small_help(alloc, at, after(row, space)),
+        LineSlip::Incomplete(space) => completed_help(alloc, digits, at, after(row, space)),
         _ => Ok(in_words(alloc, slip_words(alloc, digits, slip)?)),
     }
 }
@@ -397,6 +466,155 @@ fn line_error(
     let next = next_name(program, rows, number);
     let help = slip_help(alloc, digits, at, next, row, slip)?;
     Ok(plain_error(alloc, Source::Certificate, Code::Line, at, message, help))
+}
+
+/// What is wrong with a line as an entry.
+fn row_slip(alloc: Global, digits: usize, row: &[u8]) -> Result<LineSlip, AllocError>
+    ensures { IfOk result (λ slip. slip ≡ row_slip digits row.now) }
+{
+    slip_by(alloc, digits, row)
+}
+
+/// Whether a mask lacks zeros in front.
+fn is_incomplete_slip(slip: LineSlip) -> bool
+    ensures { result ≡ is_incomplete_slip slip }
+{
+    matches!(slip, LineSlip::Incomplete(_))
+}
+
+/// What is said of a line whose mask, after so many bytes and a space, lacks zeros in front.
+fn incomplete_error(
+    alloc: Global,
+    digits: usize,
+    number: usize,
+    row: &[u8],
+    space: usize,
+) -> Result<Diagnostic, AllocError>
+    ensures { IfOk result (λ said. said ≡ incomplete_error digits number row.now space) }
+{
+    let at = mask_span(number, row, space);
+    let message = no_mask_message(alloc, digits)?;
+    let help = completed_help(alloc, digits, at, after(row, space))?;
+    Ok(plain_error(alloc, Source::Certificate, Code::Line, at, message, help))
+}
+
+/// Adds what is said of a line whose mask, after so many bytes and a space, lacks zeros in front, if there is room.
+fn add_error(
+    alloc: Global,
+    list: &mut Vec<Diagnostic>,
+    digits: usize,
+    number: usize,
+    row: &[u8],
+    space: usize,
+    most: usize,
+) -> Result<(), AllocError>
+    requires { length list.old.items ≤ most }
+    ensures room { OnOk result (length list.new.items ≤ most) }
+    ensures added { OnOk result (list.new.items
+        ≡ take most (list.old.items ++ incomplete_error digits number row.now space ∷ [])) }
+{
+    if list.len() < most {
+        list.push(incomplete_error(alloc, digits, number, row, space)?)?;
+    }
+    Ok(())
+}
+
+/// Adds what is said of a line with this slip, if its mask lacks zeros in front, and if there is room.
+fn add_incomplete(
+    alloc: Global,
+    list: &mut Vec<Diagnostic>,
+    digits: usize,
+    number: usize,
+    row: &[u8],
+    slip: LineSlip,
+    most: usize,
+) -> Result<(), AllocError>
+    requires { length list.old.items ≤ most }
+    ensures room { OnOk result (length list.new.items ≤ most) }
+    ensures added { OnOk result (list.new.items ≡ take most (list.old.items ++ incomplete_by digits number row.now slip)) }
+{
+    match slip {
+        LineSlip::Incomplete(space) => { add_error(alloc, list, digits, number, row, space, most) }
+        _ => Ok(()),
+    }
+}
+
+/// Adds what is said of a line after a line, if its mask lacks zeros in front, and if there is room.
+fn add_after(
+    alloc: Global,
+    list: &mut Vec<Diagnostic>,
+    digits: usize,
+    last: usize,
+    number: usize,
+    row: &[u8],
+    most: usize,
+) -> Result<(), AllocError>
+    requires { length list.old.items ≤ most }
+    ensures room { OnOk result (length list.new.items ≤ most) }
+    ensures added { OnOk result (list.new.items ≡ take most (list.old.items ++ incomplete_after digits last number row.now)) }
+{
+    if last < number {
+        let slip = row_slip(alloc, digits, row)?;
+        return add_incomplete(alloc, list, digits, number, row, slip, most);
+    }
+    Ok(())
+}
+
+/// What is said of the lines after a line whose masks lack zeros in front, of the first of them, so many.
+fn incomplete_from(
+    alloc: Global,
+    digits: usize,
+    last: usize,
+    rows: &[&[u8]],
+    most: usize,
+) -> Result<Vec<Diagnostic>, AllocError>
+    ensures { IfOk result (λ list. list.items ≡ take most (incomplete_from digits last 1 (each (λ row. row.now) rows.now))) }
+{
+    let mut list = Vec::new(alloc);
+    let mut number = 0;
+    let mut rest = rows;
+    while let [row, others @ ..] = rest {
+        number += 1;
+        add_after(alloc, &mut list, digits, last, number, row, most)?;
+        rest = others;
+    }
+    Ok(list)
+}
+
+/// What is said of further lines where line `number` has no form that a line may have.
+fn further_errors(
+    alloc: Global,
+    text: &[u8],
+    rows: &[&[u8]],
+    number: usize,
+) -> Result<Vec<Diagnostic>, AllocError>
+    requires { each (λ row. row.now) rows.now ≡ lines text.now }
+    ensures { IfOk result (λ list. list.items
+        ≡ (if is_incomplete_slip (row_slip (digits_in text.now) (row_at (lines text.now) number))
+        then take (most_shown - 1) (incomplete_from (digits_in text.now) number 1 (lines text.now)) else [])) }
+{
+    let digits = digits_in(text);
+    if !is_incomplete_slip(row_slip(alloc, digits, row_at(rows, number))?) {
+        return Ok(Vec::new(alloc));
+    }
+    incomplete_from(alloc, digits, number, rows, MOST_SHOWN - 1)
+}
+
+/// What is said of a line that has no form that a line may have, and of further ones.
+fn line_errors(
+    alloc: Global,
+    program: &Program,
+    text: &[u8],
+    rows: &[&[u8]],
+    number: usize,
+) -> Result<Vec<Diagnostic>, AllocError>
+    requires { each (λ row. row.now) rows.now ≡ lines text.now }
+    ensures { IfOk result (λ list. list.items ≡ line_errors program.now text.now number) }
+{
+    let mut list = Vec::new(alloc);
+    list.push(line_error(alloc, program, text, rows, number)?)?;
+    list.append(&mut further_errors(alloc, text, rows, number)?)?;
+    Ok(list)
 }
 
 /// What is wrong with the first line.
@@ -560,7 +778,7 @@ pub(crate) fn refused_error(
     let rows = lines_of(alloc, text)?;
     let said = match fault {
         CertFault::Header => header_error(alloc, text, row_at(&rows, 1))?,
-        CertFault::Line(number) => line_error(alloc, program, text, &rows, number)?,
+        CertFault::Line(number) => return line_errors(alloc, program, text, &rows, number),
         CertFault::TaskName(number) => task_error(alloc, program, &rows, number)?,
         CertFault::MissingTask => missing_error(alloc, program, &rows)?,
         CertFault::Shape => shape_error(alloc, &rows)?,

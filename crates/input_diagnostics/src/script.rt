@@ -1,19 +1,24 @@
 //! What is wrong with the text of an event script.
 
-ghost use Rattle.std.specs.Prelude.{◌≡◌, ◌↔◌, ◌<◌, ◌^◌, ◌++◌, [], length, map as each, false, IfOk, OnOk};
+ghost use Rattle.std.specs.Prelude.{◌≡◌, ◌↔◌, ◌<◌, ◌^◌, ◌++◌, ◌∷◌, [], if◌then◌else◌, length, map as each, false, slice_get, IfOk, OnOk};
 ghost use Rattle.std.specs.Option.{option_map};
-ghost use Rattle.event_script.specs.EventScript.{names_in, script_of, wrong_part};
-ghost use Rattle.input_diagnostics.specs.ScriptErrors.{form_help, verbs, part_span, slip_span, word_message, slip_message, meant_help, word_help, word_remedy, strict_help, register_help, slip_help, code_of, line_error, ends_with_return, said_of, script_errors, IsRead};
+ghost use Rattle.event_script.specs.EventScript.{first_word, names_in, script_of, wrong_part};
+ghost use Rattle.event_script.specs.declared.fault.LineFault.TheVariants.{NoRegister};
+ghost use Rattle.diagnostics.specs.Helps.{by_text};
+ghost use Rattle.diagnostics.specs.declared.code.Code.TheVariants.{ScriptLine};
+ghost use Rattle.diagnostics.specs.declared.diagnostic.Source.TheVariants.{Script};
+ghost use Rattle.input_diagnostics.specs.Saying.{return_error};
+ghost use Rattle.input_diagnostics.specs.ScriptErrors.{form_help, verbs, part_span, slip_span, word_message, slip_message, meant_help, word_help, word_remedy, is_in_word, is_between, separator_help, event_text, exchanged_help, register_help, slip_help, code_of, line_error, ends_with_return, said_of, is_trace, trace_error, lines_errors, told_in, script_errors, IsRead};
 
 use crate::lines::{lines_of, row_at};
 use crate::meant::{meant, names_of};
 use crate::saying::{MOST_SHOWN, plain_error, return_error, span};
-use crate::slip::{Slip, slip_of};
+use crate::slip::{Slip, event_end, is_strict, slip_of};
 use diagnostics::code::Code;
 use diagnostics::diagnostic::{Diagnostic, Help, Source, Span};
 use diagnostics::helps::{by_text, in_words};
 use diagnostics::more::add_more;
-use diagnostics::quotation::quoted;
+use diagnostics::quotation::{as_shown, quoted};
 use diagnostics::words;
 use diagnostics::words::Words;
 use event_script::bad_line::{BadLine, bad_lines, first_word};
@@ -69,9 +74,13 @@ fn slip_span(number: usize, line: &[u8], slip: Slip) -> Span
 {
     match slip {
         Slip::Empty => span(number, 0, 0),
+        Slip::ByteOrderMark => span(number, 0, 3),
         Slip::Strict(before) => span(number, before, line.len().saturating_sub(before)),
+        Slip::Tab(before) => span(number, before, 1),
+        Slip::Comma(before) => span(number, before, 1),
         Slip::Space(before) => span(number, before, 1),
         Slip::Named(_) => part_span(number, line, LineFault::NoRegister),
+        Slip::Exchanged(_) => span(number, 0, line.len()),
         Slip::Word(fault) => part_span(number, line, fault),
     }
 }
@@ -98,12 +107,16 @@ fn slip_message(alloc: Global, line: &[u8], slip: Slip) -> Result<Words, AllocEr
 {
     match slip {
         Slip::Empty => Words::of(alloc, "the line is empty"),
+        Slip::ByteOrderMark => Words::of(alloc, "the line begins with a byte order mark"),
         Slip::Strict(_) => Words::of(
             alloc,
             "expectations, comments and steps are for replay --strict",
         ),
+        Slip::Tab(_) => Words::of(alloc, "an event has no tab"),
+        Slip::Comma(_) => Words::of(alloc, "an event has no comma"),
         Slip::Space(_) => Words::of(alloc, "one space too many"),
         Slip::Named(_) => Words::of(alloc, "an event names a register by its number"),
+        Slip::Exchanged(_) => Words::of(alloc, "the position comes before the register"),
         Slip::Word(fault) => {
             let (_, word) = fault.part_of(line);
             word_message(alloc, fault, word)
@@ -162,16 +175,72 @@ fn word_remedy(
     }
 }
 
-/// What to do about what only `replay --strict` reads.
-fn strict_help(alloc: Global, at: Span, before: usize) -> Result<Help, AllocError>
-    ensures { IfOk result (λ help. help ≡ strict_help at before) }
+/// What to do about a part: to remove it, in these words.
+fn remove_help(alloc: Global, words: &str, at: Span) -> Result<Help, AllocError>
+    ensures { IfOk result (λ help. help ≡ by_text words.now at []) }
 {
-    if before == 0 {
-        let message = Words::of(alloc, "take the line out: here a line is an event alone")?;
-        return Ok(in_words(alloc, message));
+    let message = Words::of(alloc, words)?;
+    let nothing = Words::of(alloc, "")?;
+    by_text(alloc, message, at, nothing)
+}
+
+/// A byte of a line.
+fn byte_at(line: &[u8], place: usize) -> Option<u8>
+    ensures { result ≡ slice_get line.now place }
+{
+    line.get(place).copied()
+}
+
+/// Whether a byte is part of a word.
+fn is_in_word(byte: Option<u8>) -> bool
+    ensures { result ≡ is_in_word byte }
+{
+    match byte {
+        Some(byte) => !(byte == b' ' || byte == b'\t' || byte == b','),
+        None => false,
     }
-    let message = Words::of(alloc, "take it out: here a line is an event alone")?;
-    by_text(alloc, message, at, Words::of(alloc, "")?)
+}
+
+/// Whether a tab or a comma with so many bytes in front of it separates two words.
+fn is_between(line: &[u8], before: usize) -> bool
+    ensures { result ≡ is_between line.now before }
+{
+    is_in_word(byte_at(line, before.saturating_sub(1)))
+        && is_in_word(byte_at(line, before.saturating_add(1)))
+}
+
+/// What to do about a tab or a comma.
+fn separator_help(alloc: Global, between: bool, at: Span) -> Result<Help, AllocError>
+    ensures { IfOk result (λ help. help ≡ separator_help between at) }
+{
+    if !between {
+        return remove_help(alloc, "remove it", at);
+    }
+    let message = Words::of(alloc, "write a space in its place")?;
+    by_text(alloc, message, at, Words::of(alloc, " ")?)
+}
+
+/// An event of a verb, a position and a register.
+fn event_text(
+    alloc: Global,
+    verb: &[u8],
+    position: &[u8],
+    register: u8,
+) -> Result<Words, AllocError>
+    ensures { IfOk result (λ words. words ≡ event_text verb.now position.now register) }
+{
+    let verb = as_shown(alloc, verb)?;
+    let position = as_shown(alloc, position)?;
+    words!(in alloc; "{verb} {position} ${register}")
+}
+
+/// What to do about a register in front of the position: to exchange them.
+fn exchanged_help(alloc: Global, at: Span, line: &[u8], register: u8) -> Result<Help, AllocError>
+    ensures { IfOk result (λ help. help ≡ exchanged_help at (first_word line.now) (wrong_part NoRegister line.now).bytes register) }
+{
+    let (_, position) = LineFault::NoRegister.part_of(line);
+    let text = event_text(alloc, first_word(line), position, register)?;
+    by_text(alloc, words!(in alloc; "write {text}")?, at, text)
 }
 
 /// What to do about a register's name.
@@ -194,15 +263,17 @@ fn slip_help(
 {
     match slip {
         Slip::Empty => Ok(in_words(alloc, Words::of(alloc, "take the line out")?)),
-        Slip::Strict(before) => strict_help(alloc, at, before),
+        Slip::ByteOrderMark => remove_help(alloc, "remove it", at),
+        Slip::Strict(_) => {
+            let words =
+                "judge the script with replay --strict; to explain it, take them out of each line";
+            Ok(in_words(alloc, Words::of(alloc, words)?))
+        }
+        Slip::Tab(before) => separator_help(alloc, is_between(line, before), at),
+        Slip::Comma(before) => separator_help(alloc, is_between(line, before), at),
+        Slip::Space(_) => remove_help(alloc, "remove this space", at),
         Slip::Named(number) => register_help(alloc, at, number),
-        Slip::Space(_) => Ok(in_words(
-            alloc,
-            Words::of(
-                alloc,
-                "take it out: one space stands between two words, and none before or after them",
-            )?,
-        )),
+        Slip::Exchanged(number) => exchanged_help(alloc, at, line, number),
         Slip::Word(fault) => word_remedy(alloc, program, at, line, fault),
     }
 }
@@ -248,21 +319,121 @@ fn said_of(
     rows: &[&[u8]],
     list: &[BadLine],
 ) -> Result<Vec<Diagnostic>, AllocError>
-    ensures { IfOk result (λ said. said.items ≡ said_of program.now (each (λ row. row.now) rows.now) false list.now) }
+    ensures { IfOk result (λ said. said.items ≡ said_of program.now (each (λ row. row.now) rows.now) false false list.now) }
 {
     let mut said = Vec::new(alloc);
-    let mut told = false;
+    let mut returned = false;
+    let mut strict = false;
     for bad in list {
         let line = row_at(rows, bad.line);
-        if !ends_with_return(line) {
-            said.push(line_error(alloc, program, line, bad)?)?;
-        } else if !told {
-            let code = Code::ScriptLine;
-            said.push(return_error(alloc, Source::Script, code, bad.line, line)?)?;
-            told = true;
+        if ends_with_return(line) {
+            add_return(alloc, &mut said, returned, bad.line, line)?;
+            returned = true;
+        } else {
+            let is_one = is_strict(slip_of(alloc, line, bad.fault)?);
+            add_line(alloc, &mut said, strict && is_one, program, line, bad)?;
+            strict = strict || is_one;
         }
     }
     Ok(said)
+}
+
+/// Adds what is said of a line that ends with CR, unless it was told.
+fn add_return(
+    alloc: Global,
+    said: &mut Vec<Diagnostic>,
+    told: bool,
+    number: usize,
+    line: &[u8],
+) -> Result<(), AllocError>
+    ensures { OnOk result (said.new.items
+        ≡ said.old.items ++ (if told then [] else return_error Script ScriptLine number line.now ∷ [])) }
+{
+    if !told {
+        let code = Code::ScriptLine;
+        said.push(return_error(alloc, Source::Script, code, number, line)?)?;
+    }
+    Ok(())
+}
+
+/// Adds what is said of another line that spells no event, unless it was told.
+fn add_line(
+    alloc: Global,
+    said: &mut Vec<Diagnostic>,
+    told: bool,
+    program: &Program,
+    line: &[u8],
+    bad: &BadLine,
+) -> Result<(), AllocError>
+    ensures { OnOk result (said.new.items
+        ≡ said.old.items ++ (if told then [] else line_error program.now line.now bad.now ∷ [])) }
+{
+    if !told {
+        said.push(line_error(alloc, program, line, bad)?)?;
+    }
+    Ok(())
+}
+
+/// Whether a text that begins with this line is a trace.
+fn is_trace(line: &[u8]) -> bool
+    ensures { result ≡ is_trace line.now }
+{
+    line.starts_with(b"1 ") && event_end(line).is_some()
+}
+
+/// What is said of a trace that begins with this line.
+fn trace_error(alloc: Global, line: &[u8]) -> Result<Diagnostic, AllocError>
+    ensures { IfOk result (λ said. said ≡ trace_error line.now) }
+{
+    let message = Words::of(alloc, "this is a trace, not a script of events")?;
+    let words = "run --emit script writes one; add --with-values to judge it with replay --strict";
+    let help = in_words(alloc, Words::of(alloc, words)?);
+    let at = span(1, 0, line.len());
+    Ok(plain_error(alloc, Source::Script, Code::ScriptLine, at, message, help))
+}
+
+/// What is said of a trace that begins with this line, alone.
+fn trace_alone(alloc: Global, line: &[u8]) -> Result<Vec<Diagnostic>, AllocError>
+    ensures { IfOk result (λ list. list.items ≡ trace_error line.now ∷ []) }
+{
+    let mut list = Vec::new(alloc);
+    list.push(trace_error(alloc, line)?)?;
+    Ok(list)
+}
+
+/// What is said of the lines that are shown, and how many more there are of so many.
+fn lines_errors(
+    alloc: Global,
+    program: &Program,
+    rows: &[&[u8]],
+    shown: &[BadLine],
+    count: usize,
+) -> Result<Vec<Diagnostic>, AllocError>
+    ensures { IfOk result (λ list. list.items ≡ lines_errors program.now (each (λ row. row.now) rows.now) shown.now count) }
+{
+    let mut list = said_of(alloc, program, rows, shown)?;
+    let more = count.saturating_sub(MOST_SHOWN);
+    let (one, many) = ("line that spells no event", "lines that spell no event");
+    add_more(alloc, &mut list, Source::Script, more, one, many)?;
+    Ok(list)
+}
+
+/// What is said of a text of these lines, of which so many spell no event.
+fn told_in(
+    alloc: Global,
+    program: &Program,
+    rows: &[&[u8]],
+    shown: &[BadLine],
+    count: usize,
+) -> Result<Vec<Diagnostic>, AllocError>
+    ensures { IfOk result (λ list. list.items ≡ told_in program.now (each (λ row. row.now) rows.now) shown.now count) }
+{
+    let first = row_at(rows, 1);
+    if is_trace(first) {
+        trace_alone(alloc, first)
+    } else {
+        lines_errors(alloc, program, rows, shown, count)
+    }
 }
 
 /// What is wrong with the text of an event script.
@@ -274,16 +445,13 @@ fn errors_of(alloc: Global, text: &[u8], program: &Program) -> Result<Vec<Diagno
         return Ok(Vec::new(alloc));
     }
     let rows = lines_of(alloc, text)?;
-    let mut list = said_of(alloc, program, &rows, &bad)?;
-    let more = count.saturating_sub(MOST_SHOWN);
-    let (one, many) = ("line that spells no event", "lines that spell no event");
-    add_more(alloc, &mut list, Source::Script, more, one, many)?;
+    let list = told_in(alloc, program, &rows, &bad, count)?;
     Ok(list)
 }
 
 /// What is wrong with the text of an event script for a program: an error for each line that spells no event, but only one
-/// for all lines that end with CR; of the first 1,000 such lines, and how many more there are. There is none exactly
-/// where the script can be read.
+/// for all lines that end with CR, and one for all that have what only `replay --strict` reads; of the first 1,000 such
+/// lines, and how many more there are. Of a trace only that is said. There is none exactly where the script can be read.
 ///
 /// # Errors
 ///

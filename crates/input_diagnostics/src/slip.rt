@@ -1,7 +1,10 @@
 //! What is wrong with a line of an event script.
 
-ghost use Rattle.std.specs.Prelude.{◌≡◌, false, IfOk};
-ghost use Rattle.input_diagnostics.specs.ScriptErrors.{event_end, strict_part, stray_space, register_slip, word_slip, space_slip, slip_by, slip_of};
+ghost use Rattle.std.specs.Prelude.{◌≡◌, false, position, IfOk};
+ghost use Rattle.std.specs.Char.{is_ascii_digit};
+ghost use Rattle.std.specs.List.{list_all};
+ghost use Rattle.event_script.specs.EventScript.{has_leading_zero, is_number};
+ghost use Rattle.input_diagnostics.specs.ScriptErrors.{event_end, strict_part, stray_space, has_byte_order_mark, is_tab, is_comma, is_strict, register_slip, position_slip, word_slip, space_slip, comma_slip, tab_slip, slip_by, slip_of};
 
 use crate::meant::register_meant;
 use event_script::bad_line::first_word;
@@ -14,18 +17,33 @@ use std::alloc::{AllocError, Global};
 pub enum Slip {
     /// It has no word.
     Empty,
+    /// It begins with a byte order mark.
+    ByteOrderMark,
     /// With so many bytes in front of it, it has what only `replay --strict` reads: an expectation, a comment or a step.
     Strict(usize),
+    /// It has a tab, with so many bytes in front of it.
+    Tab(usize),
+    /// It has a comma, with so many bytes in front of it.
+    Comma(usize),
     /// A space in it, with so many bytes in front of it, separates no two words.
     Space(usize),
     /// Its third word is the register of this number, by its name.
     Named(u8),
+    /// Its second word is the register of this number, and its third a position.
+    Exchanged(u8),
     /// A word in it is wrong, missing, or too much.
     Word(LineFault),
 }
 
+/// Whether a slip is what only `replay --strict` reads.
+pub(crate) fn is_strict(slip: Slip) -> bool
+    ensures { result ≡ is_strict slip }
+{
+    matches!(slip, Slip::Strict(_))
+}
+
 /// How many bytes stand in front of the spaces before the first `:` or `#`.
-fn event_end(line: &[u8]) -> Option<usize>
+pub(crate) fn event_end(line: &[u8]) -> Option<usize>
     ensures { result ≡ event_end 0 0 line.now }
 {
     let mut kept = 0;
@@ -65,6 +83,48 @@ fn stray_space(line: &[u8]) -> Option<usize>
     None
 }
 
+/// Whether a line begins with a byte order mark.
+fn has_byte_order_mark(line: &[u8]) -> bool
+    ensures { result ≡ has_byte_order_mark line.now }
+{
+    line.starts_with(b"\xef\xbb\xbf")
+}
+
+/// How many bytes stand in front of the first tab.
+fn tab_in(line: &[u8]) -> Option<usize>
+    ensures { result ≡ position is_tab line.now }
+{
+    line.iter().position(|byte| *byte == b'\t')
+}
+
+/// How many bytes stand in front of the first comma.
+fn comma_in(line: &[u8]) -> Option<usize>
+    ensures { result ≡ position is_comma line.now }
+{
+    line.iter().position(|byte| *byte == b',')
+}
+
+/// Whether a word of several letters begins with 0.
+fn has_leading_zero(word: &[u8]) -> bool
+    ensures { result ≡ has_leading_zero word.now }
+{
+    matches!(word, [b'0', _, ..])
+}
+
+/// Whether a word has digits alone.
+fn is_digits(word: &[u8]) -> bool
+    ensures { result ≡ list_all is_ascii_digit word.now }
+{
+    word.iter().all(|digit| digit.is_ascii_digit())
+}
+
+/// Whether a word is a number as an event has it: 1 to 3 digits without leading zeros.
+fn is_number(word: &[u8]) -> bool
+    ensures { result ≡ is_number word.now }
+{
+    1 <= word.len() && word.len() <= 3 && !has_leading_zero(word) && is_digits(word)
+}
+
 /// What is wrong with a third word that may name a register.
 fn register_slip(register: Option<Reg>) -> Slip
     ensures { result ≡ register_slip register }
@@ -72,6 +132,16 @@ fn register_slip(register: Option<Reg>) -> Slip
     match register {
         Some(register) => Slip::Named(register.get()),
         None => Slip::Word(LineFault::NoRegister),
+    }
+}
+
+/// What is wrong with a second word that may name a register, before a third one.
+fn position_slip(register: Option<Reg>, after: &[u8]) -> Slip
+    ensures { result ≡ position_slip register after.now }
+{
+    match register {
+        Some(register) if is_number(after) => Slip::Exchanged(register.get()),
+        _ => Slip::Word(LineFault::NoPosition),
     }
 }
 
@@ -83,6 +153,11 @@ fn word_slip(alloc: Global, line: &[u8], fault: LineFault) -> Result<Slip, Alloc
         LineFault::NoRegister => {
             let (_, word) = fault.part_of(line);
             Ok(register_slip(register_meant(alloc, word)?))
+        }
+        LineFault::NoPosition => {
+            let (_, word) = fault.part_of(line);
+            let (_, after) = LineFault::NoRegister.part_of(line);
+            Ok(position_slip(register_meant(alloc, word)?, after))
         }
         _ => Ok(Slip::Word(fault)),
     }
@@ -98,6 +173,26 @@ fn space_slip(alloc: Global, line: &[u8], fault: LineFault) -> Result<Slip, Allo
     }
 }
 
+/// What is wrong with the commas of a line, or else with its spaces or a word.
+fn comma_slip(alloc: Global, line: &[u8], fault: LineFault) -> Result<Slip, AllocError>
+    ensures { IfOk result (λ slip. slip ≡ comma_slip (position is_comma line.now) line.now fault) }
+{
+    match comma_in(line) {
+        Some(before) => Ok(Slip::Comma(before)),
+        None => space_slip(alloc, line, fault),
+    }
+}
+
+/// What is wrong with the tabs of a line, or else with its commas, its spaces or a word.
+fn tab_slip(alloc: Global, line: &[u8], fault: LineFault) -> Result<Slip, AllocError>
+    ensures { IfOk result (λ slip. slip ≡ tab_slip (position is_tab line.now) line.now fault) }
+{
+    match tab_in(line) {
+        Some(before) => Ok(Slip::Tab(before)),
+        None => comma_slip(alloc, line, fault),
+    }
+}
+
 /// What is wrong with a line that has this fault.
 pub(crate) fn slip_of(alloc: Global, line: &[u8], fault: LineFault) -> Result<Slip, AllocError>
     ensures { IfOk result (λ slip. slip ≡ slip_of line.now fault) }
@@ -105,8 +200,11 @@ pub(crate) fn slip_of(alloc: Global, line: &[u8], fault: LineFault) -> Result<Sl
     if line.is_empty() {
         return Ok(Slip::Empty);
     }
+    if has_byte_order_mark(line) {
+        return Ok(Slip::ByteOrderMark);
+    }
     match strict_part(line) {
         Some(before) => Ok(Slip::Strict(before)),
-        None => space_slip(alloc, line, fault),
+        None => tab_slip(alloc, line, fault),
     }
 }

@@ -5,5 +5,5 @@ use Rattle.input_diagnostics.proofs.script.said_of.Given as goal
 
 abbrev pub invariant-loop-bad : goal.invariant-loop-bad
 invariant-loop-bad l =
-    l.said.items ++ said_of l.program (map (λ row. row.now) l.rows) l.told (drop l.bad-index l.list)
-    ≡ said_of l.program (map (λ row. row.now) l.rows) false l.list
+    l.said.items ++ said_of l.program (map (λ row. row.now) l.rows) l.returned l.strict (drop l.bad-index l.list)
+    ≡ said_of l.program (map (λ row. row.now) l.rows) false false l.list
