@@ -22,20 +22,15 @@ abbrev pub is_silent : List Diagnostic → Bool
 is_silent [] = true
 is_silent (d ∷ ds) = false
 
--- so many faults
-abbrev pub many_text : (found : ℕ) → List ℕ
-many_text found = decimal found ++ codes " faults"
+-- the checker has more findings with a certificate than with the least one: so many, and so many
+abbrev pub more_message : (found least : ℕ) → List ℕ
+more_message found least =
+    codes "a mask in this certificate is too large: check finds " ++ (decimal found ++ (codes " faults with it, " ++ (decimal least ++ codes " with the least one")))
 
-abbrev pub faults_text : (found : ℕ) → List ℕ
-faults_text found = if found == 1 then codes "1 fault" else many_text found
-
-abbrev pub count_text : (least : ℕ) → List ℕ
-count_text least = if least == 0 then codes "none" else decimal least
-
--- the checker has so many findings with a certificate, and so many with the least one
+-- with the least one it has none where the marks are right
 abbrev pub unfit_message : (found least : ℕ) → List ℕ
 unfit_message found least =
-    codes "with this certificate check finds " ++ (faults_text found ++ (codes ", with the least one " ++ (count_text least ++ codes ": a mask is too large")))
+    if least == 0 then codes "the marks are right; a mask in this certificate is too large" else more_message found least
 
 abbrev pub unfit_error : (found least : ℕ) → Diagnostic
 unfit_error found least = record {

@@ -9,7 +9,7 @@ ghost use Rattle.annotator.specs.Least.{IsLeast};
 ghost use Rattle.input_diagnostics.specs.CertificateErrors.{certificate_errors};
 ghost use Rattle.program_tokens.specs.Lines.{lines};
 ghost use Rattle.explain_report.specs.Inputs.{ArePlaces};
-ghost use Rattle.explain_report.specs.Beside.{IsCertificateSaid, IsFileSaid, IsFitSaid, IsFurtherSaid, count_text, faults_text, is_silent, many_text, unfit_error, unfit_errors, unfit_message};
+ghost use Rattle.explain_report.specs.Beside.{IsCertificateSaid, IsFileSaid, IsFitSaid, IsFurtherSaid, is_silent, more_message, unfit_error, unfit_errors, unfit_message};
 
 use crate::inputs::{lines_of, spans_in};
 use diagnostics::code::Code;
@@ -196,40 +196,23 @@ fn unfit_error(alloc: Global, found: usize, least: usize) -> Result<Diagnostic, 
     })
 }
 
-// So many faults, one or more than one.
-fn faults_text(alloc: Global, found: usize) -> Result<Words, AllocError>
-    ensures { IfOk result (λ words. words ≡ faults_text found) }
-{
-    if found == 1 {
-        Words::of(alloc, "1 fault")
-    } else {
-        many_text(alloc, found)
-    }
-}
-
-// So many faults.
-fn many_text(alloc: Global, found: usize) -> Result<Words, AllocError>
-    ensures { IfOk result (λ words. words ≡ many_text found) }
-{
-    words!(in alloc; "{found} faults")
-}
-
-// So many, or none.
-fn count_text(alloc: Global, least: usize) -> Result<Words, AllocError>
-    ensures { IfOk result (λ words. words ≡ count_text least) }
-{
-    if least == 0 {
-        Words::of(alloc, "none")
-    } else {
-        words!(in alloc; "{least}")
-    }
-}
-
 // How many findings the checker has with a certificate, and with the least one.
+fn more_message(alloc: Global, found: usize, least: usize) -> Result<Words, AllocError>
+    ensures { IfOk result (λ words. words ≡ more_message found least) }
+{
+    words!(in alloc; "a mask in this certificate is too large: check finds {found} faults with it, {least} with the least one")
+}
+
+// That the marks are right, or how many findings the checker has with a certificate, and with the least one.
 fn unfit_message(alloc: Global, found: usize, least: usize) -> Result<Words, AllocError>
     ensures { IfOk result (λ words. words ≡ unfit_message found least) }
 {
-    let faults = faults_text(alloc, found)?;
-    let count = count_text(alloc, least)?;
-    words!(in alloc; "with this certificate check finds {faults}, with the least one {count}: a mask is too large")
+    if least == 0 {
+        Words::of(
+            alloc,
+            "the marks are right; a mask in this certificate is too large",
+        )
+    } else {
+        more_message(alloc, found, least)
+    }
 }
