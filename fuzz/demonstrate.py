@@ -3,7 +3,7 @@
 
 Takes random programs whose marks are right, and plants wrong marks. The events that are written must be allowed
 by the model's machine, each where it comes, and what the last line says must be so: the first word that was read and
-is not the plain run's, the exit that is not listed, or the word of the head. Of right marks it must say that they are
+is not the plain run's, the exit that is not listed, or the word of the head; and where the right word was written. Of right marks it must say that they are
 right. The model looks for a harm of its own, in the run in which one task follows another: what of this is not
 shown is counted, since a unit that executes ahead may put the right word over a wrong one. Programs whose code can run
 off its end, or with a jump to a register that does not end its task, are passed over: the model has none. PROGRAM is the
@@ -23,13 +23,13 @@ import accepted as generator
 import explain
 import programs
 from accepted import accepted
-from model import CODE0, Fault, Machine, Plain, Refuse, assemble, certify, print_program, script_parse, sources, verdict
+from model import CODE0, Fault, Machine, Plain, Refuse, assemble, certify, dests, print_program, script_parse, sources, verdict
 
 EVENTS = 4000
-READS = re.compile(r"line (\d+): task (\w+) reads (\d+) in \$(\d+); the sequential program has (\d+)")
+READS = re.compile(r"line (\d+): task (\w+) reads (\d+) in \$(\d+); the sequential program has (\d+), (.+)")
 ENDS = re.compile(r"line (\d+): task (\w+) goes on to (?:line (\d+)|0x([0-9a-f]+)), which is none of its targets, and the run ends; "
                   r"the sequential program goes on there")
-HAS = re.compile(r"task (\w+) has (\d+) in \$(\d+); the sequential program has (\d+)")
+HAS = re.compile(r"task (\w+) has (\d+) in \$(\d+); the sequential program has (\d+), (.+)")
 
 
 def seen(machine):
@@ -100,25 +100,36 @@ def line_of(text, pc):
     return explain.places(text)[1][(pc - CODE0) // 4][0]
 
 
+def origin(program, text, register, steps):
+    """Where the plain machine wrote a register last in so many steps."""
+    plain, last = Plain(program), None
+    for _ in range(steps):
+        pc = plain.pc
+        plain.step()
+        if plain.outcome == "running" and register in dests(program.code[(pc - CODE0) // 4][0]):
+            last = pc
+    return "as at the start" if last is None else f"written at line {line_of(text, last)}"
+
+
 def told(program, text, machine, plain, stale, line):
     """Whether the last line says what the events show."""
     if found := READS.fullmatch(line):
-        where, task, word, register, right = found.groups()
+        where, task, word, register, right, written = found.groups()
         if stale is None:
             return False
         pc, a, b = seen(machine)[stale]
         _, right_a, right_b = plain.reads[stale]
         first, second = sources(program.code[(pc - CODE0) // 4][0])
         wanted = (first, a, right_a) if a != right_a else (second, b, right_b)
-        return (int(where), task, (int(register), int(word), int(right))) == (
-            line_of(text, pc), task_of(program, machine, stale), wanted)
+        return (int(where), task, (int(register), int(word), int(right)), written) == (
+            line_of(text, pc), task_of(program, machine, stale), wanted, origin(program, text, wanted[0], stale))
     if found := ENDS.fullmatch(line):
         return (stale is None and is_cut(program, machine, plain) and int(found[1]) == line_of(text, seen(machine)[-1][0])
                 and found[2] == program.tasks[machine.queue[0].task][0]
                 and (int(found[4], 16) == plain.pc if found[4] else int(found[3]) == line_of(text, plain.pc)))
     if found := HAS.fullmatch(line):
         return stale is None and wrong_word(machine, plain) == (int(found[3]), int(found[2]), int(found[4])) and (
-            found[1] == program.tasks[machine.queue[0].task][0])
+            found[1] == program.tasks[machine.queue[0].task][0] and found[5] == origin(program, text, int(found[3]), len(seen(machine))))
     return False
 
 

@@ -2,3 +2,4 @@ pub mod PlainReads
 pub mod SeenReads
 pub mod ShownReads
 pub mod Judging
+pub mod Writing

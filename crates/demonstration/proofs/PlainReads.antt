@@ -19,6 +19,16 @@ at_most_one Running i s = omega arith
 at_most_one Halted i s = omega arith
 at_most_one (Trapped trap) i s = omega arith
 
+-- so many steps read at most as often
+pub few_reads : (i : Input) (n : ℕ) → length (reads i n) ≤ n
+few_reads i zero = omega (arith, ap (λ (xs : List Read). length xs) (reads_zero i))
+few_reads i (suc n) =
+    let last = reads_when (plain i n).outcome i (plain i n) in
+    let long : length (reads i (suc n)) ≡ length (reads i n) + length last =
+    ap (λ (xs : List Read). length xs) (reads_next i n) ∙ length-append (reads i n) last in
+    let few = few_reads i n in
+    let most = at_most_one (plain i n).outcome i (plain i n) in omega arith
+
 -- more steps add at most one read each
 pub reads_more : (i : Input) (m d n : ℕ) → n ≡ d + m → (rest : List Read) × (reads i n ≡ reads i m ++ rest) × (length rest ≤ d)
 reads_more i m zero n is =

@@ -2,6 +2,7 @@ pub mod Shown
 pub mod Found
 pub mod Laws
 pub mod Judging
+pub mod LastWriter
 pub mod HarmText
 pub mod FindingText
 pub mod DemonstrateText

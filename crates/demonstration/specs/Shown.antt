@@ -74,8 +74,9 @@ pub record HoldsWrong (s : State) (plain : PlainState) (r word right : ℕ) : Ty
   pub is_right : plain.regs r ≡ right
   pub differs : word ≡ right → ⊥
 
--- what was read is right, and the head has a wrong word, the plain machine having made as many steps
-pub record HasStale (p : Listing) (s : State) (r word right : ℕ) : Type 0 where
+-- what was read is right, so many reads, and the head has a wrong word, the plain machine having made as many steps
+pub record HasStale (p : Listing) (s : State) (number r word right : ℕ) : Type 0 where
+  pub is_number : length (seen s) ≡ number
   pub right_so_far : AreRight p (seen s)
   pub holds : HoldsWrong s (plain_of p (length (seen s))) r word right
 
@@ -83,7 +84,7 @@ pub record HasStale (p : Listing) (s : State) (r word right : ℕ) : Type 0 wher
 abbrev pub DoesHarm : Listing → State → Harm → Type 0
 DoesHarm p s (harm.Stale stale) = IsFirstStale p (seen s) stale.number stale.read stale.right
 DoesHarm p s (harm.CutOff cut) = IsCutOff p s cut.from cut.at
-DoesHarm p s (harm.Held held) = HasStale p s held.register held.word held.right
+DoesHarm p s (harm.Held held) = HasStale p s held.number held.register held.word held.right
 
 abbrev pub head_task : List Active → ℕ
 head_task [] = 0

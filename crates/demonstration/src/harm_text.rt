@@ -3,20 +3,22 @@
 ghost use Rattle.std.specs.Prelude.{◌≡◌, ◌++◌, OnOk, option_copied, unwrap_or};
 ghost use Rattle.std.specs.String.{string_bytes};
 ghost use Rattle.demonstration.specs.declared.judge.Harm.TheVariants.{CutOff as CutOffHarm};
-ghost use Rattle.demonstration.specs.HarmText.{elsewhere_text, harm_text, kind_of_harm, marked_at as marked_of, operands_text, other_text, place_of_harm, read_text, stale_text, words_text};
+ghost use Rattle.demonstration.specs.HarmText.{elsewhere_text, harm_text, kind_of_harm, marked_at as marked_of, origin_text, other_text, place_of_harm, read_text, stale_text, words_text, wrong_operand as wrong_operand_of, wrong_word_text};
 
-use crate::judge::{CutOff, Evidence, Harm};
+use crate::judge::{CutOff, Evidence, Harm, Stale, WrongWord};
+use crate::last_writer::last_writer;
 use annotated_asm::position::Position;
 use event_script::writing::task_name;
 use event_trace::text::write_exit;
 use mips_instructions::instruction::Op;
 use mips_instructions::number::Reg;
-use mips_plain::outcome::Read;
-use std::alloc::AllocError;
+use mips_plain::outcome::{OutOfMemory, Read};
+use std::alloc::{AllocError, Global};
 use task_descriptor::descriptor::Marked;
 use task_descriptor::program::Program;
 
 /// Adds a word of a register, and the one that it should be.
+#[tactic(auto, unfolding(crate::specs::HarmText::words_text))]
 fn write_words(
     text: &mut String,
     does: &str,
@@ -32,25 +34,71 @@ fn write_words(
     )
 }
 
-/// The number of the register of an operand; 0 where there is no operand.
-fn number_of(source: Option<Reg>) -> u8
-    ensures { result ≡ unwrap_or source 0 }
+/// Adds where a word of the sequential program was written, by the address of its writer.
+fn write_origin(
+    text: &mut String,
+    program: &Program,
+    places: &[Position],
+    writer: Option<u32>,
+) -> Result<(), AllocError>
+    ensures { OnOk result (string_bytes text.new ≡ string_bytes text.old ++ origin_text program.now places.now writer) }
 {
-    match source {
-        Some(register) => register.get(),
-        None => 0,
+    match writer {
+        Some(address) => {
+            write!(text, ", written at ")?;
+            write_exit(text, program, places, address)
+        }
+        None => write!(text, ", as at the start"),
     }
 }
 
-/// Adds what an instruction reads, and should read.
-fn write_operands(text: &mut String, op: &Op, read: Read, right: Read) -> Result<(), AllocError>
-    ensures { OnOk result (string_bytes text.new ≡ string_bytes text.old ++ operands_text op.now read right) }
+/// Adds a wrong word, the one that it should be, and where that was written.
+fn write_wrong_word(
+    alloc: Global,
+    text: &mut String,
+    program: &Program,
+    places: &[Position],
+    does: &str,
+    wrong: WrongWord,
+) -> Result<(), AllocError>
+    ensures { OnOk result (string_bytes text.new ≡ string_bytes text.old ++ wrong_word_text program.now places.now does.now wrong) }
+{
+    let writer = last_writer(alloc, program, wrong.register, wrong.number).map_err(
+        |_: OutOfMemory| AllocError,
+    )?;
+    write_words(text, does, wrong.register.get(), wrong.word, wrong.right)?;
+    write_origin(text, program, places, writer)
+}
+
+/// The register of an operand; register 0 where there is no operand.
+fn register_of(source: Option<Reg>) -> Reg
+    ensures { result ≡ unwrap_or source 0 }
+{
+    match source.or(Reg::new(0)) {
+        Some(register) => register,
+        None => unreachable!(),
+    }
+}
+
+/// The operand of an instruction that is wrong: its first, or its second where the first is right.
+fn wrong_operand(op: &Op, number: usize, read: Read, right: Read) -> WrongWord
+    ensures { result ≡ wrong_operand_of op.now number read right }
 {
     let (first, second) = op.sources();
     if read.a == right.a {
-        write_words(text, " reads ", number_of(second), read.b, right.b)
+        WrongWord {
+            number,
+            register: register_of(second),
+            word: read.b,
+            right: right.b,
+        }
     } else {
-        write_words(text, " reads ", number_of(first), read.a, right.a)
+        WrongWord {
+            number,
+            register: register_of(first),
+            word: read.a,
+            right: right.a,
+        }
     }
 }
 
@@ -64,33 +112,41 @@ fn marked_at(program: &Program, pc: u32) -> Option<&Marked>
     }
 }
 
-/// Adds what the instruction at an address reads, and should read.
+/// Adds which wrong word the instruction at an address reads, and the one that it should read.
 fn write_read(
+    alloc: Global,
     text: &mut String,
+    program: &Program,
+    places: &[Position],
     marked: Option<&Marked>,
-    read: Read,
+    stale: Stale,
     right: Read,
 ) -> Result<(), AllocError>
-    ensures { OnOk result (string_bytes text.new ≡ string_bytes text.old ++ read_text (option_copied marked.entry) read right) }
+    ensures { OnOk result (string_bytes text.new ≡ string_bytes text.old ++ read_text program.now places.now (option_copied marked.entry) stale.number stale.read right) }
 {
     match marked {
-        Some(marked) => write_operands(text, &marked.op, read, right),
+        Some(marked) => {
+            let wrong = wrong_operand(&marked.op, stale.number, stale.read, right);
+            write_wrong_word(alloc, text, program, places, " reads ", wrong)
+        }
         None => text.push_str(" executes no instruction"),
     }
 }
 
 /// Adds which operands an instruction reads and should read, or which one the sequential program executes in its place.
 fn write_other(
+    alloc: Global,
     text: &mut String,
     program: &Program,
     places: &[Position],
-    read: Read,
+    stale: Stale,
     right: Read,
 ) -> Result<(), AllocError>
-    ensures { OnOk result (string_bytes text.new ≡ string_bytes text.old ++ other_text program.now places.now read right) }
+    ensures { OnOk result (string_bytes text.new ≡ string_bytes text.old ++ other_text program.now places.now stale.number stale.read right) }
 {
-    if read.pc == right.pc {
-        write_read(text, marked_at(program, read.pc), read, right)
+    if stale.read.pc == right.pc {
+        let marked = marked_at(program, stale.read.pc);
+        write_read(alloc, text, program, places, marked, stale, right)
     } else {
         write_elsewhere(text, program, places, right.pc)
     }
@@ -111,16 +167,16 @@ fn write_elsewhere(
 
 /// Adds what an instruction does that the sequential program does not.
 fn write_stale(
+    alloc: Global,
     text: &mut String,
     program: &Program,
     places: &[Position],
-    read: Read,
-    right: Option<Read>,
+    stale: Stale,
 ) -> Result<(), AllocError>
-    ensures { OnOk result (string_bytes text.new ≡ string_bytes text.old ++ stale_text program.now places.now read right) }
+    ensures { OnOk result (string_bytes text.new ≡ string_bytes text.old ++ stale_text program.now places.now stale.number stale.read stale.right) }
 {
-    match right {
-        Some(right) => write_other(text, program, places, read, right),
+    match stale.right {
+        Some(right) => write_other(alloc, text, program, places, stale, right),
         None => text.push_str(" executes this; the sequential program has ended"),
     }
 }
@@ -165,6 +221,7 @@ fn write_cut(
 
 /// Adds what a harm is.
 fn write_kind_of(
+    alloc: Global,
     text: &mut String,
     program: &Program,
     places: &[Position],
@@ -173,16 +230,15 @@ fn write_kind_of(
     ensures { OnOk result (string_bytes text.new ≡ string_bytes text.old ++ kind_of_harm program.now places.now harm) }
 {
     match harm {
-        Harm::Stale(stale) => write_stale(text, program, places, stale.read, stale.right),
+        Harm::Stale(stale) => write_stale(alloc, text, program, places, stale),
         Harm::CutOff(cut) => write_cut(text, program, places, cut),
-        Harm::Held(held) => {
-            write_words(text, " has ", held.register.get(), held.word, held.right)
-        }
+        Harm::Held(held) => write_wrong_word(alloc, text, program, places, " has ", held),
     }
 }
 
-/// Adds a harm: where it is done and to which task, and what the sequential program has there.
+/// Adds a harm: where it is done and to which task, what the sequential program has there, and where that was written.
 pub(crate) fn write_harm(
+    alloc: Global,
     text: &mut String,
     program: &Program,
     places: &[Position],
@@ -192,5 +248,5 @@ pub(crate) fn write_harm(
 {
     write_place_of(text, program, places, evidence.harm)?;
     text.push_str(task_name(program, evidence.task))?;
-    write_kind_of(text, program, places, evidence.harm)
+    write_kind_of(alloc, text, program, places, evidence.harm)
 }

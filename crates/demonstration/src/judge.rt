@@ -48,12 +48,14 @@ pub struct CutOff {
     pub at: u32,
 }
 
-/// A register of the head with a word that the plain machine has not, after the same instructions.
+/// A word of a register that the plain machine has not, after as many instructions.
 #[derive(Clone, Copy, Debug, PartialEq, Eq)]
-pub struct Held {
+pub struct WrongWord {
+    /// How many instructions were executed before.
+    pub number: usize,
     /// The register.
     pub register: Reg,
-    /// The head's word.
+    /// Its word.
     pub word: u32,
     /// The plain machine's.
     pub right: u32,
@@ -67,7 +69,7 @@ pub enum Harm {
     /// The run ends where the sequential program goes on.
     CutOff(CutOff),
     /// A task has a wrong word in a register, which none of its instructions has read yet.
-    Held(Held),
+    Held(WrongWord),
 }
 
 /// A harm, and the task that it is done to.
@@ -248,9 +250,10 @@ fn cut_off(program: &Program, standing: Standing, reads: &[Read], plain: &Plain)
     }
 }
 
-/// The least register in which the head has not the plain machine's word.
-fn wrong_word(machine: &OpenMachine<'_>, plain: &Plain) -> Option<Held>
-    ensures { IfSome result (λ held. HoldsWrong (state machine.now) (machine_state plain.now) held.register held.word held.right) }
+/// The least register in which the head has not the word of the plain machine, which has made as many steps.
+fn wrong_word(machine: &OpenMachine<'_>, plain: &Plain, made: usize) -> Option<WrongWord>
+    ensures number { IfSome result (λ held. held.number ≡ made) }
+    ensures wrong { IfSome result (λ held. HoldsWrong (state machine.now) (machine_state plain.now) held.register held.word held.right) }
 {
     let head = machine.unit(0)?;
     for number in 0..34u8 {
@@ -259,7 +262,8 @@ fn wrong_word(machine: &OpenMachine<'_>, plain: &Plain) -> Option<Held>
         if let Some(word) = head.value(register)
             && word != right
         {
-            return Some(Held {
+            return Some(WrongWord {
+                number: made,
                 register,
                 word,
                 right,
@@ -284,7 +288,7 @@ fn harm_after(
 {
     match cut_off(program, machine.outcome(), reads, plain) {
         Some(cut) => Some(Harm::CutOff(cut)),
-        None => match wrong_word(machine, plain) {
+        None => match wrong_word(machine, plain, reads.len()) {
             Some(held) => Some(Harm::Held(held)),
             None => None,
         },

@@ -6,6 +6,7 @@
 mod first_finding;
 mod harm_text;
 pub mod judge;
+mod last_writer;
 pub mod laws;
 mod picture;
 pub mod report;

@@ -177,7 +177,7 @@ fn shown(
     write_units(&mut text, found.units)?;
     writeln!(text, "")?;
     write_events(&mut text, program, found.events.as_slice())?;
-    write_harm(&mut text, program, places, &found.evidence)?;
+    write_harm(alloc, &mut text, program, places, &found.evidence)?;
     writeln!(text, "")?;
     Ok(text)
 }
