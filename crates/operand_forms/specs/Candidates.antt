@@ -1,7 +1,8 @@
 -- Texts that may be meant in place of what is wrong in a line (own choice).
-use Rattle.std.specs.Prelude.{ℕ, List, [], ◌∷◌, ◌++◌, filter, map, drop, length, nat_lt, codes, Bool, is_some, if◌then◌else◌, ◌==◌, ◌&&◌, ◌||◌}
+use Rattle.std.specs.Prelude.{ℕ, List, [], ◌∷◌, ◌++◌, filter, map, drop, length, nat_lt, codes, Bool, false, is_some, if◌then◌else◌, ◌==◌, ◌&&◌, ◌||◌}
 use Rattle.std.specs.Str.{byte, bytes_eq, str_to_ascii_lowercase}
 use Rattle.program_tokens.specs.Numbers.{begins_with_digit}
+use Rattle.program_tokens.specs.Grammar.{is_name_start}
 use Rattle.mips_instructions.specs.InstructionTable.{word_of, every_mnemonic}
 use Rattle.diagnostics.specs.Near.{is_near}
 use Rattle.operand_forms.specs.ForeignWords.{instead}
@@ -46,9 +47,20 @@ operand_candidates (b ∷ bs) =
     if b == byte "," then codes " " ∷ []
     else register_candidates (b ∷ bs) ++ ((codes "," ++ (b ∷ bs)) ∷ (codes "!" ++ (b ∷ bs)) ∷ [])
 
--- What is no token: it in small letters, or the register of its digits.
+-- What is no token: it in small letters, the register of its digits, or the name of a label: `$L2` is L2.
+abbrev pub is_dollar_name : List ℕ → Bool
+is_dollar_name (a ∷ b ∷ bs) = a == byte "$" && is_name_start b
+is_dollar_name _ = false
+
+abbrev pub label_candidates : List ℕ → List (List ℕ)
+label_candidates meant = if is_dollar_name meant then drop 1 meant ∷ [] else []
+
+-- not of a sum: `addu $8,$9,+1`
+abbrev pub digit_candidates : List ℕ → List (List ℕ)
+digit_candidates meant = if bytes_eq meant (codes "+") then [] else (codes "$" ++ digits_of_register (drop 1 meant)) ∷ []
+
 abbrev pub token_candidates : List ℕ → List (List ℕ)
-token_candidates meant = str_to_ascii_lowercase meant ∷ (codes "$" ++ digits_of_register (drop 1 meant)) ∷ []
+token_candidates meant = str_to_ascii_lowercase meant ∷ (digit_candidates meant ++ label_candidates meant)
 
 -- In place of a second `!f`: nothing.
 abbrev pub mark_candidates : List ℕ → List (List ℕ)

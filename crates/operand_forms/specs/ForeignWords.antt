@@ -1,13 +1,14 @@
 -- What is written here instead of words and operands of other assemblers (own choice). rd, rs, rt and base are registers, n
 -- is a number, T a place in the code and NAME a label.
 use Rattle.std.specs.Prelude.{ℕ, List, [], ◌∷◌, codes, Bool, Option, Some, None, if◌then◌else◌, ◌==◌, ◌&&◌, ◌||◌}
+use Rattle.std.specs.Option.{option_or}
 use Rattle.std.specs.Str.{byte, bytes_eq}
 use Rattle.std.specs.Char.{is_ascii_digit}
 use Rattle.program_tokens.specs.Numbers.{begins_with_digit}
 use Rattle.program_tokens.specs.Grammar.{is_name_start}
 
--- Words that begin no statement here, marks that there are not or that stand there, and what is no token (34 is a
--- quotation mark).
+-- Words that begin no statement here; then directives, marks that there are not or that stand there, and what is no token (34
+-- is a quotation mark).
 abbrev pub words : List (List ℕ × List ℕ)
 words =
     (codes "add", codes "write addu rd,rs,rt")
@@ -19,10 +20,10 @@ words =
     ∷ (codes "mulo", codes "write mult rs,rt and mflo rd")
     ∷ (codes "mulu", codes "write multu rs,rt and mflo rd")
     ∷ (codes "mulou", codes "write multu rs,rt and mflo rd")
-    ∷ (codes "div", codes "for a power of 2 and a number that is not negative write sra, else subtract in a loop")
-    ∷ (codes "divu", codes "for a power of 2 write srl, else subtract in a loop")
-    ∷ (codes "rem", codes "for a power of 2 and a number that is not negative write andi, else subtract in a loop")
-    ∷ (codes "remu", codes "for a power of 2 write andi, else subtract in a loop")
+    ∷ (codes "div", codes "there is no division: divide a number that is not negative by a power of 2 with sra; otherwise subtract in a loop")
+    ∷ (codes "divu", codes "there is no division: divide by a power of 2 with srl; otherwise subtract in a loop")
+    ∷ (codes "rem", codes "there is no division: of a number that is not negative and a power of 2, n, the remainder is that of andi with n-1; otherwise subtract in a loop")
+    ∷ (codes "remu", codes "there is no division: for a power of 2, n, the remainder is that of andi with n-1; otherwise subtract in a loop")
     ∷ (codes "neg", codes "write subu rd,$0,rt")
     ∷ (codes "negu", codes "write subu rd,$0,rt")
     ∷ (codes "not", codes "write nor rd,rs,$0")
@@ -75,13 +76,31 @@ words =
     ∷ (codes "ush", codes "there is no unaligned store: store bytes with sb")
     ∷ (codes "noop", codes "write nop")
     ∷ (codes "print", codes "write out rs")
+    ∷ (codes "movz", codes "write bne rt,$0,T and move rd,rs, and the label T after them")
+    ∷ (codes "movn", codes "write beq rt,$0,T and move rd,rs, and the label T after them")
+    ∷ (codes "beql", codes "there are no delay slots: compile with -fno-delayed-branch")
+    ∷ (codes "bnel", codes "there are no delay slots: compile with -fno-delayed-branch")
+    ∷ (codes "beqzl", codes "there are no delay slots: compile with -fno-delayed-branch")
+    ∷ (codes "bnezl", codes "there are no delay slots: compile with -fno-delayed-branch")
+    ∷ (codes "push", codes "write addiu $sp,$sp,-4 and sw rs,0($sp)")
+    ∷ (codes "pop", codes "write lw rd,0($sp) and addiu $sp,$sp,4")
+    ∷ (codes "ll", codes "write lw rt,n(base)")
+    ∷ (codes "sc", codes "write sw rt,n(base) and li rt,1")
+    ∷ (codes "lwc1", codes "there is no floating point")
+    ∷ (codes "swc1", codes "there is no floating point")
+    ∷ (codes "mtc1", codes "there is no floating point")
+    ∷ (codes "mfc1", codes "there is no floating point")
     ∷ (codes "exit", codes "to end the program write halt")
     ∷ (codes "end", codes "to end the program write halt")
     ∷ (codes "stop", codes "to end the program write halt")
     ∷ (codes "ecall", codes "write out rs for a word, or halt to end the program")
     ∷ (codes "syscall", codes "write out rs for a word, or halt to end the program")
     ∷ (codes "break", codes "to end the program write halt")
-    ∷ (codes "dw", codes "write .word")
+    ∷ []
+
+abbrev pub sign_words : List (List ℕ × List ℕ)
+sign_words =
+    (codes "dw", codes "write .word")
     ∷ (codes "db", codes "write .byte")
     ∷ (codes ".dw", codes "write .word")
     ∷ (codes ".db", codes "write .byte")
@@ -92,16 +111,16 @@ words =
     ∷ (codes ".short", codes "write .byte with the low and the high byte")
     ∷ (codes ".dword", codes "write .word with the low and then the high half")
     ∷ (codes ".quad", codes "write .word with the low and then the high half")
-    ∷ (codes ".float", codes "write .word with the number's bits")
-    ∷ (codes ".double", codes "write .word with the low and then the high half of the number's bits")
-    ∷ (codes ".ascii", codes "write .byte with the letters' numbers, as .byte 104,105 for hi")
-    ∷ (codes ".asciiz", codes "write .byte with the letters' numbers and 0, as .byte 104,105,0 for hi")
-    ∷ (codes ".string", codes "write .byte with the letters' numbers and 0, as .byte 104,105,0 for hi")
+    ∷ (codes ".float", codes "there is no floating point; write .word with the number's bits")
+    ∷ (codes ".double", codes "there is no floating point; write .word with the low and then the high half of the number's bits")
+    ∷ (codes ".ascii", codes "write .byte with the letters' numbers, as .byte 104,105 for hi, and before the next .word .space with the bytes that are missing to a multiple of 4")
+    ∷ (codes ".asciiz", codes "write .byte with the letters' numbers and 0, as .byte 104,105,0 for hi, and before the next .word .space with the bytes that are missing to a multiple of 4")
+    ∷ (codes ".string", codes "write .byte with the letters' numbers and 0, as .byte 104,105,0 for hi, and before the next .word .space with the bytes that are missing to a multiple of 4")
     ∷ (codes ".skip", codes "write .space n")
     ∷ (codes ".zero", codes "write .space n")
     ∷ (codes ".fill", codes "write .space n for n zeros, or .byte with each byte")
-    ∷ (codes ".align", codes "write .space with as many bytes as are missing")
-    ∷ (codes ".balign", codes "write .space with as many bytes as are missing")
+    ∷ (codes ".align", codes "write .space n with the n bytes that are missing to a multiple of 2, 4 or 8, for .align 1, 2 or 3; nothing if none is missing")
+    ∷ (codes ".balign", codes "write .space n with the n bytes that are missing to a multiple of this number; nothing if none is missing")
     ∷ (codes ".comm", codes "write .data, the name with a colon, and .space n")
     ∷ (codes ".lcomm", codes "write .data, the name with a colon, and .space n")
     ∷ (codes ".section", codes "write .text, .data or .rodata alone")
@@ -114,10 +133,11 @@ words =
     ∷ (codes ".equ", codes "there are no constants: write the number where it is used")
     ∷ (codes ".eqv", codes "there are no constants: write the number where it is used")
     ∷ (codes ".macro", codes "there are no macros: write the lines out")
-    ∷ (codes ".globl", codes "leave it out: each label is known everywhere")
-    ∷ (codes ".global", codes "leave it out: each label is known everywhere")
-    ∷ (codes ".extern", codes "leave it out: each label is known everywhere")
-    ∷ (codes ".set", codes "leave it out: no line changes how others are read")
+    ∷ (codes ".include", codes "there are no other files: write the lines of that file here")
+    ∷ (codes ".globl", codes "remove it: all labels are global")
+    ∷ (codes ".global", codes "remove it: all labels are global")
+    ∷ (codes ".extern", codes "remove it: all labels are global")
+    ∷ (codes ".set", codes "leave it out; after noreorder, though, there are delay slots, which there are not here: put the instruction after each branch or jump before it, where the branch does not read what it writes, or compile with -fno-delayed-branch")
     ∷ (codes ".ent", codes "leave it out: .task says where a task begins")
     ∷ (codes ".end", codes "leave it out: the last line ends the program")
     ∷ (codes ".file", codes "leave it out: nothing here needs it")
@@ -128,10 +148,10 @@ words =
     ∷ (codes ".mask", codes "leave it out: nothing here needs it")
     ∷ (codes ".fmask", codes "leave it out: nothing here needs it")
     ∷ (codes ".previous", codes "leave it out, or write .text, .data or .rodata")
-    ∷ (codes "!f", codes "a mark stands at the end of the line, after the operands")
-    ∷ (codes "!s", codes "a mark stands at the end of the line, after the operands")
-    ∷ (codes "!st", codes "a mark stands at the end of the line, after the operands")
-    ∷ (codes "!sn", codes "a mark stands at the end of the line, after the operands")
+    ∷ (codes "!f", codes "a mark stands at the end of the line, after the operands, with no comma between marks")
+    ∷ (codes "!s", codes "a mark stands at the end of the line, after the operands, with no comma between marks")
+    ∷ (codes "!st", codes "a mark stands at the end of the line, after the operands, with no comma between marks")
+    ∷ (codes "!sn", codes "a mark stands at the end of the line, after the operands, with no comma between marks")
     ∷ (codes "!fs", codes "write !f !s")
     ∷ (codes "!sf", codes "write !f !s")
     ∷ (codes "!fst", codes "write !f !st")
@@ -140,15 +160,17 @@ words =
     ∷ (codes "!forward", codes "write !f")
     ∷ (codes "!", codes "a mark is !f, !s, !st or !sn, in small letters")
     ∷ (codes "$", codes "write the number or the name of a register directly after $, as in $8 or $t0")
-    ∷ (codes "%", codes "a register begins with $, as in $8 or $t0")
+    ∷ (codes "%", codes "write la rd,NAME in place of %hi and %lo; a register begins with $, as in $8 or $t0")
     ∷ (codes "$s8", codes "write $fp or $30")
-    ∷ (codes "[", codes "write an address as in 0($9)")
-    ∷ (codes "]", codes "write an address as in 0($9)")
-    ∷ (codes "+", codes "write la $8,NAME and then addiu $8,$8,n")
+    ∷ (codes "[", codes "an address is written as in 0($9), a mark as in !f")
+    ∷ (codes "{", codes "lists have no braces: write create=$8,$9 targets=A,B")
+    ∷ (codes "}", codes "lists have no braces: write create=$8,$9 targets=A,B")
+    ∷ (codes "]", codes "an address is written as in 0($9), a mark as in !f")
+    ∷ (codes "+", codes "there are no sums: write the number itself")
     ∷ (codes ".", codes "a label begins with a letter or _; a directive has small letters")
     ∷ (codes ";", codes "write each statement on a line of its own; a comment begins with #")
     ∷ (codes "/", codes "a comment begins with #")
-    ∷ (codes "'", codes "a text has no letters in quotation marks: write the number of the letter")
+    ∷ (codes "'", codes "write the letter's number, as 65 for A")
     ∷ (34 ∷ [], codes "a text has no strings: write .byte with the numbers of the letters")
     ∷ []
 
@@ -157,13 +179,19 @@ abbrev pub row_of : (word : List ℕ) → List (List ℕ × List ℕ) → Option
 row_of word [] = None
 row_of word (row ∷ rows) = if bytes_eq row.0 word then Some row.1 else row_of word rows
 
+unfoldable pub word_instead : List ℕ → Option (List ℕ)
+word_instead word = row_of word words
+
+unfoldable pub sign_instead : List ℕ → Option (List ℕ)
+sign_instead word = row_of word sign_words
+
 unfoldable pub instead : List ℕ → Option (List ℕ)
-instead word = row_of word words
+instead word = option_or (word_instead word) (sign_instead word)
 
 -- Operands that do not fit: of a statement, of all with these operands, or of any; the operand itself or its class.
 abbrev pub operands : List ((List ℕ × List ℕ) × List ℕ)
 operands =
-    (([], codes "!"), codes "a mark stands at the end of the line, after the operands")
+    (([], codes "!"), codes "a mark stands at the end of the line, after the operands, with no comma between marks")
     ∷ (([], codes "$hi"), codes "HI and LO are read with mfhi and mflo and written with mthi and mtlo")
     ∷ (([], codes "$lo"), codes "HI and LO are read with mfhi and mflo and written with mthi and mtlo")
     ∷ (([], codes "$32"), codes "HI and LO are read with mfhi and mflo and written with mthi and mtlo")
@@ -191,7 +219,7 @@ operands =
     ∷ ((codes "move", codes "a"), codes "for the address of a label write la rd,NAME")
     ∷ ((codes "li", codes "$"), codes "with a register write move rd,rs")
     ∷ ((codes "li", codes "a"), codes "for the address of a label write la rd,NAME")
-    ∷ ((codes "la", codes "0"), codes "with a number write li rd,n")
+    ∷ ((codes "la", codes "0"), codes "for a number alone write li, for a number and a register addiu, as in addiu $8,$9,4")
     ∷ ((codes "la", codes "$"), codes "with a register write move rd,rs")
     ∷ ((codes "j", codes "$"), codes "to the address in a register write jr rs")
     ∷ ((codes "jal", codes "$"), codes "to the address in a register write jalr rs")
@@ -201,7 +229,7 @@ operands =
     ∷ ((codes "bne", codes "0"), codes "write $0 for 0; another number goes into a register first, as in li $1,n")
     ∷ ((codes "mult", codes ","), codes "write mult rs,rt and mflo rd")
     ∷ ((codes "multu", codes ","), codes "write multu rs,rt and mflo rd")
-    ∷ ((codes " $8,4($9)", codes "a"), codes "write la $1,NAME on a line before it, and 0($1) here")
+    ∷ ((codes " $8,4($9)", codes "a"), codes "load the address with la into a register that is free, on a line before it, and write 0 and that register here, as in 0($9)")
     ∷ ((codes " $8,4($9)", codes "("), codes "write the offset before it, as in 0($9)")
     ∷ ((codes " $8,4($9)", codes "$"), codes "write an address as in 0($9)")
     ∷ ((codes ".word", codes "a"), codes "a word is a number: an address is loaded with la")
@@ -211,7 +239,7 @@ operands =
     ∷ ((codes ".task", codes "none"), codes "write - for none")
     ∷ ((codes ".task", codes "creates"), codes "write create=")
     ∷ ((codes ".task", codes "target"), codes "write targets=")
-    ∷ ((codes ".task", codes "targets"), codes "write create= before targets=, with - for no register")
+    ∷ ((codes ".task", codes "targets"), codes "write create= before targets=, with - for no register, and no comma between them")
     ∷ ((codes ".task", codes "0"), codes "write a register as in $8")
     ∷ ((codes ".task", codes "-"), codes "write each register, as in $8,$9; a name has letters, digits and _")
     ∷ ((codes ".task", codes "="), codes "write the name of the task before create=")

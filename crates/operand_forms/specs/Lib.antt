@@ -9,3 +9,5 @@ pub mod Forms
 pub mod Meant
 pub mod LinePlaces
 pub mod Candidates
+pub mod Strings
+pub mod OwnWords

@@ -16,10 +16,14 @@ use Rattle.operand_forms.specs.declared.rows.Reading.{Reading}
 abbrev pub is_label : (line : List ℕ) → (name colon : Span) → Bool
 is_label line a b = is_name_start (byte_at line a) && bytes_eq (bytes_at line b) (codes ":")
 
--- the first word of a line's statement: after its labels
+-- what stands after a line's labels
+abbrev pub after_labels : (line : List ℕ) → List Span → List Span
+after_labels line (a ∷ b ∷ rest) = if is_label line a b then after_labels line rest else a ∷ b ∷ rest
+after_labels line places = places
+
+-- the first word of a line's statement
 abbrev pub word_place : (line : List ℕ) → List Span → Span
-word_place line (a ∷ b ∷ rest) = if is_label line a b then word_place line rest else a
-word_place line places = span_at places 0
+word_place line places = span_at (after_labels line places) 0
 
 abbrev pub word_in : (line : List ℕ) → Reading → List ℕ
 word_in line r = bytes_at line (word_place line r.places)

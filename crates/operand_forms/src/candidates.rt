@@ -4,7 +4,7 @@ ghost use Rattle.std.specs.Prelude.{◌≡◌, ◌++◌, ◌∷◌, [], map as e
 ghost use Rattle.program_tokens.specs.Numbers.{begins_with_digit};
 ghost use Rattle.mips_instructions.specs.InstructionTable.{word_of};
 ghost use Rattle.diagnostics.specs.Near.{is_near};
-ghost use Rattle.operand_forms.specs.Candidates.{is_known_word, near_statements, word_candidates, digits_of_register, register_candidates, operand_candidates, token_candidates, mark_candidates, candidates};
+ghost use Rattle.operand_forms.specs.Candidates.{is_known_word, near_statements, word_candidates, digits_of_register, register_candidates, operand_candidates, is_dollar_name, label_candidates, digit_candidates, token_candidates, mark_candidates, candidates};
 
 use crate::foreign_words::instead;
 use crate::shape::{DIRECTIVES, Shape, shape_of};
@@ -145,12 +145,42 @@ fn operand_candidates(alloc: Global, meant: &[u8]) -> Result<Vec<Vec<u8>>, Alloc
     }
 }
 
+/// Whether some bytes are a name after a `$`.
+fn is_dollar_name(bytes: &[u8]) -> bool
+    ensures { result ≡ is_dollar_name bytes.now }
+{
+    matches!(bytes, [b'$', b'_' | b'a'..=b'z' | b'A'..=b'Z', ..])
+}
+
+/// Adds the register that may be meant by what is no token: none by a sum.
+fn add_register(alloc: Global, list: &mut Vec<Vec<u8>>, meant: &[u8]) -> Result<(), AllocError>
+    ensures { OnOk result (each (λ text. text.items) list.new.items
+        ≡ each (λ text. text.items) list.old.items ++ digit_candidates meant.now) }
+{
+    if meant == "+".as_bytes() {
+        return Ok(());
+    }
+    add(alloc, list, b"$", digits_of_register(after(meant, 1)))
+}
+
+/// Adds the name of a label that may be meant by what is no token.
+fn add_label(alloc: Global, list: &mut Vec<Vec<u8>>, meant: &[u8]) -> Result<(), AllocError>
+    ensures { OnOk result (each (λ text. text.items) list.new.items
+        ≡ each (λ text. text.items) list.old.items ++ label_candidates meant.now) }
+{
+    if is_dollar_name(meant) {
+        return add(alloc, list, after(meant, 1), &[]);
+    }
+    Ok(())
+}
+
 /// The texts that may be meant by what is no token.
 fn token_candidates(alloc: Global, meant: &[u8]) -> Result<Vec<Vec<u8>>, AllocError>
     ensures { IfOk result (λ list. each (λ text. text.items) list.items ≡ token_candidates meant.now) }
 {
     let mut list = only(alloc, meant.to_ascii_lowercase(alloc)?)?;
-    add(alloc, &mut list, b"$", digits_of_register(after(meant, 1)))?;
+    add_register(alloc, &mut list, meant)?;
+    add_label(alloc, &mut list, meant)?;
     Ok(list)
 }
 

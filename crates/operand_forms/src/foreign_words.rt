@@ -2,11 +2,11 @@
 
 ghost use Rattle.std.specs.Prelude.{◌≡◌, map as each};
 ghost use Rattle.std.specs.Option.{option_map};
-ghost use Rattle.operand_forms.specs.ForeignWords.{row_of, instead, class_of, is_of, is_meant, operand_row, operand_instead};
+ghost use Rattle.operand_forms.specs.ForeignWords.{row_of, word_instead, sign_instead, instead, class_of, is_of, is_meant, operand_row, operand_instead};
 
-/// Words of other assemblers, marks, and what is no token, with what is written instead (own choice). rd, rs, rt and base are
+/// Words of other assemblers, with what is written instead (own choice). rd, rs, rt and base are
 /// registers, n is a number, T a place in the code and NAME a label.
-const WORDS: [(&str, &str); 140] = [
+const WORDS: [(&str, &str); 85] = [
     ("add", "write addu rd,rs,rt"),
     ("addi", "write addiu rt,rs,n"),
     ("sub", "write subu rd,rs,rt"),
@@ -18,19 +18,19 @@ const WORDS: [(&str, &str); 140] = [
     ("mulou", "write multu rs,rt and mflo rd"),
     (
         "div",
-        "for a power of 2 and a number that is not negative write sra, else subtract in a loop",
+        "there is no division: divide a number that is not negative by a power of 2 with sra; otherwise subtract in a loop",
     ),
     (
         "divu",
-        "for a power of 2 write srl, else subtract in a loop",
+        "there is no division: divide by a power of 2 with srl; otherwise subtract in a loop",
     ),
     (
         "rem",
-        "for a power of 2 and a number that is not negative write andi, else subtract in a loop",
+        "there is no division: of a number that is not negative and a power of 2, n, the remainder is that of andi with n-1; otherwise subtract in a loop",
     ),
     (
         "remu",
-        "for a power of 2 write andi, else subtract in a loop",
+        "there is no division: for a power of 2, n, the remainder is that of andi with n-1; otherwise subtract in a loop",
     ),
     ("neg", "write subu rd,$0,rt"),
     ("negu", "write subu rd,$0,rt"),
@@ -132,6 +132,38 @@ const WORDS: [(&str, &str); 140] = [
     ("ush", "there is no unaligned store: store bytes with sb"),
     ("noop", "write nop"),
     ("print", "write out rs"),
+    (
+        "movz",
+        "write bne rt,$0,T and move rd,rs, and the label T after them",
+    ),
+    (
+        "movn",
+        "write beq rt,$0,T and move rd,rs, and the label T after them",
+    ),
+    (
+        "beql",
+        "there are no delay slots: compile with -fno-delayed-branch",
+    ),
+    (
+        "bnel",
+        "there are no delay slots: compile with -fno-delayed-branch",
+    ),
+    (
+        "beqzl",
+        "there are no delay slots: compile with -fno-delayed-branch",
+    ),
+    (
+        "bnezl",
+        "there are no delay slots: compile with -fno-delayed-branch",
+    ),
+    ("push", "write addiu $sp,$sp,-4 and sw rs,0($sp)"),
+    ("pop", "write lw rd,0($sp) and addiu $sp,$sp,4"),
+    ("ll", "write lw rt,n(base)"),
+    ("sc", "write sw rt,n(base) and li rt,1"),
+    ("lwc1", "there is no floating point"),
+    ("swc1", "there is no floating point"),
+    ("mtc1", "there is no floating point"),
+    ("mfc1", "there is no floating point"),
     ("exit", "to end the program write halt"),
     ("end", "to end the program write halt"),
     ("stop", "to end the program write halt"),
@@ -144,6 +176,10 @@ const WORDS: [(&str, &str); 140] = [
         "write out rs for a word, or halt to end the program",
     ),
     ("break", "to end the program write halt"),
+];
+
+/// Directives of other assemblers, marks, and what is no token, with what is written instead.
+const SIGNS: [(&str, &str); 72] = [
     ("dw", "write .word"),
     ("db", "write .byte"),
     (".dw", "write .word"),
@@ -155,22 +191,25 @@ const WORDS: [(&str, &str); 140] = [
     (".short", "write .byte with the low and the high byte"),
     (".dword", "write .word with the low and then the high half"),
     (".quad", "write .word with the low and then the high half"),
-    (".float", "write .word with the number's bits"),
+    (
+        ".float",
+        "there is no floating point; write .word with the number's bits",
+    ),
     (
         ".double",
-        "write .word with the low and then the high half of the number's bits",
+        "there is no floating point; write .word with the low and then the high half of the number's bits",
     ),
     (
         ".ascii",
-        "write .byte with the letters' numbers, as .byte 104,105 for hi",
+        "write .byte with the letters' numbers, as .byte 104,105 for hi, and before the next .word .space with the bytes that are missing to a multiple of 4",
     ),
     (
         ".asciiz",
-        "write .byte with the letters' numbers and 0, as .byte 104,105,0 for hi",
+        "write .byte with the letters' numbers and 0, as .byte 104,105,0 for hi, and before the next .word .space with the bytes that are missing to a multiple of 4",
     ),
     (
         ".string",
-        "write .byte with the letters' numbers and 0, as .byte 104,105,0 for hi",
+        "write .byte with the letters' numbers and 0, as .byte 104,105,0 for hi, and before the next .word .space with the bytes that are missing to a multiple of 4",
     ),
     (".skip", "write .space n"),
     (".zero", "write .space n"),
@@ -178,8 +217,14 @@ const WORDS: [(&str, &str); 140] = [
         ".fill",
         "write .space n for n zeros, or .byte with each byte",
     ),
-    (".align", "write .space with as many bytes as are missing"),
-    (".balign", "write .space with as many bytes as are missing"),
+    (
+        ".align",
+        "write .space n with the n bytes that are missing to a multiple of 2, 4 or 8, for .align 1, 2 or 3; nothing if none is missing",
+    ),
+    (
+        ".balign",
+        "write .space n with the n bytes that are missing to a multiple of this number; nothing if none is missing",
+    ),
     (".comm", "write .data, the name with a colon, and .space n"),
     (".lcomm", "write .data, the name with a colon, and .space n"),
     (".section", "write .text, .data or .rodata alone"),
@@ -198,10 +243,17 @@ const WORDS: [(&str, &str); 140] = [
         "there are no constants: write the number where it is used",
     ),
     (".macro", "there are no macros: write the lines out"),
-    (".globl", "leave it out: each label is known everywhere"),
-    (".global", "leave it out: each label is known everywhere"),
-    (".extern", "leave it out: each label is known everywhere"),
-    (".set", "leave it out: no line changes how others are read"),
+    (
+        ".include",
+        "there are no other files: write the lines of that file here",
+    ),
+    (".globl", "remove it: all labels are global"),
+    (".global", "remove it: all labels are global"),
+    (".extern", "remove it: all labels are global"),
+    (
+        ".set",
+        "leave it out; after noreorder, though, there are delay slots, which there are not here: put the instruction after each branch or jump before it, where the branch does not read what it writes, or compile with -fno-delayed-branch",
+    ),
     (".ent", "leave it out: .task says where a task begins"),
     (".end", "leave it out: the last line ends the program"),
     (".file", "leave it out: nothing here needs it"),
@@ -217,19 +269,19 @@ const WORDS: [(&str, &str); 140] = [
     ),
     (
         "!f",
-        "a mark stands at the end of the line, after the operands",
+        "a mark stands at the end of the line, after the operands, with no comma between marks",
     ),
     (
         "!s",
-        "a mark stands at the end of the line, after the operands",
+        "a mark stands at the end of the line, after the operands, with no comma between marks",
     ),
     (
         "!st",
-        "a mark stands at the end of the line, after the operands",
+        "a mark stands at the end of the line, after the operands, with no comma between marks",
     ),
     (
         "!sn",
-        "a mark stands at the end of the line, after the operands",
+        "a mark stands at the end of the line, after the operands, with no comma between marks",
     ),
     ("!fs", "write !f !s"),
     ("!sf", "write !f !s"),
@@ -242,11 +294,16 @@ const WORDS: [(&str, &str); 140] = [
         "$",
         "write the number or the name of a register directly after $, as in $8 or $t0",
     ),
-    ("%", "a register begins with $, as in $8 or $t0"),
+    (
+        "%",
+        "write la rd,NAME in place of %hi and %lo; a register begins with $, as in $8 or $t0",
+    ),
     ("$s8", "write $fp or $30"),
-    ("[", "write an address as in 0($9)"),
-    ("]", "write an address as in 0($9)"),
-    ("+", "write la $8,NAME and then addiu $8,$8,n"),
+    ("[", "an address is written as in 0($9), a mark as in !f"),
+    ("{", "lists have no braces: write create=$8,$9 targets=A,B"),
+    ("}", "lists have no braces: write create=$8,$9 targets=A,B"),
+    ("]", "an address is written as in 0($9), a mark as in !f"),
+    ("+", "there are no sums: write the number itself"),
     (
         ".",
         "a label begins with a letter or _; a directive has small letters",
@@ -256,10 +313,7 @@ const WORDS: [(&str, &str); 140] = [
         "write each statement on a line of its own; a comment begins with #",
     ),
     ("/", "a comment begins with #"),
-    (
-        "'",
-        "a text has no letters in quotation marks: write the number of the letter",
-    ),
+    ("'", "write the letter's number, as 65 for A"),
     (
         "\"",
         "a text has no strings: write .byte with the numbers of the letters",
@@ -271,7 +325,7 @@ const WORDS: [(&str, &str); 140] = [
 const OPERANDS: [((&str, &str), &str); 52] = [
     (
         ("", "!"),
-        "a mark stands at the end of the line, after the operands",
+        "a mark stands at the end of the line, after the operands, with no comma between marks",
     ),
     (
         ("", "$hi"),
@@ -312,7 +366,10 @@ const OPERANDS: [((&str, &str), &str); 52] = [
     (("move", "a"), "for the address of a label write la rd,NAME"),
     (("li", "$"), "with a register write move rd,rs"),
     (("li", "a"), "for the address of a label write la rd,NAME"),
-    (("la", "0"), "with a number write li rd,n"),
+    (
+        ("la", "0"),
+        "for a number alone write li, for a number and a register addiu, as in addiu $8,$9,4",
+    ),
     (("la", "$"), "with a register write move rd,rs"),
     (("j", "$"), "to the address in a register write jr rs"),
     (("jal", "$"), "to the address in a register write jalr rs"),
@@ -330,7 +387,7 @@ const OPERANDS: [((&str, &str), &str); 52] = [
     (("multu", ","), "write multu rs,rt and mflo rd"),
     (
         (" $8,4($9)", "a"),
-        "write la $1,NAME on a line before it, and 0($1) here",
+        "load the address with la into a register that is free, on a line before it, and write 0 and that register here, as in 0($9)",
     ),
     (
         (" $8,4($9)", "("),
@@ -358,7 +415,7 @@ const OPERANDS: [((&str, &str), &str); 52] = [
     ((".task", "target"), "write targets="),
     (
         (".task", "targets"),
-        "write create= before targets=, with - for no register",
+        "write create= before targets=, with - for no register, and no comma between them",
     ),
     ((".task", "0"), "write a register as in $8"),
     (
@@ -380,12 +437,31 @@ fn row_of(rows: &[(&'static str, &'static str)], word: &[u8]) -> Option<&'static
     None
 }
 
+/// What is written instead of a word, if it is known.
+#[tactic(auto, unfolding(crate::specs::ForeignWords::word_instead))]
+fn word_instead(word: &[u8]) -> Option<&'static str>
+    ensures { option_map (λ text. text.now) result ≡ word_instead word.now }
+{
+    row_of(&WORDS, word)
+}
+
+/// What is written instead of a directive, a mark or what is no token, if it is known.
+#[tactic(auto, unfolding(crate::specs::ForeignWords::sign_instead))]
+fn sign_instead(word: &[u8]) -> Option<&'static str>
+    ensures { option_map (λ text. text.now) result ≡ sign_instead word.now }
+{
+    row_of(&SIGNS, word)
+}
+
 /// What is written instead of a word, a mark or what is no token, if it is known.
 #[tactic(auto, unfolding(crate::specs::ForeignWords::instead))]
 pub fn instead(word: &[u8]) -> Option<&'static str>
     ensures { option_map (λ text. text.now) result ≡ instead word.now }
 {
-    row_of(&WORDS, word)
+    match word_instead(word) {
+        Some(text) => Some(text),
+        None => sign_instead(word),
+    }
 }
 
 /// The class of an operand: a number is one of 0, a name one of a, and any other of its first byte.
@@ -416,7 +492,7 @@ fn is_meant(meant: &[u8], second: &str) -> bool
 
 /// What stands after this operand in a table.
 #[tactic(auto, unfolding(crate::specs::ForeignWords::operand_row))]
-fn operand_row(
+pub(crate) fn operand_row(
     rows: &[((&'static str, &'static str), &'static str)],
     word: &[u8],
     form: &str,

@@ -9,6 +9,8 @@ pub mod form;
 pub mod laws;
 pub mod line_place;
 pub mod meant;
+pub mod own_words;
 pub mod rows;
 pub mod shape;
 pub mod slices;
+pub mod strings;

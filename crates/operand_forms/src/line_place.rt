@@ -1,7 +1,7 @@
 //! Which bytes of a line are meant by its fault.
 
 ghost use Rattle.std.specs.Prelude.{◌≡◌, IfOk};
-ghost use Rattle.operand_forms.specs.LinePlaces.{is_label, word_place, word_in, shape_named, line_place};
+ghost use Rattle.operand_forms.specs.LinePlaces.{is_label, after_labels, word_place, word_in, shape_named, line_place};
 
 use crate::bytes::{byte_at, byte_span, bytes_at, token_span};
 use crate::meant::{mark_index, number_index, operand_span, span_at};
@@ -22,9 +22,9 @@ fn is_label(line: &[u8], name: Span, colon: Span) -> bool
     (first == b'_' || first.is_ascii_alphabetic()) && bytes_at(line, colon) == COLON
 }
 
-/// Where the first word of a line's statement stands, after its labels.
-pub fn word_place(line: &[u8], places: &[Span]) -> Span
-    ensures { result ≡ word_place line.now places.now }
+/// The places after a line's labels.
+pub fn after_labels<'a>(line: &[u8], places: &'a [Span]) -> &'a [Span]
+    ensures { result.now ≡ after_labels line.now places.now }
 {
     let mut rest = places;
     while let [first, second, others @ ..] = rest {
@@ -33,7 +33,14 @@ pub fn word_place(line: &[u8], places: &[Span]) -> Span
         }
         rest = others;
     }
-    span_at(rest, 0)
+    rest
+}
+
+/// Where the first word of a line's statement stands.
+pub fn word_place(line: &[u8], places: &[Span]) -> Span
+    ensures { result ≡ word_place line.now places.now }
+{
+    span_at(after_labels(line, places), 0)
 }
 
 /// The first word of a line's statement.

@@ -20,14 +20,14 @@ p.s:3:1: help: did you mean addiu?
 p.s:4:6: error: `addu` cannot take `r8` here [5 Operand line 4]
 p.s:4:6: help: did you mean $8?
 p.s:5:4: error: there is no instruction or directive `.asciiz` [4 Mnemonic line 5]
-p.s:5:4: help: write .byte with the letters' numbers and 0, as .byte 104,105,0 for hi
+p.s:5:4: help: write .byte with the letters' numbers and 0, as .byte 104,105,0 for hi, and before the next .word .space with the bytes that are missing to a multiple of 4
 p.s:6:6: error: there is no mark `!x` [7 Mark line 6]
 p.s:6:6: help: the marks are !f (forward), !s (stop), !st (stop if taken) and !sn (stop if not taken)
 p.s:7:1: error: there is no instruction or directive `hlat` [4 Mnemonic line 7]
 p.s:7:1: help: did you mean halt?
 p.s:8:1: error: there is no instruction or directive `ble` [4 Mnemonic line 8]
-p.s:8:1: help: write slt $1,rt,rs and beq $1,$0,T, or for a number slti $1,rs,n+1 and bne $1,$0,T
-p.s:9:11: error: the operands of `addu` end too early [5 Operand line 9]
+p.s:8:1: help: write slt $1,$9,$8 and beq $1,$0,A
+p.s:9:11: error: `addu` needs more operands [5 Operand line 9]
 p.s:9:11: help: write it as in addu $8,$9,$10
 ";
 

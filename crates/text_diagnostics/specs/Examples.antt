@@ -18,7 +18,7 @@ use Rattle.operand_forms.specs.Meant.{operand_span}
 use Rattle.syntax_tree.specs.declared.item.Said.TheVariants as said
 use Rattle.syntax_tree.specs.declared.item.Item.{Item}
 use Rattle.operand_forms.specs.Candidates.{candidates, word_candidates}
-use Rattle.operand_forms.specs.ForeignWords.{instead, operand_row, operand_instead}
+use Rattle.operand_forms.specs.ForeignWords.{instead, word_instead, sign_instead, operand_row, operand_instead}
 use Rattle.text_diagnostics.specs.Mending.{goes_further, mended, may_be_label}
 use Rattle.text_diagnostics.specs.Sections.{fault_in, line_kind, meant_after}
 
@@ -27,26 +27,26 @@ at column len = record { column = column; len = len }
 
 -- `addu` is nearer, but takes no number
 pub near_word : mended kind.Mnemonic Text (codes "addui $8,$8,1") (at 1 5) ≡ codes "addiu" ∷ []
-unfolding mended candidates word_candidates shape_of instead fault_in line_tokens tokens_after token_of kind_of number_of magnitude_of number_in register_of register_named operands_of after_one after_two operand_at base_at three imm as_shown is_readable is_utf8 chars encode
+unfolding mended candidates word_candidates shape_of instead word_instead sign_instead fault_in line_tokens tokens_after token_of kind_of number_of magnitude_of number_in register_of register_named operands_of after_one after_two operand_at base_at three imm as_shown is_readable is_utf8 chars encode
 near_word = refl
 
 -- not the label `hlat`
 pub a_word_alone : mended kind.Mnemonic Text (codes "hlat") (at 1 4) ≡ codes "halt" ∷ []
-unfolding mended candidates word_candidates shape_of instead fault_in line_tokens tokens_after token_of kind_of number_of magnitude_of number_in register_of register_named operands_of after_one after_two operand_at base_at halt as_shown is_readable is_utf8 chars encode
+unfolding mended candidates word_candidates shape_of instead word_instead sign_instead fault_in line_tokens tokens_after token_of kind_of number_of magnitude_of number_in register_of register_named operands_of after_one after_two operand_at base_at halt as_shown is_readable is_utf8 chars encode
 a_word_alone = refl
 
 -- both are near
 pub two_words : mended kind.Mnemonic Text (codes "bnq $1,$0,A") (at 1 3) ≡ codes "beq" ∷ codes "bne" ∷ []
-unfolding mended candidates word_candidates shape_of instead fault_in line_tokens tokens_after token_of kind_of number_of magnitude_of number_in register_of register_named operands_of after_one after_two operand_at base_at branch_two as_shown is_readable is_utf8 chars encode
+unfolding mended candidates word_candidates shape_of instead word_instead sign_instead fault_in line_tokens tokens_after token_of kind_of number_of magnitude_of number_in register_of register_named operands_of after_one after_two operand_at base_at branch_two as_shown is_readable is_utf8 chars encode
 two_words = refl
 
 -- `bne` is near, but another branch
 pub of_another_assembler : mended kind.Mnemonic Text (codes "ble $8,$9,A") (at 1 3) ≡ []
-unfolding mended candidates word_candidates shape_of instead
+unfolding mended candidates word_candidates shape_of instead word_instead sign_instead
 of_another_assembler = refl
 
 pub another_word : instead (codes "sgt") ≡ Some (codes "write slt rd,rt,rs")
-unfolding instead
+unfolding instead word_instead sign_instead
 another_word = refl
 
 -- of a number, and of the number -4

@@ -30,6 +30,7 @@ use Rattle.text_diagnostics.specs.declared.mistake.Kind.TheVariants.{LabelTwice,
 use Rattle.operand_forms.specs.declared.rows.Reading.{Reading}
 use Rattle.operand_forms.specs.Rows.{reading_of}
 use Rattle.operand_forms.specs.ForeignWords.{instead, operand_instead}
+use Rattle.operand_forms.specs.OwnWords.{own_words}
 use Rattle.operand_forms.specs.LinePlaces.{word_in, shape_named}
 use Rattle.text_diagnostics.specs.Mending.{mended, may_be_label}
 use Rattle.text_diagnostics.specs.Messages.{is_no_mark}
@@ -87,13 +88,13 @@ abbrev pub number_help : Option Token → Shape → List ℕ
 number_help (Some (token.Index n)) shape = codes "a place is @0 to @4096"
 number_help _ shape = range_text shape
 
--- of a mark: an instruction alone has marks; there are four; `!f` and a stop can each be there once
+-- of a mark: only instructions have marks; there are four; `!f` and a stop can each be there once
 abbrev pub stop_words : Option Token → List ℕ
 stop_words (Some (token.Mark mark.Forward)) = codes "write !f once"
 stop_words _ = codes "keep one stop: !s stops always, !st if the branch is taken, !sn if it is not"
 
 abbrev pub mark_words : (on_directive is_none : Bool) → (instead : Option (List ℕ)) → Option Token → List ℕ
-mark_words true is_none other t = codes "remove it: an instruction alone has marks"
+mark_words true is_none other t = codes "remove it: only instructions have marks"
 mark_words false true (Some text) t = text
 mark_words false true None t = codes "the marks are !f (forward), !s (stop), !st (stop if taken) and !sn (stop if not taken)"
 mark_words false false other t = stop_words t
@@ -104,18 +105,28 @@ operand_words word meant =
     let form = form_text (shape_named word) in
     unwrap_or (operand_instead word form meant) (codes "write it as in " ++ (as_shown word ++ form))
 
-unfoldable pub line_words : LineFaultKind → Section → (line : List ℕ) → Reading → Place → List ℕ
-line_words kind.NotAscii here line r at = byte_help (byte_at line at)
-line_words kind.Token here line r at = token_words (instead (word_in line r)) (instead (bytes_at line at)) (byte_at line at)
-line_words kind.Mnemonic here line r at =
+unfoldable pub general_words : LineFaultKind → Section → (line : List ℕ) → Reading → Place → List ℕ
+general_words kind.NotAscii here line r at = byte_help (byte_at line at)
+general_words kind.Token here line r at = token_words (instead (word_in line r)) (instead (bytes_at line at)) (byte_at line at)
+general_words kind.Mnemonic here line r at =
     let word = bytes_at line at in
     word_help here (is_some (shape_of word)) (may_be_label here line at) (instead word) word
-line_words kind.Operand here line r at = operand_words (word_in line r) (bytes_at line at)
-line_words kind.Number here line r at =
+general_words kind.Operand here line r at = operand_words (word_in line r) (bytes_at line at)
+general_words kind.Number here line r at =
     let shape = shape_named (word_in line r) in number_help (slice_get r.tokens (number_index shape r.tokens)) shape
-line_words kind.Mark here line r at =
+general_words kind.Mark here line r at =
     let found = slice_get r.tokens (mark_index r.tokens) in
     mark_words (is_directive r.tokens) (is_no_mark found) (instead (bytes_at line at)) found
+
+-- of operands, of what is no token, and of a word that is of no section: in the line's own words, where they are known
+abbrev pub words_of_line : LineFaultKind → (line : List ℕ) → Reading → Place → Option (List ℕ)
+words_of_line kind.Token line r at = own_words line r
+words_of_line kind.Operand line r at = own_words line r
+words_of_line kind.Mnemonic line r at = if is_some (shape_of (bytes_at line at)) then None else own_words line r
+words_of_line _ line r at = None
+
+unfoldable pub line_words : LineFaultKind → Section → (line : List ℕ) → Reading → Place → List ℕ
+line_words k here line r at = unwrap_or (words_of_line k line r at) (general_words k here line r at)
 
 -- a text that mends the line, if one is known; if several are, a question
 abbrev pub help_by : (words : List ℕ) → Span → (mended : List (List ℕ)) → Help

@@ -38,7 +38,7 @@ token_message first meant =
     else codes "this is not a name, a register or a number: " ++ meant
 
 abbrev pub operand_message : (is_early : Bool) → (word meant : List ℕ) → List ℕ
-operand_message true word meant = codes "the operands of " ++ (word ++ codes " end too early")
+operand_message true word meant = word ++ codes " needs more operands"
 operand_message false word meant = word ++ (codes " cannot take " ++ (meant ++ codes " here"))
 
 abbrev pub is_no_mark : Option Token → Bool

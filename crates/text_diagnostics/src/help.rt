@@ -6,7 +6,7 @@ ghost use Rattle.std.specs.Option.{option_copied, option_map};
 ghost use Rattle.std.specs.Str.{bytes_eq, str_to_ascii_lowercase};
 ghost use Rattle.std.specs.String.{string_bytes};
 ghost use Rattle.diagnostics.specs.Quotations.{as_shown};
-ghost use Rattle.text_diagnostics.specs.Helps.{meant_text, either, mending_text, move_help, section_help, word_help, token_words, stop_words, mark_words, operand_words, number_help, line_words, help_by, line_help, is_mark_of, mark_place, mark_help, is_loaded, is_code, is_near_said, is_near_label, near_item, name_words, said_help, near_help, item_words, item_help};
+ghost use Rattle.text_diagnostics.specs.Helps.{meant_text, either, mending_text, move_help, section_help, word_help, token_words, stop_words, mark_words, operand_words, number_help, general_words, words_of_line, line_words, help_by, line_help, is_mark_of, mark_place, mark_help, is_loaded, is_code, is_near_said, is_near_label, near_item, name_words, said_help, near_help, item_words, item_help};
 
 use crate::mending::{may_be_label, mended};
 use crate::message::is_no_mark;
@@ -23,6 +23,7 @@ use operand_forms::candidates::begins_with_digit;
 use operand_forms::foreign_words::{instead, operand_instead};
 use operand_forms::line_place::{shape_named, word_in};
 use operand_forms::meant::{is_directive, mark_index, number_index, span_at};
+use operand_forms::own_words::own_words;
 use operand_forms::rows::{Reading, read};
 use operand_forms::shape::{Shape, form_text, range_text, shape_of};
 use operand_forms::slices::first;
@@ -159,7 +160,7 @@ fn mark_words(
         ≡ mark_words on_directive is_none (option_map (λ text. text.now) instead.entry) (option_copied mark.entry) }
 {
     if on_directive {
-        return "remove it: an instruction alone has marks";
+        return "remove it: only instructions have marks";
     }
     if !is_none {
         return stop_words(mark);
@@ -196,9 +197,9 @@ fn number_help(number: Option<&Token>, shape: Shape) -> &'static str
     }
 }
 
-/// What to do about a line, in words.
-#[tactic(auto, unfolding(crate::specs::Helps::line_words))]
-fn line_words(
+/// What to do about a line, in general words.
+#[tactic(auto, unfolding(crate::specs::Helps::general_words))]
+fn general_words(
     alloc: Global,
     kind: LineFaultKind,
     section: Section,
@@ -206,7 +207,7 @@ fn line_words(
     reading: &Reading,
     place: Place,
 ) -> Result<Words, AllocError>
-    ensures { IfOk result (λ words. words ≡ line_words kind section line.now reading.now place) }
+    ensures { IfOk result (λ words. words ≡ general_words kind section line.now reading.now place) }
 {
     let word = word_in(line, reading);
     let meant = bytes_at(line, place);
@@ -236,6 +237,43 @@ fn line_words(
                 mark_words(is_directive(tokens), is_no_mark(mark), other, mark),
             )
         }
+    }
+}
+
+/// What to do about a line, in its own words, where they are known.
+fn words_of_line(
+    alloc: Global,
+    kind: LineFaultKind,
+    line: &[u8],
+    reading: &Reading,
+    place: Place,
+) -> Result<Option<Words>, AllocError>
+    ensures { IfOk result (λ words. words ≡ words_of_line kind line.now reading.now place) }
+{
+    match kind {
+        LineFaultKind::Token | LineFaultKind::Operand => own_words(alloc, line, reading),
+        LineFaultKind::Mnemonic if shape_of(bytes_at(line, place)).is_none() => {
+            own_words(alloc, line, reading)
+        }
+        _ => Ok(None),
+    }
+}
+
+/// What to do about a line, in words.
+#[tactic(auto, unfolding(crate::specs::Helps::line_words))]
+fn line_words(
+    alloc: Global,
+    kind: LineFaultKind,
+    section: Section,
+    line: &[u8],
+    reading: &Reading,
+    place: Place,
+) -> Result<Words, AllocError>
+    ensures { IfOk result (λ words. words ≡ line_words kind section line.now reading.now place) }
+{
+    match words_of_line(alloc, kind, line, reading, place)? {
+        Some(words) => Ok(words),
+        None => general_words(alloc, kind, section, line, reading, place),
     }
 }
 

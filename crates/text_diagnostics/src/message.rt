@@ -64,7 +64,7 @@ fn operand_message(
     ensures { IfOk result (λ words. words ≡ operand_message is_early word.now meant.now) }
 {
     if is_early {
-        return words!(in alloc; "the operands of {word} end too early");
+        return words!(in alloc; "{word} needs more operands");
     }
     let end = words!(in alloc; " cannot take {meant} here")?;
     words!(in alloc; "{word}{end}")
