@@ -54,7 +54,7 @@ def last_update(program, i, reached):
 
 
 def warnings(program):
-    """The marks that cost speed: (kind, task or index, register), before they are put in the order of places."""
+    """The marks that cost speed: (kind, task or index, registers), before they are put in the order of places."""
     entries = [entry for _, entry, _, _ in program.tasks]
     reached = [walk(program, [entry]) for entry in entries]
     unsent = {r: walk(program, entries, lambda i: not sends(program, i, r)) for r in range(34)}
@@ -62,11 +62,12 @@ def warnings(program):
     found = []
     for t, (_, _, create, targets) in enumerate(program.tasks):
         made = {r for i in reached[t] for r in dests(program.code[i][0]) | released(program.code[i][0])}
-        found += [("never", t, r) for r in sorted(create - made) if targets]
+        found += [("never", t, tuple(sorted(create - made)))] if targets and create - made else []
     for i, (op, _, _) in enumerate(program.code):
         if last_update(program, i, reached):
             found.append(("last", i, None))
-        found += [("sent", i, r) for r in sorted(released(op)) if i in anywhere and i not in unsent[r]]
+        sent = tuple(r for r in sorted(released(op)) if i in anywhere and i not in unsent[r])
+        found += [("sent", i, sent)] if sent else []
     found += [("unreached", i, None) for i in range(len(program.code))
               if i not in anywhere and (i == 0 or i - 1 in anywhere)]
     return found
@@ -111,18 +112,19 @@ def last_sentence(program, text, i):
 
 def sentence(program, text, warning):
     """What is said of a program with this text."""
-    kind, number, register = warning
-    written = None if register is None else spelled(text, register)
+    kind, number, registers = warning
+    written = None if registers is None else ",".join(spelled(text, r) for r in registers)
+    verb = "was" if registers and len(registers) == 1 else "were"
     name = program.tasks[number][0] if kind in OF_TASKS else None
     if kind == "last":
         return last_sentence(program, text, number)
     unled = ",".join(place_of(program, text, program.tasks[number][3][k]) for k in untaken(program, number)) if kind == "untaken" else ""
     return {
         "runs": f"task {name} never runs: no other task has it as a target, and the program starts at {place_of(program, text, program.start)}.",
-        "untaken": f"no exit of task {name} leads to {unled}: a unit that is given such a target after it is always squashed.",
+        "untaken": f"no exit of task {name} leads to {unled}, so predicting {unled} is always wrong.",
         "stop": f"task {name} has targets, but never reaches a stop.",
         "never": f"the create mask of task {name} has {written}, which no instruction of the task writes or releases.",
-        "sent": f"{written} was sent before on each path to this release.",
+        "sent": f"{written} {verb} sent before on each path to this release.",
         "unreached": "no task reaches the code from here on.",
     }[kind]
 
@@ -159,22 +161,22 @@ def numbers(listed):
     return [int({"$hi": "32", "$lo": "33"}.get(r, r[1:])) for r in re.findall(r"\$\w+", listed)]
 
 
-def without(listed, register):
-    return ",".join(f"${n}" for n in numbers(listed) if n != register)
+def without(listed, registers):
+    return ",".join(f"${n}" for n in numbers(listed) if n not in registers)
 
 
 def followed(text, warning):
     """The text with what the help of a warning says; None where it speaks of code."""
-    kind, number, register = warning
+    kind, number, registers = warning
     tasks, code = places(text)
     lines = text.split("\n")
     at = (tasks if kind == "never" else code)[number][0] - 1
     if kind == "never":
-        lines[at] = re.sub(r"create=([$\w,]+)", lambda m: "create=" + (without(m.group(1), register) or "-"), lines[at])
+        lines[at] = re.sub(r"create=([$\w,]+)", lambda m: "create=" + (without(m.group(1), registers) or "-"), lines[at])
     elif kind == "last":
         lines[at] = re.sub(r"(\s*#.*)?$", lambda m: " !f" + (m.group(1) or ""), lines[at], count=1)
     elif kind == "sent":
-        kept = lambda m: "release " + without(m.group(1), register) if without(m.group(1), register) else "nop"
+        kept = lambda m: "release " + without(m.group(1), registers) if without(m.group(1), registers) else "nop"
         lines[at] = re.sub(r"release\s+(\$\w+(?:\s*,\s*\$\w+)*)", kept, lines[at], count=1)
     else:
         return None
@@ -203,7 +205,9 @@ def loosened(text):
 def unmended(program, text, warning, after, was_right):
     """What is wrong after a change."""
     new = assemble(after.encode("latin-1"))
-    if warning in warnings(new) or warning in forgotten(new):
+    is_shorter = len(new.code) < len(program.code)
+    left = [it[:2] for it in [*warnings(new), *forgotten(new)]]
+    if len(warnings(new)) >= len(warnings(program)) if is_shorter else warning[:2] in left:
         return f"{warning} is there after its change:\n{after}"
     if was_right and verdict(new, certify(new)):
         return f"wrong marks after the change of {warning}:\n{after}"

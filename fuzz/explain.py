@@ -227,12 +227,14 @@ def queries(program, error):
         yield entry, lambda i: i == index, False
 
 
-def lines_lead(program, code, lines, start, sought):
-    """Whether the lines are those of a path from start to what is sought."""
-    at = {start} if code[start][0] == lines[0] else set()
-    for line in lines[1:]:
-        at = {j for i in at for j in inner(program, i) if j < len(code) and code[j][0] == line}
-    return any(sought(i) for i in at)
+def lines_lead(program, code, lines, start, sought, count):
+    """Whether the lines are those of a path of so many edges from start to what is sought; a pseudo-instruction is one step."""
+    second = lambda i, j: j == i + 1 and code[i][0] == code[j][0]
+    at = {(start, 0)} if code[start][0] == lines[0] else set()
+    for _ in range(count):
+        ahead = {(i, j, k) for i, k in at for j in inner(program, i) if j < len(code)}
+        at = {(j, k if second(i, j) else k + 1) for i, j, k in ahead if second(i, j) or lines[k + 1:k + 2] == [code[j][0]]}
+    return any(sought(i) and k + 1 == len(lines) for i, k in at)
 
 
 def region_of(place):
@@ -261,7 +263,7 @@ def differs(program, text, results):
         if len(asked) != len(paths):
             return f"{len(paths)} paths of {error}"
         for (start, sought, on), path in zip(asked, paths):
-            if not lines_lead(program, code, path, start, sought) or len(path) != distance(program, start, sought, on) + 1:
+            if not lines_lead(program, code, path, start, sought, distance(program, start, sought, on)):
                 return f"a path of {error}"
     return None
 
@@ -279,12 +281,15 @@ def changed(text, result):
     return "\n".join(lines)
 
 
+STOP = re.compile(r"(?:put !s[tn]?|write !s in place of !s[tn]?) on line (\d+)(?: and write targets=\S+)?, where ")
+
+
 def stops(program, after, error, text, advice):
-    """Whether a change puts a stop on the line that it names, where the task of an error goes on into one of its targets."""
+    """Whether a change puts a stop on the line that it names, where the task of an error goes on into one of its targets then."""
     edges = lambda p: {(i, j) for i in range(len(p.code)) for j in inner(p, i)}
     gone, code = edges(program) - edges(after), places(text)[1]
-    begins, (_, entry, _, targets) = {it[1] for it in program.tasks}, program.tasks[error[0]]
-    line = int(re.match(r"put !s[tn]? on line (\d+), where ", advice).group(1))
+    begins, (_, entry, _, targets) = {it[1] for it in program.tasks}, after.tasks[error[0]]
+    line = int(STOP.match(advice).group(1))
     return edges(after) < edges(program) and all(code[i][0] == line for i, _ in gone) and any(j in begins and j in targets for _, j in gone)
 
 
@@ -471,13 +476,15 @@ class Bench:
                 self.counts["helps in words"] += 1
                 continue
             changed_program = assemble(after.encode("latin-1"))
-            if result["fixes"][0]["description"]["text"].startswith("put !"):
+            if STOP.match(result["fixes"][0]["description"]["text"]):
                 self.counts["stops put"] += 1
                 if not stops(program, changed_program, error, text, result["fixes"][0]["description"]["text"]):
                     return f"a stop put for {error}:\n{after}"
                 continue
             left = told(changed_program)
-            if any(it[0] == error[0] and it[2] in MASK for it in left) if error[2] in MASK else error in left:
+            alike = lambda errors: sum((it[0], *it[2:]) == (error[0], *error[2:]) for it in errors)
+            is_left = alike(left) >= alike(told(program)) if len(changed_program.code) < len(program.code) else error in left
+            if any(it[0] == error[0] and it[2] in MASK for it in left) if error[2] in MASK else is_left:
                 return f"{error} is there after its fix:\n{after}"
             self.counts["fixes that mend"] += 1
             self.counts["fixes after which other errors are there"] += not {subject(it) for it in left} <= {subject(it) for it in told(program)}

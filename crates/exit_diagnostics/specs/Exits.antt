@@ -1,7 +1,6 @@
 -- Where a task goes: exits that are not listed (rule 9), an inner edge that leads to no instruction (rule 10), and
 -- targets where no task begins (rule 12).
-use Rattle.std.specs.Prelude.{ℕ, ◌-◌, Bool, true, false, not, ◌&&◌, ◌||◌, ◌==◌, nat_eq, nat_lt, nat_le, List, [], ◌∷◌, ◌++◌, codes, filter, flat_map, position, length, slice_index_or, unwrap_or, Option, Some, None, if◌then◌else◌}
-use Rattle.std.specs.Option.{option_or, option_to_list}
+use Rattle.std.specs.Prelude.{ℕ, ◌-◌, Bool, true, false, not, ◌&&◌, ◌||◌, ◌==◌, nat_eq, nat_lt, nat_le, List, [], ◌∷◌, ◌++◌, codes, flat_map, position, length, slice_index_or, unwrap_or, Option, Some, None, if◌then◌else◌}
 use Rattle.std.specs.Fmt.{decimal}
 use Rattle.std.specs.List.{find, list_any}
 use Rattle.mark_checker.specs.declared.finding.Finding.{Finding}
@@ -9,6 +8,7 @@ use Rattle.diagnostics.specs.declared.diagnostic.Note.{Note}
 use Rattle.diagnostics.specs.declared.diagnostic.Help.{Help}
 use Rattle.mark_subjects.specs.Subjects.{Judged, task_name, targets_of, entries_of, task_at, is_entry, place_text, label_at, targets_text, is_branch, exit_end, inner_end, is_end, instruction_span, targets_span}
 use Rattle.mark_subjects.specs.Parts.{in_words, by_text, written, note_at, way_notes}
+use Rattle.mark_subjects.specs.Targets.{entries_listed, both}
 use Rattle.exit_diagnostics.specs.Meant.{meant, meant_help}
 
 -- a note on a place, if an instruction is there
@@ -88,11 +88,6 @@ exit_said s f None None = []
 abbrev pub exit_message : Judged → Finding → List ℕ
 exit_message s f = exit_said s f (unlisted s f false) (unlisted s f true)
 
--- these places; one to which both edges lead stands once
-abbrev pub both : (onward taken : Option ℕ) → List ℕ
-both (Some j) (Some k) = if nat_eq j k then j ∷ [] else j ∷ k ∷ []
-both onward taken = option_to_list (option_or onward taken)
-
 abbrev pub lacking : Judged → Finding → List ℕ
 lacking s f = both (unlisted s f false) (unlisted s f true)
 
@@ -104,10 +99,6 @@ abbrev pub targets_help : Judged → (task : ℕ) → (targets : List ℕ) → H
 targets_help s task targets =
     if nat_le (length targets) 16 then written (targets_span s task) (targets_text s targets)
     else in_words (codes "a task has at most 16 targets: let task " ++ (task_name s task ++ codes " go on to fewer places"))
-
--- the targets of a task where a task begins
-abbrev pub entries_listed : Judged → (task : ℕ) → List ℕ
-entries_listed s task = filter (is_entry s) (targets_of s task)
 
 -- where no task begins, another stop may be meant; else one is to begin, and to be a target
 abbrev pub listed_too : (name : List ℕ) → List ℕ

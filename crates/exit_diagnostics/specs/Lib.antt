@@ -2,3 +2,4 @@ pub mod Meant
 pub mod Exits
 pub mod Calls
 pub mod Remarks
+pub mod Returning

@@ -1,15 +1,18 @@
 -- The stop that may be meant where a task ends at a place where no task begins.
-use Rattle.std.specs.Prelude.{ℕ, Bool, true, false, not, ◌&&◌, ◌||◌, ◌==◌, List, [], ◌∷◌, ◌++◌, codes, is_some, length, nat_lt, Option, Some, None, if◌then◌else◌}
+use Rattle.std.specs.Prelude.{ℕ, Bool, true, false, not, ◌&&◌, ◌||◌, ◌==◌, List, [], ◌∷◌, ◌++◌, codes, is_some, length, nat_lt, slice_get, Option, Some, None, if◌then◌else◌}
 use Rattle.std.specs.List.{list_any}
 use Rattle.std.specs.Option.{option_or}
 use Rattle.std.specs.Fmt.{decimal}
 use Rattle.std.specs.Str.{byte}
+use Rattle.mips_instructions.specs.declared.instruction.Op.{Op}
+use Rattle.mips_instructions.specs.declared.instruction.Op.TheVariants.{Halt}
+use Rattle.task_descriptor.specs.declared.descriptor.Marked.{Marked}
 use Rattle.task_descriptor.specs.declared.descriptor.Stop.{Stop}
 use Rattle.task_descriptor.specs.declared.descriptor.Stop.TheVariants as stop
 use Rattle.mark_checker.specs.Rules.{stops_always}
 use Rattle.diagnostics.specs.declared.diagnostic.Help.{Help}
 use Rattle.exit_diagnostics.specs.declared.meant_stop.MeantStop.{MeantStop}
-use Rattle.exit_diagnostics.specs.declared.meant_stop.MeantStop.TheVariants.{This, Edge, Next}
+use Rattle.exit_diagnostics.specs.declared.meant_stop.MeantStop.TheVariants.{This, Edge, Next, AtHalt}
 use Rattle.mark_subjects.specs.Subjects.{Judged, targets_of, is_entry, is_branch, stop_of, exit_end, inner_end, place_text, instruction_span}
 use Rattle.mark_subjects.specs.MarkPlaces.{mark_span}
 use Rattle.mark_subjects.specs.Parts.{in_words, take_out}
@@ -33,7 +36,8 @@ edge_meant (Some j) None = Edge false j
 edge_meant None (Some k) = Edge true k
 edge_meant onward taken = This
 
--- of another instruction, the stop of the next one, if that has none, and all its edges lead to targets
+-- of another instruction, the stop of the next one, if that has none, and all its edges lead to targets; none, where that
+-- is a halt
 abbrev pub has_stop : Stop → Bool
 has_stop stop.None = false
 has_stop _ = true
@@ -43,11 +47,27 @@ may_end s task j =
     not (has_stop (stop_of s j)) && (is_some (to_target s task j false)
     && (not (is_some (way s j true)) || is_some (to_target s task j true)))
 
+-- a halt, with which the task ends without a stop
+abbrev pub is_halt : Op → Bool
+is_halt Halt = true
+is_halt op = false
+
+abbrev pub halts_in : Option Marked → Bool
+halts_in None = false
+halts_in (Some m) = is_halt m.op
+
+abbrev pub halts : Judged → (index : ℕ) → Bool
+halts s j = halts_in (slice_get s.program.code j)
+
+-- the stop of an instruction that is no branch, which goes on to j
+abbrev pub later_meant : Judged → (task j : ℕ) → MeantStop
+later_meant s task j = if halts s j then AtHalt j else if may_end s task j then Next j else This
+
 -- of the instruction at i, which ends the task and goes on to j; where no instruction is at j, this is told instead
 abbrev pub meant : Judged → (task i j : ℕ) → MeantStop
 meant s task i j =
     if is_branch s i && nat_lt j (length s.program.code) then edge_meant (to_target s task i false) (to_target s task i true)
-    else if stops_always (stop_of s i) && may_end s task j then Next j else This
+    else if stops_always (stop_of s i) then later_meant s task j else This
 
 -- What to do: write the stop that may be meant, or else what there is to do with the stop that is there.
 
@@ -64,8 +84,10 @@ edge_advice word edge target rest =
     codes "write " ++ (word ++ (codes ": the task then ends only if the branch is " ++ (edge ++ (codes ", at " ++ (target ++ (codes ", which is a target; or " ++ rest))))))
 
 abbrev pub next_advice : (line : ℕ) → (rest : List ℕ) → List ℕ
-next_advice line rest =
-    codes "if the task is to end on line " ++ (decimal line ++ (codes ", move !s there, from where all ways lead to its targets; or " ++ rest))
+next_advice line rest = codes "move !s to line " ++ (decimal line ++ (codes ", whose exits are all targets; or " ++ rest))
+
+abbrev pub halt_advice : (line : ℕ) → (rest : List ℕ) → List ℕ
+halt_advice line rest = codes "remove !s: the task then ends at the halt on line " ++ (decimal line ++ (codes "; or " ++ rest))
 
 abbrev pub meant_help : Judged → (index : ℕ) → MeantStop → (rest : List ℕ) → Help
 meant_help s i This rest = in_words rest
@@ -76,4 +98,8 @@ meant_help s i (Edge taken target) rest = record {
 meant_help s i (Next j) rest = record {
   message = next_advice (instruction_span s j).line rest;
   replacements = take_out (mark_span (byte "s") s.rows (instruction_span s i)) ++ stop_put s j (codes "!s") ∷ [];
+}
+meant_help s i (AtHalt j) rest = record {
+  message = halt_advice (instruction_span s j).line rest;
+  replacements = take_out (mark_span (byte "s") s.rows (instruction_span s i));
 }

@@ -13,9 +13,11 @@ use Rattle.diagnostics.specs.declared.diagnostic.Help.{Help}
 use Rattle.exit_diagnostics.specs.declared.remark.StopRemark.{StopRemark}
 use Rattle.exit_diagnostics.specs.declared.remark.StopRemark.TheVariants.{NeverRuns, NoExit, NotTaken, GoesInto}
 use Rattle.mark_subjects.specs.Subjects.{Judged, targets_of, entries_of, targets_text, exit_end, targets_span}
-use Rattle.mark_subjects.specs.Parts.{by_text}
+use Rattle.mark_subjects.specs.Parts.{in_words, by_text}
 use Rattle.mark_subjects.specs.Stops.{stop_put, into, missing_stop}
-use Rattle.exit_diagnostics.specs.Exits.{is_taken, entries_listed}
+use Rattle.mark_subjects.specs.Steps.{end_help}
+use Rattle.mark_subjects.specs.Targets.{entries_listed, is_target, may_stop}
+use Rattle.exit_diagnostics.specs.Exits.{is_taken}
 
 -- Exits of a task.
 
@@ -29,6 +31,32 @@ exits_anywhere s i = exits_anywhere_in (slice_get s.program.code i)
 
 abbrev pub exits : Judged → (index : ℕ) → Bool
 exits s i = is_some (exit_end s i false) || (is_some (exit_end s i true) || exits_anywhere s i)
+
+-- Where a task that never reaches a stop goes on into a target: there it is to end, if its targets are not too many.
+
+abbrev pub target_into : Judged → (task : ℕ) → Option ℕ → Option ℕ
+target_into s task None = None
+target_into s task (Some other) = if is_target s task other then Some other else None
+
+abbrev pub target_at : Judged → (task index : ℕ) → Option ℕ
+target_at s task i = option_or (target_into s task (into s i false)) (target_into s task (into s i true))
+
+abbrev pub may_end_at : Judged → (task index : ℕ) → Bool
+may_end_at s task i = is_some (target_at s task i) && may_stop s task i
+
+abbrev pub first_end : Judged → (task : ℕ) → Option ℕ
+first_end s task = option_map (λ e. e.0) (find (λ e. may_end_at s task e.0) (entries_of s task))
+
+abbrev pub end_at : Judged → (task index : ℕ) → Option ℕ → Help
+end_at s task i None = in_words (codes "put !s, !st or !sn where it is to end")
+end_at s task i (Some other) = end_help s task i other
+
+abbrev pub no_exit_by : Judged → (task : ℕ) → Option ℕ → Help
+no_exit_by s task None = in_words (codes "put !s, !st or !sn where it is to end")
+no_exit_by s task (Some i) = end_at s task i (target_at s task i)
+
+abbrev pub no_exit_help : Judged → (task : ℕ) → Help
+no_exit_help s task = no_exit_by s task (first_end s task)
 
 -- Targets that no exit takes.
 

@@ -4,9 +4,10 @@ ghost use Rattle.std.specs.Prelude.{◌≡◌, ◌++◌, ◌==◌, ◌&&◌, ◌
 ghost use Rattle.std.specs.List.{find, flat_map, list_any};
 ghost use Rattle.std.specs.Option.{option_copied};
 ghost use Rattle.mark_subjects.specs.Subjects.{task_name, place_text, targets_of, is_entry, is_end as is_end_of, exit_end};
-ghost use Rattle.exit_diagnostics.specs.Exits.{begins_text, place_note, labelled_text, unlabelled_text, begin_by, task_to_begin, unlisted, edge_text, why_not, exit_text, exit_to, exits_text, exit_said, exit_message, both, lacking, exit_notes, targets_help, entries_listed, listed_too, begin_help, unlisted_help, exit_help, is_beyond, beyond, last_text, beyond_help, is_taken, wrong_number, wrong_target, wrong_but_taken, target_help};
+ghost use Rattle.mark_subjects.specs.Targets.{entries_listed};
+ghost use Rattle.exit_diagnostics.specs.Exits.{begins_text, place_note, labelled_text, unlabelled_text, begin_by, task_to_begin, unlisted, edge_text, why_not, exit_text, exit_to, exits_text, exit_said, exit_message, lacking, exit_notes, targets_help, listed_too, begin_help, unlisted_help, exit_help, is_beyond, beyond, last_text, beyond_help, is_taken, wrong_number, wrong_target, wrong_but_taken, target_help};
 
-use crate::meant::{is_among, meant, meant_help};
+use crate::meant::{meant, meant_help};
 use diagnostics::diagnostic::{Help, Note};
 use diagnostics::words;
 use diagnostics::words::Words;
@@ -15,6 +16,7 @@ use mark_subjects::parts::{
     by_text, in_words, note_at, place_words, targets_words, way_notes, written,
 };
 use mark_subjects::subject::{Made, Subject, is_end};
+use mark_subjects::targets::{both, entries_listed, is_among, targets_with};
 use mips_instructions::number::Place;
 use std::alloc::Global;
 use task_descriptor::name::Name;
@@ -195,23 +197,6 @@ pub fn exit_message(subject: &Subject, finding: &Finding) -> Made<Words>
     exit_said(subject, finding, onward, taken)
 }
 
-/// These places; one that would stand twice stands once.
-fn both(alloc: Global, onward: Option<u32>, taken: Option<u32>) -> Made<Vec<u32>>
-    ensures { IfOk result (λ places. places.items ≡ both onward taken) }
-{
-    match (onward, taken) {
-        (Some(index), Some(other)) => {
-            if index == other {
-                return Ok(vec![in alloc; index]?);
-            }
-            Ok(vec![in alloc; index, other]?)
-        }
-        (Some(index), None) => Ok(vec![in alloc; index]?),
-        (None, Some(other)) => Ok(vec![in alloc; other]?),
-        (None, None) => Ok(Vec::new(alloc)),
-    }
-}
-
 /// The places that the targets of a finding's task lack.
 fn lacking(subject: &Subject, finding: &Finding) -> Made<Vec<u32>>
     ensures { IfOk result (λ places. places.items ≡ lacking subject.now finding.now) }
@@ -256,32 +241,11 @@ fn targets_help(subject: &Subject, task: u32, targets: &[u32]) -> Made<Help>
     Ok(in_words(alloc, message))
 }
 
-/// The targets of a task where a task begins.
-pub fn entries_listed(subject: &Subject, task: u32) -> Made<Vec<u32>>
-    ensures { IfOk result (λ places. places.items ≡ entries_listed subject.now task) }
-{
-    subject
-        .targets(task)
-        .iter()
-        .map(|target| target.get())
-        .filter(|index| subject.is_entry(*index))
-        .collect(subject.alloc())
-}
-
 /// The first of some places where no task begins.
 fn first_without<'a>(subject: &Subject, places: &'a [u32]) -> Option<&'a u32>
     ensures { option_copied result ≡ find (λ j. not (is_entry subject.now j)) places.now }
 {
     places.iter().find(|index| !subject.is_entry(**index))
-}
-
-/// The targets of a task where a task begins, and these places.
-fn targets_with(subject: &Subject, task: u32, places: &[u32]) -> Made<Vec<u32>>
-    ensures { IfOk result (λ targets. targets.items ≡ entries_listed subject.now task ++ places.now) }
-{
-    let mut targets = entries_listed(subject, task)?;
-    targets.extend_from_slice(places)?;
-    Ok(targets)
 }
 
 /// What to do: the targets to write, with these places.

@@ -7,4 +7,5 @@ pub mod exit;
 pub mod meant;
 pub mod meant_stop;
 pub mod remark;
+pub mod returning;
 pub mod stop;

@@ -2,9 +2,9 @@
 
 ghost use Rattle.std.specs.Prelude.{◌≡◌, ◌==◌, ◌&&◌, IfOk};
 ghost use Rattle.std.specs.List.{list_any};
-ghost use Rattle.exit_diagnostics.specs.declared.meant_stop.MeantStop.TheVariants.{Edge, Next};
+ghost use Rattle.exit_diagnostics.specs.declared.meant_stop.MeantStop.TheVariants.{Edge, Next, AtHalt};
 ghost use Rattle.mark_subjects.specs.Subjects.{targets_of, is_entry};
-ghost use Rattle.exit_diagnostics.specs.Meant.{way, target_in, to_target, edge_meant, has_stop, may_end, meant, edge_stop, edge_name, edge_advice, next_advice, meant_help};
+ghost use Rattle.exit_diagnostics.specs.Meant.{way, target_in, to_target, edge_meant, has_stop, may_end, is_halt as is_halt_of, halts, later_meant, meant, edge_stop, edge_name, edge_advice, next_advice, halt_advice, meant_help};
 
 use crate::meant_stop::MeantStop;
 use crate::stop::stops_always;
@@ -16,16 +16,10 @@ use mark_subjects::mark_place::mark_span;
 use mark_subjects::parts::{in_words, place_words, take_out};
 use mark_subjects::put_stop::stop_put;
 use mark_subjects::subject::{Made, Subject};
-use mips_instructions::number::Place;
+use mark_subjects::targets::is_among;
+use mips_instructions::instruction::Op;
 use std::alloc::Global;
 use task_descriptor::descriptor::Stop;
-
-/// Whether an index is that of a target.
-pub fn is_among(targets: &[Place], index: u32) -> bool
-    ensures { result ≡ list_any (λ t. t == index) targets.now }
-{
-    targets.iter().any(|target| target.get() == index)
-}
 
 /// Where an edge of an instruction leads, whatever its stop.
 fn way(subject: &Subject, index: u32, taken: bool) -> Option<u32>
@@ -96,6 +90,37 @@ fn may_end(subject: &Subject, task: u32, index: u32) -> bool
                 || to_target(subject, task, index, true).is_some()))
 }
 
+/// Whether an instruction is a halt.
+fn is_halt(op: &Op) -> bool
+    ensures { result ≡ is_halt_of op.now }
+{
+    matches!(op, Op::Halt)
+}
+
+/// Whether a halt is at an index.
+fn halts(subject: &Subject, index: u32) -> bool
+    ensures { result ≡ halts subject.now index }
+{
+    match subject.code().get(index as usize) {
+        Some(marked) => is_halt(&marked.op),
+        None => false,
+    }
+}
+
+/// The stop that may be meant in place of one that is no branch's.
+fn later_meant(subject: &Subject, task: u32, to: u32) -> MeantStop
+    ensures { result ≡ later_meant subject.now task to }
+{
+    if halts(subject, to) {
+        return MeantStop::AtHalt(to);
+    }
+    if may_end(subject, task, to) {
+        MeantStop::Next(to)
+    } else {
+        MeantStop::This
+    }
+}
+
 /// The stop that may be meant where an instruction ends a task that goes on to a place where no task begins.
 pub fn meant(subject: &Subject, task: u32, index: u32, to: u32) -> MeantStop
     ensures { result ≡ meant subject.now task index to }
@@ -104,11 +129,10 @@ pub fn meant(subject: &Subject, task: u32, index: u32, to: u32) -> MeantStop
         let onward = to_target(subject, task, index, false);
         return edge_meant(onward, to_target(subject, task, index, true));
     }
-    if stops_always(subject.stop(index)) && may_end(subject, task, to) {
-        MeantStop::Next(to)
-    } else {
-        MeantStop::This
+    if stops_always(subject.stop(index)) {
+        return later_meant(subject, task, to);
     }
+    MeantStop::This
 }
 
 /// The stop of an edge of a branch.
@@ -136,7 +160,14 @@ fn edge_advice(alloc: Global, word: &str, edge: &str, target: &str, rest: &str) 
 fn next_advice(alloc: Global, line: u32, rest: &str) -> Made<Words>
     ensures { IfOk result (λ words. words ≡ next_advice line rest.now) }
 {
-    words!(in alloc; "if the task is to end on line {line}, move !s there, from where all ways lead to its targets; or {rest}")
+    words!(in alloc; "move !s to line {line}, whose exits are all targets; or {rest}")
+}
+
+/// What to do: to remove the stop before a halt, or else.
+fn halt_advice(alloc: Global, line: u32, rest: &str) -> Made<Words>
+    ensures { IfOk result (λ words. words ≡ halt_advice line rest.now) }
+{
+    words!(in alloc; "remove !s: the task then ends at the halt on line {line}; or {rest}")
 }
 
 /// That the stop of another edge is written.
@@ -168,6 +199,19 @@ fn next_help(subject: &Subject, index: u32, next: u32, rest: &str) -> Made<Help>
     })
 }
 
+/// That the stop is removed before a halt.
+fn halt_help(subject: &Subject, index: u32, halt: u32, rest: &str) -> Made<Help>
+    ensures { IfOk result (λ help. help ≡ meant_help subject.now index (AtHalt halt) rest.now) }
+{
+    let alloc = subject.alloc();
+    let mark = mark_span(b's', subject.rows(), subject.span(index));
+    let replacements = take_out(alloc, mark)?;
+    Ok(Help {
+        message: halt_advice(alloc, subject.span(halt).line, rest)?,
+        replacements: Listed::new(replacements),
+    })
+}
+
 /// What to do: to write the stop that may be meant, or else.
 pub fn meant_help(subject: &Subject, index: u32, meant: MeantStop, rest: Words) -> Made<Help>
     ensures { IfOk result (λ help. help ≡ meant_help subject.now index meant rest) }
@@ -178,5 +222,6 @@ pub fn meant_help(subject: &Subject, index: u32, meant: MeantStop, rest: Words) 
             edge_help(subject, index, taken, target, rest.as_str())
         }
         MeantStop::Next(next) => next_help(subject, index, next, rest.as_str()),
+        MeantStop::AtHalt(halt) => halt_help(subject, index, halt, rest.as_str()),
     }
 }

@@ -9,4 +9,6 @@ pub enum MeantStop {
     Edge { taken: bool, target: u32 },
     /// One on the next instruction, at this index.
     Next(u32),
+    /// None: the next instruction, at this index, is a halt, which ends the task.
+    AtHalt(u32),
 }

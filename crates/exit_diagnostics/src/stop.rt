@@ -6,20 +6,22 @@ ghost use Rattle.std.specs.Option.{option_copied};
 ghost use Rattle.task_graph.specs.Edges.{is_indirect as is_indirect_of};
 ghost use Rattle.mark_checker.specs.Rules.{stops_always as stops_always_of};
 ghost use Rattle.mark_subjects.specs.Subjects.{targets_of, entries_of};
-ghost use Rattle.exit_diagnostics.specs.Exits.{is_taken as is_taken_of, entries_listed as entries_listed_of};
-ghost use Rattle.exit_diagnostics.specs.Remarks.{exits_anywhere, exits, untaken, first_untaken, not_taken_help, has_untaken, entry_of, follows, never_runs, entered_task, first_step, into_help, may_lack_stop, is_asked};
+ghost use Rattle.mark_subjects.specs.Targets.{entries_listed as entries_listed_of};
+ghost use Rattle.exit_diagnostics.specs.Exits.{is_taken as is_taken_of};
+ghost use Rattle.exit_diagnostics.specs.Remarks.{exits_anywhere, exits, target_into, target_at, may_end_at, first_end, end_at, no_exit_help, untaken, first_untaken, not_taken_help, has_untaken, entry_of, follows, never_runs, entered_task, first_step, into_help, may_lack_stop, is_asked};
 
-use crate::exit::{entries_listed, is_taken};
-use crate::meant::is_among;
+use crate::exit::is_taken;
 use diagnostics::diagnostic::Help;
 use diagnostics::listed::Listed;
 use diagnostics::words;
 use diagnostics::words::Words;
 use mark_checker::check::check_task;
 use mark_checker::finding::{Finding, Rule};
-use mark_subjects::parts::{by_text, targets_words};
+use mark_subjects::parts::{by_text, in_words, targets_words};
 use mark_subjects::put_stop::{into, missing_stop, stop_put};
+use mark_subjects::step::end_help;
 use mark_subjects::subject::{Made, Subject};
+use mark_subjects::targets::{entries_listed, is_among, is_target, may_stop};
 use mips_instructions::instruction::Op;
 use mips_instructions::number::RegSet;
 use task_descriptor::descriptor::{Descriptor, Stop};
@@ -70,6 +72,81 @@ pub fn has_exit(subject: &Subject, task: u32) -> bool
 {
     let entries = subject.entries(task);
     entries.iter().any(|entry| exits(subject, entry.0))
+}
+
+/// A task, if it is a target of another.
+fn target_into(subject: &Subject, task: u32, place: Option<u32>) -> Option<u32>
+    ensures { result ≡ target_into subject.now task place }
+{
+    let Some(other) = place else {
+        return None;
+    };
+    if is_target(subject, task, other) {
+        Some(other)
+    } else {
+        None
+    }
+}
+
+/// The target into which an instruction goes on.
+fn target_at(subject: &Subject, task: u32, index: u32) -> Option<u32>
+    ensures { result ≡ target_at subject.now task index }
+{
+    let onward = target_into(subject, task, into(subject, index, false));
+    onward.or(target_into(subject, task, into(subject, index, true)))
+}
+
+/// Whether a task may end at an instruction that goes on into a target.
+fn may_end_at(subject: &Subject, task: u32, index: u32) -> bool
+    ensures { result ≡ may_end_at subject.now task index }
+{
+    target_at(subject, task, index).is_some() && may_stop(subject, task, index)
+}
+
+/// The first instruction of a task at which it may end.
+fn ending_entry<'a>(subject: &'a Subject, task: u32) -> Option<&'a (u32, RegSet)>
+    ensures { option_copied result ≡ find (λ e. may_end_at subject.now task e.0) (entries_of subject.now task) }
+{
+    let entries = subject.entries(task);
+    entries
+        .iter()
+        .find(|entry| may_end_at(subject, task, entry.0))
+}
+
+/// The index of that instruction.
+fn first_end(subject: &Subject, task: u32) -> Option<u32>
+    ensures { result ≡ first_end subject.now task }
+{
+    match ending_entry(subject, task) {
+        Some(entry) => Some(entry.0),
+        None => None,
+    }
+}
+
+/// What to do where a task is to end, if it goes on into a target there.
+fn end_at(subject: &Subject, task: u32, index: u32, place: Option<u32>) -> Made<Help>
+    ensures { IfOk result (λ help. help ≡ end_at subject.now task index place) }
+{
+    match place {
+        Some(other) => end_help(subject, task, index, other),
+        None => {
+            let advice = Words::of(subject.alloc(), "put !s, !st or !sn where it is to end")?;
+            Ok(in_words(subject.alloc(), advice))
+        }
+    }
+}
+
+/// What to do about a task that never reaches a stop.
+pub fn no_exit_help(subject: &Subject, task: u32) -> Made<Help>
+    ensures { IfOk result (λ help. help ≡ no_exit_help subject.now task) }
+{
+    match first_end(subject, task) {
+        Some(index) => end_at(subject, task, index, target_at(subject, task, index)),
+        None => {
+            let advice = Words::of(subject.alloc(), "put !s, !st or !sn where it is to end")?;
+            Ok(in_words(subject.alloc(), advice))
+        }
+    }
 }
 
 /// The targets of a task that no exit takes.
@@ -134,7 +211,7 @@ pub fn not_taken_help(subject: &Subject, task: u32) -> Made<Help>
 }
 
 /// The index of a task's first instruction; 0 where there is no such task.
-fn entry_of(subject: &Subject, task: u32) -> u32
+pub fn entry_of(subject: &Subject, task: u32) -> u32
     ensures { result ≡ entry_of subject.now task }
 {
     match subject.tasks().get(task as usize) {

@@ -16,7 +16,7 @@ const SAID_OF_ASTRAY: &str =
 p.s:3:4: note: no task begins here
     3 | B: halt
       |    ^~~~
-p.s:2:4: help: let a task begin at B: add a line .task B create=- targets=-, and make it a target of task A
+p.s:2:7: help: remove !s: the task then ends at the halt on line 3; or let a task begin at B: add a line .task B create=- targets=-, and make it a target of task A
 multiscalar: p.s: 1 left to mend by hand
 ";
 

@@ -1,13 +1,14 @@
 -- Worked examples, computed by the check: a loop that lacks its stop, and a create mask that lacks three registers.
-use Rattle.std.specs.Prelude.{◌≡◌, ℕ, pos, List, [], ◌∷◌, Some, None, codes, true}
+use Rattle.std.specs.Prelude.{◌≡◌, ℕ, pos, List, [], ◌∷◌, Some, None, codes, true, false}
 use Rattle.std.specs.Fmt.{digits}
 use Rattle.std.specs.Str.{byte}
 use Rattle.std.proofs.Common.{refl}
 use Rattle.mips_instructions.specs.declared.instruction.ThreeKind.TheVariants.{Addu}
 use Rattle.mips_instructions.specs.declared.instruction.ImmKind.TheVariants.{Addiu, Slti}
 use Rattle.mips_instructions.specs.declared.instruction.BranchTwoKind.TheVariants.{Bne}
-use Rattle.mips_instructions.specs.declared.instruction.Op.TheVariants.{Three, Imm, BranchTwo, Out, Halt}
+use Rattle.mips_instructions.specs.declared.instruction.Op.TheVariants.{Three, Imm, BranchTwo, JumpLink, JumpReg, Out, Halt}
 use Rattle.task_descriptor.specs.Listing.{Listing}
+use Rattle.task_descriptor.specs.declared.descriptor.Stop.TheVariants as stop
 use Rattle.task_graph.specs.Examples.{bare, forwards}
 use Rattle.program_tokens.specs.Numbers.{number_of, magnitude_of, number_in}
 use Rattle.program_tokens.specs.Registers.{register_of, register_named}
@@ -15,19 +16,24 @@ use Rattle.program_tokens.specs.Grammar.{kind_of, token_of, tokens_after, line_t
 use Rattle.program_tokens.specs.Spans.{spans_after}
 use Rattle.annotated_asm.specs.Sources.{no_sources}
 use Rattle.mark_checker.specs.declared.finding.Finding.{Finding}
-use Rattle.mark_checker.specs.declared.finding.Rule.TheVariants.{ExceedsCreate, ForwardedInNext, SentNotCreated}
-use Rattle.mark_diagnostics.specs.declared.later.Later.TheVariants.{Nowhere, Left}
+use Rattle.mark_checker.specs.declared.finding.Rule.TheVariants.{ExceedsCreate, ForwardedInNext, ReleasedInNext, SentNotCreated}
+use Rattle.mark_diagnostics.specs.declared.later.Later.TheVariants.{Nowhere, Left, Is, Sent}
 use Rattle.mark_subjects.specs.Subjects.{Judged, which, targets_text}
 use Rattle.mark_subjects.specs.MarkPlaces.{mark_from}
 use Rattle.mark_subjects.specs.Spellings.{spelled, first_spelling, names_in}
 use Rattle.mark_diagnostics.specs.Told.{told, leaders}
-use Rattle.exit_diagnostics.specs.declared.meant_stop.MeantStop.TheVariants.{Edge}
+use Rattle.exit_diagnostics.specs.declared.meant_stop.MeantStop.TheVariants.{Edge, AtHalt}
 use Rattle.mark_subjects.specs.Stops.{missing_stop}
-use Rattle.mark_subjects.specs.Steps.{entered, is_target}
-use Rattle.exit_diagnostics.specs.Meant.{meant, may_end, edge_stop, edge_name, edge_advice}
+use Rattle.mark_subjects.specs.Steps.{entered, stop_text, end_advice}
+use Rattle.mark_subjects.specs.Targets.{is_target, both}
+use Rattle.mark_subjects.specs.Parts.{steps_of}
+use Rattle.exit_diagnostics.specs.Meant.{meant, may_end, later_meant, edge_stop, edge_name, edge_advice, halt_advice}
 use Rattle.mark_diagnostics.specs.Masks.{widened}
-use Rattle.mark_diagnostics.specs.Sending.{later, first_left, advice, release_text}
-use Rattle.exit_diagnostics.specs.Exits.{exit_said, both}
+use Rattle.mark_diagnostics.specs.Releases.{names_no_index, release_text}
+use Rattle.mark_diagnostics.specs.Sending.{later, later_by, first_left, side, advice, whole_advice}
+use Rattle.exit_diagnostics.specs.Exits.{exit_said}
+use Rattle.exit_diagnostics.specs.Remarks.{first_end}
+use Rattle.exit_diagnostics.specs.Returning.{returning, never_runs_help}
 use Rattle.mark_diagnostics.specs.Errors.{message_by}
 
 -- `count` without its stop, and with an empty create mask
@@ -57,14 +63,46 @@ comes_back = refl
 pub nowhere_else : later judged (record { task = 0; index = 0; rule = ForwardedInNext; reg = Some 8 }) (0 ∷ 1 ∷ 2 ∷ 3 ∷ 0 ∷ []) ≡ Nowhere
 nowhere_else = refl
 
-pub advice_in_loop : advice judged (codes "remove !f") 8 (Left 4)
-    ≡ codes "remove !f here: $8 then leaves when the task ends; to send it earlier, release it before line 1, where it is not written any more"
+pub advice_in_loop : advice judged (codes "remove !f here") 8 (Left 4)
+    ≡ codes "remove !f here: $8 then leaves when the task ends; to send it earlier, put release $8 before line 1, after its last write"
 unfolding digits names_in
 advice_in_loop = refl
 
--- with masks it is left at index 4
-pub left_behind : first_left (record judged { least = ((0, 256) ∷ (1, 256) ∷ (2, 256) ∷ (3, 256) ∷ (4, 0) ∷ []) ∷ [] }) 0 8 ((2, 256) ∷ (3, 256) ∷ []) ≡ Some 4
+-- with masks it is left at index 4, unless a task begins there
+abbrev pub masked : Judged → Judged
+masked s = record s { least = ((0, 256) ∷ (1, 256) ∷ (2, 256) ∷ (3, 256) ∷ (4, 0) ∷ []) ∷ [] }
+
+pub not_before_a_task : first_left (masked judged) 0 8 ((2, 256) ∷ (3, 256) ∷ []) ≡ None
+not_before_a_task = refl
+
+-- B begins at the `halt`
+abbrev pub ends_late : Judged
+ends_late = record (masked judged) {
+  program = record unstopped {
+    tasks = (record { name = 65 ∷ []; entry = 0; create = 0; targets = 0 ∷ [] })
+        ∷ (record { name = 66 ∷ []; entry = 5; create = 0; targets = [] }) ∷ [];
+  };
+}
+
+pub left_behind : first_left ends_late 0 8 ((2, 256) ∷ (3, 256) ∷ []) ≡ Some 4
 left_behind = refl
+
+-- The branch leads to where $8 is written, and to index 4, where it is not: there a release is to be put.
+
+abbrev pub released_early : Finding
+released_early = record { task = 0; index = 1; rule = ReleasedInNext; reg = Some 8 }
+
+pub other_way : side ends_late released_early ≡ Some 4
+other_way = refl
+
+pub both_ways : whole_advice ends_late released_early (codes "remove it") (Is 0)
+    ≡ codes "remove it: line 1 forwards $8; put release $8 before line 1, on the path that does not write it"
+unfolding digits names_in
+both_ways = refl
+
+-- `!f` is put where no release comes next that sends the register
+pub sent_next : later_by true false 5 (Some 6) None ≡ Sent 6
+sent_next = refl
 
 -- The create mask lacks three registers: one message, and one mask that mends all.
 
@@ -116,6 +154,15 @@ edge_back = refl
 pub branch_may_end : may_end (tasks_with (0 ∷ 4 ∷ [])) 0 3 ≡ true
 branch_may_end = refl
 
+-- before the `halt` no stop may be meant
+pub at_halt : later_meant judged 0 5 ≡ AtHalt 5
+at_halt = refl
+
+pub halt_words : halt_advice 8 (codes "let a task begin on line 8")
+    ≡ codes "remove !s: the task then ends at the halt on line 8; or let a task begin on line 8"
+unfolding digits
+halt_words = refl
+
 pub edge_words : edge_advice (edge_stop true) (edge_name true) (codes "LOOP") (codes "let a task begin on line 8")
     ≡ codes "write !st: the task then ends only if the branch is taken, at LOOP, which is a target; or let a task begin on line 8"
 edge_words = refl
@@ -127,13 +174,70 @@ back_is_target = refl
 pub stop_of_step : missing_stop judged 3 ≡ codes "!s"
 stop_of_step = refl
 
--- A forward bit is taken out with the blank before it; a release without registers is none.
+-- both edges lead into tasks, of which B is no target yet
+pub both_are_listed : end_advice (tasks_with (0 ∷ [])) 0 3 0 ≡ codes "put !s on line 1 and write targets=A,B, where task A goes on into its target A"
+unfolding digits
+both_are_listed = refl
+
+pub in_place_of_another : stop_text stop.Taken (codes "!s") 6 ≡ codes "write !s in place of !st on line 6"
+unfolding digits
+in_place_of_another = refl
+
+-- the loop goes on into its target, where it may end
+pub may_end_there : first_end (masked judged) 0 ≡ Some 3
+may_end_there = refl
+
+-- A task is called, and leaves through jr: it may return to the task after the call.
+
+abbrev pub calling : Judged
+calling = record judged {
+  program = record unstopped {
+    code = (record { op = JumpLink 2; forward = false; stop = stop.Always }) ∷ bare Halt ∷ (record { op = JumpReg 31; forward = false; stop = stop.Always }) ∷ [];
+    tasks = (record { name = codes "main"; entry = 0; create = 0; targets = 2 ∷ [] })
+        ∷ (record { name = codes "back"; entry = 1; create = 0; targets = [] })
+        ∷ (record { name = codes "f"; entry = 2; create = 0; targets = [] }) ∷ [];
+  };
+  least = ((0, 0) ∷ []) ∷ ((1, 0) ∷ []) ∷ ((2, 0) ∷ []) ∷ [];
+}
+
+pub f_returns : returning calling 1 ≡ Some 2
+f_returns = refl
+
+pub not_to_f : returning calling 2 ≡ None
+not_to_f = refl
+
+pub f_lists_it : (never_runs_help calling 1).message
+    ≡ codes "task f leaves through jr, but lists no target: write targets=back, where the call on line 1 returns; or write .start back, in place of another .start, or make it a target of another task"
+unfolding digits
+f_lists_it = refl
+
+-- `la` in line 7 is two instructions, and one step of a path.
+
+abbrev pub loads : Judged
+loads = record judged {
+  sources = record no_sources {
+    code = (record { line = 7; column = 1 }) ∷ (record { line = 7; column = 1 }) ∷ (record { line = 8; column = 1 }) ∷ [];
+    widths = 6 ∷ 6 ∷ 4 ∷ [];
+  };
+}
+
+pub one_step : steps_of loads (0 ∷ 1 ∷ 2 ∷ []) ≡ (record { line = 7; column = 1; width = 6 }) ∷ (record { line = 8; column = 1; width = 4 }) ∷ []
+one_step = refl
+
+-- A forward bit is taken out with the blank before it; a release without registers is taken out, too, but where a task
+-- begins it is a nop.
 
 pub mark_found : mark_from (byte "f") 0 (codes "addiu $8,$8,1 !f") ≡ Some 14
 mark_found = refl
 
-pub no_release : release_text judged [] ≡ codes "nop"
+pub no_release : release_text judged 1 [] ≡ []
 no_release = refl
+
+pub nop_at_entry : release_text judged 0 [] ≡ codes "nop"
+nop_at_entry = refl
+
+pub gives_an_index : names_no_index (codes "A: nop" ∷ codes "j @0 !s" ∷ []) ≡ false
+gives_an_index = refl
 
 -- A register is written as the text first writes it; a comment writes none.
 

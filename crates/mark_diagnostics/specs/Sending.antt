@@ -1,5 +1,5 @@
 -- A register that is sent too early, forwarded (rule 6) or released (rule 7): what to do, and where it is written again.
-use Rattle.std.specs.Prelude.{ℕ, Bool, true, false, not, ◌&&◌, ◌||◌, ◌==◌, nat_eq, nat_lt, List, [], ◌∷◌, ◌++◌, codes, length, slice_get, is_some, Option, Some, None, if◌then◌else◌}
+use Rattle.std.specs.Prelude.{ℕ, Bool, true, false, not, ◌&&◌, ◌||◌, ◌==◌, nat_eq, nat_le, nat_lt, List, [], ◌∷◌, ◌++◌, codes, length, slice_get, Option, Some, None, if◌then◌else◌}
 use Rattle.std.specs.Option.{option_or}
 use Rattle.std.specs.Fmt.{decimal}
 use Rattle.std.specs.Str.{byte}
@@ -13,11 +13,12 @@ use Rattle.diagnostics.specs.declared.diagnostic.Note.{Note}
 use Rattle.diagnostics.specs.declared.diagnostic.Help.{Help}
 use Rattle.diagnostics.specs.declared.diagnostic.Replacement.{Replacement}
 use Rattle.mark_diagnostics.specs.declared.later.Later.{Later}
-use Rattle.mark_diagnostics.specs.declared.later.Later.TheVariants.{Nowhere, Left, Is, Put}
-use Rattle.mark_subjects.specs.Subjects.{Judged, register_text, registers_text, which, entries_of, forwards, releases, inner_end, instruction_span, after}
-use Rattle.mark_subjects.specs.MarkPlaces.{mark_span, first_mark, operands_span}
+use Rattle.mark_diagnostics.specs.declared.later.Later.TheVariants.{Nowhere, Left, Is, Sent, Put}
+use Rattle.mark_subjects.specs.Subjects.{Judged, register_text, which, entries_of, is_entry, label_at, forwards, releases, inner_end, instruction_span, after}
+use Rattle.mark_subjects.specs.MarkPlaces.{mark_span}
 use Rattle.mark_subjects.specs.Parts.{take_out, path_note, last_or}
 use Rattle.mark_diagnostics.specs.Told.{register_in}
+use Rattle.mark_diagnostics.specs.Releases.{release_text, in_place, release_written}
 
 -- Where the register could be sent instead: at the end of the path, which writes it again.
 
@@ -44,10 +45,10 @@ abbrev pub may_forward : Judged → (task index : ℕ) → Bool
 may_forward s task i = may_forward_in (slice_get s.program.code i) s task i
 
 -- Else where the register is not written any more, as after a loop: the first instruction to which the task goes on from
--- one from which on the register may be written, while from there on it may not.
+-- one from which on the register may be written, while from there on it may not; a task that begins there would send it, too.
 abbrev pub is_left : Judged → (task : ℕ) → Option ℕ → (register : ℕ) → Bool
 is_left s task None r = false
-is_left s task (Some j) r = nat_lt j (length s.program.code) && not (in_mask (mask_at (entries_of s task) j) r)
+is_left s task (Some j) r = nat_lt j (length s.program.code) && (not (is_entry s j) && not (in_mask (mask_at (entries_of s task) j) r))
 
 abbrev pub left_from : Judged → (task index register : ℕ) → Option ℕ
 left_from s task i r =
@@ -65,70 +66,110 @@ abbrev pub left_or : Option ℕ → Later
 left_or None = Nowhere
 left_or (Some j) = Left j
 
--- what to do: leave the `!f` at the end of the path, put one there, or release the register elsewhere, if somewhere
-abbrev pub later_by : (may has : Bool) → (index : ℕ) → Option ℕ → Later
-later_by false has at left = left_or left
-later_by true true at left = Is at
-later_by true false at left = Put at
+-- the release that comes next sends the register
+abbrev pub sent_by : Judged → (register : ℕ) → Option ℕ → Option ℕ
+sent_by s r None = None
+sent_by s r (Some k) = if releases s k r then Some k else None
+
+-- what to do: leave the `!f` at the end of the path, or the release after it; put an `!f` there; or release the register
+-- elsewhere, if somewhere
+abbrev pub put_or : (at : ℕ) → (sent : Option ℕ) → Later
+put_or at None = Put at
+put_or at (Some k) = Sent k
+
+abbrev pub later_by : (may has : Bool) → (at : ℕ) → (sent left : Option ℕ) → Later
+later_by false has at sent left = left_or left
+later_by true true at sent left = Is at
+later_by true false at sent left = put_or at sent
 
 abbrev pub later : Judged → Finding → (path : List ℕ) → Later
 later s f path =
     let at = last_or f.index path in
     later_by (not (nat_eq at f.index) && may_forward s f.task at) (forwards s at) at
-    (first_left s f.task (register_in f.reg) (entries_of s f.task))
+    (sent_by s (register_in f.reg) (inner_end s at false)) (first_left s f.task (register_in f.reg) (entries_of s f.task))
 
 -- the forward bit that is put there
 abbrev pub put_bit : Judged → Later → List Replacement
 put_bit s (Put at) = record { span = after (instruction_span s at); text = codes " !f" } ∷ []
 put_bit s _ = []
 
+-- Another way, on which the register is not written: from the mark on, the first place to which the task goes on from an
+-- instruction that does not write the register, and from which on it is not written any more.
+
+abbrev pub written_in : Option Marked → (register : ℕ) → Bool
+written_in None r = false
+written_in (Some m) r = dests m.op r
+
+abbrev pub writes : Judged → (index register : ℕ) → Bool
+writes s i r = written_in (slice_get s.program.code i) r
+
+abbrev pub side_by : Judged → (task from register : ℕ) → ℕ × ℕ → Option ℕ
+side_by s task from r entry =
+    if nat_le from entry.0 && not (writes s entry.0 r) then left_by s task r entry else None
+
+abbrev pub first_side : Judged → (task from register : ℕ) → List (ℕ × ℕ) → Option ℕ
+first_side s task from r [] = None
+first_side s task from r (entry ∷ entries) = option_or (side_by s task from r entry) (first_side s task from r entries)
+
+abbrev pub side : Judged → Finding → Option ℕ
+side s f = first_side s f.task f.index (register_in f.reg) (entries_of s f.task)
+
 -- What to do: first at the mark itself, then where the register is written again.
 
+-- before an instruction, and after its label
+abbrev pub before_text : Option (List ℕ) → (line : ℕ) → List ℕ
+before_text None line = codes "before line " ++ decimal line
+before_text (Some label) line = codes "at " ++ label
+
+abbrev pub put_release : Judged → (index : ℕ) → (name : List ℕ) → List ℕ
+put_release s j name = codes "put release " ++ (name ++ (codes " " ++ before_text (label_at s j) (instruction_span s j).line))
+
 abbrev pub put_text : (first : List ℕ) → (line : ℕ) → List ℕ
-put_text first line = first ++ (codes " here, and put !f on line " ++ decimal line)
+put_text first line = first ++ (codes ", and put !f on line " ++ decimal line)
 
-abbrev pub is_text : (first : List ℕ) → (line : ℕ) → (name : List ℕ) → List ℕ
-is_text first line name = first ++ (codes " here: line " ++ (decimal line ++ (codes " forwards " ++ name)))
+abbrev pub is_text : (first : List ℕ) → (line : ℕ) → (sends name : List ℕ) → List ℕ
+is_text first line sends name = first ++ (codes ": line " ++ (decimal line ++ (sends ++ name)))
 
-abbrev pub left_text : (first : List ℕ) → (line : ℕ) → (name : List ℕ) → List ℕ
-left_text first line name =
-    first ++ (codes " here: " ++ (name ++ (codes " then leaves when the task ends; to send it earlier, release it before line "
-    ++ (decimal line ++ codes ", where it is not written any more"))))
+abbrev pub left_text : (first name release : List ℕ) → List ℕ
+left_text first name release =
+    first ++ (codes ": " ++ (name ++ (codes " then leaves when the task ends; to send it earlier, " ++ (release ++ codes ", after its last write"))))
 
 abbrev pub nowhere_text : (first name : List ℕ) → List ℕ
-nowhere_text first name = first ++ (codes " here: " ++ (name ++ codes " then leaves when the task ends"))
+nowhere_text first name = first ++ (codes ": " ++ (name ++ codes " then leaves when the task ends"))
 
 abbrev pub advice : Judged → (first : List ℕ) → (register : ℕ) → Later → List ℕ
 advice s first r (Put at) = put_text first (instruction_span s at).line
-advice s first r (Is at) = is_text first (instruction_span s at).line (register_text s r)
-advice s first r (Left at) = left_text first (instruction_span s at).line (register_text s r)
+advice s first r (Is at) = is_text first (instruction_span s at).line (codes " forwards ") (register_text s r)
+advice s first r (Sent at) = is_text first (instruction_span s at).line (codes " releases ") (register_text s r)
+advice s first r (Left at) = left_text first (register_text s r) (put_release s at (register_text s r))
 advice s first r Nowhere = nowhere_text first (register_text s r)
+
+-- and on the other way, if the register is sent on the one
+abbrev pub side_text : (release : List ℕ) → List ℕ
+side_text release = codes "; " ++ (release ++ codes ", on the path that does not write it")
+
+abbrev pub is_sent : Later → Bool
+is_sent Nowhere = false
+is_sent (Left at) = false
+is_sent later = true
+
+abbrev pub beside : Judged → (register : ℕ) → (sent : Bool) → (side : Option ℕ) → List ℕ
+beside s r true (Some j) = side_text (put_release s j (register_text s r))
+beside s r sent side = []
+
+abbrev pub whole_advice : Judged → Finding → (first : List ℕ) → Later → List ℕ
+whole_advice s f first later =
+    advice s first (register_in f.reg) later ++ beside s (register_in f.reg) (is_sent later) (side s f)
 
 -- The forward bit is taken out.
 
 abbrev pub forward_help : Judged → Finding → Later → Help
 forward_help s f later = record {
-  message = advice s (codes "remove !f") (register_in f.reg) later;
+  message = whole_advice s f (codes "remove !f here") later;
   replacements = take_out (mark_span (byte "f") s.rows (instruction_span s f.index)) ++ put_bit s later;
 }
 
 -- The register is taken out of the release.
-
--- a release of these registers; of none it is no release
-abbrev pub release_text : Judged → List ℕ → List ℕ
-release_text s [] = codes "nop"
-release_text s (q ∷ qs) = codes "release " ++ registers_text s (q ∷ qs)
-
--- before a mark stands a blank
-abbrev pub blank_if : Bool → List ℕ
-blank_if true = codes " "
-blank_if false = []
-
-abbrev pub release_written : Judged → (index : ℕ) → (text : List ℕ) → Replacement
-release_written s i text = record {
-  span = operands_span s.rows (instruction_span s i);
-  text = text ++ blank_if (is_some (first_mark s.rows (instruction_span s i)));
-}
 
 -- the registers of a release without one
 abbrev pub kept : Judged → (index register : ℕ) → List ℕ
@@ -136,9 +177,9 @@ kept s i r = which (λ q. releases s i q && not (q == r))
 
 abbrev pub release_help : Judged → Finding → Later → Help
 release_help s f later =
-    let text = release_text s (kept s f.index (register_in f.reg)) in
+    let text = release_text s f.index (kept s f.index (register_in f.reg)) in
     record {
-      message = advice s (codes "write " ++ text) (register_in f.reg) later;
+      message = whole_advice s f (in_place text (codes " here")) later;
       replacements = release_written s f.index text ∷ [] ++ put_bit s later;
     }
 

@@ -1,19 +1,10 @@
 -- A last update without a forward bit: later tasks wait for it, or for the release that comes next.
-use Rattle.std.specs.Prelude.{ℕ, Bool, false, not, ◌&&◌, List, ◌++◌, codes, slice_get, Option, Some, None, if◌then◌else◌}
+use Rattle.std.specs.Prelude.{ℕ, false, not, ◌&&◌, List, ◌++◌, codes, Option, Some, None, if◌then◌else◌}
 use Rattle.std.specs.Fmt.{decimal}
-use Rattle.mips_instructions.specs.Instruction.{dests}
-use Rattle.task_descriptor.specs.declared.descriptor.Marked.{Marked}
 use Rattle.diagnostics.specs.declared.diagnostic.Help.{Help}
 use Rattle.mark_subjects.specs.Subjects.{Judged, registers_text, which, releases, inner_end, instruction_span, after}
 use Rattle.mark_subjects.specs.Parts.{by_text}
-use Rattle.mark_diagnostics.specs.Sending.{is_none_left}
-
-abbrev pub written_in : Option Marked → (register : ℕ) → Bool
-written_in None r = false
-written_in (Some m) r = dests m.op r
-
-abbrev pub writes : Judged → (index register : ℕ) → Bool
-writes s i r = written_in (slice_get s.program.code i) r
+use Rattle.mark_diagnostics.specs.Sending.{is_none_left, writes}
 
 -- the instruction that comes next, if it releases all that this one writes
 abbrev pub released_by : Judged → (index : ℕ) → Option ℕ → Option ℕ

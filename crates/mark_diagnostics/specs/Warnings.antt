@@ -1,5 +1,5 @@
 -- What could be better about the marks of a program: what is said of each remark, by its kind.
-use Rattle.std.specs.Prelude.{◌≡◌, ℕ, ◌-◌, Bool, true, false, not, is_some, if◌then◌else◌, ◌&&◌, ◌==◌, List, [], ◌∷◌, ◌++◌, codes, map, take, length, slice_get, Option, Some, None}
+use Rattle.std.specs.Prelude.{◌≡◌, ℕ, ◌-◌, Bool, false, not, nat_eq, if◌then◌else◌, ◌&&◌, ◌==◌, List, [], ◌∷◌, ◌++◌, codes, map, take, length, slice_get, Option, Some, None}
 use Rattle.std.specs.List.{list_any}
 use Rattle.std.specs.Fmt.{decimal}
 use Rattle.mips_instructions.specs.Words.{has}
@@ -20,15 +20,16 @@ use Rattle.exit_diagnostics.specs.declared.remark.Remark.{Remark}
 use Rattle.exit_diagnostics.specs.declared.remark.Remark.TheVariants.{Stop, Costly}
 use Rattle.exit_diagnostics.specs.declared.remark.StopRemark.{StopRemark}
 use Rattle.exit_diagnostics.specs.declared.remark.StopRemark.TheVariants.{NeverRuns, NoExit, NotTaken, GoesInto}
-use Rattle.mark_subjects.specs.Subjects.{Judged, IsJudged, register_text, which, task_name, place_text, places_text, releases, is_end, instruction_span, task_span, create_span, targets_span, target_span}
-use Rattle.mark_subjects.specs.MarkPlaces.{first_mark}
+use Rattle.mark_subjects.specs.Subjects.{Judged, IsJudged, registers_text, which, task_name, place_text, places_text, releases, is_end, instruction_span, task_span, create_span, targets_span, target_span}
 use Rattle.mark_subjects.specs.Parts.{in_words}
 use Rattle.mark_diagnostics.specs.Told.{most_shown}
 use Rattle.mark_diagnostics.specs.Masks.{create_help}
-use Rattle.mark_diagnostics.specs.Sending.{is_none_left, release_text, release_written}
+use Rattle.mark_diagnostics.specs.Releases.{release_text, in_place, release_written}
 use Rattle.exit_diagnostics.specs.Calls.{back}
+use Rattle.mark_diagnostics.specs.Together.{told_marks}
 use Rattle.mark_diagnostics.specs.Updates.{released_next, update_text, update_help}
-use Rattle.exit_diagnostics.specs.Remarks.{untaken, first_untaken, not_taken_help, into_help, stop_remarks}
+use Rattle.exit_diagnostics.specs.Remarks.{untaken, first_untaken, not_taken_help, no_exit_help, into_help, stop_remarks}
+use Rattle.exit_diagnostics.specs.Returning.{never_runs_help}
 use Rattle.mark_subjects.specs.More.{more_note}
 
 abbrev pub code_of : Remark → Code
@@ -51,36 +52,7 @@ span_of s (Stop (NoExit task)) = targets_span s task
 span_of s (Stop (NotTaken task)) = target_span s task (first_untaken s task)
 span_of s (Stop (GoesInto task index into)) = instruction_span s index
 
-abbrev pub costly_text : Judged → CostlyMark → List ℕ
-costly_text s (NeverProduced task register) =
-    codes "the create mask of task " ++ (task_name s task ++ (codes " has " ++ (register_text s register ++ codes ", which no instruction of the task writes or releases")))
-costly_text s (NotForwarded index) = update_text s index (released_next s index)
-costly_text s (SentBefore index register) = register_text s register ++ codes " was sent before on each path to this release"
-costly_text s (Unreached index) = codes "no task reaches the code from here on"
-
-abbrev pub goes_into_text : (task into : List ℕ) → List ℕ
-goes_into_text task into =
-    codes "task " ++ (task ++ (codes " goes on into task " ++ (into ++ codes " without a stop; was !s meant here?")))
-
-abbrev pub not_taken_text : (task places : List ℕ) → List ℕ
-not_taken_text task places =
-    codes "no exit of task " ++ (task ++ (codes " leads to " ++ (places ++ codes ": a unit that is given such a target after it is always squashed")))
-
-abbrev pub never_runs_text : (task start : List ℕ) → List ℕ
-never_runs_text task start =
-    codes "task " ++ (task ++ (codes " never runs: no other task has it as a target, and the program starts at " ++ start))
-
-abbrev pub stop_text : Judged → StopRemark → List ℕ
-stop_text s (NeverRuns task) = never_runs_text (task_name s task) (place_text s s.program.start)
-stop_text s (NoExit task) = codes "task " ++ (task_name s task ++ codes " has targets, but never reaches a stop")
-stop_text s (NotTaken task) = not_taken_text (task_name s task) (places_text s (untaken s task))
-stop_text s (GoesInto task index into) = goes_into_text (task_name s task) (task_name s into)
-
-abbrev pub message_of : Judged → Remark → List ℕ
-message_of s (Stop remark) = stop_text s remark
-message_of s (Costly mark) = costly_text s mark
-
--- Of registers of one create mask, and of one release, each help mends all.
+-- Of registers of one create mask, and of one release, one warning tells all, and its help mends all.
 
 abbrev pub is_never : (task register : ℕ) → CostlyMark → Bool
 is_never task r (NeverProduced t q) = t == task && q == r
@@ -93,6 +65,9 @@ created_in (Some d) r = has d.create r
 abbrev pub produced : Judged → List CostlyMark → (task : ℕ) → List ℕ
 produced s list task = which (λ r. created_in (slice_get s.program.tasks task) r && not (list_any (is_never task r) list))
 
+abbrev pub not_produced : Judged → List CostlyMark → (task : ℕ) → List ℕ
+not_produced s list task = which (λ r. created_in (slice_get s.program.tasks task) r && list_any (is_never task r) list)
+
 abbrev pub is_before : (index register : ℕ) → CostlyMark → Bool
 is_before index r (SentBefore i q) = i == index && q == r
 is_before index r _ = false
@@ -100,15 +75,54 @@ is_before index r _ = false
 abbrev pub still_released : Judged → List CostlyMark → (index : ℕ) → List ℕ
 still_released s list i = which (λ r. releases s i r && not (list_any (is_before i r) list))
 
--- a release of no register does nothing, and may as well be removed if nothing else is in its line
-abbrev pub or_removed : (none marked : Bool) → List ℕ
-or_removed true false = codes ", or remove it if no place is given as @n"
-or_removed none marked = []
+abbrev pub sent_before : Judged → List CostlyMark → (index : ℕ) → List ℕ
+sent_before s list i = which (λ r. releases s i r && list_any (is_before i r) list)
+
+abbrev pub never_text : (task registers : List ℕ) → List ℕ
+never_text task registers =
+    codes "the create mask of task " ++ (task ++ (codes " has " ++ (registers ++ codes ", which no instruction of the task writes or releases")))
+
+abbrev pub was : (registers : List ℕ) → List ℕ
+was registers = if nat_eq (length registers) 1 then codes " was" else codes " were"
+
+abbrev pub sent_text : (registers was : List ℕ) → List ℕ
+sent_text registers was = registers ++ (was ++ codes " sent before on each path to this release")
+
+abbrev pub before_text : Judged → (registers : List ℕ) → List ℕ
+before_text s registers = sent_text (registers_text s registers) (was registers)
+
+abbrev pub costly_text : Judged → List CostlyMark → CostlyMark → List ℕ
+costly_text s list (NeverProduced task register) = never_text (task_name s task) (registers_text s (not_produced s list task))
+costly_text s list (NotForwarded index) = update_text s index (released_next s index)
+costly_text s list (SentBefore index register) = before_text s (sent_before s list index)
+costly_text s list (Unreached index) = codes "no task reaches the code from here on"
+
+abbrev pub goes_into_text : (task into : List ℕ) → List ℕ
+goes_into_text task into =
+    codes "task " ++ (task ++ (codes " goes on into task " ++ (into ++ codes " without a stop; was !s meant here?")))
+
+abbrev pub not_taken_text : (task places : List ℕ) → List ℕ
+not_taken_text task places =
+    codes "no exit of task " ++ (task ++ (codes " leads to " ++ (places ++ (codes ", so predicting " ++ (places ++ codes " is always wrong")))))
+
+abbrev pub never_runs_text : (task start : List ℕ) → List ℕ
+never_runs_text task start =
+    codes "task " ++ (task ++ (codes " never runs: no other task has it as a target, and the program starts at " ++ start))
+
+abbrev pub stop_text : Judged → StopRemark → List ℕ
+stop_text s (NeverRuns task) = never_runs_text (task_name s task) (place_text s s.program.start)
+stop_text s (NoExit task) = codes "task " ++ (task_name s task ++ codes " has targets, but never reaches a stop")
+stop_text s (NotTaken task) = not_taken_text (task_name s task) (places_text s (untaken s task))
+stop_text s (GoesInto task index into) = goes_into_text (task_name s task) (task_name s into)
+
+abbrev pub message_of : Judged → List CostlyMark → Remark → List ℕ
+message_of s list (Stop remark) = stop_text s remark
+message_of s list (Costly mark) = costly_text s list mark
 
 abbrev pub before_help : Judged → (index : ℕ) → (registers : List ℕ) → Help
 before_help s i registers = record {
-  message = codes "write " ++ (release_text s registers ++ or_removed (is_none_left registers) (is_some (first_mark s.rows (instruction_span s i))));
-  replacements = release_written s i (release_text s registers) ∷ [];
+  message = in_place (release_text s i registers) [];
+  replacements = release_written s i (release_text s i registers) ∷ [];
 }
 
 -- code that no task reaches: a call before it may come back to it
@@ -120,16 +134,13 @@ unreached_text s i =
     if is_end (back s (i - 1)) i then called_text (instruction_span s (i - 1)).line
     else codes "let a task go on to it; or remove it, up to the next instruction that a task reaches, if no label there is used"
 
-abbrev pub start_text : (task : List ℕ) → List ℕ
-start_text task = codes "write .start " ++ (task ++ codes ", in place of another .start, or make it a target of another task")
-
 abbrev pub help_of : Judged → List CostlyMark → Remark → Help
 help_of s list (Costly (NeverProduced task register)) = create_help s task (produced s list task)
 help_of s list (Costly (NotForwarded index)) = update_help s index
 help_of s list (Costly (SentBefore index register)) = before_help s index (still_released s list index)
 help_of s list (Costly (Unreached index)) = in_words (unreached_text s index)
-help_of s list (Stop (NeverRuns task)) = in_words (start_text (task_name s task))
-help_of s list (Stop (NoExit task)) = in_words (codes "put !s, !st or !sn where it is to end")
+help_of s list (Stop (NeverRuns task)) = never_runs_help s task
+help_of s list (Stop (NoExit task)) = no_exit_help s task
 help_of s list (Stop (NotTaken task)) = not_taken_help s task
 help_of s list (Stop (GoesInto task index into)) = into_help s index
 
@@ -139,7 +150,7 @@ warning s list remark = record {
   code = code_of remark;
   source = Program;
   span = Some (span_of s remark);
-  message = message_of s remark;
+  message = message_of s list remark;
   notes = [];
   help = Some (help_of s list remark);
 }
@@ -156,4 +167,4 @@ pub record AreMarkWarnings (text : List ℕ) (p : Listing) (least : List (List (
   pub of_least : judged.least ≡ least
   pub list : List CostlyMark
   pub costly : Picked (IsCostly p) (candidates p) list
-  pub is : said ≡ warnings judged list (map Stop (stop_remarks judged all) ++ map Costly list)
+  pub is : said ≡ warnings judged list (map Stop (stop_remarks judged all) ++ map Costly (told_marks list))

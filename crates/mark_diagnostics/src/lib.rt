@@ -5,7 +5,9 @@
 pub mod error;
 mod later;
 mod mask;
+mod release;
 mod sending;
+mod together;
 mod told;
 mod update;
 pub mod warning;

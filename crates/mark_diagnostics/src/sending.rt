@@ -2,21 +2,23 @@
 
 ghost use Rattle.std.specs.Prelude.{◌≡◌, ◌<◌, ◌++◌, IfOk, OnOk};
 ghost use Rattle.mark_subjects.specs.Subjects.{which};
-ghost use Rattle.mark_diagnostics.specs.Sending.{written_from, must_wait, is_none_left, may_forward, is_left, left_from, left_by, first_left, left_or, later, put_bit, put_text, is_text, left_text, nowhere_text, advice, forward_help, release_text, release_written, kept, release_help, again_text, again_note, early_notes};
+ghost use Rattle.mark_diagnostics.specs.Sending.{written_from, must_wait, is_none_left, may_forward, is_left, left_from, left_by, first_left, left_or, sent_by, put_or, later, put_bit, writes as writes_of, side_by, first_side, side, before_text, put_release, put_text, is_text, left_text, nowhere_text, advice, side_text, is_sent, beside, whole_advice, forward_help, kept, release_help, again_text, again_note, early_notes};
 
 use crate::later::Later;
+use crate::release::{in_place, release_words, release_written};
 use crate::told::register_in;
 use diagnostics::diagnostic::{Help, Note, Replacement};
 use diagnostics::listed::Listed;
 use diagnostics::words;
 use diagnostics::words::Words;
 use mark_checker::finding::Finding;
-use mark_subjects::mark_place::{first_mark, mark_span, operands_span};
-use mark_subjects::parts::{last_or, path_note, registers_where, registers_words, take_out};
+use mark_subjects::mark_place::mark_span;
+use mark_subjects::parts::{last_or, path_note, registers_where, take_out};
 use mark_subjects::subject::{Made, Subject, after, has_number};
 use mips_instructions::number::RegSet;
 use std::alloc::Global;
 use task_descriptor::descriptor::Marked;
+use task_descriptor::name::Name;
 
 /// Whether a register may be written by a task from the end of an edge on.
 fn written_from(subject: &Subject, task: u32, end: Option<u32>, register: u8) -> bool
@@ -69,8 +71,8 @@ fn is_left(subject: &Subject, task: u32, end: Option<u32>, register: u8) -> bool
 {
     match end {
         Some(index) if (index as usize) < subject.code().len() => match subject.mask(task, index) {
-            Some(mask) => !has_number(mask, register),
-            None => true,
+            Some(mask) => !subject.is_entry(index) && !has_number(mask, register),
+            None => !subject.is_entry(index),
         },
         _ => false,
     }
@@ -127,18 +129,39 @@ fn left_or(place: Option<u32>) -> Later
     }
 }
 
+/// The release that comes next, if it sends a register.
+fn sent_by(subject: &Subject, register: u8, place: Option<u32>) -> Option<u32>
+    requires { register < 34 }
+    ensures { result ≡ sent_by subject.now register place }
+{
+    let Some(index) = place else {
+        return None;
+    };
+    if subject.releases(index, register) {
+        Some(index)
+    } else {
+        None
+    }
+}
+
+/// To put a forward bit at an index, unless the release that comes next sends the register.
+fn put_or(at: u32, sent: Option<u32>) -> Later
+    ensures { result ≡ put_or at sent }
+{
+    match sent {
+        Some(index) => Later::Sent(index),
+        None => Later::Put(at),
+    }
+}
+
 /// What to do where a register is written again, at the end of the path.
 pub(crate) fn later(subject: &Subject, finding: &Finding, path: &[u32]) -> Made<Later>
     ensures { IfOk result (λ what. what ≡ later subject.now finding.now path.now) }
 {
     let at = last_or(finding.index, path);
     let task = finding.task;
-    let left = first_left(
-        subject,
-        task,
-        register_in(finding.reg),
-        subject.entries(task),
-    );
+    let register = register_in(finding.reg);
+    let left = first_left(subject, task, register, subject.entries(task));
     if at == finding.index {
         return Ok(left_or(left));
     }
@@ -148,7 +171,8 @@ pub(crate) fn later(subject: &Subject, finding: &Finding, path: &[u32]) -> Made<
     if subject.forwards(at) {
         Ok(Later::Is(at))
     } else {
-        Ok(Later::Put(at))
+        let next = subject.inner(at, false);
+        Ok(put_or(at, sent_by(subject, register, next)))
     }
 }
 
@@ -164,32 +188,118 @@ fn add_bit(subject: &Subject, list: &mut Vec<Replacement>, later: Later) -> Made
     Ok(())
 }
 
+/// Whether an instruction writes a register.
+pub(crate) fn writes(subject: &Subject, index: u32, register: u8) -> bool
+    requires { register < 34 }
+    ensures { result ≡ writes_of subject.now index register }
+{
+    match subject.code().get(index as usize) {
+        Some(marked) => has_number(marked.op.dests(), register),
+        None => false,
+    }
+}
+
+/// Where a task goes on to from an entry after a mark that does not write a register, which is not written any more from
+/// there on.
+fn side_by(
+    subject: &Subject,
+    task: u32,
+    from: u32,
+    register: u8,
+    entry: &(u32, RegSet),
+) -> Option<u32>
+    requires { register < 34 }
+    ensures { result ≡ side_by subject.now task from register entry.now }
+{
+    if from <= entry.0 && !writes(subject, entry.0, register) {
+        left_by(subject, task, register, entry)
+    } else {
+        None
+    }
+}
+
+/// The first of these places.
+fn first_side(
+    subject: &Subject,
+    task: u32,
+    from: u32,
+    register: u8,
+    entries: &[(u32, RegSet)],
+) -> Option<u32>
+    requires { register < 34 }
+    ensures { result ≡ first_side subject.now task from register entries.now }
+{
+    for entry in entries {
+        if let Some(index) = side_by(subject, task, from, register, entry) {
+            return Some(index);
+        }
+    }
+    None
+}
+
+/// The place on another path, which does not write the register of a finding.
+fn side(subject: &Subject, finding: &Finding) -> Option<u32>
+    ensures { result ≡ side subject.now finding.now }
+{
+    let task = finding.task;
+    let register = register_in(finding.reg);
+    first_side(
+        subject,
+        task,
+        finding.index,
+        register,
+        subject.entries(task),
+    )
+}
+
+/// The place before an instruction, and after its label.
+fn before_words(alloc: Global, label: Option<Name>, line: u32) -> Made<Words>
+    ensures { IfOk result (λ words. words ≡ before_text label line) }
+{
+    match label {
+        Some(label) => {
+            let label = label.as_str();
+            words!(in alloc; "at {label}")
+        }
+        None => words!(in alloc; "before line {line}"),
+    }
+}
+
+/// That a register is released before an instruction.
+fn put_release(subject: &Subject, index: u32, name: &str) -> Made<Words>
+    ensures { IfOk result (λ words. words ≡ put_release subject.now index name.now) }
+{
+    let alloc = subject.alloc();
+    let place = before_words(alloc, subject.label(index), subject.span(index).line)?;
+    words!(in alloc; "put release {name} {place}")
+}
+
 /// What to do where a forward bit is put on another line.
 fn put_words(alloc: Global, first: &str, line: u32) -> Made<Words>
     ensures { IfOk result (λ words. words ≡ put_text first.now line) }
 {
-    words!(in alloc; "{first} here, and put !f on line {line}")
+    words!(in alloc; "{first}, and put !f on line {line}")
 }
 
-/// What to do where another line forwards the register.
-fn is_words(alloc: Global, first: &str, line: u32, name: &str) -> Made<Words>
-    ensures { IfOk result (λ words. words ≡ is_text first.now line name.now) }
+/// What to do where another line sends the register.
+fn is_words(alloc: Global, first: &str, line: u32, sends: &str, name: &str) -> Made<Words>
+    ensures { IfOk result (λ words. words ≡ is_text first.now line sends.now name.now) }
 {
-    words!(in alloc; "{first} here: line {line} forwards {name}")
+    words!(in alloc; "{first}: line {line}{sends}{name}")
 }
 
-/// What to do where the register is not written any more from a line on.
-fn left_words(alloc: Global, first: &str, line: u32, name: &str) -> Made<Words>
-    ensures { IfOk result (λ words. words ≡ left_text first.now line name.now) }
+/// What to do where the register is not written any more from a place on.
+fn left_words(alloc: Global, first: &str, name: &str, release: &str) -> Made<Words>
+    ensures { IfOk result (λ words. words ≡ left_text first.now name.now release.now) }
 {
-    words!(in alloc; "{first} here: {name} then leaves when the task ends; to send it earlier, release it before line {line}, where it is not written any more")
+    words!(in alloc; "{first}: {name} then leaves when the task ends; to send it earlier, {release}, after its last write")
 }
 
 /// What to do where nothing else sends the register.
 fn nowhere_words(alloc: Global, first: &str, name: &str) -> Made<Words>
     ensures { IfOk result (λ words. words ≡ nowhere_text first.now name.now) }
 {
-    words!(in alloc; "{first} here: {name} then leaves when the task ends")
+    words!(in alloc; "{first}: {name} then leaves when the task ends")
 }
 
 /// What to do: first at the mark itself, then where the register is written again.
@@ -200,10 +310,51 @@ fn advice(subject: &Subject, first: &str, register: u8, later: Later) -> Made<Wo
     let name = subject.register(register);
     match later {
         Later::Put(at) => put_words(alloc, first, subject.span(at).line),
-        Later::Is(at) => is_words(alloc, first, subject.span(at).line, name),
-        Later::Left(at) => left_words(alloc, first, subject.span(at).line, name),
+        Later::Is(at) => is_words(alloc, first, subject.span(at).line, " forwards ", name),
+        Later::Sent(at) => is_words(alloc, first, subject.span(at).line, " releases ", name),
+        Later::Left(at) => {
+            let release = put_release(subject, at, name)?;
+            left_words(alloc, first, name, release.as_str())
+        }
         Later::Nowhere => nowhere_words(alloc, first, name),
     }
+}
+
+/// What to do on the path that does not write a register.
+fn side_words(alloc: Global, release: &str) -> Made<Words>
+    ensures { IfOk result (λ words. words ≡ side_text release.now) }
+{
+    words!(in alloc; "; {release}, on the path that does not write it")
+}
+
+/// Whether the register is sent where it is written again.
+fn is_sent(later: Later) -> bool
+    ensures { result ≡ is_sent later }
+{
+    !matches!(later, Later::Nowhere | Later::Left(_))
+}
+
+/// What to do on another path, if the register is sent on the one.
+fn beside(subject: &Subject, register: u8, sent: bool, side: Option<u32>) -> Made<Words>
+    ensures { IfOk result (λ words. words ≡ beside subject.now register sent side) }
+{
+    match (sent, side) {
+        (true, Some(index)) => {
+            let release = put_release(subject, index, subject.register(register))?;
+            side_words(subject.alloc(), release.as_str())
+        }
+        _ => Words::of(subject.alloc(), ""),
+    }
+}
+
+/// What to do: at the mark, where the register is written again, and where it is not.
+fn whole_advice(subject: &Subject, finding: &Finding, first: &str, later: Later) -> Made<Words>
+    ensures { IfOk result (λ words. words ≡ whole_advice subject.now finding.now first.now later) }
+{
+    let register = register_in(finding.reg);
+    let advice = advice(subject, first, register, later)?;
+    let beside = beside(subject, register, is_sent(later), side(subject, finding))?;
+    words!(in subject.alloc(); "{advice}{beside}")
 }
 
 /// What to do about a forward bit.
@@ -214,37 +365,8 @@ pub(crate) fn forward_help(subject: &Subject, finding: &Finding, later: Later) -
     let mut replacements = take_out(subject.alloc(), mark)?;
     add_bit(subject, &mut replacements, later)?;
     Ok(Help {
-        message: advice(subject, "remove !f", register_in(finding.reg), later)?,
+        message: whole_advice(subject, finding, "remove !f here", later)?,
         replacements: Listed::new(replacements),
-    })
-}
-
-/// A release of these registers; of none it is `nop`.
-pub(crate) fn release_words(subject: &Subject, registers: &[u8]) -> Made<Words>
-    ensures { IfOk result (λ words. words ≡ release_text subject.now registers.now) }
-{
-    match registers {
-        [] => Words::of(subject.alloc(), "nop"),
-        _ => {
-            let list = registers_words(subject, registers)?;
-            words!(in subject.alloc(); "release {list}")
-        }
-    }
-}
-
-/// A release written anew, before the marks that it has.
-pub(crate) fn release_written(subject: &Subject, index: u32, text: &str) -> Made<Replacement>
-    ensures { IfOk result (λ made. made ≡ release_written subject.now index text.now) }
-{
-    let span = subject.span(index);
-    let blank = if first_mark(subject.rows(), span).is_some() {
-        " "
-    } else {
-        ""
-    };
-    Ok(Replacement {
-        span: operands_span(subject.rows(), span),
-        text: words!(in subject.alloc(); "{text}{blank}")?,
     })
 }
 
@@ -263,13 +385,13 @@ pub(crate) fn release_help(subject: &Subject, finding: &Finding, later: Later) -
 {
     let register = register_in(finding.reg);
     let kept = kept(subject, finding.index, register)?;
-    let text = release_words(subject, &kept)?;
-    let first = words!(in subject.alloc(); "write {text}")?;
+    let text = release_words(subject, finding.index, &kept)?;
+    let first = in_place(subject.alloc(), text.as_str(), " here")?;
     let mut replacements = Vec::new(subject.alloc());
     replacements.push(release_written(subject, finding.index, text.as_str())?)?;
     add_bit(subject, &mut replacements, later)?;
     Ok(Help {
-        message: advice(subject, first.as_str(), register, later)?,
+        message: whole_advice(subject, finding, first.as_str(), later)?,
         replacements: Listed::new(replacements),
     })
 }

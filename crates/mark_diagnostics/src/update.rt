@@ -2,26 +2,16 @@
 
 ghost use Rattle.std.specs.Prelude.{◌≡◌, ◌<◌, ◌&&◌, not, IfOk};
 ghost use Rattle.mark_subjects.specs.Subjects.{which, registers_text, releases};
-ghost use Rattle.mark_diagnostics.specs.Updates.{writes as writes_of, released_by, released_next, only_text, update_text, and_out, update_advice, update_help};
+ghost use Rattle.mark_diagnostics.specs.Sending.{writes as writes_of};
+ghost use Rattle.mark_diagnostics.specs.Updates.{released_by, released_next, only_text, update_text, and_out, update_advice, update_help};
 
-use crate::sending::is_none_left;
+use crate::sending::{is_none_left, writes};
 use diagnostics::diagnostic::Help;
 use diagnostics::words;
 use diagnostics::words::Words;
 use mark_subjects::parts::{by_text, registers_where, registers_words};
-use mark_subjects::subject::{Made, Subject, after, has_number};
+use mark_subjects::subject::{Made, Subject, after};
 use std::alloc::Global;
-
-/// Whether an instruction writes a register.
-fn writes(subject: &Subject, index: u32, register: u8) -> bool
-    requires { register < 34 }
-    ensures { result ≡ writes_of subject.now index register }
-{
-    match subject.code().get(index as usize) {
-        Some(marked) => has_number(marked.op.dests(), register),
-        None => false,
-    }
-}
 
 /// Whether an instruction writes a register that another does not release.
 fn is_kept(subject: &Subject, index: u32, next: u32, register: u8) -> bool

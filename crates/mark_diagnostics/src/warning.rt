@@ -6,11 +6,12 @@ ghost use Rattle.annotated_asm.specs.ProgramText.{parse};
 ghost use Rattle.annotator.specs.Least.{IsLeast};
 ghost use Rattle.mark_subjects.specs.Subjects.{targets_of, releases};
 ghost use Rattle.exit_diagnostics.specs.Remarks.{of_targets, of_start, of_step, of_task, stop_remarks};
-ghost use Rattle.mark_diagnostics.specs.Warnings.{code_of, span_of, costly_text, goes_into_text, never_runs_text, start_text, not_taken_text, stop_text, message_of, is_never, created_in, produced, is_before, still_released, or_removed, before_help, called_text, unreached_text, help_of, warning, warnings, AreMarkWarnings};
+ghost use Rattle.mark_diagnostics.specs.Warnings.{code_of, span_of, never_text, was, sent_text, before_text, costly_text, goes_into_text, never_runs_text, not_taken_text, stop_text, message_of, is_never, created_in, produced, not_produced, is_before, still_released, sent_before, before_help, called_text, unreached_text, help_of, warning, warnings, AreMarkWarnings};
 
 use crate::error::MOST_SHOWN;
 use crate::mask::create_help;
-use crate::sending::{is_none_left, release_words, release_written};
+use crate::release::{in_place, release_words, release_written};
+use crate::together::told_marks;
 use crate::update::{update_help, update_words};
 use diagnostics::code::Code;
 use diagnostics::diagnostic::{Diagnostic, Help, Severity, Source, Span};
@@ -19,15 +20,15 @@ use diagnostics::words;
 use diagnostics::words::Words;
 use exit_diagnostics::call::back;
 use exit_diagnostics::remark::{Remark, StopRemark};
+use exit_diagnostics::returning::never_runs_help;
 use exit_diagnostics::stop::{
     entered_task, first_step, first_untaken, has_exit, has_indirect_exit, has_untaken, into_help,
-    is_asked, never_runs, not_taken_help, untaken,
+    is_asked, never_runs, no_exit_help, not_taken_help, untaken,
 };
 use finding_paths::mark::CostlyMark;
 use finding_paths::search::costly_marks;
-use mark_subjects::mark_place::first_mark;
 use mark_subjects::parts::{
-    add_more, first_of, in_words, place_words, places_words, registers_where,
+    add_more, first_of, in_words, place_words, places_words, registers_where, registers_words,
 };
 use mark_subjects::subject::{Made, Subject, has_number, is_end};
 use mask_certificate::certificate::Cert;
@@ -68,83 +69,6 @@ fn span_of(subject: &Subject, remark: &Remark) -> Span
         Remark::Stop(StopRemark::NotTaken(task)) => {
             subject.target_span(*task, first_untaken(subject, *task))
         },
-    }
-}
-
-/// What could be better about a mark.
-fn costly_words(subject: &Subject, mark: &CostlyMark) -> Made<Words>
-    ensures { IfOk result (λ words. words ≡ costly_text subject.now mark.now) }
-{
-    let alloc = subject.alloc();
-    match mark {
-        CostlyMark::NeverProduced { task, register } => {
-            let name = subject.task(*task);
-            let register = subject.register(register.get());
-            words!(in alloc; "the create mask of task {name} has {register}, which no instruction of the task writes or releases")
-        }
-        CostlyMark::NotForwarded { index } => update_words(subject, *index),
-        CostlyMark::SentBefore { register, .. } => {
-            let register = subject.register(register.get());
-            words!(in alloc; "{register} was sent before on each path to this release")
-        }
-        CostlyMark::Unreached { .. } => Words::of(alloc, "no task reaches the code from here on"),
-    }
-}
-
-/// What is said of a step into a task.
-fn goes_into_words(alloc: Global, task: &str, into: &str) -> Made<Words>
-    ensures { IfOk result (λ words. words ≡ goes_into_text task.now into.now) }
-{
-    words!(in alloc; "task {task} goes on into task {into} without a stop; was !s meant here?")
-}
-
-/// What is said of a task that never runs.
-fn never_runs_words(alloc: Global, task: &str, start: &str) -> Made<Words>
-    ensures { IfOk result (λ words. words ≡ never_runs_text task.now start.now) }
-{
-    words!(in alloc; "task {task} never runs: no other task has it as a target, and the program starts at {start}")
-}
-
-/// What is said of targets that no exit takes.
-fn not_taken_words(alloc: Global, task: &str, places: &str) -> Made<Words>
-    ensures { IfOk result (λ words. words ≡ not_taken_text task.now places.now) }
-{
-    words!(in alloc; "no exit of task {task} leads to {places}: a unit that is given such a target after it is always squashed")
-}
-
-/// What may be forgotten.
-fn stop_words(subject: &Subject, remark: &StopRemark) -> Made<Words>
-    ensures { IfOk result (λ words. words ≡ stop_text subject.now remark.now) }
-{
-    let alloc = subject.alloc();
-    match remark {
-        StopRemark::NeverRuns(task) => {
-            let start = place_words(subject, subject.program().start().get())?;
-            never_runs_words(alloc, subject.task(*task), start.as_str())
-        }
-        StopRemark::NoExit(task) => {
-            let name = subject.task(*task);
-            words!(in alloc; "task {name} has targets, but never reaches a stop")
-        }
-        StopRemark::NotTaken(task) => {
-            let name = subject.task(*task);
-            let untaken = untaken(subject, *task)?;
-            let list = places_words(subject, &untaken)?;
-            not_taken_words(alloc, name, list.as_str())
-        }
-        StopRemark::GoesInto { task, into, .. } => {
-            goes_into_words(alloc, subject.task(*task), subject.task(*into))
-        }
-    }
-}
-
-/// What could be better.
-fn message_of(subject: &Subject, remark: &Remark) -> Made<Words>
-    ensures { IfOk result (λ words. words ≡ message_of subject.now remark.now) }
-{
-    match remark {
-        Remark::Stop(remark) => stop_words(subject, remark),
-        Remark::Costly(mark) => costly_words(subject, mark),
     }
 }
 
@@ -197,6 +121,24 @@ fn produced(subject: &Subject, list: &[CostlyMark], task: u32) -> Made<Vec<u8>>
     )
 }
 
+/// Whether the create mask of a task has a register, and a mark of a list says that it is never produced.
+fn is_not_produced(subject: &Subject, list: &[CostlyMark], task: u32, number: u8) -> bool
+    requires { number < 34 }
+    ensures { result ≡ (created_in (slice_get subject.now.program.tasks task) number && list_any (is_never task number) list.now) }
+{
+    is_created(subject, task, number) && is_listed_never(list, task, number)
+}
+
+/// The registers of the create mask of a task that a list says are never produced.
+fn not_produced(subject: &Subject, list: &[CostlyMark], task: u32) -> Made<Vec<u8>>
+    ensures { IfOk result (λ registers. registers.items ≡ not_produced subject.now list.now task) }
+{
+    registers_where(
+        subject.alloc(),
+        |number| is_not_produced(subject, list, task, number),
+    )
+}
+
 /// Whether a mark says that a register was sent before a release.
 fn is_before(index: u32, number: u8, mark: &CostlyMark) -> bool
     ensures { result ≡ is_before index number mark.now }
@@ -235,14 +177,131 @@ fn still_released(subject: &Subject, list: &[CostlyMark], index: u32) -> Made<Ve
     )
 }
 
-/// What else may be done with a release, if it has no registers and no mark.
-fn or_removed(none: bool, marked: bool) -> &'static str
-    ensures { result.now ≡ or_removed none marked }
+/// Whether an instruction releases a register, and a mark of a list says that it was sent before.
+fn is_sent_before(subject: &Subject, list: &[CostlyMark], index: u32, number: u8) -> bool
+    requires { number < 34 }
+    ensures { result ≡ (releases subject.now index number && list_any (is_before index number) list.now) }
 {
-    if none && !marked {
-        ", or remove it if no place is given as @n"
+    subject.releases(index, number) && is_listed_before(list, index, number)
+}
+
+/// The registers of a release that a list says were sent before.
+fn sent_before(subject: &Subject, list: &[CostlyMark], index: u32) -> Made<Vec<u8>>
+    ensures { IfOk result (λ registers. registers.items ≡ sent_before subject.now list.now index) }
+{
+    registers_where(
+        subject.alloc(),
+        |number| is_sent_before(subject, list, index, number),
+    )
+}
+
+/// What is said of registers that a task never produces.
+fn never_words(alloc: Global, task: &str, registers: &str) -> Made<Words>
+    ensures { IfOk result (λ words. words ≡ never_text task.now registers.now) }
+{
+    words!(in alloc; "the create mask of task {task} has {registers}, which no instruction of the task writes or releases")
+}
+
+/// The verb of one register, or of several.
+fn was(registers: &[u8]) -> &'static str
+    ensures { result.now ≡ was registers.now }
+{
+    if registers.len() == 1 {
+        " was"
     } else {
-        ""
+        " were"
+    }
+}
+
+/// What is said of registers that were sent before, with this verb.
+fn sent_words(alloc: Global, registers: &str, was: &str) -> Made<Words>
+    ensures { IfOk result (λ words. words ≡ sent_text registers.now was.now) }
+{
+    words!(in alloc; "{registers}{was} sent before on each path to this release")
+}
+
+/// What is said of registers that were sent before.
+fn before_words(subject: &Subject, registers: &[u8]) -> Made<Words>
+    ensures { IfOk result (λ words. words ≡ before_text subject.now registers.now) }
+{
+    let list = registers_words(subject, registers)?;
+    sent_words(subject.alloc(), list.as_str(), was(registers))
+}
+
+/// What could be better about a mark, and those that are told with it.
+fn costly_words(subject: &Subject, list: &[CostlyMark], mark: &CostlyMark) -> Made<Words>
+    ensures { IfOk result (λ words. words ≡ costly_text subject.now list.now mark.now) }
+{
+    let alloc = subject.alloc();
+    match mark {
+        CostlyMark::NeverProduced { task, .. } => {
+            let registers = not_produced(subject, list, *task)?;
+            let registers = registers_words(subject, &registers)?;
+            never_words(alloc, subject.task(*task), registers.as_str())
+        }
+        CostlyMark::NotForwarded { index } => update_words(subject, *index),
+        CostlyMark::SentBefore { index, .. } => {
+            let registers = sent_before(subject, list, *index)?;
+            before_words(subject, &registers)
+        }
+        CostlyMark::Unreached { .. } => Words::of(alloc, "no task reaches the code from here on"),
+    }
+}
+
+/// What is said of a step into a task.
+fn goes_into_words(alloc: Global, task: &str, into: &str) -> Made<Words>
+    ensures { IfOk result (λ words. words ≡ goes_into_text task.now into.now) }
+{
+    words!(in alloc; "task {task} goes on into task {into} without a stop; was !s meant here?")
+}
+
+/// What is said of a task that never runs.
+fn never_runs_words(alloc: Global, task: &str, start: &str) -> Made<Words>
+    ensures { IfOk result (λ words. words ≡ never_runs_text task.now start.now) }
+{
+    words!(in alloc; "task {task} never runs: no other task has it as a target, and the program starts at {start}")
+}
+
+/// What is said of targets that no exit takes.
+fn not_taken_words(alloc: Global, task: &str, places: &str) -> Made<Words>
+    ensures { IfOk result (λ words. words ≡ not_taken_text task.now places.now) }
+{
+    words!(in alloc; "no exit of task {task} leads to {places}, so predicting {places} is always wrong")
+}
+
+/// What may be forgotten.
+fn stop_words(subject: &Subject, remark: &StopRemark) -> Made<Words>
+    ensures { IfOk result (λ words. words ≡ stop_text subject.now remark.now) }
+{
+    let alloc = subject.alloc();
+    match remark {
+        StopRemark::NeverRuns(task) => {
+            let start = place_words(subject, subject.program().start().get())?;
+            never_runs_words(alloc, subject.task(*task), start.as_str())
+        }
+        StopRemark::NoExit(task) => {
+            let name = subject.task(*task);
+            words!(in alloc; "task {name} has targets, but never reaches a stop")
+        }
+        StopRemark::NotTaken(task) => {
+            let name = subject.task(*task);
+            let untaken = untaken(subject, *task)?;
+            let list = places_words(subject, &untaken)?;
+            not_taken_words(alloc, name, list.as_str())
+        }
+        StopRemark::GoesInto { task, into, .. } => {
+            goes_into_words(alloc, subject.task(*task), subject.task(*into))
+        }
+    }
+}
+
+/// What could be better.
+fn message_of(subject: &Subject, list: &[CostlyMark], remark: &Remark) -> Made<Words>
+    ensures { IfOk result (λ words. words ≡ message_of subject.now list.now remark.now) }
+{
+    match remark {
+        Remark::Stop(remark) => stop_words(subject, remark),
+        Remark::Costly(mark) => costly_words(subject, list, mark),
     }
 }
 
@@ -250,13 +309,11 @@ fn or_removed(none: bool, marked: bool) -> &'static str
 fn before_help(subject: &Subject, index: u32, registers: &[u8]) -> Made<Help>
     ensures { IfOk result (λ help. help ≡ before_help subject.now index registers.now) }
 {
-    let text = release_words(subject, registers)?;
-    let marked = first_mark(subject.rows(), subject.span(index)).is_some();
-    let besides = or_removed(is_none_left(registers), marked);
+    let text = release_words(subject, index, registers)?;
     let mut replacements = Vec::new(subject.alloc());
     replacements.push(release_written(subject, index, text.as_str())?)?;
     Ok(Help {
-        message: words!(in subject.alloc(); "write {text}{besides}")?,
+        message: in_place(subject.alloc(), text.as_str(), "")?,
         replacements: Listed::new(replacements),
     })
 }
@@ -282,13 +339,6 @@ fn unreached_words(subject: &Subject, index: u32) -> Made<Words>
     )
 }
 
-/// What to do about a task that never runs.
-fn start_words(alloc: Global, task: &str) -> Made<Words>
-    ensures { IfOk result (λ words. words ≡ start_text task.now) }
-{
-    words!(in alloc; "write .start {task}, in place of another .start, or make it a target of another task")
-}
-
 /// What to do about a remark. Of registers of one create mask, and of one release, each help mends all of the list.
 fn help_of(subject: &Subject, list: &[CostlyMark], remark: &Remark) -> Made<Help>
     ensures { IfOk result (λ help. help ≡ help_of subject.now list.now remark.now) }
@@ -307,13 +357,8 @@ fn help_of(subject: &Subject, list: &[CostlyMark], remark: &Remark) -> Made<Help
         Remark::Costly(CostlyMark::Unreached { index }) => {
             Ok(in_words(alloc, unreached_words(subject, *index)?))
         }
-        Remark::Stop(StopRemark::NeverRuns(task)) => {
-            Ok(in_words(alloc, start_words(alloc, subject.task(*task))?))
-        }
-        Remark::Stop(StopRemark::NoExit(_)) => {
-            let advice = Words::of(alloc, "put !s, !st or !sn where it is to end")?;
-            Ok(in_words(alloc, advice))
-        }
+        Remark::Stop(StopRemark::NeverRuns(task)) => never_runs_help(subject, *task),
+        Remark::Stop(StopRemark::NoExit(task)) => no_exit_help(subject, *task),
         Remark::Stop(StopRemark::NotTaken(task)) => not_taken_help(subject, *task),
         Remark::Stop(StopRemark::GoesInto { index, .. }) => into_help(subject, *index),
     }
@@ -323,7 +368,7 @@ fn help_of(subject: &Subject, list: &[CostlyMark], remark: &Remark) -> Made<Help
 fn warning(subject: &Subject, list: &[CostlyMark], remark: &Remark) -> Made<Diagnostic>
     ensures { IfOk result (λ said. said ≡ warning subject.now list.now remark.now) }
 {
-    let message = message_of(subject, remark)?;
+    let message = message_of(subject, list, remark)?;
     let help = help_of(subject, list, remark)?;
     Ok(Diagnostic {
         severity: Severity::Warning,
@@ -447,7 +492,7 @@ fn all_remarks(alloc: Global, stops: &[StopRemark], list: &[CostlyMark]) -> Made
 }
 
 /// What could be better about the marks of the program that a text spells: where a stop or a way to a task may be
-/// forgotten, and which marks cost speed; of the first `MOST_SHOWN`, and how many more there are. `least` is the
+/// forgotten, and which marks cost speed, of one create mask or one release all at once; of the first `MOST_SHOWN`, and how many more there are. `least` is the
 /// program's least certificate. Without `all`, a step into a task is told only of a task that has a finding of rule 5,
 /// 6 or 7.
 ///
@@ -468,7 +513,8 @@ pub fn mark_warnings(
     let list = costly_marks(alloc, program, least)?;
     let subject = Subject::read(alloc, text, program, least)?;
     let stops = stop_remarks(&subject, all)?;
-    let remarks = all_remarks(alloc, &stops, &list)?;
+    let told = told_marks(alloc, &list)?;
+    let remarks = all_remarks(alloc, &stops, &told)?;
     let said = warnings(&subject, &list, &remarks)?;
     Ok(said)
 }

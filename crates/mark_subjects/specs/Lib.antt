@@ -4,5 +4,6 @@ pub mod Subjects
 pub mod MarkPlaces
 pub mod Parts
 pub mod Stops
+pub mod Targets
 pub mod Steps
 pub mod More

@@ -1,5 +1,5 @@
 -- The parts that diagnostics are made of.
-use Rattle.std.specs.Prelude.{ℕ, ◌-◌, List, [], ◌∷◌, ◌++◌, codes, map, length, slice_get, unwrap_or, nat_eq, if◌then◌else◌, Option, Some, None}
+use Rattle.std.specs.Prelude.{ℕ, ◌-◌, Bool, ◌==◌, ◌&&◌, List, [], ◌∷◌, ◌++◌, codes, length, slice_get, unwrap_or, nat_eq, if◌then◌else◌, Option, Some, None}
 use Rattle.diagnostics.specs.declared.diagnostic.Span.{Span}
 use Rattle.diagnostics.specs.declared.diagnostic.Note.{Note}
 use Rattle.diagnostics.specs.declared.diagnostic.Help.{Help}
@@ -25,9 +25,23 @@ take_out (Some span) = record { span = span; text = [] } ∷ []
 abbrev pub note_at : Judged → (index : ℕ) → (message : List ℕ) → Note
 note_at s index message = record { span = Some (instruction_span s index); message = message; path = [] }
 
+-- the steps of a path; the second instruction of a pseudo-instruction is no step of its own
+abbrev pub is_second : Judged → (before index : ℕ) → Bool
+is_second s before i = i - before == 1 && (instruction_span s i).line == (instruction_span s before).line
+
+abbrev pub step_in : Judged → (before index : ℕ) → List Span
+step_in s before i = if is_second s before i then [] else instruction_span s i ∷ []
+
+abbrev pub steps_after : Judged → (before : ℕ) → List ℕ → List Span
+steps_after s before [] = []
+steps_after s before (i ∷ rest) = step_in s before i ++ steps_after s i rest
+
+abbrev pub steps_of : Judged → List ℕ → List Span
+steps_of s [] = []
+steps_of s (i ∷ rest) = instruction_span s i ∷ steps_after s i rest
+
 abbrev pub path_note : Judged → (index : ℕ) → (message path : List ℕ) → Note
-path_note s index message path =
-    record { span = Some (instruction_span s index); message = message; path = map (instruction_span s) path }
+path_note s index message path = record { span = Some (instruction_span s index); message = message; path = steps_of s path }
 
 -- the ends of a path; of none, this index
 abbrev pub first_or : (index : ℕ) → List ℕ → ℕ

@@ -9,3 +9,4 @@ pub mod put_stop;
 pub mod spelling;
 pub mod step;
 pub mod subject;
+pub mod targets;

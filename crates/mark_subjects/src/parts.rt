@@ -1,7 +1,7 @@
 //! The parts that diagnostics are made of, and lists of registers and places in words.
 
 ghost use Rattle.std.specs.Prelude.{◌≡◌, ◌∷◌, [], IfOk, ℕ, Bool, ◌<◌, ◌++◌, if◌then◌else◌, codes, take, drop, OnOk};
-ghost use Rattle.mark_subjects.specs.Parts.{in_words, by_text, written, take_out, note_at, path_note, first_or, last_or, way_notes};
+ghost use Rattle.mark_subjects.specs.Parts.{in_words, by_text, written, take_out, note_at, is_second, step_in, steps_after, steps_of, path_note, first_or, last_or, way_notes};
 ghost use Rattle.std.specs.List.{flat_map};
 ghost use Rattle.std.specs.Fmt.{decimal};
 ghost use Rattle.std.specs.String.{string_bytes};
@@ -70,14 +70,55 @@ pub fn note_at(subject: &Subject, index: u32, message: Words) -> Note
     }
 }
 
+/// Whether an instruction is the second of a pseudo-instruction, after its first.
+fn is_second(subject: &Subject, before: u32, index: u32) -> bool
+    ensures { result ≡ is_second subject.now before index }
+{
+    index.saturating_sub(before) == 1 && subject.span(index).line == subject.span(before).line
+}
+
+/// Adds a step of a path, unless it belongs to the one before.
+fn add_step(subject: &Subject, spans: &mut Vec<Span>, before: u32, index: u32) -> Made<()>
+    ensures { OnOk result (spans.new.items ≡ spans.old.items ++ step_in subject.now before index) }
+{
+    if !is_second(subject, before, index) {
+        spans.push(subject.span(index))?;
+    }
+    Ok(())
+}
+
+/// Adds the steps of a path after its first.
+fn add_steps(subject: &Subject, spans: &mut Vec<Span>, first: u32, path: &[u32]) -> Made<()>
+    ensures { OnOk result (spans.new.items ≡ spans.old.items ++ steps_after subject.now first path.now) }
+{
+    let mut before = first;
+    let mut rest = path;
+    while let [index, behind @ ..] = rest {
+        add_step(subject, spans, before, *index)?;
+        before = *index;
+        rest = behind;
+    }
+    Ok(())
+}
+
+/// The steps of a path.
+fn steps_of(subject: &Subject, path: &[u32]) -> Made<Vec<Span>>
+    ensures { IfOk result (λ spans. spans.items ≡ steps_of subject.now path.now) }
+{
+    let mut spans = Vec::new(subject.alloc());
+    let [first, rest @ ..] = path else {
+        return Ok(spans);
+    };
+    spans.push(subject.span(*first))?;
+    add_steps(subject, &mut spans, *first, rest)?;
+    Ok(spans)
+}
+
 /// What is said of an instruction, with a path that leads to it.
 pub fn path_note(subject: &Subject, index: u32, message: Words, path: &[u32]) -> Made<Note>
     ensures { IfOk result (λ note. note ≡ path_note subject.now index message path.now) }
 {
-    let mut spans = Vec::new(subject.alloc());
-    for step in path {
-        spans.push(subject.span(*step))?;
-    }
+    let spans = steps_of(subject, path)?;
     Ok(Note {
         span: Some(subject.span(index)),
         message,

@@ -35,7 +35,7 @@ p.s:3:4: error: task A forwards $8 here and may write it again [rule 6]
 p.s:6:1: note: $8 is written again here, on the path 3 -> 4 -> 5 -> 6
     6 | addiu $8,$8,2
       | ^~~~~~~~~~~~~
-p.s:3:17: help: remove !f here, and put !f on line 6
+p.s:3:17: help: remove !f here, and put !f on line 6; put release $8 at C, on the path that does not write it
 ";
 
 // The tab is told as a tab below the line too, and of the line break nothing is told.
@@ -110,7 +110,7 @@ p.s:5:14: help: add !f here
 p.s:6:7: warning: $9 was sent before on each path to this release
     6 | skip: release $9
       |       ^~~~~~~~~~
-p.s:6:7: help: write nop, or remove it if no place is given as @n
+p.s:6:7: help: remove it
 p.s:8:1: warning: no task reaches the code from here on
     8 | nop
       | ^~~
@@ -222,15 +222,15 @@ const FORWARDING_1001: Long<'static> = Long {
     end: "\np.s:1002:14: help: remove !f here: line 1003 forwards $8\n",
 };
 
-/// A task that releases 13 registers in each line: each time but the first in vain. 78 lines are 1,001
-/// warnings. Of each warning that is shown there are four lines.
-const RELEASING_78: Long<'static> = Long {
+/// A task that releases 13 registers in each line: each time but the first in vain, of which one warning tells. 1,002 lines
+/// are 1,001 warnings. Of each warning that is shown there are four lines.
+const RELEASING_1002: Long<'static> = Long {
     head: ".task A create=$1,$2,$3,$4,$5,$6,$7,$8,$9,$10,$11,$12,$13 targets=B
 .task B create=- targets=-
 A:
 ",
     part: "release $1,$2,$3,$4,$5,$6,$7,$8,$9,$10,$11,$12,$13\n",
-    times: 78,
+    times: 1_002,
     tail: "j B !s\nB: halt\n",
     warns: true,
     lines: 4_001,
@@ -245,12 +245,12 @@ const LONG: [Long<'static>; 4] = [
         end: "\np.s: note: 1 more error\n",
         ..FORWARDING_1001
     },
-    RELEASING_78,
-    // 4,094 releases, the most beside `j` and `halt`: 4,093 times 13 are 53,209 warnings.
+    RELEASING_1002,
+    // 4,094 releases, the most beside `j` and `halt`: 4,093 warnings.
     Long {
         times: 4_094,
-        end: "\np.s: note: 52209 more warnings\n",
-        ..RELEASING_78
+        end: "\np.s: note: 3093 more warnings\n",
+        ..RELEASING_1002
     },
 ];
 

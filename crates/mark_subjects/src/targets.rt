@@ -1,0 +1,115 @@
+//! The targets of a task, and those that it lacks if it ends where it goes on into another task.
+
+ghost use Rattle.std.specs.Prelude.{◌≡◌, ◌++◌, ◌==◌, IfOk};
+ghost use Rattle.std.specs.List.{list_any};
+ghost use Rattle.mark_subjects.specs.Targets.{entries_listed, is_target, both, is_new, new_target, new_by, new_targets, lacks_some, may_stop};
+
+use crate::subject::{Made, Subject, is_end};
+use mips_instructions::number::Place;
+use std::alloc::Global;
+
+/// The targets of a task where a task begins.
+pub fn entries_listed(subject: &Subject, task: u32) -> Made<Vec<u32>>
+    ensures { IfOk result (λ places. places.items ≡ entries_listed subject.now task) }
+{
+    subject
+        .targets(task)
+        .iter()
+        .map(|target| target.get())
+        .filter(|index| subject.is_entry(*index))
+        .collect(subject.alloc())
+}
+
+/// Whether a task has another as a target.
+pub fn is_target(subject: &Subject, task: u32, into: u32) -> bool
+    ensures { result ≡ is_target subject.now task into }
+{
+    let targets = subject.targets(task);
+    targets
+        .iter()
+        .any(|target| is_end(subject.task_at(target.get()), into))
+}
+
+/// Whether an index is that of a target.
+pub fn is_among(targets: &[Place], index: u32) -> bool
+    ensures { result ≡ list_any (λ t. t == index) targets.now }
+{
+    targets.iter().any(|target| target.get() == index)
+}
+
+/// These places; one that would stand twice stands once.
+pub fn both(alloc: Global, onward: Option<u32>, taken: Option<u32>) -> Made<Vec<u32>>
+    ensures { IfOk result (λ places. places.items ≡ both onward taken) }
+{
+    match (onward, taken) {
+        (Some(index), Some(other)) => {
+            if index == other {
+                return Ok(vec![in alloc; index]?);
+            }
+            Ok(vec![in alloc; index, other]?)
+        }
+        (Some(index), None) => Ok(vec![in alloc; index]?),
+        (None, Some(other)) => Ok(vec![in alloc; other]?),
+        (None, None) => Ok(Vec::new(alloc)),
+    }
+}
+
+/// Whether a task begins at a place that is no target.
+fn is_new(subject: &Subject, task: u32, index: u32) -> bool
+    ensures { result ≡ is_new subject.now task index }
+{
+    subject.is_entry(index) && !is_among(subject.targets(task), index)
+}
+
+/// A place, if a task begins there and it is no target.
+fn new_target(subject: &Subject, task: u32, place: Option<u32>) -> Option<u32>
+    ensures { result ≡ new_target subject.now task place }
+{
+    let Some(index) = place else {
+        return None;
+    };
+    if is_new(subject, task, index) {
+        Some(index)
+    } else {
+        None
+    }
+}
+
+/// Where an edge leads that stays in the task, if that is such a place.
+fn new_by(subject: &Subject, task: u32, index: u32, taken: bool) -> Option<u32>
+    ensures { result ≡ new_by subject.now task index taken }
+{
+    new_target(subject, task, subject.inner(index, taken))
+}
+
+/// The targets that a task lacks if it ends at an instruction that goes on into tasks.
+pub fn new_targets(subject: &Subject, task: u32, index: u32) -> Made<Vec<u32>>
+    ensures { IfOk result (λ places. places.items ≡ new_targets subject.now task index) }
+{
+    let onward = new_by(subject, task, index, false);
+    let taken = new_by(subject, task, index, true);
+    both(subject.alloc(), onward, taken)
+}
+
+/// The targets of a task where a task begins, and these places.
+pub fn targets_with(subject: &Subject, task: u32, places: &[u32]) -> Made<Vec<u32>>
+    ensures { IfOk result (λ targets. targets.items ≡ entries_listed subject.now task ++ places.now) }
+{
+    let mut targets = entries_listed(subject, task)?;
+    targets.extend_from_slice(places)?;
+    Ok(targets)
+}
+
+/// Whether a task lacks a target if it ends at an instruction that goes on into tasks.
+fn lacks_some(subject: &Subject, task: u32, index: u32) -> bool
+    ensures { result ≡ lacks_some subject.now task index }
+{
+    new_by(subject, task, index, false).is_some() || new_by(subject, task, index, true).is_some()
+}
+
+/// Whether a task has at most 16 targets with these.
+pub fn may_stop(subject: &Subject, task: u32, index: u32) -> bool
+    ensures { result ≡ may_stop subject.now task index }
+{
+    !lacks_some(subject, task, index) || subject.targets(task).len() < 15
+}
